@@ -1,0 +1,4 @@
+pub mod Mark
+pub mod Name
+
+pub mod Refusal
