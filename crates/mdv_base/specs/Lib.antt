@@ -1,3 +1,4 @@
+pub mod Causes
 pub mod Mark
 pub mod Name
 

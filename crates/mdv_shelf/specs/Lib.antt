@@ -1,0 +1,5 @@
+pub use Rattle.mdv_base.specs.Causes
+pub mod Tale
+pub mod Moments
+pub mod Calls
+pub mod Area
