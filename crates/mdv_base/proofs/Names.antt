@@ -1,10 +1,10 @@
 -- Names are text.
-use Rattle.std.proofs.Common.{◌≡◌, ◌<◌, ℕ, zero, suc, Bool, true, false, refl, List, [], ◌∷◌, get_or, length, ◌&&◌, arith, lit<}
+use Rattle.std.proofs.Common.{◌≡◌, ◌<◌, ℕ, zero, suc, Bool, true, false, refl, List, [], ◌∷◌, get_or, ◌&&◌, arith, lit<}
 use Rattle.std.proofs.lemmas.Bool.Decides.{nat_tests}
 use Rattle.std.specs.List.{list_all}
 use Rattle.std.specs.Str.{IsUtf8}
 use Rattle.std.proofs.lemmas.Str.{IsUtf8-from_ascii}
-use Rattle.mdv_base.specs.Name.{IsName, is_letter, is_digit, is_name_byte}
+use Rattle.mdv_base.specs.Name.{IsName, is_name_byte}
 
 ascii_byte : (b : ℕ) → is_name_byte b ≡ true → b < 128
 ascii_byte b is = grind (arith, nat_tests)

@@ -1,5 +1,5 @@
+pub mod Bytes
 pub mod Causes
 pub mod Mark
 pub mod Name
-
 pub mod Refusal

@@ -1,8 +1,9 @@
 -- The names of hosts and sets.
-use Rattle.std.specs.Prelude.{◌≡◌, ◌⊎◌, ◌≤◌, ◌<◌, ◌-◌, ◌++◌, ℕ, Bool, List, [], ◌∷◌, length, take, drop, replicate, nat_le, ◌==◌, ◌||◌, ◌&&◌, IsTrue, false}
+use Rattle.std.specs.Prelude.{◌≡◌, ◌≤◌, ◌-◌, ◌++◌, ℕ, Bool, List, [], ◌∷◌, length, take, drop, replicate, nat_le, ◌==◌, ◌||◌, ◌&&◌, IsTrue, false}
 use Rattle.std.specs.List.{list_all}
+use Rattle.mdv_base.specs.Bytes.{IsPadded}
 use Rattle.std.proofs.Common.{sym, ◌∙◌, ap, subst, arith}
-use Rattle.std.proofs.lemmas.List.{length-take-le, take-append-drop, drop-replicate, length-append, length-replicate}
+use Rattle.std.proofs.lemmas.List.{drop-replicate, length-append, length-replicate}
 use Rattle.std.proofs.Math.Seq.{take-append_seam, drop-append_seam}
 
 abbrev pub is_letter : ℕ → Bool
@@ -26,31 +27,21 @@ pub record IsName (text : List ℕ) : Type 0 where
   pub first : IsTrue (begins_with_letter text)
   pub each : IsTrue (list_all is_name_byte text)
 
--- the text and zeros behind it, so many bytes in all
-abbrev pub padded_to : ℕ → List ℕ → List ℕ
-padded_to n text = text ++ replicate (n - length text) 0
-
 -- how a name lies in its 32 bytes
-pub record IsPadded (bytes : List ℕ) (len : ℕ) : Type 0 where
-  pub whole : length bytes ≡ 32
-  pub within : len ≤ 32
+pub record IsStored (bytes : List ℕ) (len : ℕ) : Type 0 where
+  pub padded : IsPadded 32 bytes len
   pub name : IsName (take len bytes)
-  pub padding : drop len bytes ≡ replicate (32 - len) 0
 
--- so the text gives the bytes back
-pub padded_again : (bytes : List ℕ) (len : ℕ) → IsPadded bytes len → (padded_to 32 (take len bytes) ≡ bytes) × (length (take len bytes) ≡ len)
-padded_again bytes len padded =
-    let size : length (take len bytes) ≡ len = length-take-le len bytes (omega (arith, padded.within, padded.whole)) in
-    (ap (λ (n : ℕ). take len bytes ++ replicate (32 - n) 0) size ∙ ap (λ (l : List ℕ). take len bytes ++ l) (sym padded.padding) ∙ take-append-drop len bytes, size)
-
--- and the text written over zeros lies so
-pub padded_made : (text : List ℕ) → IsName text → IsPadded (text ++ drop (length text) (replicate 32 0)) (length text)
-padded_made text name =
+-- a text written over zeros lies so
+pub stored_made : (text : List ℕ) → IsName text → IsStored (text ++ drop (length text) (replicate 32 0)) (length text)
+stored_made text name =
     let zeros = drop (length text) (replicate 32 0) in
     let are : zeros ≡ replicate (32 - length text) 0 = drop-replicate (length text) 32 0 in
     record {
-      whole = omega (arith, name.short, length-append text zeros, ap length are, length-replicate {A = ℕ} (32 - length text) 0);
-      within = name.short;
+      padded = record {
+        whole = omega (arith, name.short, length-append text zeros, ap length are, length-replicate {A = ℕ} (32 - length text) 0);
+        within = name.short;
+        padding = drop-append_seam text zeros ∙ are;
+      };
       name = subst IsName (sym (take-append_seam text zeros)) name;
-      padding = drop-append_seam text zeros ∙ are;
     }

@@ -10,8 +10,8 @@ mod name;
 mod place;
 mod refusal;
 mod state_word;
-
-
+#[cfg(test)]
+mod tests;
 
 pub use block::{BLOCK_BYTES, Block, ZERO_BLOCK};
 pub use drive::{DriveName, DriveNo, Failed, SliceName};
@@ -19,10 +19,5 @@ pub use flags::Flags;
 pub use mark::{Identity, Mark, NUMBER_LIMIT};
 pub use name::{Key, NAME_BYTES, Name, Named, PoolId, VolId};
 pub use place::{MAX_PLACES, Place, Places};
-pub use refusal::Refusal;
+pub use refusal::{Refusal, ReplyText};
 pub use state_word::StateWord;
-
-
-
-
-

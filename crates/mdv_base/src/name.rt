@@ -2,7 +2,6 @@ ghost use Rattle.std.specs.Prelude.{◌≡◌, ◌↔◌, ◌≤◌, ◌<◌, �
 ghost use Rattle.std.specs.List.{list_all};
 ghost use Rattle.mdv_base.specs.Name.{IsName, begins_with_letter as spec_begins_with_letter, is_name_byte as spec_is_name_byte};
 
-use std::fmt;
 use std::marker::Model;
 
 /// The most bytes that a name has.
@@ -18,17 +17,18 @@ pub struct Name {
 
 impl Model for Name {
     ghost use Rattle.std.specs.Prelude.{ℕ, List, take, length};
-    ghost use Rattle.mdv_base.specs.Name.{IsPadded, padded_to, padded_again};
+    ghost use Rattle.mdv_base.specs.Bytes.{padded_to, padded_again};
+    ghost use Rattle.mdv_base.specs.Name.{IsStored};
 
     ghost Value = { List ℕ };
 
     ghost view = { λ n. take n.len n.bytes };
 
-    ghost invariant = { λ n. IsPadded n.bytes n.len };
+    ghost invariant = { λ n. IsStored n.bytes n.len };
 
     ghost inverse = { λ text. record { bytes = padded_to 32 text; len = length text } };
 
-    ghost inverse_ok = { λ n padded. λ i. record { bytes = (padded_again n.bytes n.len padded).0 i; len = (padded_again n.bytes n.len padded).1 i } };
+    ghost inverse_ok = { λ n stored. λ i. record { bytes = (padded_again 32 n.bytes n.len stored.padded).0 i; len = (padded_again 32 n.bytes n.len stored.padded).1 i } };
 }
 
 impl Name {
@@ -55,18 +55,17 @@ impl Name {
         &self.bytes[..self.len as usize]
     }
 
+    pub fn is_same(&self, other: &Name) -> bool
+        ensures { IsTrue result ↔ (self.now ≡ other.now) }
+    {
+        self.as_bytes() == other.as_bytes()
+    }
+
     pub fn as_str(&self) -> &str
-        ensures { result.now ≡ self.now }
+        ensures value { result.now ≡ self.now }
+        ensures short { length result.now ≤ 32 }
     {
         str::from_utf8(self.as_bytes()).unwrap()
-    }
-}
-
-impl fmt::Display for Name {
-    ghost output = { λ name. Some name };
-
-    fn fmt<W: fmt::Write>(&self, f: &mut fmt::Formatter<W>) -> fmt::Result {
-        f.write_str(self.as_str())
     }
 }
 
@@ -111,4 +110,16 @@ pub enum Named {
 pub enum Key {
     Local(Name),
     Set(Name),
+}
+
+impl Key {
+    pub fn is_same(&self, other: &Key) -> bool
+        ensures { IsTrue result ↔ (self.now ≡ other.now) }
+    {
+        match (self, other) {
+            (Key::Local(one), Key::Local(two)) => one.is_same(two),
+            (Key::Set(one), Key::Set(two)) => one.is_same(two),
+            _ => false,
+        }
+    }
 }

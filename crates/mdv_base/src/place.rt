@@ -63,14 +63,14 @@ impl Places {
     }
 
     pub fn is_full(&self) -> bool
-        ensures full { IsTrue result ↔ (length self.now ≡ MAX_PLACES) }
-        ensures within { length self.now ≤ MAX_PLACES }
+        ensures full { IsTrue result ↔ (length self.now ≡ 50) }
+        ensures within { length self.now ≤ 50 }
     {
         self.items.len() == MAX_PLACES
     }
 
     pub fn push(&mut self, place: Place)
-        requires { length self.old < MAX_PLACES }
+        requires { length self.old < 50 }
         ensures { self.new ≡ self.old ++ place ∷ [] }
     {
         self.items.push(place);

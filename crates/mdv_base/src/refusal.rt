@@ -1,9 +1,13 @@
-ghost use Rattle.std.specs.Prelude.{◌≡◌, Some};
-ghost use Rattle.std.specs.Fmt.{WritesOnOk};
+ghost use Rattle.std.specs.Prelude.{◌≡◌, ◌+◌, ◌≤◌, ◌∷◌, ◌++◌, length, decimal};
+ghost use Rattle.arrayvec.specs.ArrayString.{array_string_len};
 ghost use Rattle.mdv_base.specs.Refusal.{number_of, name_of, values_of, refusal_text};
 
 use crate::{Name, StateWord};
-use std::fmt;
+use arrayvec::ArrayString;
+use itoa::Buffer;
+
+/// The text of a reply: at most 79 bytes and room for a newline.
+pub type ReplyText = ArrayString<80>;
 
 /// Why a line was refused. The variants stand in the order of their numbers, 1 to 29; the order in
 /// which causes are looked at is another one, which each command states.
@@ -108,7 +112,8 @@ impl Refusal {
     }
 
     pub fn name(&self) -> &'static str
-        ensures { result.now ≡ name_of self.now }
+        ensures value { result.now ≡ name_of self.now }
+        ensures short { length result.now ≤ 14 }
     {
         match self {
             Refusal::BadLine => "BadLine",
@@ -142,27 +147,59 @@ impl Refusal {
             Refusal::LineTooLong => "LineTooLong",
         }
     }
+
+    /// The reply, as `refused E3 NeedForce`, without its newline.
+    pub fn text(&self) -> ReplyText
+        ensures value { result.bytes ≡ refusal_text self.now }
+        ensures short { array_string_len result ≤ 79 }
+    {
+        let mut number = Buffer::new();
+        let mut text = ArrayString::new();
+        text.push_str("refused E");
+        text.push_str(number.format(self.number()));
+        text.push_str(" ");
+        text.push_str(self.name());
+        self.push_values(&mut text);
+        text
+    }
+
+    // Each carried value behind a blank.
+    fn push_values(&self, text: &mut ReplyText)
+        requires { array_string_len text.old ≤ 30 }
+        ensures value { text.new.bytes ≡ text.old.bytes ++ values_of self.now }
+        ensures short { array_string_len text.new ≤ array_string_len text.old + 42 }
+    {
+        match self {
+            Refusal::WrongState(word) => push_word(text, word.as_str()),
+            Refusal::NoSpace(blocks) => push_number(text, *blocks),
+            Refusal::ReplicaFull { bytes, room } => {
+                push_number(text, *bytes);
+                push_number(text, *room);
+            }
+            Refusal::OwnedByOther(host) => push_word(text, host.as_str()),
+            Refusal::SetNoQuorum { readable, needed } => {
+                push_number(text, u64::from(*readable));
+                push_number(text, u64::from(*needed));
+            }
+            _ => {}
+        }
+    }
 }
 
-// Each carried value behind a blank.
-fn write_values<W: fmt::Write>(refusal: &Refusal, f: &mut fmt::Formatter<W>) -> fmt::Result
-    ensures { WritesOnOk W.write_str_gives f.old result (values_of refusal.now) f.new }
+fn push_word(text: &mut ReplyText, word: &str)
+    requires { array_string_len text.old + length word.now ≤ 79 }
+    ensures value { text.new.bytes ≡ text.old.bytes ++ 32 ∷ word.now }
+    ensures length { array_string_len text.new ≡ array_string_len text.old + length word.now + 1 }
 {
-    match refusal {
-        Refusal::WrongState(word) => write!(f, " {word}"),
-        Refusal::NoSpace(blocks) => write!(f, " {blocks}"),
-        Refusal::ReplicaFull { bytes, room } => write!(f, " {bytes} {room}"),
-        Refusal::OwnedByOther(host) => write!(f, " {host}"),
-        Refusal::SetNoQuorum { readable, needed } => write!(f, " {readable} {needed}"),
-        _ => Ok(()),
-    }
+    text.push_str(" ");
+    text.push_str(word);
 }
 
-impl fmt::Display for Refusal {
-    ghost output = { λ r. Some (refusal_text r) };
-
-    fn fmt<W: fmt::Write>(&self, f: &mut fmt::Formatter<W>) -> fmt::Result {
-        write!(f, "refused E{} {}", self.number(), self.name())?;
-        write_values(self, f)
-    }
+fn push_number(text: &mut ReplyText, number: u64)
+    requires { array_string_len text.old ≤ 59 }
+    ensures value { text.new.bytes ≡ text.old.bytes ++ 32 ∷ decimal number }
+    ensures short { array_string_len text.new ≤ array_string_len text.old + 21 }
+{
+    let mut buffer = Buffer::new();
+    push_word(text, buffer.format(number));
 }

@@ -1,7 +1,5 @@
-ghost use Rattle.std.specs.Prelude.{◌≡◌, Some};
+ghost use Rattle.std.specs.Prelude.{◌≡◌, ◌≤◌, length};
 ghost use Rattle.mdv_base.specs.Refusal.{word_of};
-
-use std::fmt;
 
 /// The state that a `WrongState` refusal tells.
 #[derive(Clone, Copy, Debug, PartialEq, Eq)]
@@ -27,7 +25,8 @@ pub enum StateWord {
 
 impl StateWord {
     pub fn as_str(self) -> &'static str
-        ensures { result.now ≡ word_of self }
+        ensures value { result.now ≡ word_of self }
+        ensures short { length result.now ≤ 14 }
     {
         match self {
             StateWord::Okay => "Okay",
@@ -48,13 +47,5 @@ impl StateWord {
             StateWord::Broken => "Broken",
             StateWord::TwoDatabases => "TwoDatabases",
         }
-    }
-}
-
-impl fmt::Display for StateWord {
-    ghost output = { λ w. Some (word_of w) };
-
-    fn fmt<W: fmt::Write>(&self, f: &mut fmt::Formatter<W>) -> fmt::Result {
-        f.write_str(self.as_str())
     }
 }

@@ -1,4 +1,4 @@
-use Rattle.std.proofs.Common.{Result, Ok, Err, ◌≡◌, refl, sym, subst, IsOk, List, ℕ}
+use Rattle.std.proofs.Common.{Result, Ok, Err, refl, sym, subst, IsOk}
 use Rattle.std.specs.Result.{MatchResult}
 use Rattle.std.specs.Str.{IsUtf8}
 use Rattle.mdv_base.proofs.Names.{text_from_name}
