@@ -1,6 +1,6 @@
 -- Areas of the drives, and what a stretch of calls leaves as it was.
 use Rattle.std.specs.Prelude.{◌≡◌, ℕ, Bool, true, false, ◌||◌, List}
-use Rattle.mdv_shelf.specs.Tale.{Tale, last, MayLeave, told, covers}
+use Rattle.mdv_shelf.specs.Tale.{Tale, last, MayLeave, covers}
 
 -- a set of blocks, by drive and block
 abbrev pub Area : Type 0

@@ -1,7 +1,6 @@
 -- What each call of a shelf does to its tale, its counts and all else.
-use Rattle.std.specs.Prelude.{◌≡◌, ◌⊎◌, ℕ, ◌+◌, ◌-◌, ◌^◌, ◌<◌, ◌≤◌, min, Bool, List, [], length, take, slice_index, slice_index_or, Option, Some, None, Result, MatchResult, IfOk, OnOk, OnErr}
+use Rattle.std.specs.Prelude.{◌≡◌, ◌⊎◌, ℕ, ◌+◌, ◌-◌, ◌^◌, ◌<◌, ◌≤◌, min, Bool, List, [], length, slice_index, slice_index_or, Option, Some, Result, MatchResult, OnOk}
 use Rattle.std.specs.Option.{option_map}
-use Rattle.mdv_base.specs.Causes.{HasCause}
 use Rattle.mdv_shelf.specs.Tale.{Tale, Then, Call, Wrote, Tore, Synced, Gave, last}
 
 -- of what failures are counted apart: a drive, and the giving of replies
@@ -60,3 +59,16 @@ pub record Keeps {S Rest Held : Type 0} (sizes : S → List ℕ) (faults : S →
 pub record IsCounted {S : Type 0} (calls written : S → Option ℕ) (old new : S) (blocks : ℕ) : Type 0 where
   pub as_call : RoseBy 1 (calls old) (calls new)
   pub as_blocks : RoseBy blocks (written old) (written new)
+
+-- it took so many calls, with so many blocks written
+pub record Took {S : Type 0} (calls written : S → Option ℕ) (old new : S) (count blocks : ℕ) : Type 0 where
+  pub in_calls : RoseBy count (calls old) (calls new)
+  pub in_blocks : RoseBy blocks (written old) (written new)
+
+abbrev pub RoseByAtMost : ℕ → Option ℕ → Option ℕ → Type 0
+RoseByAtMost more old new = (n : ℕ) → old ≡ Some n → (m : ℕ) × (new ≡ Some m) × (m ≤ n + more)
+
+-- it took at most so many, where it failed
+pub record TookAtMost {S : Type 0} (calls written : S → Option ℕ) (old new : S) (count blocks : ℕ) : Type 0 where
+  pub in_calls : RoseByAtMost count (calls old) (calls new)
+  pub in_blocks : RoseByAtMost blocks (written old) (written new)

@@ -3,3 +3,6 @@ pub mod Tale
 pub mod Moments
 pub mod Calls
 pub mod Area
+pub mod Settle
+pub mod MemHistory
+pub mod MemShelf

@@ -2,6 +2,12 @@
 //! traits of a shelf of drives and of a bench that also takes replies, and a shelf in memory.
 #![tactic(auto)]
 
+mod mem_shelf;
+#[cfg(test)]
+mod mem_tests;
+mod settling;
 mod shelf;
 
+pub use mem_shelf::MemShelf;
+pub use settling::settle;
 pub use shelf::{Bench, Shelf};

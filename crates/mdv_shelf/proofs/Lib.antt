@@ -1,0 +1,9 @@
+pub mod Blocks
+pub mod Counts
+pub mod Frame
+pub mod Moments
+pub mod Settled
+pub mod MemCrash
+pub mod MemFaults
+pub mod MemLaws
+pub mod MemScan

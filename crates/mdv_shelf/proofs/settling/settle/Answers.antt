@@ -1,0 +1,42 @@
+use Rattle.std.proofs.Common.{length, ◌∙◌, arith}
+use Rattle.mdv_shelf.proofs.Settled.{moments_tore, moments_wrote, moments_settled, ends_settled}
+use Rattle.mdv_shelf.proofs.Counts.{took_one, took_more, took_at_most}
+use Rattle.mdv_shelf.proofs.settling.settle.Goals as goal
+
+pub returns-in_err-write-clause-moments : goal.returns-in_err-write-clause-moments
+returns-in_err-write-clause-moments g c = moments_tore c.args.drive.0 c.args.at c.args.from.now (g.S.Shelf.tale c.args.shelf.now) (g.S.Shelf.tale c.write.new.self) c.in_err-write.ensures.writes
+
+pub returns-in_err-write-clause-counted_at_most : goal.returns-in_err-write-clause-counted_at_most
+returns-in_err-write-clause-counted_at_most g c =
+    took_at_most g.S.Shelf.calls g.S.Shelf.written _ _ 1 (length c.args.from.now) 2 (length c.args.from.now) (omega arith) (omega arith) (took_one g.S.Shelf.calls g.S.Shelf.written _ _ _ c.write.ensures.counted)
+
+pub returns-in_err-sync-clause-moments : goal.returns-in_err-sync-clause-moments
+returns-in_err-sync-clause-moments g c =
+    moments_wrote c.args.drive.0 c.args.at c.args.from.now (g.S.Shelf.tale c.args.shelf.now) (g.S.Shelf.tale c.sync.new.self) (c.in_err-sync.ensures.syncs ∙ c.in_ok-write.ensures.writes)
+
+pub returns-in_err-sync-clause-counted_at_most : goal.returns-in_err-sync-clause-counted_at_most
+returns-in_err-sync-clause-counted_at_most g c =
+    took_at_most g.S.Shelf.calls g.S.Shelf.written _ _ 2 (length c.args.from.now) 2 (length c.args.from.now) (omega arith) (omega arith) (
+    took_more g.S.Shelf.calls g.S.Shelf.written _ _ _ 1 1 (length c.args.from.now) 0 2 (length c.args.from.now) (omega arith) (omega arith)
+    (took_one g.S.Shelf.calls g.S.Shelf.written _ _ _ c.write.ensures.counted) (took_one g.S.Shelf.calls g.S.Shelf.written _ _ _ c.sync.ensures.counted)
+    )
+
+pub returns-clause-moments : goal.returns-clause-moments
+returns-clause-moments g c =
+    moments_settled c.args.drive.0 c.args.at c.args.from.now (g.S.Shelf.tale c.args.shelf.now) (g.S.Shelf.tale c.write.new.self) (g.S.Shelf.tale c.sync.new.self) c.in_ok-write.ensures.writes c.in_ok-sync.ensures.syncs
+
+pub returns-clause-settled : goal.returns-clause-settled
+returns-clause-settled g c =
+    ends_settled c.args.drive.0 c.args.at c.args.from.now (g.S.Shelf.tale c.args.shelf.now) (g.S.Shelf.tale c.write.new.self) (g.S.Shelf.tale c.sync.new.self) c.in_ok-write.ensures.writes c.in_ok-sync.ensures.syncs
+
+pub returns-clause-counted : goal.returns-clause-counted
+returns-clause-counted g c =
+    took_more g.S.Shelf.calls g.S.Shelf.written _ _ _ 1 1 (length c.args.from.now) 0 2 (length c.args.from.now) (omega arith) (omega arith)
+    (took_one g.S.Shelf.calls g.S.Shelf.written _ _ _ c.write.ensures.counted) (took_one g.S.Shelf.calls g.S.Shelf.written _ _ _ c.sync.ensures.counted)
+
+pub returns-clause-counted_at_most : goal.returns-clause-counted_at_most
+returns-clause-counted_at_most g c =
+    took_at_most g.S.Shelf.calls g.S.Shelf.written _ _ 2 (length c.args.from.now) 2 (length c.args.from.now) (omega arith) (omega arith) (
+    took_more g.S.Shelf.calls g.S.Shelf.written _ _ _ 1 1 (length c.args.from.now) 0 2 (length c.args.from.now) (omega arith) (omega arith)
+    (took_one g.S.Shelf.calls g.S.Shelf.written _ _ _ c.write.ensures.counted) (took_one g.S.Shelf.calls g.S.Shelf.written _ _ _ c.sync.ensures.counted)
+    )
