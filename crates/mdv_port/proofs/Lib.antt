@@ -1,0 +1,5 @@
+mod Chunks
+mod Firsts
+mod Cutting
+mod Answering
+mod Reading

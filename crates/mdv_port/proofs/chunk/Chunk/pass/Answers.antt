@@ -1,0 +1,7 @@
+use Rattle.std.proofs.Common.{sym, take, drop, ap, ◌∙◌}
+use Rattle.std.proofs.lemmas.List.{drop-drop}
+use Rattle.mdv_port.proofs.chunk.Chunk.pass.Goals as goal
+
+pub returns : goal.returns
+returns c =
+    sym (drop-drop c.args.count c.self.inside.start (take c.self.inside.end c.self.inside.bytes)) ∙ ap (drop c.args.count) c.self.view_is
