@@ -1,0 +1,8 @@
+use Rattle.mdv_shelf.proofs.Counts.{took_one}
+use Rattle.mdv_replica.proofs.replica.read_body.Goals as goal
+
+pub returns-in_err-read-clause-counted : goal.returns-in_err-read-clause-counted
+returns-in_err-read-clause-counted g c = took_one g.S.Shelf.calls g.S.Shelf.written _ _ _ c.read.ensures.counted
+
+pub returns-clause-counted : goal.returns-clause-counted
+returns-clause-counted g c = took_one g.S.Shelf.calls g.S.Shelf.written _ _ _ c.read.ensures.counted

@@ -1,0 +1,3 @@
+pub use Rattle.mdv_base.specs.Bytes
+pub mod Forms
+pub mod Replica

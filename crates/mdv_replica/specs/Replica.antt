@@ -1,0 +1,111 @@
+-- A replica at its place: what its head says, and what calls on it leave at each moment.
+use Rattle.std.specs.Prelude.{◌≡◌, ◌⊎◌, ℕ, ◌+◌, ◌-◌, ◌/◌, ◌≤◌, ◌<◌, ◌^◌, List, [], ◌∷◌, length, slice_index_or}
+use Rattle.mdv_shelf.specs.Tale.{Tale, MayLeave, told}
+use Rattle.mdv_shelf.specs.Area.{range, joined, KeptOutside}
+use Rattle.mdv_shelf.specs.Settle.{IsSettled, IsFixed}
+use Rattle.mdv_replica.specs.declared.forms.Master.{Master}
+use Rattle.mdv_replica.specs.declared.forms.Gate.TheVariants.{Closed}
+use Rattle.mdv_replica.specs.declared.replica.PlaceAt.{PlaceAt}
+use Rattle.mdv_replica.specs.declared.replica.Head.{Head}
+use Rattle.mdv_replica.specs.declared.replica.Slot.{Slot}
+use Rattle.mdv_replica.specs.declared.replica.Slot.TheVariants.{First, Second}
+use Rattle.mdv_replica.specs.Forms.{master_text, claim_text, gate_text, block_of, IsMaster, IsGate}
+
+-- how many blocks a slot has: half of what four blocks of head leave
+abbrev pub slot_blocks : ℕ → ℕ
+slot_blocks blocks = (blocks - 4) / 2
+
+-- where the gate and the body of a slot lie on the drive
+abbrev pub gate_at : PlaceAt → Slot → ℕ
+gate_at at First = at.first + 2
+gate_at at Second = at.first + 3
+
+abbrev pub body_at : PlaceAt → Slot → ℕ
+body_at at First = at.first + 4
+body_at at Second = at.first + 4 + slot_blocks at.place.blocks
+
+-- its drive is one of the shelf's, and has a block
+pub record IsOnDrive (sizes : List ℕ) (at : PlaceAt) : Type 0 where
+  pub drive : at.drive.0 < length sizes
+  pub some : 0 < slice_index_or sizes at.drive.0 0
+  pub size : slice_index_or sizes at.drive.0 0 < 2 ^ 64
+
+-- the place is large enough for a head and ends within the drive
+pub record IsPlaced (sizes : List ℕ) (at : PlaceAt) : Type 0 where
+  pub drive : at.drive.0 < length sizes
+  pub least : 16 ≤ at.place.blocks
+  pub within : at.first + at.place.blocks ≤ slice_index_or sizes at.drive.0 0
+  pub size : slice_index_or sizes at.drive.0 0 < 2 ^ 64
+
+-- a master names the place where it was read, with a length that a replica may have on a drive of this size
+pub record LiesAt (at : PlaceAt) (size : ℕ) (master : Master) : Type 0 where
+  pub slice : master.slice ≡ at.place.slice
+  pub start : master.start ≡ at.place.start
+  pub least : 16 ≤ master.blocks
+  pub most : master.blocks ≤ 8192
+  pub within : at.first + master.blocks ≤ size
+
+-- what a head can say there
+pub record IsFormed (at : PlaceAt) (size : ℕ) (head : Head) : Type 0 where
+  pub of_master : IsMaster head.master
+  pub of_place : LiesAt at size head.master
+  pub of_claim : head.claim < 2 ^ 63
+  pub of_first : IsGate head.first
+  pub of_second : IsGate head.second
+
+-- the head that four blocks spell there: a master, a claim and two gates
+pub record IsHeadOf (at : PlaceAt) (size : ℕ) (zero one two three : List ℕ) (head : Head) : Type 0 where
+  pub master : IsMaster head.master
+  pub master_block : zero ≡ block_of (master_text head.master)
+  pub lies : LiesAt at size head.master
+  pub claim : head.claim < 2 ^ 63
+  pub claim_block : one ≡ block_of (claim_text head.claim)
+  pub first : IsGate head.first
+  pub first_block : two ≡ block_of (gate_text head.first)
+  pub second : IsGate head.second
+  pub second_block : three ≡ block_of (gate_text head.second)
+
+-- the head that a drive's blocks spell at a place
+abbrev pub IsHead : PlaceAt → ℕ → (ℕ → List ℕ) → Head → Type 0
+IsHead at size content head = IsHeadOf at size (content at.first) (content (at.first + 1)) (content (at.first + 2)) (content (at.first + 3)) head
+
+-- a crash leaves in the block only these
+abbrev pub LeavesOnly : Tale → ℕ → ℕ → (List ℕ → Type 0) → Type 0
+LeavesOnly m drive block P = (x : List ℕ) → MayLeave m drive block x → P x
+
+-- three stretches of calls, one behind another
+pub data Stretch (A B C : Type 0) : Type 0 where
+  starting : A → Stretch A B C
+  between : B → Stretch A B C
+  ending : C → Stretch A B C
+
+-- A master that is blanked, and written again once claim and gates are on the disk: a crash leaves all
+-- as before, but for a master that may be blank; or the master is blank; or claim and gates are as they
+-- will be, under a master that is blank or as it will be.
+pub record Formatting (at : PlaceAt) (blank master : List ℕ) (rest : List (List ℕ)) (t m : Tale) : Type 0 where
+  pub outside : KeptOutside (range at.drive.0 at.first 4) t m
+  pub quiet : told m ≡ told t
+  pub stretch : Stretch
+      (LeavesOnly m at.drive.0 at.first (λ x. MayLeave t at.drive.0 at.first x ⊎ (x ≡ blank)) × KeptOutside (range at.drive.0 at.first 1) t m)
+      (LeavesOnly m at.drive.0 at.first (λ x. x ≡ blank))
+      (LeavesOnly m at.drive.0 at.first (λ x. (x ≡ blank) ⊎ (x ≡ master)) × IsFixed at.drive.0 (at.first + 1) rest m)
+
+-- A slot whose gate is closed, and opened again once the body is on the disk: a crash leaves the slot as
+-- before, but for a gate that may be closed; or the gate is closed; or the body is as it will be, under a
+-- gate that is closed or open for it.
+pub record SlotWriting (drive gate body : ℕ) (closed opened : List ℕ) (blocks : List (List ℕ)) (t m : Tale) : Type 0 where
+  pub outside : KeptOutside (joined (range drive gate 1) (range drive body (length blocks))) t m
+  pub quiet : told m ≡ told t
+  pub stretch : Stretch
+      (LeavesOnly m drive gate (λ x. MayLeave t drive gate x ⊎ (x ≡ closed)) × KeptOutside (range drive gate 1) t m)
+      (LeavesOnly m drive gate (λ x. x ≡ closed))
+      (LeavesOnly m drive gate (λ x. (x ≡ closed) ⊎ (x ≡ opened)) × IsFixed drive body blocks m)
+
+-- in the end the slot holds the body under its mark, and all that the drive was given is on the disk
+pub record IsSlotWritten (drive gate body : ℕ) (opened : List ℕ) (blocks : List (List ℕ)) (u : Tale) : Type 0 where
+  pub gate_settled : IsSettled drive gate (opened ∷ []) u
+  pub body_settled : IsSettled drive body blocks u
+
+-- a claim and two closed gates
+abbrev pub formatted_rest : ℕ → List (List ℕ)
+formatted_rest claim = block_of (claim_text claim) ∷ block_of (gate_text Closed) ∷ block_of (gate_text Closed) ∷ []

@@ -1,0 +1,19 @@
+//! One replica of a state database: how its blocks are spelled on a drive, and how it is formatted,
+//! looked at and written so that a crash never leaves half a table.
+#![tactic(auto)]
+
+mod cursor;
+mod forms;
+mod page;
+mod reading;
+mod replica;
+#[cfg(test)]
+mod tests;
+
+pub use forms::{Gate, Master};
+pub use page::Page;
+pub use reading::{read_claim, read_gate, read_master};
+pub use replica::{
+    Head, MAX_BLOCKS, MIN_BLOCKS, PlaceAt, Slot, format, inspect, read_body, write_claim,
+    write_slot,
+};
