@@ -1,0 +1,15 @@
+pub mod DriveIndexes
+pub mod Drives
+pub mod Entries
+pub mod FirstLines
+pub mod Fresh
+pub mod DriveKinds
+pub mod Numerals
+pub mod OneTable
+pub mod Paths
+pub mod Places
+pub mod Reading
+pub mod Sets
+pub mod SliceIndexes
+pub mod Texts
+pub mod Volumes

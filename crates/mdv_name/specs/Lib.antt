@@ -1,0 +1,12 @@
+pub mod Code
+pub mod Drive
+pub mod DriveIndex
+pub mod Entry
+pub mod FileText
+pub mod Geometry
+pub mod Index
+pub mod Lines
+pub mod Numeral
+pub mod Path
+pub mod SliceIndex
+pub mod Volume

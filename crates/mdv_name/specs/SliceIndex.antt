@@ -1,0 +1,24 @@
+-- The map beside the list of slices.
+use Rattle.std.specs.Prelude.{ℕ, Option, Some, List, map, All, Contains}
+use Rattle.std.specs.BTreeMap.{BTreeMap}
+use Rattle.mdv_base.specs.declared.drive.SliceName.{SliceName}
+use Rattle.mdv_name.specs.declared.slice_lines.SliceAt.{SliceAt}
+use Rattle.mdv_name.specs.declared.slice_lines.SliceLine.{SliceLine}
+use Rattle.mdv_name.specs.Code.{slice_code}
+use Rattle.mdv_name.specs.Drive.{IsSliceName}
+use Rattle.mdv_name.specs.Index.{HasPlaces}
+
+abbrev pub code_of : SliceLine → Option ℕ
+code_of l = Some (slice_code l.name)
+
+-- a slice of the list has the name and lies there
+abbrev pub HasSlice : List SliceLine → SliceName → SliceAt → Type 0
+HasSlice lines name at = Contains lines (record { name = name; at = at })
+
+abbrev pub HasNoSlice : List SliceLine → SliceName → Type 0
+HasNoSlice lines name = (at : SliceAt) → HasSlice lines name at → ⊥
+
+-- each slice's code has a place, at which the slice stands
+pub record IsSliceIndex (places : BTreeMap ℕ ℕ) (lines : List SliceLine) : Type 0 where
+  pub forms : All (λ l. IsSliceName l.name) lines
+  pub found : HasPlaces places (map code_of lines)

@@ -1,0 +1,5 @@
+pub mod Decimals
+pub mod Numerals
+pub mod Sizes
+pub mod Tokens
+pub mod WordRuns

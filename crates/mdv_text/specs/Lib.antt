@@ -1,0 +1,4 @@
+pub mod Numeral
+pub mod Size
+pub mod Token
+pub mod Words

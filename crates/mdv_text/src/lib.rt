@@ -1,0 +1,14 @@
+//! Numbers, sizes and the words of a line.
+#![tactic(auto)]
+
+mod numeral;
+#[cfg(test)]
+mod tests;
+mod token;
+mod unit;
+mod words;
+
+pub use numeral::{number, split_number};
+pub use token::{TextFault, Token, split};
+pub use unit::{MAX_BLOCKS, size};
+pub use words::first_word;
