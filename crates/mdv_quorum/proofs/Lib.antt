@@ -1,0 +1,19 @@
+mod Meeting
+mod PlacesAt
+mod Invariant
+mod Quorums
+mod Changes
+mod More
+mod Written
+mod Format
+mod Adopt
+mod Follow
+mod Boots
+mod Writes
+mod Formats
+mod Changed
+mod Steps
+mod Listing
+pub mod Stands
+mod Rising
+mod Limits

@@ -1,0 +1,85 @@
+-- The invariant gives standing.
+use Rattle.std.proofs.Common.{◌≡◌, ◌<◌, ◌≤◌, ◌+◌, ◌-◌, ℕ, Bool, true, false, refl, ap, sym, ◌∙◌, subst, List, [], ◌∷◌, ◌++◌, length, inl, inr, ◌⊎◌, Option, None, Some, arith, ◌&&◌, ◌||◌}
+use Rattle.std.proofs.lemmas.Bool.{false≢true, and_parts, or_cases, ltb-true, eqb-true}
+use Rattle.std.specs.Prelude.{nat_lt, ◌==◌}
+use Rattle.mdv_base.specs.declared.mark.Mark.{Mark}
+use Rattle.mdv_base.specs.Mark.{IsBelow}
+use Rattle.mdv_quorum.specs.declared.spot.Spot.{Spot}
+use Rattle.mdv_quorum.specs.declared.spot.Event.{Event}
+use Rattle.mdv_quorum.specs.declared.table.Table.{Table}
+use Rattle.mdv_quorum.specs.declared.core.Core.{Core}
+use Rattle.mdv_quorum.specs.declared.core.Stage.{Stage}
+use Rattle.mdv_quorum.specs.declared.core.Stage.TheVariants.{Reading, Creating, Claiming, Writing, Ready}
+use Rattle.mdv_quorum.specs.Family.{table_at, place_at, mark_below, knows_above}
+use Rattle.mdv_quorum.specs.World.{start, after_all}
+use Rattle.mdv_quorum.specs.May.{MayAll}
+use Rattle.mdv_quorum.specs.Standing.{Standing, IsFamily, IsMade, IsDescended, HoldsAtLeast, IsHeld, IsReadable, Reads, IsBeaten, AreBeaten, AreNumbersKnown, Adopts, AdoptsOf, BootsAt, StandsAlways, newest_at, table_of}
+use Rattle.mdv_quorum.proofs.Adopt.{above_known}
+use Rattle.mdv_quorum.proofs.Boots.{above_some}
+use Rattle.mdv_quorum.proofs.Written.{some_same}
+use Rattle.mdv_quorum.proofs.Steps.{reached_ok}
+use Rattle.mdv_quorum.proofs.Invariant.{newest, MadeFrom, Base, Inv, StageOk, BootOk, IsLive}
+
+below_is : (a b : Mark) → mark_below a b ≡ true → IsBelow a b
+below_is a b h =
+    elim (or_cases (nat_lt a.boot b.boot) ((a.boot == b.boot) && nat_lt a.count b.count) h) [
+      | inl less ↦ inl (ltb-true a.boot b.boot less)
+      | inr same ↦
+          let p = and_parts (a.boot == b.boot) (nat_lt a.count b.count) same in
+          inr (eqb-true a.boot b.boot p.0, ltb-true a.count b.count p.1)
+    ]
+
+made_is : (w : Core) (i : ℕ) (o : Option ℕ) → MadeFrom w.family i (table_at w.family i) o → IsMade w i o
+made_is w i None m = m
+made_is w i (Some k) m = m
+
+firm_live : (firm : Option ℕ) (f i : ℕ) → firm ≡ Some f → f ≤ i → IsLive firm i
+firm_live firm f i e le g eg = let same = some_same f g (sym e ∙ eg) in omega (arith, same, le)
+
+boots_at : (w : Core) (s : Stage) → Base w → StageOk w s → BootsAt w s
+boots_at w (Reading places) b ok = tt
+boots_at w (Creating next) b ok = ok.there
+boots_at w (Claiming i next claimed) b ok =
+    let c = ok.chosen in
+    (record { known = ok.known; issued = c.issued; told = c.holds_told; fresh = ok.higher; there = ok.there }, c.plan)
+boots_at w (Writing boot took) b ok = (ok.taking.there, at boot ok.taking.made)
+  where
+    at : (o : Option ℕ) → BootOk w.family w.log w.told o → AdoptsOf w o
+    at None m = tt
+    at (Some i) m = (record { known = m.0; issued = m.1.issued; told = m.1.holds_told; fresh = m.2; there = ok.taking.there }, m.1.plan)
+boots_at w (Ready next) b ok = ok.there
+
+pub stands : (w : Core) → Inv w → Standing w
+stands w i =
+    let b = i.base in
+    record {
+      family = record {
+        shown = b.places.shows;
+        marks = λ j k h hk. below_is (table_at w.family j).mark (table_at w.family k).mark (b.tables.marks j k h hk);
+        made = λ j h. made_is w j (table_at w.family j).parent (b.tables.made j h);
+      };
+      descent = record {
+        acknowledged = λ f e. b.plans.holds_told f (b.places.firm_in f e) (firm_live w.firm f f e (omega arith));
+        nothing = b.plans.nothing;
+        descends = b.plans.descends;
+        issued = λ f j e le h. b.plans.issued j h (firm_live w.firm f j e le);
+      };
+      held = λ f e there.
+          let c = b.places.covered f e there in
+          (c.0, c.1, λ p took. (let k = c.2 p took in record { formed = k.held; table = k.table; shows = k.shows; above = k.above }));
+      beaten = λ f j p read e below readable shows reads. elim (b.places.beaten f j e below) [
+        | inl low ↦ (let high = b.places.clean p j readable.place readable.formed readable.up shows in absurd (omega (arith, low, high)))
+        | inr beats ↦
+            let x = beats read (knows_above w.family w.places (table_at w.family j)) reads in
+            record {
+              place = x.place;
+              was_read = x.was_read;
+              shows = λ r. above_some (newest w.places x.place) j x.above;
+            }
+      ];
+      numbers = λ f j u read e le hj hu reads. b.places.numbers j u read (knows_above w.family w.places (table_at w.family j)) hj hu (firm_live w.firm f j e le) reads;
+      boots = boots_at w w.stage b i.stage;
+    }
+
+pub stands_always : (set : Bool) (events : List Event) → StandsAlways set events
+stands_always set events may = stands (after_all (start set) events) (reached_ok set events may)

@@ -1,0 +1,279 @@
+-- A place takes the last table, and that table becomes firm.
+use Rattle.std.proofs.Common.{◌≡◌, ◌<◌, ◌≤◌, ◌+◌, ◌-◌, ℕ, zero, suc, Bool, true, false, refl, ap, sym, ◌∙◌, subst, List, [], ◌∷◌, ◌++◌, length, inl, inr, ◌⊎◌, Option, None, Some, arith, cond, not, map, append-nil}
+use Rattle.std.proofs.lemmas.Bool.{cases_Bool, false≢true, cases_lt, cases_eq}
+use Rattle.mdv_base.specs.declared.drive.DriveNo.{DriveNo}
+use Rattle.mdv_quorum.specs.declared.spot.Spot.{Spot}
+use Rattle.mdv_quorum.specs.declared.spot.SpotLists.{SpotLists}
+use Rattle.mdv_quorum.specs.declared.table.Table.{Table}
+use Rattle.mdv_quorum.specs.declared.table.Place.{Place}
+use Rattle.mdv_quorum.specs.declared.table.Since.{Since}
+use Rattle.mdv_quorum.specs.declared.table.Since.TheVariants.{Never, Listed, Dropped}
+use Rattle.mdv_quorum.specs.Spots.{is_in, is_named, last_list, last_or, same_spot}
+use Rattle.mdv_quorum.specs.Quorum.{is_read, is_written}
+use Rattle.mdv_quorum.specs.Family.{table_at, place_at, boot_of, put_at, with_newest, with_since, since_after, blank_place}
+use Rattle.mdv_quorum.specs.May.{is_up}
+use Rattle.mdv_quorum.proofs.Quorums.{written_meets}
+use Rattle.mdv_quorum.proofs.Meeting.{meet, half_of_majority}
+use Rattle.mdv_quorum.proofs.PlacesAt.{put_cases, put_used, map_at, map_used, spot_at}
+use Rattle.mdv_quorum.proofs.More.{boots_rise, none_some}
+use Rattle.mdv_quorum.proofs.Invariant.{newest, claim, holds, since, boot_at, lists_at, plan_at, Above, Late, Knows, KnownIn, Beats, NumbersOk, IsKept, IsCovered, IsGone, PlacesOk, IsLive, HasList, IsCommon, TablesOk, AllCommon, PlansOk, IsPrefix, HasAll, HasTaken, IsAlone, SeatsMeet}
+
+pub some_same : {A : Type 0} (a b : A) → Some a ≡ Some b → a ≡ b
+some_same a b e = cc
+
+pub live_or_below : (firm : Option ℕ) (i : ℕ) → IsLive firm i ⊎ ((f : ℕ) × (firm ≡ Some f) × (i < f))
+live_or_below None i = inl (λ f e. absurd (none_is f e))
+  where
+    none_is : (f : ℕ) → None ≡ Some f → ⊥
+    none_is f e = cc
+live_or_below (Some f) i = elim (cases_lt i f) [ inl less ↦ inr (f, refl, less) | inr more ↦ inl (λ g e. subst (λ (k : ℕ). k ≤ i) (some_same f g e) more) ]
+
+pub write_places : (family : List Table) (firm : Option ℕ) (places : List Place) (floor : ℕ) (lost : List DriveNo) (deleted : Option Spot) (p : Spot) (set : Bool)
+    → TablesOk set family → PlacesOk family firm places floor lost deleted → 0 < length family → deleted ≡ None
+    → PlacesOk family firm (put_at places p (with_newest (length family - 1))) floor lost deleted
+write_places family firm places floor lost deleted p set tables ok some there =
+    let m = length family - 1 in
+    let new = put_at places p (with_newest m) in
+    let cases = λ (q : Spot). put_cases places p q (with_newest m) (λ x. refl) in
+    let held = λ (q : Spot). elim (cases q) as (λ c. holds new q ≡ holds places q) [ inl a ↦ ap (λ (x : Place). x.holds) a.1 | inr b ↦ ap (λ (x : Place). x.holds) b.1 ] in
+    let stands = λ (q : Spot). elim (cases q) as (λ c. since new q ≡ since places q) [ inl a ↦ ap (λ (x : Place). x.since) a.1 | inr b ↦ ap (λ (x : Place). x.since) b.1 ] in
+    let shows = λ (q : Spot). elim (cases q) as (λ c. (newest new q ≡ Some m) ⊎ (newest new q ≡ newest places q)) [ inl a ↦ inl (ap (λ (x : Place). x.newest) a.1) | inr b ↦ inr (ap (λ (x : Place). x.newest) b.1) ] in
+    let claims = λ (q : Spot). elim (cases q) as (λ c. claim new q ≡ claim places q) [ inl a ↦ ap (λ (x : Place). x.claim) a.1 | inr b ↦ ap (λ (x : Place). x.claim) b.1 ] in
+    record {
+      firm_in = ok.firm_in;
+      shows = λ q j e. elim (shows q) [
+        | inl a ↦ let same : m ≡ j = some_same m j (sym a ∙ e) in omega (arith, same, some)
+        | inr b ↦ ok.shows q j (sym b ∙ e)
+      ];
+      beaten = λ f i e h. elim (ok.beaten f i e h) [
+        | inl below ↦ inl below
+        | inr beats ↦ inr (λ read knows r.
+            let b = beats read knows r in
+            let hf = ok.firm_in f e in
+            record {
+              place = b.place;
+              was_read = b.was_read;
+              late = elim b.late [ inl a ↦ inl (a.0, subst (λ (s : Since). Late s i) (sym (stands b.place)) a.1) | inr seat ↦ inr seat ];
+              above = elim (shows b.place) [
+                | inl a ↦ subst (λ (o : Option ℕ). Above o i) (sym a) (omega (arith, h, hf))
+                | inr same ↦ subst (λ (o : Option ℕ). Above o i) (sym same) b.above
+              ];
+            })
+      ];
+      numbers = λ i u read knows hi hu live r. elim (ok.numbers i u read knows hi hu live r) [
+        | inl less ↦ inl less
+        | inr known ↦ inr (
+          known.0,
+          known.1,
+          elim (shows known.0) [
+            | inl a ↦ inr (subst (λ (o : Option ℕ). boot_at family u ≤ boot_of family o) (sym a) (boots_rise set family tables u m (omega (arith, hu)) (omega (arith, some))))
+            | inr same ↦
+                subst (λ (c : ℕ). (boot_at family u ≤ c) ⊎ (boot_at family u ≤ boot_of family (newest new known.0))) (sym (claims known.0))
+                (subst (λ (o : Option ℕ). (boot_at family u ≤ claim places known.0) ⊎ (boot_at family u ≤ boot_of family o)) (sym same) known.2)
+          ],
+        )
+      ];
+      clean = λ q j place there up e. elim (shows q) [
+        | inl a ↦ let same : m ≡ j = some_same m j (sym a ∙ e) in let low = ok.low in omega (arith, same, low)
+        | inr b ↦ ok.clean q j place (sym (held q) ∙ there) up (sym b ∙ e)
+      ];
+      listed = λ f q e has h. stands q ∙ ok.listed f q e has (sym (held q) ∙ h);
+      listed_in = λ q e. ok.listed_in q (sym (stands q) ∙ e);
+      dropped = λ q k e. ok.dropped q k (sym (stands q) ∙ e);
+      low = ok.low;
+      covered = λ f e still.
+          let c = ok.covered f e still in (
+            c.0,
+            c.1,
+            λ q took.
+                let k = c.2 q took in
+                elim (shows q) [
+                  | inl a ↦ record { held = held q ∙ k.held; table = m; shows = a; above = (let hf = ok.firm_in f e in omega (arith, hf)); named = k.named }
+                  | inr b ↦ record { held = held q ∙ k.held; table = k.table; shows = b ∙ k.shows; above = k.above; named = k.named }
+                ],
+          );
+      gone = λ q e. absurd (none_some q (sym there ∙ e));
+      unused = λ e. absurd (put_used places p (with_newest m) e);
+    }
+
+-- what a write leaves of those that took the table
+pub write_taken : (family : List Table) (places : List Place) (p q : Spot) → HasTaken family places q → HasTaken family (put_at places p (with_newest (length family - 1))) q
+write_taken family places p q t =
+    elim (put_cases places p q (with_newest (length family - 1)) (λ x. refl)) [
+      | inl a ↦ record { shows = ap (λ (x : Place). x.newest) a.1; held = ap (λ (x : Place). x.holds) a.1 ∙ t.held; named = t.named }
+      | inr b ↦ record { shows = ap (λ (x : Place). x.newest) b.1 ∙ t.shows; held = ap (λ (x : Place). x.holds) b.1 ∙ t.held; named = t.named }
+    ]
+
+late_after : (m i : ℕ) (b : Bool) (s : Since) → i < m → Late s i → Late (since_after m b s) i
+late_after m i true s h late = tt
+late_after m i false Never h late = late
+late_after m i false Listed h late = h
+late_after m i false (Dropped k) h late = late
+
+listed_true : (m : ℕ) (b : Bool) (s : Since) → since_after m b s ≡ Listed → b ≡ true
+listed_true m true s e = refl
+listed_true m false Never e = cc
+listed_true m false Listed e = cc
+listed_true m false (Dropped k) e = cc
+
+dropped_cases : (m k : ℕ) (b : Bool) (s : Since) → since_after m b s ≡ Dropped k → (k ≡ m) ⊎ (s ≡ Dropped k)
+dropped_cases m k true s e = absurd (never e)
+  where
+    never : Listed ≡ Dropped k → ⊥
+    never x = cc
+dropped_cases m k false Never e = inr e
+dropped_cases m k false Listed e = inl (same (sym e))
+  where
+    same : Dropped k ≡ Dropped m → k ≡ m
+    same x = cc
+dropped_cases m k false (Dropped j) e = inr e
+
+pub last_in : (lists : SpotLists) → HasList lists (last_list lists)
+last_in lists = at lists.first lists.second
+  where
+    at : (first : List Spot) (second : Option (List Spot)) → (first ≡ last_or first second) ⊎ (second ≡ Some (last_or first second))
+    at first None = inl refl
+    at first (Some list) = inr refl
+
+-- the last table is firm now
+pub settle_places : (family : List Table) (firm : Option ℕ) (places : List Place) (floor : ℕ) (lost : List DriveNo) (deleted : Option Spot) (took : Spot → Bool) (set : Bool)
+    → TablesOk set family → AllCommon family firm → PlacesOk family firm places floor lost deleted → 0 < length family → deleted ≡ None
+    → ((p : Spot) → took p ≡ true → HasTaken family places p) → is_written (table_at family (length family - 1)) took ≡ true
+    → IsAlone family firm (table_at family (length family - 1)) → PlacesOk family (Some (length family - 1)) (map (with_since (length family - 1) (last_list (lists_at family (length family - 1)))) places) floor lost deleted
+settle_places family firm places floor lost deleted took set tables common ok some there taken written alone =
+    let m = length family - 1 in
+    let hm : m < length family = omega (arith, some) in
+    let list = last_list (lists_at family m) in
+    let new = map (with_since m list) places in
+    let cases = λ (q : Spot). map_at places q (with_since m list) (λ x. refl) in
+    let held = λ (q : Spot). elim (cases q) as (λ c. holds new q ≡ holds places q) [ inl a ↦ ap (λ (x : Place). x.holds) a | inr b ↦ ap (λ (x : Place). x.holds) b.0 ∙ sym (ap (λ (x : Place). x.holds) b.1) ] in
+    let shows = λ (q : Spot). elim (cases q) as (λ c. newest new q ≡ newest places q) [ inl a ↦ ap (λ (x : Place). x.newest) a | inr b ↦ ap (λ (x : Place). x.newest) b.0 ∙ sym (ap (λ (x : Place). x.newest) b.1) ] in
+    let stands = λ (q : Spot). elim (cases q) as (λ c. (since new q ≡ since_after m (is_in list q) (since places q)) ⊎ ((since new q ≡ Never) × (since places q ≡ Never) × (holds places q ≡ false))) [
+      | inl a ↦ inl (ap (λ (x : Place). x.since) a ∙ ap (λ (s : Spot). since_after m (is_in list s) (since places q)) (spot_at places q))
+      | inr b ↦ inr (ap (λ (x : Place). x.since) b.0, ap (λ (x : Place). x.since) b.1, ap (λ (x : Place). x.holds) b.1)
+    ] in
+    let is_m = λ (f : ℕ) (e : Some m ≡ Some f). some_same m f e in
+    let live_m : IsLive firm m = λ f e. (let hf = ok.firm_in f e in omega (arith, hf)) in
+    record {
+      firm_in = λ f e. let same = is_m f e in omega (arith, same, hm);
+      shows = λ q j e. ok.shows q j (sym (shows q) ∙ e);
+      beaten = λ f i e h.
+          let him : i < m = (let same = is_m f e in omega (arith, same, h)) in
+          let hi : i < length family = omega (arith, him, hm) in
+          elim (live_or_below firm i) [
+            | inl live ↦ inr (λ read knows r.
+                let c = common i m hi hm live live_m in
+                let found = written_meets family firm (table_at family i) (table_at family m) took read knows c (λ half nobody. alone half nobody i hi live) written r in
+                let q = found.0 in
+                let t = taken q found.1 in
+                let late : is_in c.list q ≡ true → Late (since new q) i =
+                λ on. elim (stands q) [
+                  | inl s ↦ subst (λ (z : Since). Late z i) (sym s) (elim c.last [
+                    | inl last ↦ subst (λ (b : Bool). Late (since_after m b (since places q)) i) (sym (subst (λ (l : List Spot). is_in l q ≡ true) last on)) tt
+                    | inr old ↦
+                        let is = ok.listed old.0 q old.1 (subst (λ (l : List Spot). is_in l q ≡ true) old.2 on) t.held in
+                        late_after m i (is_in list q) (since places q) him (subst (λ (z : Since). Late z i) (sym is) tt)
+                  ])
+                  | inr blank ↦ absurd (false≢true (sym blank.2 ∙ t.held))
+                ] in
+                record {
+                  place = q;
+                  was_read = found.2;
+                  late = elim found.3 [
+                    | inl on ↦ inl ((tables.lists i hi).places c.list q c.in_a on, late on)
+                    | inr seat ↦ inr ((tables.lists i hi).seats q seat.0, seat.1)
+                  ];
+                  above = subst (λ (o : Option ℕ). Above o i) (sym (shows q ∙ t.shows)) him;
+                })
+            | inr below ↦ elim (ok.beaten below.0 i below.1 below.2) [
+              | inl low ↦ inl low
+              | inr beats ↦ inr (λ read knows r.
+                  let b = beats read knows r in
+                  let late : Late (since places b.place) i → Late (since new b.place) i = λ was. elim (stands b.place) [
+                    | inl s ↦ subst (λ (z : Since). Late z i) (sym s) (late_after m i (is_in list b.place) (since places b.place) him was)
+                    | inr blank ↦ absurd (subst (λ (z : Since). Late z i) blank.1 was)
+                  ] in
+                  record {
+                    place = b.place;
+                    was_read = b.was_read;
+                    late = elim b.late [ inl a ↦ inl (a.0, late a.1) | inr seat ↦ inr seat ];
+                    above = subst (λ (o : Option ℕ). Above o i) (sym (shows b.place)) b.above;
+                  })
+            ]
+          ];
+      numbers = λ i u read knows hi hu live r. inl (boots_rise set family tables u i (let up = live m refl in omega (arith, up, hu)) hi);
+      clean = λ q j place h up e. ok.clean q j place (sym (held q) ∙ h) up (sym (shows q) ∙ e);
+      listed = λ f q e has h. elim (stands q) [
+        | inl s ↦ s ∙ ap (λ (b : Bool). since_after m b (since places q)) (subst (λ (k : ℕ). is_in (last_list (lists_at family k)) q ≡ true) (sym (is_m f e)) has)
+        | inr blank ↦ absurd (false≢true (sym blank.2 ∙ sym (held q) ∙ h))
+      ];
+      listed_in = λ q e. elim (stands q) [
+        | inl s ↦ (m, refl, listed_true m (is_in list q) (since places q) (sym s ∙ e))
+        | inr blank ↦ absurd (not_listed (sym blank.0 ∙ e))
+      ];
+      dropped = λ q k e. elim (stands q) [
+        | inl s ↦ elim (dropped_cases m k (is_in list q) (since places q) (sym s ∙ e)) [ inl same ↦ omega (arith, same) | inr old ↦ ok.dropped q k old ]
+        | inr blank ↦ absurd (not_dropped k (sym blank.0 ∙ e))
+      ];
+      low = ok.low;
+      covered = λ f e still.
+          subst (λ (k : ℕ). IsCovered family new k) (is_m f e) (
+            took,
+            written,
+            λ q h.
+                let t = taken q h in
+                record { held = held q ∙ t.held; table = m; shows = shows q ∙ t.shows; above = omega arith; named = t.named },
+          );
+      gone = λ q e. absurd (none_some q (sym there ∙ e));
+      unused = λ e. ok.unused (map_used places (with_since m list) e);
+    }
+  where
+    not_listed : Never ≡ Listed → ⊥
+    not_listed e = cc
+
+    not_dropped : (k : ℕ) → Never ≡ Dropped k → ⊥
+    not_dropped k e = cc
+
+pub settle_taken : (family : List Table) (places : List Place) (q : Spot) (list : List Spot) → HasTaken family places q → HasTaken family (map (with_since (length family - 1) list) places) q
+settle_taken family places q list t =
+    elim (map_at places q (with_since (length family - 1) list) (λ x. refl)) [
+      | inl a ↦ record { shows = ap (λ (x : Place). x.newest) a ∙ t.shows; held = ap (λ (x : Place). x.holds) a ∙ t.held; named = t.named }
+      | inr b ↦ absurd (false≢true (sym (ap (λ (x : Place). x.holds) b.1) ∙ t.held))
+    ]
+
+-- a list meets itself
+pub seats_itself : (list : List Spot) → SeatsMeet list list
+seats_itself list took read most asked = meet took read list (half_of_majority took list most) asked
+
+pub itself_common : (family : List Table) (firm : Option ℕ) (lists : SpotLists) → IsCommon family firm lists lists
+itself_common family firm lists = record { list = last_list lists; in_a = last_in lists; in_b = last_in lists; seats = seats_itself lists.mediators; last = inl refl }
+
+-- below the last table none is live any more
+only_last : (family : List Table) (i : ℕ) → 0 < length family → i < length family → IsLive (Some (length family - 1)) i → i ≡ length family - 1
+only_last family i some h live = let up = live (length family - 1) refl in omega (arith, up, h, some)
+
+pub settle_common : (family : List Table) → 0 < length family → AllCommon family (Some (length family - 1))
+settle_common family some i j hi hj li lj =
+    let ei = only_last family i some hi li in
+    let ej = only_last family j some hj lj in
+    subst (λ (k : ℕ). IsCommon family (Some (length family - 1)) (lists_at family i) (lists_at family k)) (ei ∙ sym ej) (itself_common family (Some (length family - 1)) (lists_at family i))
+
+pub prefix_itself : (xs : List ℕ) → IsPrefix xs xs
+prefix_itself xs = ([], append-nil xs)
+
+pub settle_plans : (family : List Table) (firm : Option ℕ) (log told : List ℕ) → 0 < length family → ((f : ℕ) → firm ≡ Some f → f < length family) → PlansOk family firm log told → PlansOk family (Some (length family - 1)) log told
+settle_plans family firm log told some firm_in ok =
+    let live_old : (i : ℕ) → i < length family → IsLive (Some (length family - 1)) i → IsLive firm i
+    = λ i h live f e. (let same = only_last family i some h live in let hf = firm_in f e in omega (arith, same, hf)) in
+    record {
+      issued = λ i h live. ok.issued i h (live_old i h live);
+      holds_told = λ i h live. ok.holds_told i h (live_old i h live);
+      descends = λ f i e le h.
+          let same_f = some_same (length family - 1) f e in
+          let same : f ≡ i = omega (arith, same_f, le, h) in
+          subst (λ (k : ℕ). IsPrefix (plan_at family f) (plan_at family k)) same (prefix_itself (plan_at family f));
+      nothing = λ e. absurd (some_none e);
+    }
+  where
+    some_none : Some (length family - 1) ≡ None → ⊥
+    some_none e = cc

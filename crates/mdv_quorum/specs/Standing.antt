@@ -1,0 +1,142 @@
+-- What holds of the replicas and mediators of one database after every list of events.
+use Rattle.std.specs.Prelude.{◌≡◌, ℕ, ◌+◌, ◌-◌, ◌<◌, ◌≤◌, ◌⊎◌, Bool, true, false, List, [], ◌∷◌, ◌++◌, Option, None, Some, length, option_to_list, Contains, IsTrue}
+use Rattle.mdv_base.specs.Mark.{IsBelow}
+use Rattle.mdv_quorum.specs.declared.spot.Spot.{Spot}
+use Rattle.mdv_quorum.specs.declared.spot.Event.{Event}
+use Rattle.mdv_quorum.specs.declared.spot.Event.TheVariants.{Told}
+use Rattle.mdv_quorum.specs.declared.table.Table.{Table}
+use Rattle.mdv_quorum.specs.declared.core.Core.{Core}
+use Rattle.mdv_quorum.specs.declared.core.Stage.{Stage}
+use Rattle.mdv_quorum.specs.declared.core.Stage.TheVariants.{Reading, Creating, Claiming, Writing, Ready}
+use Rattle.mdv_quorum.specs.Quorum.{is_written, is_read}
+use Rattle.mdv_quorum.specs.Family.{table_at, place_at, boot_of, knows_above}
+use Rattle.mdv_quorum.specs.World.{start, after_all}
+use Rattle.mdv_quorum.specs.May.{is_up, MayAll}
+
+abbrev pub newest_at : Core → Spot → Option ℕ
+newest_at w p = (place_at w.places p).newest
+
+abbrev pub table_of : Core → ℕ → Table
+table_of w i = table_at w.family i
+
+-- a table has the plan of the one from which it was made, or that plan after the change that it adds
+abbrev pub IsMade : Core → ℕ → Option ℕ → Type 0
+IsMade w i None = (table_of w i).plan ≡ option_to_list (table_of w i).change
+IsMade w i (Some k) = (k < i) × ((table_of w i).plan ≡ (table_of w k).plan ++ option_to_list (table_of w i).change)
+
+-- Each table that a place shows is in the family, marks rise along it, so that a mark names one
+-- table, and each table was made from an earlier one.
+pub record IsFamily (w : Core) : Type 0 where
+  pub shown : (p : Spot) (i : ℕ) → newest_at w p ≡ Some i → i < length w.family
+  pub marks : (i j : ℕ) → i < j → j < length w.family → IsBelow (table_of w i).mark (table_of w j).mark
+  pub made : (i : ℕ) → i < length w.family → IsMade w i (table_of w i).parent
+
+abbrev pub IsFront : List ℕ → List ℕ → Type 0
+IsFront xs ys = (rest : List ℕ) × (xs ++ rest ≡ ys)
+
+abbrev pub HasEach : List ℕ → List ℕ → Type 0
+HasEach changes plan = (c : ℕ) → Contains changes c → Contains plan c
+
+-- The firm table has every change that was told, each greater table descends from it, and the plan
+-- of each is the front of the changes that were issued and not struck.
+pub record IsDescended (w : Core) : Type 0 where
+  pub acknowledged : (f : ℕ) → w.firm ≡ Some f → HasEach w.told (table_of w f).plan
+  pub nothing : w.firm ≡ None → w.told ≡ []
+  pub descends : (f i : ℕ) → w.firm ≡ Some f → f ≤ i → i < length w.family → IsFront (table_of w f).plan (table_of w i).plan
+  pub issued : (f i : ℕ) → w.firm ≡ Some f → f ≤ i → i < length w.family → IsFront (table_of w i).plan w.log
+
+-- a replica or a mediator's block of the form, lost or not, that shows this table or a greater one
+pub record HoldsAtLeast (w : Core) (i : ℕ) (p : Spot) : Type 0 where
+  pub formed : IsTrue (place_at w.places p).holds
+  pub table : ℕ
+  pub shows : newest_at w p ≡ Some table
+  pub above : i ≤ table
+
+-- a write quorum holds the firm table or a greater one
+abbrev pub IsHeld : Core → ℕ → Type 0
+IsHeld w f = (took : Spot → Bool) × IsTrue (is_written (table_of w f) took) × ((p : Spot) → IsTrue (took p) → HoldsAtLeast w f p)
+
+-- a replica that the reader of its drive finds
+pub record IsReadable (w : Core) (p : Spot) : Type 0 where
+  pub place : p.mediator ≡ false
+  pub formed : IsTrue (place_at w.places p).holds
+  pub up : IsTrue (is_up w.lost p)
+
+-- whatever is a read quorum of this table, given what its mediators know
+abbrev pub Reads : Core → ℕ → (Spot → Bool) → Type 0
+Reads w i read = IsTrue (is_read (table_of w i) read (knows_above w.family w.places (table_of w i)))
+
+-- a place of what was read that isn't readable or shows a greater table
+pub record IsBeaten (w : Core) (i : ℕ) (read : Spot → Bool) : Type 0 where
+  pub place : Spot
+  pub was_read : IsTrue (read place)
+  pub shows : IsReadable w place → (j : ℕ) × (newest_at w place ≡ Some j) × (i < j)
+
+-- a table below the firm one that a readable place shows is beaten in each of its read quorums
+abbrev pub AreBeaten : Core → Type 0
+AreBeaten w =
+    (f i : ℕ) (p : Spot) (read : Spot → Bool) → w.firm ≡ Some f → i < f → IsReadable w p → newest_at w p ≡ Some i → Reads w i read → IsBeaten w i read
+
+-- a place or mediator of what was read whose claim or newest boot number is at least this one
+abbrev pub IsKnown : Core → (Spot → Bool) → ℕ → Type 0
+IsKnown w read n = (p : Spot) × IsTrue (read p) × ((n ≤ (place_at w.places p).claim) ⊎ (n ≤ boot_of w.family (newest_at w p)))
+
+-- Whoever reads a quorum of the firm table or of a greater one learns of each boot number of the
+-- family: it is none above that table's own, or a place that was read knows it.
+abbrev pub AreNumbersKnown : Core → Type 0
+AreNumbersKnown w =
+    (f i u : ℕ) (read : Spot → Bool) → w.firm ≡ Some f → f ≤ i → i < length w.family → u < length w.family → Reads w i read
+    → ((table_of w u).mark.boot ≤ (table_of w i).mark.boot) ⊎ IsKnown w read (table_of w u).mark.boot
+
+-- A boot that has drawn this number adopted a table whose plan is a front of the issued changes that
+-- has each one told, and none of the first tables of the family has its number.
+pub record Adopts (w : Core) (i number tables : ℕ) : Type 0 where
+  pub known : i < length w.family
+  pub issued : IsFront (table_of w i).plan w.log
+  pub told : HasEach w.told (table_of w i).plan
+  pub fresh : (u : ℕ) → u < tables → (table_of w u).mark.boot < number
+  pub there : w.deleted ≡ None
+
+abbrev pub AdoptsOf : Core → Option ℕ → Type 0
+AdoptsOf w None = Unit {0}
+AdoptsOf w (Some i) = Adopts w i (table_of w (length w.family - 1)).mark.boot (length w.family - 1) × ((table_of w (length w.family - 1)).plan ≡ (table_of w i).plan)
+
+abbrev pub BootsAt : Core → Stage → Type 0
+BootsAt w (Reading read) = Unit {0}
+BootsAt w (Creating next) = w.deleted ≡ None
+BootsAt w (Claiming i next claimed) = Adopts w i next.mark.boot (length w.family) × (next.plan ≡ (table_of w i).plan)
+BootsAt w (Writing boot took) = (w.deleted ≡ None) × AdoptsOf w boot
+BootsAt w (Ready next) = w.deleted ≡ None
+
+-- all of it
+pub record Standing (w : Core) : Type 0 where
+  pub family : IsFamily w
+  pub descent : IsDescended w
+  pub held : (f : ℕ) → w.firm ≡ Some f → w.deleted ≡ None → IsHeld w f
+  pub beaten : AreBeaten w
+  pub numbers : AreNumbersKnown w
+  -- what a boot adopts; once the database is deleted none goes past reading
+  pub boots : BootsAt w w.stage
+
+-- from nothing, by any list of events each of which may happen where it happens
+abbrev pub StandsAlways : Bool → List Event → Type 0
+StandsAlways set events = MayAll (start set) events → Standing (after_all (start set) events)
+
+-- the number of the boot in work, once it is drawn
+abbrev pub drawn_at : Core → Stage → Option ℕ
+drawn_at w (Reading read) = None
+drawn_at w (Creating next) = None
+drawn_at w (Claiming i next claimed) = Some next.mark.boot
+drawn_at w (Writing None took) = None
+drawn_at w (Writing (Some i) took) = Some (table_of w (length w.family - 1)).mark.boot
+drawn_at w (Ready next) = None
+
+abbrev pub drawn_number : Core → Option ℕ
+drawn_number w = drawn_at w w.stage
+
+-- a boot that is completed by these events and one that draws its number after further ones have
+-- different numbers, the later the greater
+abbrev pub NumbersRise : Bool → List Event → List Event → Type 0
+NumbersRise set events later =
+    (a b : ℕ) → MayAll (start set) (events ++ Told ∷ later) → drawn_number (after_all (start set) events) ≡ Some a
+    → drawn_number (after_all (start set) (events ++ Told ∷ later)) ≡ Some b → a < b

@@ -1,0 +1,10 @@
+pub mod GeometryCuts
+pub mod GeometryLines
+pub mod GeometryTables
+pub mod Lines
+pub mod Made
+pub mod Quiet
+pub mod Telling
+pub mod Turning
+mod Words
+mod Whole

@@ -1,0 +1,95 @@
+-- Calls that tell nothing and touch nothing outside a replica's place.
+use Rattle.std.proofs.Common.{◌≡◌, ℕ, ◌+◌, ◌≤◌, subst, slice_index_or, false, List, length, Option, refl, sym, ◌∙◌, ap, arith}
+use Rattle.mdv_shelf.specs.Tale.{Tale, Then, Synced, last}
+use Rattle.mdv_shelf.specs.Area.{range, joined}
+use Rattle.mdv_shelf.specs.Calls.{and_then}
+use Rattle.mdv_shelf.specs.Moments.{Moments, Ends}
+use Rattle.mdv_shelf.specs.Settle.{Settling, IsSynced}
+use Rattle.mdv_shelf.proofs.Blocks.{kept_unwritten, last_unwritten}
+use Rattle.mdv_shelf.proofs.Frame.{kept_outside_same, kept_outside_more, kept_outside_wider, within_range}
+use Rattle.mdv_shelf.proofs.Moments.{grew_one}
+use Rattle.mdv_shelf.proofs.Settled.{told_synced, synced_drive}
+use Rattle.mdv_replica.specs.declared.replica.PlaceAt.{PlaceAt}
+use Rattle.mdv_replica.specs.declared.replica.Slot.{Slot}
+use Rattle.mdv_replica.specs.declared.replica.Slot.TheVariants.{First, Second}
+use Rattle.mdv_replica.specs.Replica.{SlotWriting, Formatting, gate_at, body_at, IsOnDrive, IsPlaced, IsFormed}
+use Rattle.mdv_replica.specs.declared.replica.Head.{Head}
+use Rattle.mdv_run.specs.Database.{IsQuiet, with_blocks}
+
+pub quiet_same : (at : PlaceAt) (t : Tale) → IsQuiet at t t
+quiet_same at t = record { outside = kept_outside_same (range at.drive.0 at.first 8192) t; quiet = refl }
+
+pub quiet_more : (at : PlaceAt) (t u m : Tale) → IsQuiet at t u → IsQuiet at u m → IsQuiet at t m
+quiet_more at t u m first second = record {
+  outside = kept_outside_more (range at.drive.0 at.first 8192) t u m first.outside second.outside;
+  quiet = second.quiet ∙ first.quiet;
+}
+
+-- a sync
+pub quiet_synced : (at : PlaceAt) (t : Tale) → IsQuiet at t (Then t (Synced at.drive.0))
+quiet_synced at t = record {
+  outside = λ drive block out. kept_unwritten t (Synced at.drive.0) drive block refl;
+  quiet = told_synced t at.drive.0;
+}
+
+pub moments_synced : (at : PlaceAt) (old new : Option Tale) → new ≡ and_then old (Synced at.drive.0) → Moments (IsQuiet at) old new
+moments_synced at old new is t told_so = (
+  Then t (Synced at.drive.0),
+  is ∙ ap (λ (o : Option Tale). and_then o (Synced at.drive.0)) told_so,
+  grew_one (IsQuiet at t) t (Synced at.drive.0) (quiet_same at t) (quiet_synced at t),
+)
+
+pub ends_synced : (drive : ℕ) (old new : Option Tale) → new ≡ and_then old (Synced drive) → Ends (λ t u. IsSynced drive u) old new
+ends_synced drive old new is t told_so =
+    (Then t (Synced drive), is ∙ ap (λ (o : Option Tale). and_then o (Synced drive)) told_so, synced_drive t drive)
+
+pub ends_same : (drive : ℕ) (old new : Option Tale) → new ≡ and_then old (Synced drive) → Ends (λ t u. (block : ℕ) → last u drive block ≡ last t drive block) old new
+ends_same drive old new is t told_so =
+    (Then t (Synced drive), is ∙ ap (λ (o : Option Tale). and_then o (Synced drive)) told_so, λ block. last_unwritten t (Synced drive) drive block refl)
+
+-- a write within the place
+pub quiet_settling : (at : PlaceAt) (from : ℕ) (blocks : List (List ℕ)) (t m : Tale) → at.first ≤ from → from + length blocks ≤ at.first + 8192 → Settling at.drive.0 from blocks t m → IsQuiet at t m
+quiet_settling at from blocks t m low high settling = record {
+  outside = kept_outside_wider (range at.drive.0 from (length blocks)) (range at.drive.0 at.first 8192) t m
+      (λ drive block. within_range at.drive.0 from (length blocks) at.first 8192 drive block low high) settling.outside;
+  quiet = settling.quiet;
+}
+
+joined_within : (at : PlaceAt) (gate body count drive block : ℕ) → at.first ≤ gate → gate + 1 ≤ at.first + 8192 → at.first ≤ body → body + count ≤ at.first + 8192 → range at.drive.0 at.first 8192 drive block ≡ false → joined (range at.drive.0 gate 1) (range at.drive.0 body count) drive block ≡ false
+joined_within at gate body count drive block gate_low gate_high body_low body_high out =
+    rw (within_range at.drive.0 gate 1 at.first 8192 drive block gate_low gate_high out) (within_range at.drive.0 body count at.first 8192 drive block body_low body_high out)
+
+pub quiet_slot : (at : PlaceAt) (gate body : ℕ) (closed opened : List ℕ) (blocks : List (List ℕ)) (t m : Tale) → at.first ≤ gate → gate + 1 ≤ at.first + 8192 → at.first ≤ body → body + length blocks ≤ at.first + 8192 → SlotWriting at.drive.0 gate body closed opened blocks t m → IsQuiet at t m
+quiet_slot at gate body closed opened blocks t m gate_low gate_high body_low body_high writing = record {
+  outside = kept_outside_wider (joined (range at.drive.0 gate 1) (range at.drive.0 body (length blocks))) (range at.drive.0 at.first 8192) t m
+      (λ drive block. joined_within at gate body (length blocks) drive block gate_low gate_high body_low body_high) writing.outside;
+  quiet = writing.quiet;
+}
+
+pub quiet_format : (at : PlaceAt) (blank master : List ℕ) (rest : List (List ℕ)) (t m : Tale) → Formatting at blank master rest t m → IsQuiet at t m
+quiet_format at blank master rest t m formatting = record {
+  outside = kept_outside_wider (range at.drive.0 at.first 4) (range at.drive.0 at.first 8192) t m
+      (λ drive block. within_range at.drive.0 at.first 4 at.first 8192 drive block (omega arith) (omega arith)) formatting.outside;
+  quiet = formatting.quiet;
+}
+
+-- where gate and body of a slot lie
+pub record IsWithin (at : PlaceAt) (slot : Slot) : Type 0 where
+  pub gate_low : at.first ≤ gate_at at slot
+  pub gate_high : gate_at at slot + 1 ≤ at.first + 8192
+  pub body_low : at.first ≤ body_at at slot
+  pub body_high : body_at at slot + 1 ≤ at.first + 8192
+
+pub slot_within : (at : PlaceAt) (slot : Slot) → 16 ≤ at.place.blocks → at.place.blocks ≤ 8192 → IsWithin at slot
+slot_within at First least most = record { gate_low = omega arith; gate_high = omega arith; body_low = omega arith; body_high = omega arith }
+slot_within at Second least most = record { gate_low = omega arith; gate_high = omega arith; body_low = omega arith; body_high = omega arith }
+
+-- a place with the length that its master names
+pub placed_again : (sizes now : List ℕ) (at sized : PlaceAt) (head : Head) → now ≡ sizes → sized ≡ with_blocks at head.master.blocks → IsOnDrive sizes at → IsFormed at (slice_index_or sizes at.drive.0 0) head → IsPlaced now sized
+placed_again sizes now at sized head same is placed form =
+    let again : IsPlaced sizes (with_blocks at head.master.blocks) = record { drive = placed.drive; least = form.of_place.least; within = form.of_place.within; size = placed.size } in
+    subst (λ (s : List ℕ). IsPlaced s sized) (sym same) (subst (λ (p : PlaceAt). IsPlaced sizes p) (sym is) again)
+
+-- what is quiet at the place is quiet whatever length it has
+pub quiet_sized : (at : PlaceAt) (blocks : ℕ) (t m : Tale) → IsQuiet (with_blocks at blocks) t m → IsQuiet at t m
+quiet_sized at blocks t m quiet = record { outside = quiet.outside; quiet = quiet.quiet }

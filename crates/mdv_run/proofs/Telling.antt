@@ -1,0 +1,35 @@
+-- What a giving of replies does to the tale.
+use Rattle.std.proofs.Common.{◌≡◌, ℕ, List, [], length, take, Option, Some, refl, sym, ◌∙◌, ◌++◌, ap, arith}
+use Rattle.std.proofs.lemmas.List.{append-nil, take_all}
+use Rattle.mdv_shelf.specs.Tale.{Tale, Then, Gave, told}
+use Rattle.mdv_shelf.specs.Area.{KeptOutside, nowhere}
+use Rattle.mdv_shelf.specs.Calls.{and_then}
+use Rattle.mdv_shelf.proofs.Blocks.{kept_unwritten}
+use Rattle.mdv_shelf.proofs.Frame.{kept_outside_same}
+
+-- these bytes more were told, and no block was touched
+pub record Tells (t : Tale) (new : Option Tale) (bytes : List ℕ) : Type 0 where
+  pub after : Tale
+  pub is : new ≡ Some after
+  pub more : told after ≡ told t ++ bytes
+  pub kept : KeptOutside nowhere t after
+
+pub told_gave : (t : Tale) (piece : List ℕ) (count : ℕ) → told (Then t (Gave piece count)) ≡ told t ++ take count piece
+unfolding told
+told_gave t piece count = refl
+
+pub tells_nothing : (t : Tale) (new : Option Tale) → new ≡ Some t → Tells t new []
+tells_nothing t new is = record { after = t; is = is; more = sym (append-nil (told t)); kept = kept_outside_same nowhere t }
+
+pub tells_front : (t : Tale) (old new : Option Tale) (piece : List ℕ) (count : ℕ) → old ≡ Some t → new ≡ and_then old (Gave piece count) → Tells t new (take count piece)
+tells_front t old new piece count was is = record {
+  after = Then t (Gave piece count);
+  is = is ∙ ap (λ (o : Option Tale). and_then o (Gave piece count)) was;
+  more = told_gave t piece count;
+  kept = λ drive block out. kept_unwritten t (Gave piece count) drive block refl;
+}
+
+pub tells_whole : (t : Tale) (old new : Option Tale) (piece : List ℕ) → old ≡ Some t → new ≡ and_then old (Gave piece (length piece)) → Tells t new piece
+tells_whole t old new piece was is =
+    let front = tells_front t old new piece (length piece) was is in
+    record { after = front.after; is = front.is; more = front.more ∙ ap (λ (l : List ℕ). told t ++ l) (take_all (length piece) piece (omega arith)); kept = front.kept }

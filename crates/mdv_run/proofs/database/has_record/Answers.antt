@@ -1,0 +1,9 @@
+use Rattle.std.proofs.Common.{◌∙◌, ℕ, List, ap, subst, arith, IsTrue, ◌↔◌}
+use Rattle.mdv_shelf.specs.Tale.{last}
+use Rattle.mdv_run.specs.Record.{IsEmptyRecord}
+use Rattle.mdv_run.proofs.database.has_record.Goals as goal
+
+pub returns-clause-fits : goal.returns-clause-fits
+returns-clause-fits g c = λ t is.
+    let here = c.in_ok-read_body.ensures.reads.gave t is 0 (omega arith) ∙ ap (last t c.args.at.drive.0) (omega arith) in
+    subst (λ (body : List ℕ). IsTrue c.is_record.result ↔ IsEmptyRecord c.args.at.place c.args.bytes body) here c.is_record.ensures

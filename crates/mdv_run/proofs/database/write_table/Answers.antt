@@ -1,0 +1,31 @@
+use Rattle.std.proofs.Common.{[], ◌∷◌}
+use Rattle.mdv_shelf.proofs.Moments.{moments_weaker, moments_end, ends_both}
+use Rattle.mdv_replica.specs.declared.forms.Gate.TheVariants.{Closed, Open}
+use Rattle.mdv_replica.specs.Forms.{gate_text, block_of}
+use Rattle.mdv_replica.specs.Replica.{gate_at, body_at}
+use Rattle.mdv_run.specs.Record.{empty_record}
+use Rattle.mdv_run.specs.Database.{IsQuiet}
+use Rattle.mdv_run.proofs.Quiet.{quiet_slot, slot_within}
+use Rattle.mdv_run.proofs.database.write_table.Goals as goal
+
+pub returns-in_err-write_slot-clause-moments : goal.returns-in_err-write_slot-clause-moments
+returns-in_err-write_slot-clause-moments g c =
+    let within = slot_within c.args.at c.args.slot c.requires.placed.least c.requires.length in
+    let moments = rw c.record_block.ensures at c.write_slot.ensures.moments in
+    moments_weaker _ (IsQuiet c.args.at) _ _
+    (λ t m. quiet_slot c.args.at (gate_at c.args.at c.args.slot) (body_at c.args.at c.args.slot) (block_of (gate_text Closed)) (block_of (gate_text (Open c.args.mark 36))) (block_of (empty_record c.args.at.place) ∷ []) t m within.gate_low within.gate_high within.body_low within.body_high)
+    moments
+
+pub returns-clause-written : goal.returns-clause-written
+returns-clause-written g c =
+    let moments = rw c.record_block.ensures at c.write_slot.ensures.moments in
+    let settled = rw c.record_block.ensures at c.in_ok-write_slot.ensures.settled in
+    ends_both _ _ _ _ _ (λ t u way end. (way.outside, end)) (moments_end _ _ _ moments) settled
+
+pub returns-clause-moments : goal.returns-clause-moments
+returns-clause-moments g c =
+    let within = slot_within c.args.at c.args.slot c.requires.placed.least c.requires.length in
+    let moments = rw c.record_block.ensures at c.write_slot.ensures.moments in
+    moments_weaker _ (IsQuiet c.args.at) _ _
+    (λ t m. quiet_slot c.args.at (gate_at c.args.at c.args.slot) (body_at c.args.at c.args.slot) (block_of (gate_text Closed)) (block_of (gate_text (Open c.args.mark 36))) (block_of (empty_record c.args.at.place) ∷ []) t m within.gate_low within.gate_high within.body_low within.body_high)
+    moments

@@ -1,0 +1,18 @@
+//! The run of one host: it boots the state database from its drive, reads a script line by line, and
+//! tells a reply to each line.
+#![tactic(auto)]
+
+mod command;
+mod database;
+pub mod geometry;
+#[cfg(test)]
+mod geometry_tests;
+mod host;
+mod record;
+mod session;
+#[cfg(test)]
+mod session_tests;
+mod status;
+
+pub use session::run;
+pub use status::RunStatus;
