@@ -7,9 +7,9 @@ use Rattle.mdv_quorum.specs.declared.spot.Spot.{Spot}
 use Rattle.mdv_quorum.specs.declared.spot.SpotLists.{SpotLists}
 use Rattle.mdv_quorum.specs.declared.table.Table.{Table}
 use Rattle.mdv_quorum.specs.declared.table.Place.{Place}
-use Rattle.mdv_quorum.specs.declared.core.Core.{Core}
-use Rattle.mdv_quorum.specs.declared.core.Stage.{Stage}
-use Rattle.mdv_quorum.specs.declared.core.Stage.TheVariants.{Reading, Creating, Claiming, Writing, Ready}
+use Rattle.mdv_quorum.specs.declared.machine.Core.{Core}
+use Rattle.mdv_quorum.specs.declared.machine.Stage.{Stage}
+use Rattle.mdv_quorum.specs.declared.machine.Stage.TheVariants.{Reading, Creating, Claiming, Writing, Ready}
 use Rattle.mdv_quorum.specs.Spots.{is_in, is_named, is_none, same_spot}
 use Rattle.mdv_quorum.specs.Quorum.{is_read}
 use Rattle.mdv_quorum.specs.Family.{table_at, place_at, boot_of, put_at, with_claim, newest_of, greatest_of, knows_above, mark_below}

@@ -8,9 +8,9 @@ use Rattle.mdv_quorum.specs.declared.table.Table.{Table}
 use Rattle.mdv_quorum.specs.declared.table.Place.{Place}
 use Rattle.mdv_quorum.specs.declared.table.Since.{Since}
 use Rattle.mdv_quorum.specs.declared.table.Since.TheVariants.{Never, Listed, Dropped}
-use Rattle.mdv_quorum.specs.declared.core.Core.{Core}
-use Rattle.mdv_quorum.specs.declared.core.Stage.{Stage}
-use Rattle.mdv_quorum.specs.declared.core.Stage.TheVariants.{Reading, Creating, Claiming, Writing, Ready}
+use Rattle.mdv_quorum.specs.declared.machine.Core.{Core}
+use Rattle.mdv_quorum.specs.declared.machine.Stage.{Stage}
+use Rattle.mdv_quorum.specs.declared.machine.Stage.TheVariants.{Reading, Creating, Claiming, Writing, Ready}
 use Rattle.mdv_quorum.specs.Spots.{is_in, is_named, last_list, is_majority}
 use Rattle.mdv_quorum.specs.Quorum.{is_read, is_written}
 use Rattle.mdv_quorum.specs.Family.{table_at, place_at, boot_of, mark_below}

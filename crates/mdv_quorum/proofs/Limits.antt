@@ -7,9 +7,9 @@ use Rattle.mdv_base.specs.declared.drive.DriveNo.{DriveNo}
 use Rattle.mdv_quorum.specs.declared.spot.Spot.{Spot}
 use Rattle.mdv_quorum.specs.declared.spot.SpotLists.{SpotLists}
 use Rattle.mdv_quorum.specs.declared.table.Table.{Table}
-use Rattle.mdv_quorum.specs.declared.core.Core.{Core}
-use Rattle.mdv_quorum.specs.declared.core.Stage.{Stage}
-use Rattle.mdv_quorum.specs.declared.core.Stage.TheVariants.{Reading, Creating, Claiming, Writing, Ready}
+use Rattle.mdv_quorum.specs.declared.machine.Core.{Core}
+use Rattle.mdv_quorum.specs.declared.machine.Stage.{Stage}
+use Rattle.mdv_quorum.specs.declared.machine.Stage.TheVariants.{Reading, Creating, Claiming, Writing, Ready}
 use Rattle.mdv_quorum.specs.Spots.{is_in, same_spot}
 use Rattle.mdv_quorum.specs.Quorum.{is_read}
 use Rattle.mdv_quorum.specs.Family.{table_at, newest_of, greatest_of, knows_above}

@@ -7,9 +7,9 @@ use Rattle.mdv_quorum.specs.declared.spot.Event.{Event}
 use Rattle.mdv_quorum.specs.declared.spot.Event.TheVariants.{Read, Claimed, Slotted, Formatted, Wiped, Lists, Told, Crash, Lose, Back}
 use Rattle.mdv_quorum.specs.declared.spot.SpotLists.{SpotLists}
 use Rattle.mdv_quorum.specs.declared.table.Table.{Table}
-use Rattle.mdv_quorum.specs.declared.core.Core.{Core}
-use Rattle.mdv_quorum.specs.declared.core.Stage.{Stage}
-use Rattle.mdv_quorum.specs.declared.core.Stage.TheVariants.{Reading, Creating, Claiming, Writing, Ready}
+use Rattle.mdv_quorum.specs.declared.machine.Core.{Core}
+use Rattle.mdv_quorum.specs.declared.machine.Stage.{Stage}
+use Rattle.mdv_quorum.specs.declared.machine.Stage.TheVariants.{Reading, Creating, Claiming, Writing, Ready}
 use Rattle.mdv_quorum.specs.Spots.{is_in, is_named}
 use Rattle.mdv_quorum.specs.Quorum.{is_written}
 use Rattle.mdv_quorum.specs.Family.{table_at, newest_of, change_at, wiped}

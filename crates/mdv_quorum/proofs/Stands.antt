@@ -7,9 +7,9 @@ use Rattle.mdv_base.specs.Mark.{IsBelow}
 use Rattle.mdv_quorum.specs.declared.spot.Spot.{Spot}
 use Rattle.mdv_quorum.specs.declared.spot.Event.{Event}
 use Rattle.mdv_quorum.specs.declared.table.Table.{Table}
-use Rattle.mdv_quorum.specs.declared.core.Core.{Core}
-use Rattle.mdv_quorum.specs.declared.core.Stage.{Stage}
-use Rattle.mdv_quorum.specs.declared.core.Stage.TheVariants.{Reading, Creating, Claiming, Writing, Ready}
+use Rattle.mdv_quorum.specs.declared.machine.Core.{Core}
+use Rattle.mdv_quorum.specs.declared.machine.Stage.{Stage}
+use Rattle.mdv_quorum.specs.declared.machine.Stage.TheVariants.{Reading, Creating, Claiming, Writing, Ready}
 use Rattle.mdv_quorum.specs.Family.{table_at, place_at, mark_below, knows_above}
 use Rattle.mdv_quorum.specs.World.{start, after_all}
 use Rattle.mdv_quorum.specs.May.{MayAll}

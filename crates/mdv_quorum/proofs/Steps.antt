@@ -9,7 +9,7 @@ use Rattle.mdv_quorum.specs.declared.spot.Spot.{Spot}
 use Rattle.mdv_quorum.specs.declared.spot.Event.{Event}
 use Rattle.mdv_quorum.specs.declared.spot.Event.TheVariants.{Read, Claimed, Slotted, Formatted, Wiped, Lists, Told, Crash, Lose, Back}
 use Rattle.mdv_quorum.specs.declared.table.Since.TheVariants.{Never, Listed, Dropped}
-use Rattle.mdv_quorum.specs.declared.core.Core.{Core}
+use Rattle.mdv_quorum.specs.declared.machine.Core.{Core}
 use Rattle.mdv_quorum.specs.World.{start, happens, after_all, without_drive, crashed}
 use Rattle.mdv_quorum.specs.May.{may, MayAll, is_up, is_lost, is_clean}
 use Rattle.mdv_quorum.proofs.Boots.{read_ok, claimed_ok}

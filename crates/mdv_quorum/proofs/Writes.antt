@@ -8,9 +8,9 @@ use Rattle.mdv_quorum.specs.declared.spot.SlotEnd.{SlotEnd}
 use Rattle.mdv_quorum.specs.declared.spot.SlotEnd.TheVariants.{Closed, Holds}
 use Rattle.mdv_quorum.specs.declared.table.Table.{Table}
 use Rattle.mdv_quorum.specs.declared.table.Place.{Place}
-use Rattle.mdv_quorum.specs.declared.core.Core.{Core}
-use Rattle.mdv_quorum.specs.declared.core.Stage.{Stage}
-use Rattle.mdv_quorum.specs.declared.core.Stage.TheVariants.{Reading, Creating, Claiming, Writing, Ready}
+use Rattle.mdv_quorum.specs.declared.machine.Core.{Core}
+use Rattle.mdv_quorum.specs.declared.machine.Stage.{Stage}
+use Rattle.mdv_quorum.specs.declared.machine.Stage.TheVariants.{Reading, Creating, Claiming, Writing, Ready}
 use Rattle.mdv_quorum.specs.Spots.{is_in, is_named, same_spot, last_list}
 use Rattle.mdv_quorum.specs.Quorum.{is_read, is_written, is_claimed}
 use Rattle.mdv_quorum.specs.Family.{table_at, place_at, put_at, with_newest}

@@ -8,9 +8,9 @@ use Rattle.mdv_quorum.specs.declared.spot.Event.{Event}
 use Rattle.mdv_quorum.specs.declared.spot.Event.TheVariants.{Read, Claimed, Slotted, Formatted, Wiped, Lists, Told, Crash, Lose, Back}
 use Rattle.mdv_quorum.specs.declared.table.Table.{Table}
 use Rattle.mdv_quorum.specs.declared.table.Place.{Place}
-use Rattle.mdv_quorum.specs.declared.core.Core.{Core}
-use Rattle.mdv_quorum.specs.declared.core.Stage.{Stage}
-use Rattle.mdv_quorum.specs.declared.core.Stage.TheVariants.{Reading, Creating, Claiming, Writing, Ready}
+use Rattle.mdv_quorum.specs.declared.machine.Core.{Core}
+use Rattle.mdv_quorum.specs.declared.machine.Stage.{Stage}
+use Rattle.mdv_quorum.specs.declared.machine.Stage.TheVariants.{Reading, Creating, Claiming, Writing, Ready}
 use Rattle.mdv_quorum.specs.Spots.{same_spot, is_in, is_named, is_none, in_second}
 use Rattle.mdv_quorum.specs.Quorum.{is_written, is_claimed, is_read}
 use Rattle.mdv_quorum.specs.Family.{table_at, place_at, newest_of, greatest_of, knows_above}

@@ -5,9 +5,9 @@ use Rattle.mdv_quorum.specs.declared.spot.Spot.{Spot}
 use Rattle.mdv_quorum.specs.declared.spot.Event.{Event}
 use Rattle.mdv_quorum.specs.declared.spot.Event.TheVariants.{Told}
 use Rattle.mdv_quorum.specs.declared.table.Table.{Table}
-use Rattle.mdv_quorum.specs.declared.core.Core.{Core}
-use Rattle.mdv_quorum.specs.declared.core.Stage.{Stage}
-use Rattle.mdv_quorum.specs.declared.core.Stage.TheVariants.{Reading, Creating, Claiming, Writing, Ready}
+use Rattle.mdv_quorum.specs.declared.machine.Core.{Core}
+use Rattle.mdv_quorum.specs.declared.machine.Stage.{Stage}
+use Rattle.mdv_quorum.specs.declared.machine.Stage.TheVariants.{Reading, Creating, Claiming, Writing, Ready}
 use Rattle.mdv_quorum.specs.Quorum.{is_written, is_read}
 use Rattle.mdv_quorum.specs.Family.{table_at, place_at, boot_of, knows_above}
 use Rattle.mdv_quorum.specs.World.{start, after_all}

@@ -12,9 +12,9 @@ use Rattle.mdv_quorum.specs.declared.table.Table.{Table}
 use Rattle.mdv_quorum.specs.declared.table.Place.{Place}
 use Rattle.mdv_quorum.specs.declared.table.Since.{Since}
 use Rattle.mdv_quorum.specs.declared.table.Since.TheVariants.{Never, Listed, Dropped}
-use Rattle.mdv_quorum.specs.declared.core.Core.{Core}
-use Rattle.mdv_quorum.specs.declared.core.Stage.{Stage}
-use Rattle.mdv_quorum.specs.declared.core.Stage.TheVariants.{Reading, Creating, Claiming, Writing, Ready}
+use Rattle.mdv_quorum.specs.declared.machine.Core.{Core}
+use Rattle.mdv_quorum.specs.declared.machine.Stage.{Stage}
+use Rattle.mdv_quorum.specs.declared.machine.Stage.TheVariants.{Reading, Creating, Claiming, Writing, Ready}
 use Rattle.mdv_quorum.specs.Spots.{is_in, is_none, is_named, last_list, is_majority, covers, covers_second, last_or, same_spot, in_second}
 use Rattle.mdv_quorum.specs.Quorum.{is_written, is_claimed, is_read}
 use Rattle.mdv_quorum.specs.Family.{table_at, place_at, change_at, put_at, with_claim, with_newest, with_since, wiped, formatted, newest_of, greatest_of, knows_above, boot_of}

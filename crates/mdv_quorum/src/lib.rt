@@ -2,8 +2,8 @@
 //! of a database is in force: a pure machine over what happens to them.
 #![tactic(auto)]
 
-mod core;
 mod family;
+mod machine;
 mod may;
 mod places;
 mod quorum;
@@ -14,7 +14,7 @@ mod step;
 mod table;
 mod theorem;
 
-pub use core::Core;
+pub use machine::Core;
 pub use row::Row;
 pub use spot::{Event, SlotEnd, Spot, SpotList, SpotLists};
 pub use spots::{at_least_half, more_than_half};

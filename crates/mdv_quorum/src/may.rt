@@ -9,8 +9,8 @@ ghost use Rattle.mdv_quorum.specs.Quorum.{is_written as spec_is_written, is_clai
 ghost use Rattle.mdv_quorum.specs.Family.{knows_above as spec_knows_above};
 ghost use Rattle.mdv_quorum.specs.May.{is_place, all_second, shows_below as spec_shows_below, is_up as spec_is_up, is_clean_at as spec_is_clean_at, is_clean as spec_is_clean, is_clean_but as spec_is_clean_but, is_only_place as spec_is_only_place, is_lists as spec_is_lists, is_distinct as spec_is_distinct, is_one_more as spec_is_one_more, may_follow as spec_may_follow, is_lost as spec_is_lost, moves_on as spec_moves_on, same_second as spec_same_second};
 
-use crate::core::{Core, Stage};
 use crate::family::{greatest_of, mark_at, mark_below, newest_of, no_table, table_at};
+use crate::machine::{Core, Stage};
 use crate::places::place_at;
 use crate::quorum::is_written;
 use crate::spots::{is_half, is_in, is_majority, is_named, same_spot, same_spots};

@@ -4,8 +4,8 @@ ghost use Rattle.std.specs.Prelude.{◌≡◌, ◌^◌, ◌<◌, IfOk, IsTrue};
 ghost use Rattle.mdv_quorum.specs.Family.{place_at as spec_place_at};
 ghost use Rattle.mdv_quorum.specs.World.{rewritten_of, taken_after, places_after, raised as spec_raised, without_drive as spec_without_drive};
 
-use crate::core::{Core, Stage};
 use crate::family::{greatest_of, last_list, newest_of, no_table, table_at};
+use crate::machine::{Core, Stage};
 use crate::places::{format, place_at, set_claim, set_newest, settle, wipe};
 use crate::quorum::is_written;
 use crate::spots::{is_named, same_spots};
@@ -97,7 +97,7 @@ impl Core {
     ghost use Rattle.mdv_quorum.specs.World.{read as spec_read, claimed as spec_claimed, last_table as spec_last_table, settled, with_table, wrote as spec_wrote, slotted as spec_slotted, told_at, created, changed, same_spots as spec_same_spots, lists_at, formatted_seat, formatted_at, wiped_at, crashed, happens};
     ghost use Rattle.mdv_quorum.specs.May.{may_claim, may_slot, may_list, may, IsReady};
     ghost use Rattle.mdv_quorum.specs.Family.{put_at, formatted};
-    ghost use Rattle.mdv_quorum.specs.declared.core.Stage.TheVariants.{Writing};
+    ghost use Rattle.mdv_quorum.specs.declared.machine.Stage.TheVariants.{Writing};
 
     /// A boot knows what is at this place.
     fn read(&mut self, p: Spot) -> Result<(), AllocError>

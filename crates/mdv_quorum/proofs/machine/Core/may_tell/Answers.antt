@@ -4,7 +4,7 @@ use Rattle.mdv_quorum.specs.Spots.{is_in}
 use Rattle.mdv_quorum.specs.Quorum.{is_written}
 use Rattle.mdv_quorum.specs.World.{last_table}
 use Rattle.mdv_quorum.specs.May.{may_tell}
-use Rattle.mdv_quorum.proofs.core.Core.may_tell.Goals as goal
+use Rattle.mdv_quorum.proofs.machine.Core.may_tell.Goals as goal
 
 pub returns-in-Writing : goal.returns-in-Writing
 returns-in-Writing c =

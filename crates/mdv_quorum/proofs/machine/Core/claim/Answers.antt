@@ -4,7 +4,7 @@ use Rattle.mdv_quorum.specs.declared.table.Table.{Table}
 use Rattle.mdv_quorum.specs.declared.table.Place.{Place}
 use Rattle.mdv_quorum.specs.Family.{newest_of, greatest_of}
 use Rattle.mdv_quorum.proofs.Limits.{claim_fits}
-use Rattle.mdv_quorum.proofs.core.Core.claim.Goals as goal
+use Rattle.mdv_quorum.proofs.machine.Core.claim.Goals as goal
 
 pub rewritten-requires : goal.rewritten-requires
 rewritten-requires c =

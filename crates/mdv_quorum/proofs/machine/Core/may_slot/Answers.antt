@@ -3,7 +3,7 @@ use Rattle.mdv_quorum.specs.declared.spot.Spot.{Spot}
 use Rattle.mdv_quorum.specs.Spots.{is_in}
 use Rattle.mdv_quorum.specs.Quorum.{is_claimed}
 use Rattle.mdv_quorum.specs.May.{may_slot, is_target}
-use Rattle.mdv_quorum.proofs.core.Core.may_slot.Goals as goal
+use Rattle.mdv_quorum.proofs.machine.Core.may_slot.Goals as goal
 
 pub returns-in-Claiming : goal.returns-in-Claiming
 returns-in-Claiming c =

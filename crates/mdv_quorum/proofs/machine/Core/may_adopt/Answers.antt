@@ -6,8 +6,8 @@ use Rattle.mdv_quorum.specs.Spots.{is_in}
 use Rattle.mdv_quorum.specs.Quorum.{is_read}
 use Rattle.mdv_quorum.specs.Family.{knows_above, greatest_of}
 use Rattle.mdv_quorum.specs.May.{is_target}
-use Rattle.mdv_quorum.proofs.core.Core.may_adopt.Goals as goal
-use Rattle.mdv_quorum.proofs.core.Core.may_adopt.Goals.{After-is_read}
+use Rattle.mdv_quorum.proofs.machine.Core.may_adopt.Goals as goal
+use Rattle.mdv_quorum.proofs.machine.Core.may_adopt.Goals.{After-is_read}
 
 reads : (c : After-is_read) → c.is_read.result ≡ is_read c.args.table.now (is_in c.args.read.now) (knows_above c.args.self.now.family c.args.self.now.places c.args.table.now)
 reads c =

@@ -2,12 +2,12 @@ use Rattle.std.proofs.Common.{sym, ◌∙◌, ap, ◌≡◌, ◌-◌, List, ℕ,
 use Rattle.mdv_quorum.specs.declared.spot.Spot.{Spot}
 use Rattle.mdv_quorum.specs.declared.table.Table.{Table}
 use Rattle.mdv_quorum.specs.declared.table.Place.{Place}
-use Rattle.mdv_quorum.specs.declared.core.Stage.TheVariants.{Writing}
+use Rattle.mdv_quorum.specs.declared.machine.Stage.TheVariants.{Writing}
 use Rattle.mdv_quorum.specs.Spots.{is_in}
 use Rattle.mdv_quorum.specs.Quorum.{is_written}
 use Rattle.mdv_quorum.specs.Family.{table_at}
 use Rattle.mdv_quorum.specs.World.{settled, last_table, places_after}
-use Rattle.mdv_quorum.proofs.core.Core.write.Goals as goal
+use Rattle.mdv_quorum.proofs.machine.Core.write.Goals as goal
 
 pub returns : goal.returns
 returns c =

@@ -6,7 +6,7 @@ use Rattle.mdv_quorum.specs.Spots.{is_in}
 use Rattle.mdv_quorum.specs.Quorum.{is_read}
 use Rattle.mdv_quorum.specs.Family.{newest_of, knows_above, greatest_of, table_at}
 use Rattle.mdv_quorum.specs.May.{may_choose, is_target}
-use Rattle.mdv_quorum.proofs.core.Core.may_choose.Goals as goal
+use Rattle.mdv_quorum.proofs.machine.Core.may_choose.Goals as goal
 
 pub returns : goal.returns
 returns c =

@@ -1,5 +1,5 @@
 use Rattle.mdv_quorum.proofs.Limits.{commit_fits}
-use Rattle.mdv_quorum.proofs.core.Core.list.Goals as goal
+use Rattle.mdv_quorum.proofs.machine.Core.list.Goals as goal
 
 pub commit-requires-clause-changes : goal.commit-requires-clause-changes
 commit-requires-clause-changes c = (commit_fits c.args.self.now c.args.lists c.in-Ready.next c.in-Ready.is c.requires).0
