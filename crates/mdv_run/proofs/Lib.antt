@@ -2,8 +2,6 @@ pub mod GeometryCuts
 pub mod GeometryLines
 pub mod GeometryTables
 pub mod Lines
-pub mod Made
-pub mod Quiet
 pub mod Telling
 pub mod Turning
 mod Words

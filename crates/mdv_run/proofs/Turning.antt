@@ -15,7 +15,7 @@ use Rattle.mdv_run.specs.declared.status.RunStatus.{RunStatus}
 use Rattle.mdv_run.specs.declared.status.RunStatus.TheVariants.{ReadFault}
 use Rattle.mdv_run.specs.Run.{Failures, Outcome, Replied, Panicked, Follows, Runs, IsAnswered, IsCarriedOut, HasStatusCause, source_failed, replies_failed, drive_failed, refusal_line, place_of}
 use Rattle.mdv_run.specs.Turns.{outcome_of, IsTold, HasTurnCause, Leads, IsMadeSafe, identity_of}
-use Rattle.mdv_run.specs.Database.{IsSafe}
+use Rattle.mdv_store.specs.Database.{IsSafe}
 use Rattle.mdv_run.specs.declared.host.Host.{Host}
 use Rattle.mdv_base.specs.declared.name.Key.TheVariants.{Local}
 use Rattle.mdv_base.specs.declared.refusal.Refusal.TheVariants.{LineTooLong}

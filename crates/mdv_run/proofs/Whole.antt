@@ -9,14 +9,14 @@ use Rattle.mdv_shelf.specs.Calls.{Part, OnDrive}
 use Rattle.mdv_run.proofs.Turning.{rose_within}
 use Rattle.mdv_shelf.specs.Tale.{Tale, told, last}
 use Rattle.mdv_replica.specs.declared.replica.PlaceAt.{PlaceAt}
-use Rattle.mdv_run.specs.declared.database.BootEnd.{BootEnd}
-use Rattle.mdv_run.specs.declared.database.BootEnd.TheVariants.{Adopted, Empty, Down, Lost, Spent}
+use Rattle.mdv_store.specs.declared.database.BootEnd.{BootEnd}
+use Rattle.mdv_store.specs.declared.database.BootEnd.TheVariants.{Adopted, Empty, Down, Lost, Spent}
 use Rattle.mdv_run.specs.declared.geometry.SmallGeometry.{SmallGeometry}
 use Rattle.mdv_run.specs.declared.host.Host.{Host}
 use Rattle.mdv_run.specs.declared.host.State.{State}
 use Rattle.std.specs.Option.{IfSome}
 use Rattle.mdv_run.specs.declared.status.RunStatus.{RunStatus}
-use Rattle.mdv_run.specs.Database.{IsBooted, IsSafe}
+use Rattle.mdv_store.specs.Database.{IsBooted, IsSafe}
 use Rattle.mdv_run.specs.Run.{Failures, Runs, RunsFrom, start_of, booted_state, drive_failed, place_of}
 use Rattle.mdv_run.specs.Turns.{IsRun, IsWholeRun, IsMadeSafe, identity_of, drive_content}
 

@@ -12,8 +12,8 @@ use Rattle.mdv_shelf.specs.Calls.{Part, OnDrive, OnReplies}
 use Rattle.mdv_port.specs.Script.{Script, at_end, spent, too_long, line}
 use Rattle.mdv_replica.specs.declared.replica.PlaceAt.{PlaceAt}
 use Rattle.mdv_run.specs.declared.geometry.SmallGeometry.{SmallGeometry}
-use Rattle.mdv_run.specs.declared.database.BootEnd.{BootEnd}
-use Rattle.mdv_run.specs.declared.database.BootEnd.TheVariants as boot
+use Rattle.mdv_store.specs.declared.database.BootEnd.{BootEnd}
+use Rattle.mdv_store.specs.declared.database.BootEnd.TheVariants as boot
 use Rattle.mdv_run.specs.declared.host.State.{State}
 use Rattle.mdv_run.specs.declared.status.RunStatus.{RunStatus}
 use Rattle.mdv_run.specs.declared.status.RunStatus.TheVariants.{Done, SomeRefused, Usage, NoQuorum, Panic, ReadFault, WriteFault, NoMemory, TwoDatabases, ScriptTooLong, NumbersSpent}

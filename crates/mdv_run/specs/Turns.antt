@@ -13,8 +13,8 @@ use Rattle.mdv_run.specs.declared.session.Turn.{Turn}
 use Rattle.mdv_run.specs.declared.session.Turn.TheVariants.{On, Over}
 use Rattle.mdv_run.specs.declared.status.RunStatus.{RunStatus}
 use Rattle.mdv_run.specs.declared.status.RunStatus.TheVariants.{Panic, WriteFault}
-use Rattle.mdv_run.specs.Database.{IsSafe, IsBooted}
-use Rattle.mdv_run.specs.declared.database.BootEnd.{BootEnd}
+use Rattle.mdv_store.specs.Database.{IsSafe, IsBooted}
+use Rattle.mdv_store.specs.declared.database.BootEnd.{BootEnd}
 use Rattle.mdv_run.specs.declared.geometry.SmallGeometry.{SmallGeometry}
 use Rattle.mdv_run.specs.Geometry.{IsSmall}
 use Rattle.mdv_run.specs.Run.{Failures, Outcome, Replied, Panicked, Runs, HasStatusCause, RunsFrom, start_of, place_of, drive_failed}

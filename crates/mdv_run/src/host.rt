@@ -5,12 +5,12 @@ ghost use Rattle.mdv_shelf.specs.Calls.{OnDrive, Keeps};
 ghost use Rattle.mdv_shelf.specs.Moments.{Moments, Ends};
 ghost use Rattle.mdv_run.specs.declared.host.State.{State};
 ghost use Rattle.mdv_run.specs.Geometry.{IsSmall};
-ghost use Rattle.mdv_run.specs.Database.{IsQuiet};
+ghost use Rattle.mdv_store.specs.Database.{IsQuiet};
 ghost use Rattle.mdv_run.specs.Run.{Replied, place_of, refusal_line, ok_line, IsRefused, MayCreate, IsCreation, IsAnswered};
 ghost use Rattle.mdv_run.specs.Turns.{outcome_of, IsReady, IsSound, IsMadeSafe};
 
 use crate::command::read_line;
-use crate::database::{CreateFault, create};
+use mdv_store::{CreateFault, create};
 use crate::geometry::SmallGeometry;
 use arrayvec::ArrayString;
 use mdv_base::{DriveNo, Identity, Key, Place, Refusal, ReplyText, SliceName, StateWord};

@@ -3,12 +3,10 @@
 #![tactic(auto)]
 
 mod command;
-mod database;
 pub mod geometry;
 #[cfg(test)]
 mod geometry_tests;
 mod host;
-mod record;
 mod session;
 #[cfg(test)]
 mod session_tests;

@@ -4,15 +4,15 @@ ghost use Rattle.mdv_shelf.specs.Calls.{OnDrive, OnReplies, Keeps};
 ghost use Rattle.mdv_port.specs.Script.{Script, script_before, script_of};
 ghost use Rattle.mdv_base.specs.declared.name.Key.TheVariants.{Local};
 ghost use Rattle.mdv_run.specs.declared.geometry.SmallGeometry.{SmallGeometry};
-ghost use Rattle.mdv_run.specs.declared.database.BootEnd.{BootEnd};
+ghost use Rattle.mdv_store.specs.declared.database.BootEnd.{BootEnd};
 ghost use Rattle.mdv_run.specs.declared.host.State.{State};
-ghost use Rattle.mdv_run.specs.Database.{IsBooted};
+ghost use Rattle.mdv_store.specs.Database.{IsBooted};
 ghost use Rattle.mdv_run.specs.Run.{IsUsed, Failures, failures, Runs, HasStatusCause, status_of, start_of, booted_state};
 ghost use Rattle.mdv_run.specs.Turns.{IsReady, IsSound, IsMadeSafe, IsTold, IsOn, IsWholeRun, IsWithin, Leads, HasTurnCause};
 ghost use Rattle.mdv_shelf.specs.Area.{KeptOutside, nowhere};
 ghost use Rattle.mdv_base.specs.Causes.{Rose};
 
-use crate::database::{BootEnd, boot};
+use mdv_store::{BootEnd, boot};
 use crate::geometry::{SmallGeometry, read};
 use crate::host::{Answer, Host, State, carry_out, place_at, refused};
 use crate::status::RunStatus;

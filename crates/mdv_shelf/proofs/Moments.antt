@@ -1,6 +1,6 @@
 -- How stretches of calls are mapped and joined.
-use Rattle.std.proofs.Common.{◌≡◌, List, [], ◌∷◌, ◌++◌, Option, Some, refl, sym, ◌∙◌, ap, subst, arith}
-use Rattle.mdv_shelf.specs.Tale.{Tale, Then, Call, Wrote, Tore, Synced, Gave}
+use Rattle.std.proofs.Common.{◌≡◌, ℕ, suc, ◌+◌, List, [], ◌∷◌, ◌++◌, length, Option, Some, refl, sym, ◌∙◌, ap, subst, arith}
+use Rattle.mdv_shelf.specs.Tale.{Tale, Begun, Then, Call, Wrote, Tore, Synced, Gave}
 use Rattle.mdv_shelf.specs.Moments.{extended, During, Along, Grew, Moments, Ends}
 
 module _ (P Q : Tale → Type 0) (weaker : (m : Tale) → P m → Q m) where
@@ -115,4 +115,56 @@ moments_after R Q S P a b c before after first end second t is =
       two.1,
       grew_more (P t) t one.0 two.0 (grew_weaker (R t) (P t) t one.0 (before t) one.2)
           (grew_weaker (S one.0) (P t) one.0 two.0 (λ m. after t one.0 m known) two.2),
+    )
+
+-- how many calls a tale has
+size : Tale → ℕ
+size (Begun start) = 0
+size (Then t c) = suc (size t)
+
+size_extended : (t : Tale) (cs : List Call) → size (extended t cs) ≡ size t + length cs
+unfolding size
+size_extended t [] = omega arith
+size_extended t (c ∷ cs) = let rest = size_extended t cs in omega arith
+
+size_then : (t : Tale) (c : Call) (u : Tale) → Then t c ≡ u → size u ≡ size t + 1
+unfolding size
+size_then t c u is = ap size (sym is) ∙ omega arith
+
+same_then : (t u : Tale) (c d : Call) → Then t c ≡ Then u d → (t ≡ u) × (c ≡ d)
+same_then t u c d is = (cc (is), cc (is))
+
+-- calls that lead from one tale to another are the same calls
+same_calls : (t : Tale) (xs ys : List Call) → extended t xs ≡ extended t ys → xs ≡ ys
+same_calls t [] [] is = refl
+same_calls t [] (c ∷ ys) is = absurd (let one = size_then (extended t ys) c t (sym is) in let two = size_extended t ys in omega arith)
+same_calls t (c ∷ xs) [] is = absurd (let one = size_then (extended t xs) c t is in let two = size_extended t xs in omega arith)
+same_calls t (c ∷ xs) (d ∷ ys) is =
+    let same = same_then (extended t xs) (extended t ys) c d is in
+    let behind = same_calls t xs ys same.0 in cc (same.1, behind)
+
+during_both : (P Q : Tale → Type 0) (t : Tale) (c : Call) → During P t c → During Q t c → During (λ m. P m × Q m) t c
+during_both P Q t (Wrote drive at blocks) one other = (one, other)
+during_both P Q t (Tore drive at blocks took) one other = (one, other)
+during_both P Q t (Synced drive) one other = (one, other)
+during_both P Q t (Gave piece count) one other = λ k le. (one k le, other k le)
+
+along_both : (P Q : Tale → Type 0) (t : Tale) (cs : List Call) → Along P t cs → Along Q t cs → Along (λ m. P m × Q m) t cs
+along_both P Q t [] one other = (one, other)
+along_both P Q t (c ∷ cs) one other = (along_both P Q t cs one.0 other.0, during_both P Q (extended t cs) c one.1 other.1)
+
+-- what holds at each moment, and what else holds at each
+pub moments_both : (R S : Tale → Tale → Type 0) (a b : Option Tale) → Moments R a b → Moments S a b → Moments (λ t m. R t m × S t m) a b
+moments_both R S a b first second t is =
+    let one = first t is in
+    let other = second t is in
+    let same : other.0 ≡ one.0 = some_is b other.0 one.0 other.1 one.1 in
+    let calls : other.2.calls ≡ one.2.calls = same_calls t other.2.calls one.2.calls (sym other.2.led ∙ same ∙ one.2.led) in (
+      one.0,
+      one.1,
+      record {
+        calls = one.2.calls;
+        led = one.2.led;
+        each = along_both (R t) (S t) t one.2.calls one.2.each (subst (λ (cs : List Call). Along (S t) t cs) calls other.2.each);
+      },
     )

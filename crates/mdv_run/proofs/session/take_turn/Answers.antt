@@ -6,7 +6,7 @@ use Rattle.mdv_port.specs.declared.reader.LineEnd.TheVariants.{Line, TooLong, En
 use Rattle.mdv_shelf.specs.Tale.{told}
 use Rattle.mdv_shelf.specs.Calls.{OnDrive, OnReplies}
 use Rattle.mdv_shelf.proofs.Moments.{moments_end, ends_both}
-use Rattle.mdv_run.specs.Database.{IsQuiet}
+use Rattle.mdv_store.specs.Database.{IsQuiet}
 use Rattle.mdv_run.specs.Run.{Runs, refusal_line, place_of}
 use Rattle.mdv_run.specs.Turns.{IsMadeSafe}
 use Rattle.mdv_run.specs.declared.status.RunStatus.TheVariants.{ScriptTooLong}

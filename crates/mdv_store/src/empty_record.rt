@@ -4,7 +4,7 @@
 //     and ten zeros for the parts that are empty
 ghost use Rattle.std.specs.Prelude.{◌≡◌, ◌↔◌, length, take, IsTrue};
 ghost use Rattle.mdv_replica.specs.Forms.{block_of};
-ghost use Rattle.mdv_run.specs.Record.{empty_record, IsEmptyRecord};
+ghost use Rattle.mdv_store.specs.Record.{empty_record, IsEmptyRecord};
 
 use mdv_base::{Block, Place};
 use mdv_replica::Page;

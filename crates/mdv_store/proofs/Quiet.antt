@@ -1,7 +1,7 @@
 -- Calls that tell nothing and touch nothing outside a replica's place.
-use Rattle.std.proofs.Common.{◌≡◌, ℕ, ◌+◌, ◌≤◌, subst, slice_index_or, false, List, length, Option, refl, sym, ◌∙◌, ap, arith}
+use Rattle.std.proofs.Common.{◌≡◌, ℕ, ◌+◌, ◌≤◌, subst, slice_index_or, false, List, length, Option, Some, None, IfSome, refl, sym, ◌∙◌, ap, arith}
 use Rattle.mdv_shelf.specs.Tale.{Tale, Then, Synced, last}
-use Rattle.mdv_shelf.specs.Area.{range, joined}
+use Rattle.mdv_shelf.specs.Area.{KeptOutside, range, joined, nowhere}
 use Rattle.mdv_shelf.specs.Calls.{and_then}
 use Rattle.mdv_shelf.specs.Moments.{Moments, Ends}
 use Rattle.mdv_shelf.specs.Settle.{Settling, IsSynced}
@@ -14,7 +14,7 @@ use Rattle.mdv_replica.specs.declared.replica.Slot.{Slot}
 use Rattle.mdv_replica.specs.declared.replica.Slot.TheVariants.{First, Second}
 use Rattle.mdv_replica.specs.Replica.{SlotWriting, Formatting, gate_at, body_at, IsOnDrive, IsPlaced, IsFormed}
 use Rattle.mdv_replica.specs.declared.replica.Head.{Head}
-use Rattle.mdv_run.specs.Database.{IsQuiet, with_blocks}
+use Rattle.mdv_store.specs.Database.{IsQuiet, with_blocks}
 
 pub quiet_same : (at : PlaceAt) (t : Tale) → IsQuiet at t t
 quiet_same at t = record { outside = kept_outside_same (range at.drive.0 at.first 8192) t; quiet = refl }
@@ -43,9 +43,13 @@ pub ends_synced : (drive : ℕ) (old new : Option Tale) → new ≡ and_then old
 ends_synced drive old new is t told_so =
     (Then t (Synced drive), is ∙ ap (λ (o : Option Tale). and_then o (Synced drive)) told_so, synced_drive t drive)
 
-pub ends_same : (drive : ℕ) (old new : Option Tale) → new ≡ and_then old (Synced drive) → Ends (λ t u. (block : ℕ) → last u drive block ≡ last t drive block) old new
-ends_same drive old new is t told_so =
-    (Then t (Synced drive), is ∙ ap (λ (o : Option Tale). and_then o (Synced drive)) told_so, λ block. last_unwritten t (Synced drive) drive block refl)
+-- a sync writes no block
+pub unwritten_synced : (drive : ℕ) (old new : Option Tale) → new ≡ and_then old (Synced drive) → Moments (KeptOutside nowhere) old new
+unwritten_synced drive old new is t told_so = (
+  Then t (Synced drive),
+  is ∙ ap (λ (o : Option Tale). and_then o (Synced drive)) told_so,
+  grew_one (KeptOutside nowhere t) t (Synced drive) (kept_outside_same nowhere t) (λ other block out. kept_unwritten t (Synced drive) other block refl),
+)
 
 -- a write within the place
 pub quiet_settling : (at : PlaceAt) (from : ℕ) (blocks : List (List ℕ)) (t m : Tale) → at.first ≤ from → from + length blocks ≤ at.first + 8192 → Settling at.drive.0 from blocks t m → IsQuiet at t m
@@ -93,3 +97,7 @@ placed_again sizes now at sized head same is placed form =
 -- what is quiet at the place is quiet whatever length it has
 pub quiet_sized : (at : PlaceAt) (blocks : ℕ) (t m : Tale) → IsQuiet (with_blocks at blocks) t m → IsQuiet at t m
 quiet_sized at blocks t m quiet = record { outside = quiet.outside; quiet = quiet.quiet }
+
+pub if_some_weaker : {X : Type 0} → (o : Option X) (P Q : X → Type 0) → ((x : X) → P x → Q x) → IfSome o P → IfSome o Q
+if_some_weaker None P Q weaker is = tt
+if_some_weaker (Some x) P Q weaker is = weaker x is

@@ -1,16 +1,17 @@
-ghost use Rattle.std.specs.Prelude.{◌≡◌, ◌<◌, ◌≤◌, ◌^◌, length, slice_index, slice_index_or, Some, OnOk, OnErr, IfOk, IfSome, IsTrue, ◌↔◌, true, ℕ, ◌+◌, [], ◌∷◌};
+ghost use Rattle.std.specs.Prelude.{◌≡◌, ◌<◌, ◌≤◌, ◌^◌, length, slice_index, slice_index_or, Some, OnOk, OnErr, IfOk, IfSome, IsTrue, ◌↔◌, true, ℕ, List, Result, ◌+◌, [], ◌∷◌};
 ghost use Rattle.mdv_base.specs.Causes.{HasCause, Rose};
 ghost use Rattle.mdv_shelf.specs.Tale.{Tale, last};
-ghost use Rattle.mdv_shelf.specs.Area.{KeptOutside, joined, range};
+ghost use Rattle.mdv_shelf.specs.Area.{KeptOutside, nowhere};
 ghost use Rattle.mdv_shelf.specs.Calls.{OnDrive, Keeps, Took};
 ghost use Rattle.mdv_shelf.specs.Moments.{Moments, Ends};
 ghost use Rattle.mdv_shelf.specs.Settle.{IsSynced};
 ghost use Rattle.mdv_replica.specs.Replica.{IsOnDrive, IsPlaced, IsFormed, IsSlotWritten, gate_at, body_at};
 ghost use Rattle.mdv_replica.specs.Forms.{IsMark, IsMaster, block_of, gate_text};
-ghost use Rattle.mdv_run.specs.Record.{IsEmptyRecord, empty_record};
-ghost use Rattle.mdv_run.specs.Database.{master_of, IsFound, IsBooted, IsSafe, IsQuiet, IsSpareSlot, SlotFits, greatest, with_blocks, is_open, shows, boot_of};
+ghost use Rattle.mdv_store.specs.Record.{IsEmptyRecord, empty_record};
+ghost use Rattle.mdv_store.specs.Database.{master_of, IsReplica, IsFound, IsBooted, IsSafe, IsQuiet, IsSpareSlot, SlotFits, greatest, with_blocks, is_open, shows, boot_of, IsSame, TableImage, Rewrites, Leaves, claimed, slotted};
+ghost use Rattle.mdv_store.specs.Standing.{IsTheReplica, IsAdopted, IsBootedTo, IsCreatedTo, IsRefusal, ShowsNothing, GoesOn, GoesOnTo};
 
-use crate::record::{RECORD_BYTES, is_record, record_block};
+use crate::empty_record::{RECORD_BYTES, is_record, record_block};
 use mdv_base::{Failed, Identity, Key, Mark, NUMBER_LIMIT, Place, ZERO_BLOCK};
 use mdv_replica::{
     Gate, Head, Master, PlaceAt, Slot, format, inspect, read_body, write_claim, write_slot,
@@ -45,6 +46,15 @@ pub fn boot<S: Shelf>(shelf: &mut S, at: PlaceAt, key: &Key) -> BootEnd
     requires { IsOnDrive (S.sizes shelf.old) at }
     ensures booted { (t : Tale) → S.tale shelf.old ≡ Some t → IsBooted (Rose (S.faults shelf.old (OnDrive at.drive.0)) (S.faults shelf.new (OnDrive at.drive.0))) key.now at (slice_index_or (S.sizes shelf.old) at.drive.0 0) (last t at.drive.0) result }
     ensures moments { Moments (IsQuiet at) (S.tale shelf.old) (S.tale shelf.new) }
+
+    // An adoption is on the disk before it is answered. At each moment the log goes on.
+    ensures adopted { result ≡ BootEnd.Adopted → Ends (λ t u. IsAdopted key.now at (slice_index_or (S.sizes shelf.old) at.drive.0 0) (last t at.drive.0) u) (S.tale shelf.old) (S.tale shelf.new) }
+    ensures empty { result ≡ BootEnd.Empty → Ends (λ _ u. ShowsNothing key.now at (slice_index_or (S.sizes shelf.old) at.drive.0 0) u) (S.tale shelf.old) (S.tale shelf.new) }
+    ensures stays { Moments (GoesOn key.now at (slice_index_or (S.sizes shelf.old) at.drive.0 0)) (S.tale shelf.old) (S.tale shelf.new) }
+    ensures ends { Ends (GoesOnTo key.now at (slice_index_or (S.sizes shelf.old) at.drive.0 0) (IsBootedTo result)) (S.tale shelf.old) (S.tale shelf.new) }
+
+    // Each other answer has its cause, and then nothing is written but by an adoption that failed.
+    ensures refuses { IsRefusal result → Ends (KeptOutside nowhere) (S.tale shelf.old) (S.tale shelf.new) }
     ensures down { result ≡ BootEnd.Down → Rose (S.faults shelf.old (OnDrive at.drive.0)) (S.faults shelf.new (OnDrive at.drive.0)) }
     ensures lost { result ≡ BootEnd.Lost → Rose (S.faults shelf.old (OnDrive at.drive.0)) (S.faults shelf.new (OnDrive at.drive.0)) }
     ensures keeps { Keeps S.sizes S.faults S.rest S.held shelf.old shelf.new }
@@ -62,8 +72,9 @@ fn look<S: Shelf>(shelf: &mut S, at: PlaceAt, key: &Key) -> Result<Option<Head>,
     requires { IsOnDrive (S.sizes shelf.old) at }
     ensures form { IfOk result (λ found. IfSome found (IsFormed at (slice_index_or (S.sizes shelf.old) at.drive.0 0))) }
     ensures found { IfOk result (λ found. (t : Tale) → S.tale shelf.old ≡ Some t → IsFound key.now at (slice_index_or (S.sizes shelf.old) at.drive.0 0) (last t at.drive.0) found) }
+    ensures only { IfOk result (λ found. IfSome found (λ head. (t : Tale) → S.tale shelf.old ≡ Some t → (other : Head) → IsReplica key.now at (slice_index_or (S.sizes shelf.old) at.drive.0 0) (last t at.drive.0) other → other ≡ head)) }
     ensures synced { OnOk result (Ends (λ _ u. IsSynced at.drive.0 u) (S.tale shelf.old) (S.tale shelf.new)) }
-    ensures same { OnOk result (Ends (λ t u. (block : ℕ) → last u at.drive.0 block ≡ last t at.drive.0 block) (S.tale shelf.old) (S.tale shelf.new)) }
+    ensures unwritten { Moments (KeptOutside nowhere) (S.tale shelf.old) (S.tale shelf.new) }
     ensures moments { Moments (IsQuiet at) (S.tale shelf.old) (S.tale shelf.new) }
     ensures cause { HasCause (S.faults shelf.old (OnDrive at.drive.0)) (S.faults shelf.new (OnDrive at.drive.0)) result }
     ensures keeps { Keeps S.sizes S.faults S.rest S.held shelf.old shelf.new }
@@ -80,6 +91,7 @@ fn find<S: Shelf>(shelf: &mut S, at: PlaceAt, key: &Key) -> Result<Option<Head>,
     requires { IsOnDrive (S.sizes shelf.old) at }
     ensures form { IfOk result (λ found. IfSome found (IsFormed at (slice_index_or (S.sizes shelf.old) at.drive.0 0))) }
     ensures found { IfOk result (λ found. (t : Tale) → S.tale shelf.old ≡ Some t → IsFound key.now at (slice_index_or (S.sizes shelf.old) at.drive.0 0) (last t at.drive.0) found) }
+    ensures only { IfOk result (λ found. IfSome found (λ head. (t : Tale) → S.tale shelf.old ≡ Some t → (other : Head) → IsReplica key.now at (slice_index_or (S.sizes shelf.old) at.drive.0 0) (last t at.drive.0) other → other ≡ head)) }
     ensures same { S.tale shelf.new ≡ S.tale shelf.old }
     ensures cause { HasCause (S.faults shelf.old (OnDrive at.drive.0)) (S.faults shelf.new (OnDrive at.drive.0)) result }
     ensures keeps { Keeps S.sizes S.faults S.rest S.held shelf.old shelf.new }
@@ -176,6 +188,10 @@ fn adopt<S: Shelf>(shelf: &mut S, at: PlaceAt, head: &Head) -> BootEnd
     ensures spent { result ≡ BootEnd.Spent ↔ (2 ^ 63 ≤ greatest head.now + 1) }
     ensures lost { result ≡ BootEnd.Lost → Rose (S.faults shelf.old (OnDrive at.drive.0)) (S.faults shelf.new (OnDrive at.drive.0)) }
     ensures looked { (result ≡ BootEnd.Empty → ⊥) × (result ≡ BootEnd.Down → ⊥) }
+    ensures rewrites { result ≡ BootEnd.Adopted → Ends (λ t u. IsSynced at.drive.0 t → (key : Key) → IsTheReplica key at (slice_index_or (S.sizes shelf.old) at.drive.0 0) (last t at.drive.0) head.now → IsAdopted key at (slice_index_or (S.sizes shelf.old) at.drive.0 0) (last t at.drive.0) u) (S.tale shelf.old) (S.tale shelf.new) }
+    ensures stays { Moments (λ t m. IsSynced at.drive.0 t → (key : Key) → IsTheReplica key at (slice_index_or (S.sizes shelf.old) at.drive.0 0) (last t at.drive.0) head.now → GoesOn key at (slice_index_or (S.sizes shelf.old) at.drive.0 0) t m) (S.tale shelf.old) (S.tale shelf.new) }
+    ensures ends { Ends (λ t u. IsSynced at.drive.0 t → (key : Key) → IsTheReplica key at (slice_index_or (S.sizes shelf.old) at.drive.0 0) (last t at.drive.0) head.now → GoesOnTo key at (slice_index_or (S.sizes shelf.old) at.drive.0 0) (IsBootedTo result) t u) (S.tale shelf.old) (S.tale shelf.new) }
+    ensures refuses { IsRefusal result → S.tale shelf.new ≡ S.tale shelf.old }
     ensures moments { Moments (IsQuiet at) (S.tale shelf.old) (S.tale shelf.new) }
     ensures keeps { Keeps S.sizes S.faults S.rest S.held shelf.old shelf.new }
 {
@@ -199,6 +215,8 @@ fn rewrite<S: Shelf>(shelf: &mut S, at: PlaceAt, slot: Slot, mark: Mark) -> Resu
     requires boot { mark.boot < 2 ^ 63 }
     requires count { mark.count < 2 ^ 63 }
     requires length { at.place.blocks ≤ 8192 }
+    ensures leaves { Moments (Rewrites at slot mark) (S.tale shelf.old) (S.tale shelf.new) }
+    ensures written { OnOk result (Ends (Leaves at.drive.0 (λ old new. IsSame (slotted at slot mark (claimed at mark.boot old)) new)) (S.tale shelf.old) (S.tale shelf.new)) }
     ensures moments { Moments (IsQuiet at) (S.tale shelf.old) (S.tale shelf.new) }
     ensures cause { HasCause (S.faults shelf.old (OnDrive at.drive.0)) (S.faults shelf.new (OnDrive at.drive.0)) result }
     ensures keeps { Keeps S.sizes S.faults S.rest S.held shelf.old shelf.new }
@@ -212,7 +230,9 @@ fn write_table<S: Shelf>(shelf: &mut S, at: PlaceAt, slot: Slot, mark: Mark) -> 
     requires placed { IsPlaced (S.sizes shelf.old) at }
     requires mark { IsMark mark }
     requires length { at.place.blocks ≤ 8192 }
-    ensures written { OnOk result (Ends (λ t u. KeptOutside (joined (range at.drive.0 (gate_at at slot) 1) (range at.drive.0 (body_at at slot) 1)) t u × IsSlotWritten at.drive.0 (gate_at at slot) (body_at at slot) (block_of (gate_text (Gate.Open mark 36))) (block_of (empty_record at.place) ∷ []) u) (S.tale shelf.old) (S.tale shelf.new)) }
+    ensures leaves { Moments (Leaves at.drive.0 (TableImage at slot mark)) (S.tale shelf.old) (S.tale shelf.new) }
+    ensures written { OnOk result (Ends (Leaves at.drive.0 (λ old new. IsSame (slotted at slot mark old) new)) (S.tale shelf.old) (S.tale shelf.new)) }
+    ensures synced { OnOk result (Ends (λ _ u. IsSynced at.drive.0 u) (S.tale shelf.old) (S.tale shelf.new)) }
     ensures moments { Moments (IsQuiet at) (S.tale shelf.old) (S.tale shelf.new) }
     ensures cause { HasCause (S.faults shelf.old (OnDrive at.drive.0)) (S.faults shelf.new (OnDrive at.drive.0)) result }
     ensures counted { OnOk result (Took S.calls S.written shelf.old shelf.new 6 3) }
@@ -270,6 +290,11 @@ pub fn create<S: Shelf>(
     requires master { IsMaster (master_of at key.now identity) }
     ensures safe { OnOk result (Ends (λ _ u. IsSafe key.now at (slice_index_or (S.sizes shelf.old) at.drive.0 0) identity (record { boot = 1; count = 0 }) u) (S.tale shelf.old) (S.tale shelf.new)) }
     ensures moments { Moments (IsQuiet at) (S.tale shelf.old) (S.tale shelf.new) }
+
+    // Where nothing was there, the log goes on at each moment.
+    ensures stays { Moments (λ t m. ShowsNothing key.now at (slice_index_or (S.sizes shelf.old) at.drive.0 0) t → GoesOn key.now at (slice_index_or (S.sizes shelf.old) at.drive.0 0) t m) (S.tale shelf.old) (S.tale shelf.new) }
+    ensures ends { Ends (λ t u. ShowsNothing key.now at (slice_index_or (S.sizes shelf.old) at.drive.0 0) t → GoesOnTo key.now at (slice_index_or (S.sizes shelf.old) at.drive.0 0) (IsCreatedTo identity result) t u) (S.tale shelf.old) (S.tale shelf.new) }
+    ensures failed { result ≡ Result.Err CreateFault.Failed → Ends (λ t u. ShowsNothing key.now at (slice_index_or (S.sizes shelf.old) at.drive.0 0) t → ShowsNothing key.now at (slice_index_or (S.sizes shelf.old) at.drive.0 0) u) (S.tale shelf.old) (S.tale shelf.new) }
     ensures cause { HasCause (S.faults shelf.old (OnDrive at.drive.0)) (S.faults shelf.new (OnDrive at.drive.0)) result }
     ensures counted { OnOk result (Took S.calls S.written shelf.old shelf.new 12 8) }
     ensures keeps { Keeps S.sizes S.faults S.rest S.held shelf.old shelf.new }

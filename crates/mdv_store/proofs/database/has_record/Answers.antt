@@ -1,7 +1,7 @@
 use Rattle.std.proofs.Common.{◌∙◌, ℕ, List, ap, subst, arith, IsTrue, ◌↔◌}
 use Rattle.mdv_shelf.specs.Tale.{last}
-use Rattle.mdv_run.specs.Record.{IsEmptyRecord}
-use Rattle.mdv_run.proofs.database.has_record.Goals as goal
+use Rattle.mdv_store.specs.Record.{IsEmptyRecord}
+use Rattle.mdv_store.proofs.database.has_record.Goals as goal
 
 pub returns-clause-fits : goal.returns-clause-fits
 returns-clause-fits g c = λ t is.

@@ -1,5 +1,5 @@
-use Rattle.mdv_run.proofs.Quiet.{placed_again}
-use Rattle.mdv_run.proofs.database.find.Goals as goal
+use Rattle.mdv_store.proofs.Quiet.{placed_again}
+use Rattle.mdv_store.proofs.database.find.Goals as goal
 
 pub fits_both-requires : goal.fits_both-requires
 fits_both-requires g c =

@@ -1,11 +1,12 @@
 -- What a drive's blocks say of a database with one place, and what a boot and a creation leave.
-use Rattle.std.specs.Prelude.{◌≡◌, ℕ, ◌+◌, ◌≤◌, ◌<◌, ◌^◌, max, Bool, true, false, ◌||◌, List, Option, Some, None}
+use Rattle.std.specs.Prelude.{◌≡◌, ◌≢◌, ◌⊎◌, ◌==◌, ℕ, ◌+◌, ◌≤◌, ◌<◌, ◌^◌, max, Bool, true, false, ◌||◌, List, Option, Some, None, if◌then◌else◌}
 use Rattle.mdv_base.specs.declared.mark.Mark.{Mark}
 use Rattle.mdv_base.specs.declared.mark.Identity.{Identity}
 use Rattle.mdv_base.specs.declared.name.Key.{Key}
 use Rattle.mdv_base.specs.Mark.{IsBelow}
-use Rattle.mdv_shelf.specs.Tale.{Tale, IsImage, told}
+use Rattle.mdv_shelf.specs.Tale.{Tale, IsImage, told, last}
 use Rattle.mdv_shelf.specs.Area.{range, KeptOutside}
+use Rattle.mdv_shelf.specs.Settle.{IsSynced}
 use Rattle.mdv_replica.specs.declared.forms.Master.{Master}
 use Rattle.mdv_replica.specs.declared.forms.Gate.{Gate}
 use Rattle.mdv_replica.specs.declared.forms.Gate.TheVariants.{Closed, Open}
@@ -13,10 +14,11 @@ use Rattle.mdv_replica.specs.declared.replica.PlaceAt.{PlaceAt}
 use Rattle.mdv_replica.specs.declared.replica.Head.{Head}
 use Rattle.mdv_replica.specs.declared.replica.Slot.{Slot}
 use Rattle.mdv_replica.specs.declared.replica.Slot.TheVariants.{First, Second}
-use Rattle.mdv_replica.specs.Replica.{IsHead, body_at}
-use Rattle.mdv_run.specs.declared.database.BootEnd.{BootEnd}
-use Rattle.mdv_run.specs.declared.database.BootEnd.TheVariants.{Adopted, Empty, Down, Lost, Spent}
-use Rattle.mdv_run.specs.Record.{IsEmptyRecord}
+use Rattle.mdv_replica.specs.Forms.{claim_text, gate_text, block_of}
+use Rattle.mdv_replica.specs.Replica.{IsHead, gate_at, body_at}
+use Rattle.mdv_store.specs.declared.database.BootEnd.{BootEnd}
+use Rattle.mdv_store.specs.declared.database.BootEnd.TheVariants.{Adopted, Empty, Down, Lost, Spent}
+use Rattle.mdv_store.specs.Record.{empty_record, IsEmptyRecord}
 
 -- the same place with this length
 abbrev pub with_blocks : PlaceAt → ℕ → PlaceAt
@@ -59,11 +61,53 @@ greatest head = max head.claim (max (boot_of head.first) (boot_of head.second))
 abbrev pub master_of : PlaceAt → Key → Identity → Master
 master_of at key identity = record { identity = identity; key = key; slice = at.place.slice; start = at.place.start; blocks = at.place.blocks; index = 0; count = 1 }
 
+-- the same contents with one block changed
+abbrev pub with_block : (ℕ → List ℕ) → ℕ → List ℕ → ℕ → List ℕ
+with_block content at text block = if block == at then text else content block
+
+abbrev pub IsSame : (ℕ → List ℕ) → (ℕ → List ℕ) → Type 0
+IsSame old new = (block : ℕ) → new block ≡ old block
+
+-- What a crash in the writing of a slot leaves: all as before; or a closed gate, and a body of any kind; or
+-- the gate open over its body.
+pub data SlotImage (gate body : ℕ) (closed opened text : List ℕ) (old new : ℕ → List ℕ) : Type 0 where
+  before : IsSame old new → SlotImage gate body closed opened text old new
+  in_work : new gate ≡ closed → ((block : ℕ) → block ≢ gate → block ≢ body → new block ≡ old block) → SlotImage gate body closed opened text old new
+  done : IsSame (with_block (with_block old gate opened) body text) new → SlotImage gate body closed opened text old new
+
+-- a slot that takes the table under this mark
+abbrev pub TableImage : PlaceAt → Slot → Mark → (ℕ → List ℕ) → (ℕ → List ℕ) → Type 0
+TableImage at slot mark old new =
+    SlotImage (gate_at at slot) (body_at at slot) (block_of (gate_text Closed)) (block_of (gate_text (Open mark 36))) (block_of (empty_record at.place)) old new
+
+-- a replica with this claim
+abbrev pub claimed : PlaceAt → ℕ → (ℕ → List ℕ) → ℕ → List ℕ
+claimed at number content = with_block content (at.first + 1) (block_of (claim_text number))
+
+-- a replica with the table under this mark in that slot
+abbrev pub slotted : PlaceAt → Slot → Mark → (ℕ → List ℕ) → ℕ → List ℕ
+slotted at slot mark content =
+    with_block (with_block content (gate_at at slot) (block_of (gate_text (Open mark 36)))) (body_at at slot) (block_of (empty_record at.place))
+
+-- from a drive on which nothing is unsynced: whatever a crash leaves
+abbrev pub Leaves : ℕ → ((ℕ → List ℕ) → (ℕ → List ℕ) → Type 0) → Tale → Tale → Type 0
+Leaves drive Left t m = IsSynced drive t → (image : ℕ → ℕ → List ℕ) → IsImage m image → Left (last t drive) (image drive)
+
+-- a claim that is being written is old or new
+abbrev pub ClaimImage : PlaceAt → ℕ → (ℕ → List ℕ) → (ℕ → List ℕ) → Type 0
+ClaimImage at number old new = IsSame old new ⊎ IsSame (claimed at number old) new
+
+-- a claim and then a table are being written: the claim, or else the slot under the new claim
+abbrev pub Rewrites : PlaceAt → Slot → Mark → Tale → Tale → Type 0
+Rewrites at slot mark t m =
+    Leaves at.drive.0 (ClaimImage at mark.boot) t m ⊎ Leaves at.drive.0 (λ old new. TableImage at slot mark (claimed at mark.boot old) new) t m
+
 -- the blocks show a replica of this identity whose table, under this mark, is the only one
 pub record ShowsAlone (key : Key) (at : PlaceAt) (size : ℕ) (identity : Identity) (mark : Mark) (content : ℕ → List ℕ) : Type 0 where
   pub head : Head
   pub replica : IsReplica key at size content head
   pub as_identity : head.master.identity ≡ identity
+  pub as_claim : head.claim ≡ mark.boot
   pub as_first : head.first ≡ Open mark 36
   pub as_second : head.second ≡ Closed
 

@@ -1,0 +1,7 @@
+pub mod Agreeing
+pub mod Covering
+pub mod Creating
+pub mod Images
+pub mod Quiet
+pub mod Replicas
+pub mod Rewriting

@@ -1,0 +1,4 @@
+pub mod Record
+pub mod Database
+pub mod Log
+pub mod Standing

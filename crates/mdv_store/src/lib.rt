@@ -1,0 +1,8 @@
+//! The database of a host with one place: how a creation makes its replica, and what a boot finds and
+//! writes.
+#![tactic(auto)]
+
+mod database;
+mod empty_record;
+
+pub use database::{BootEnd, CreateFault, boot, create};
