@@ -4,6 +4,7 @@
 
 mod cursor;
 mod forms;
+mod law;
 mod page;
 mod reading;
 mod replica;
@@ -11,6 +12,7 @@ mod replica;
 mod tests;
 
 pub use forms::{Gate, Master};
+pub use law::one_head;
 pub use page::Page;
 pub use reading::{read_claim, read_gate, read_master};
 pub use replica::{

@@ -4,7 +4,11 @@ use Rattle.std.proofs.lemmas.List.{append-nil, take_all}
 use Rattle.mdv_shelf.specs.Tale.{Tale, Then, Gave, told}
 use Rattle.mdv_shelf.specs.Area.{KeptOutside, nowhere}
 use Rattle.mdv_shelf.specs.Calls.{and_then}
+use Rattle.mdv_shelf.specs.Moments.{Grew}
 use Rattle.mdv_shelf.proofs.Blocks.{kept_unwritten}
+use Rattle.mdv_shelf.proofs.Moments.{grew_one, grew_none}
+use Rattle.mdv_run.specs.declared.host.Answer.{Answer}
+use Rattle.mdv_run.specs.Standing.{TellMoment, text_of}
 use Rattle.mdv_shelf.proofs.Frame.{kept_outside_same}
 
 -- these bytes more were told, and no block was touched
@@ -33,3 +37,19 @@ pub tells_whole : (t : Tale) (old new : Option Tale) (piece : List ℕ) → old 
 tells_whole t old new piece was is =
     let front = tells_front t old new piece (length piece) was is in
     record { after = front.after; is = front.is; more = front.more ∙ ap (λ (l : List ℕ). told t ++ l) (take_all (length piece) piece (omega arith)); kept = front.kept }
+
+-- the moments of a giving
+module _ (reply : Answer) (t : Tale) (piece : List ℕ) (is : piece ≡ text_of reply) where
+  telling : (k : ℕ) → TellMoment reply t (Then t (Gave piece k))
+  telling k = record {
+    kept = λ drive block out. kept_unwritten t (Gave piece k) drive block refl;
+    count = k;
+    is_told = told_gave t piece k ∙ ap (λ (l : List ℕ). told t ++ take k l) is;
+  }
+
+  pub telling_none : TellMoment reply t t
+  telling_none = record { kept = kept_outside_same nowhere t; count = 0; is_told = sym (append-nil (told t)) }
+
+  pub telling_grew : (old new : Option Tale) (count : ℕ) → old ≡ Some t → new ≡ and_then old (Gave piece count) → (u : Tale) × (new ≡ Some u) × Grew (TellMoment reply t) t u
+  telling_grew old new count was given =
+      (Then t (Gave piece count), given ∙ ap (λ (o : Option Tale). and_then o (Gave piece count)) was, grew_one (TellMoment reply t) t (Gave piece count) telling_none (λ k le. telling k))

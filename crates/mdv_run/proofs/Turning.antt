@@ -1,5 +1,5 @@
 -- How one turn of a run goes on from the script that is before it.
-use Rattle.std.proofs.Common.{◌≡◌, inl, inr, ℕ, ◌+◌, ◌-◌, ◌^◌, ◌≤◌, min, Bool, true, List, [], ◌++◌, Option, Some, None, refl, sym, ap, subst, arith}
+use Rattle.std.proofs.Common.{◌≡◌, inl, inr, ℕ, ◌+◌, ◌-◌, ◌^◌, ◌≤◌, min, Bool, true, List, [], ◌++◌, Option, Some, None, refl, sym, ◌∙◌, ap, subst, arith}
 use Rattle.mdv_base.specs.Causes.{Rose}
 use Rattle.mdv_port.specs.Reader.{Reader}
 use Rattle.mdv_port.specs.Script.{Script, at_end, spent, too_long, line, script_before, IsTurn}
@@ -161,3 +161,13 @@ safe_kept host state t u kept safe = made state.made safe
 pub no_panic : (reply : Answer) (state : State) (text : List ℕ) (next : State) (refused : Bool) → outcome_of reply state ≡ Replied text next refused → reply ≡ answer.Panic → ⊥
 no_panic (answer.Reply bytes r) state text next refused is panic = cc
 no_panic answer.Panic state text next refused is panic = cc
+
+refused_state : (reply : Answer) (next state : State) (text : List ℕ) → outcome_of reply next ≡ Replied text state true → next ≡ state
+refused_state (answer.Reply said refused) next state text is = cc (is)
+refused_state answer.Panic next state text is = absurd (cc (is))
+
+-- with a database open every line leaves what the run keeps
+pub answered_stays : (failed : Type 0) (g : SmallGeometry) (state next : State) (text : List ℕ) (reply : Answer) → IsAnswered failed g state text (outcome_of reply next) → state.database ≡ true → next ≡ state
+answered_stays failed g state next text reply (None, is, carried) held = refused_state reply next state _ carried
+answered_stays failed g state next text reply (Some slice, is, inl (refusal, cause, so)) held = refused_state reply next state _ so
+answered_stays failed g state next text reply (Some slice, is, inr (may, so)) held = absurd (cc (sym held ∙ may.no_database))

@@ -2,3 +2,4 @@ pub mod Geometry
 pub mod GeometryParts
 pub mod Run
 pub mod Turns
+pub mod Standing

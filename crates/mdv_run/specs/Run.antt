@@ -173,3 +173,9 @@ HasStatusCause f NoMemory = ⊥
 HasStatusCause f (TwoDatabases a b) = ⊥
 HasStatusCause f (ScriptTooLong lines bytes) = Unit {0}
 HasStatusCause f NumbersSpent = Unit {0}
+
+-- nothing failed
+pub record IsUndisturbed (f : Failures) : Type 0 where
+  pub drive : drive_failed f → ⊥
+  pub source : source_failed f → ⊥
+  pub replies : replies_failed f → ⊥

@@ -14,10 +14,12 @@ use Rattle.mdv_run.specs.declared.session.Turn.TheVariants.{On, Over}
 use Rattle.mdv_run.specs.declared.status.RunStatus.{RunStatus}
 use Rattle.mdv_run.specs.declared.status.RunStatus.TheVariants.{Panic, WriteFault}
 use Rattle.mdv_store.specs.Database.{IsSafe, IsBooted}
+use Rattle.mdv_store.specs.Standing.{IsAdopted}
 use Rattle.mdv_store.specs.declared.database.BootEnd.{BootEnd}
+use Rattle.mdv_store.specs.declared.database.BootEnd.TheVariants.{Adopted, Empty, Down, Lost, Spent}
 use Rattle.mdv_run.specs.declared.geometry.SmallGeometry.{SmallGeometry}
 use Rattle.mdv_run.specs.Geometry.{IsSmall}
-use Rattle.mdv_run.specs.Run.{Failures, Outcome, Replied, Panicked, Runs, HasStatusCause, RunsFrom, start_of, place_of, drive_failed}
+use Rattle.mdv_run.specs.Run.{Failures, Outcome, Replied, Panicked, Runs, HasStatusCause, RunsFrom, start_of, place_of, drive_failed, IsUndisturbed}
 
 -- an answer to a line, with what is kept then
 abbrev pub outcome_of : Answer → State → Outcome
@@ -79,12 +81,26 @@ abbrev pub drive_content : Tale → ℕ → List ℕ
 drive_content t = last t 0
 
 -- a whole run: the boot answers from what the drive's blocks held, and the script is run from there
-abbrev pub IsRun : Failures → SmallGeometry → (ℕ → List ℕ) → Script → List ℕ → RunStatus → State → Type 0
-IsRun f g content script more status kept =
-    (end : BootEnd) × IsBooted (drive_failed f) (Local g.host) (place_of g) g.drive_blocks content end × RunsFrom f g (start_of end) script more status kept
+abbrev pub IsRun : Failures → SmallGeometry → (ℕ → List ℕ) → Script → BootEnd → List ℕ → RunStatus → State → Type 0
+IsRun f g content script end more status kept =
+    IsBooted (drive_failed f) (Local g.host) (place_of g) g.drive_blocks content end × RunsFrom f g (start_of end) script more status kept
 
--- The whole of a run that began at t: what it told is what the script asks for, and where it made the
--- open database, every crash leaves that.
+-- what an adopting boot wrote is there in the end: the claim, and the table under the drawn number
+abbrev pub IsLeftBy : Host → BootEnd → Tale → Tale → Type 0
+IsLeftBy host Adopted t u = IsAdopted (Local host.geometry.host) (place_of host.geometry) host.geometry.drive_blocks (drive_content t) u
+IsLeftBy host Empty t u = Unit {0}
+IsLeftBy host Down t u = Unit {0}
+IsLeftBy host Lost t u = Unit {0}
+IsLeftBy host Spent t u = Unit {0}
+
+-- The whole of a run that began at t: what it told is what the script asks for; where it made the open
+-- database, every crash leaves that, and where it adopted one, every crash leaves that under its number.
 abbrev pub IsWholeRun : Failures → Host → Tale → Script → Option Tale → RunStatus → Type 0
 IsWholeRun f host t script tale status =
-    (u : Tale) × (tale ≡ Some u) × (more : List ℕ) × (told u ≡ told t ++ more) × (kept : State) × IsMadeSafe host kept u × IsRun f host.geometry (drive_content t) script more status kept
+    (u : Tale) × (tale ≡ Some u) × (more : List ℕ) × (told u ≡ told t ++ more) × (kept : State) × IsMadeSafe host kept u × (end : BootEnd) × IsLeftBy host end t u × IsRun f host.geometry (drive_content t) script end more status kept
+
+-- where nothing failed, the drive's blocks and the script settle the boot's answer, what is told, the status, and what is kept
+abbrev pub OneCourse : Type 0
+OneCourse =
+    (f : Failures) → IsUndisturbed f → (g : SmallGeometry) (content : ℕ → List ℕ) (script : Script) (end other : BootEnd) (a b : List ℕ) (s r : RunStatus) (k j : State) →
+    IsRun f g content script end a s k → IsRun f g content script other b r j → (end ≡ other) × (a ≡ b) × (s ≡ r) × (k ≡ j)

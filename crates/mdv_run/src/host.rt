@@ -5,9 +5,9 @@ ghost use Rattle.mdv_shelf.specs.Calls.{OnDrive, Keeps};
 ghost use Rattle.mdv_shelf.specs.Moments.{Moments, Ends};
 ghost use Rattle.mdv_run.specs.declared.host.State.{State};
 ghost use Rattle.mdv_run.specs.Geometry.{IsSmall};
-ghost use Rattle.mdv_store.specs.Database.{IsQuiet};
 ghost use Rattle.mdv_run.specs.Run.{Replied, place_of, refusal_line, ok_line, IsRefused, MayCreate, IsCreation, IsAnswered};
 ghost use Rattle.mdv_run.specs.Turns.{outcome_of, IsReady, IsSound, IsMadeSafe};
+ghost use Rattle.mdv_run.specs.Standing.{CarryMoment, CarriedTo};
 
 use crate::command::read_line;
 use mdv_store::{CreateFault, create};
@@ -87,7 +87,9 @@ pub fn carry_out<S: Shelf>(host: &Host, state: &mut State, shelf: &mut S, line: 
     ensures sound { IsSound state.new }
     ensures begun { state.new.begun ≤ state.old.begun + 1 }
     ensures safe { Ends (λ t u. IsMadeSafe host.now state.old t → IsMadeSafe host.now state.new u) (S.tale shelf.old) (S.tale shelf.new) }
-    ensures moments { Moments (IsQuiet (place_of host.now.geometry)) (S.tale shelf.old) (S.tale shelf.new) }
+    ensures moments { Moments (CarryMoment host.now state.old) (S.tale shelf.old) (S.tale shelf.new) }
+    ensures carried { Ends (CarriedTo host.now state.old (outcome_of result state.new)) (S.tale shelf.old) (S.tale shelf.new) }
+    ensures still { state.new.begun ≡ state.old.begun → S.tale shelf.new ≡ S.tale shelf.old }
     ensures keeps { Keeps S.sizes S.faults S.rest S.held shelf.old shelf.new }
 {
     let Some(slice) = read_line(line) else {
@@ -127,11 +129,14 @@ fn make<S: Shelf>(host: &Host, state: &mut State, shelf: &mut S) -> Answer
     requires begun { state.old.begun + 1 < 2 ^ 32 }
     requires room { 8208 ≤ host.now.geometry.blocks }
     requires none { state.old.database ≡ false }
+    requires up { state.old.down ≡ false }
     ensures made { IsCreation (Rose (S.faults shelf.old (OnDrive 0)) (S.faults shelf.new (OnDrive 0))) state.old (outcome_of result state.new) }
     ensures sound { IsSound state.new }
     ensures begun { state.new.begun ≤ state.old.begun + 1 }
     ensures safe { Ends (λ t u. IsMadeSafe host.now state.old t → IsMadeSafe host.now state.new u) (S.tale shelf.old) (S.tale shelf.new) }
-    ensures moments { Moments (IsQuiet (place_of host.now.geometry)) (S.tale shelf.old) (S.tale shelf.new) }
+    ensures counted { state.new.begun ≡ state.old.begun + 1 }
+    ensures moments { Moments (CarryMoment host.now state.old) (S.tale shelf.old) (S.tale shelf.new) }
+    ensures carried { Ends (CarriedTo host.now state.old (outcome_of result state.new)) (S.tale shelf.old) (S.tale shelf.new) }
     ensures keeps { Keeps S.sizes S.faults S.rest S.held shelf.old shelf.new }
 {
     let number = state.begun;

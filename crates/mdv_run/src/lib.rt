@@ -7,10 +7,12 @@ pub mod geometry;
 #[cfg(test)]
 mod geometry_tests;
 mod host;
+mod law;
 mod session;
 #[cfg(test)]
 mod session_tests;
 mod status;
 
+pub use law::one_course;
 pub use session::run;
 pub use status::RunStatus;

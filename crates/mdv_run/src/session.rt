@@ -1,4 +1,4 @@
-ghost use Rattle.std.specs.Prelude.{◌≡◌, ◌<◌, ◌≤◌, ◌+◌, ◌^◌, ◌++◌, ◌↔◌, ◌||◌, ℕ, List, [], ◌∷◌, map, string_bytes, Some, IfSome, IfNone, IsTrue, false};
+ghost use Rattle.std.specs.Prelude.{◌≡◌, ◌<◌, ◌≤◌, ◌+◌, ◌^◌, ◌++◌, ◌↔◌, ◌||◌, ℕ, List, [], ◌∷◌, map, string_bytes, Some, IfSome, IfNone, IsTrue, true, false};
 ghost use Rattle.mdv_shelf.specs.Tale.{Tale, told};
 ghost use Rattle.mdv_shelf.specs.Calls.{OnDrive, OnReplies, Keeps};
 ghost use Rattle.mdv_port.specs.Script.{Script, script_before, script_of};
@@ -9,7 +9,9 @@ ghost use Rattle.mdv_run.specs.declared.host.State.{State};
 ghost use Rattle.mdv_store.specs.Database.{IsBooted};
 ghost use Rattle.mdv_run.specs.Run.{IsUsed, Failures, failures, Runs, HasStatusCause, status_of, start_of, booted_state};
 ghost use Rattle.mdv_run.specs.Turns.{IsReady, IsSound, IsMadeSafe, IsTold, IsOn, IsWholeRun, IsWithin, Leads, HasTurnCause};
+ghost use Rattle.mdv_run.specs.Standing.{RunMoment, TellMoment, TurnMoment, Turned, LinesMoment};
 ghost use Rattle.mdv_shelf.specs.Area.{KeptOutside, nowhere};
+ghost use Rattle.mdv_shelf.specs.Moments.{Moments, Ends};
 ghost use Rattle.mdv_base.specs.Causes.{Rose};
 
 use mdv_store::{BootEnd, boot};
@@ -36,6 +38,10 @@ pub fn run<B: Bench, I: Source>(
     // Else the boot answers from what the drive's blocks held, and the bytes told and the status are
     // those of the script; where the run made the open database, every crash leaves it.
     ensures runs { (g : SmallGeometry) → IsUsed (map string_bytes words.now) geometry.now (B.sizes bench.old) g → (t : Tale) → B.tale bench.old ≡ Some t → (input : List ℕ) → I.left script.old ≡ Some input → IsWholeRun (failures (B.faults bench.old) (B.faults bench.new) (I.faults script.old) (I.faults script.new)) (record { geometry = g; fresh = fresh }) t (script_of input) (B.tale bench.new) result }
+
+    // At each moment the drive stands with the log so far, in which a creation is acknowledged once the
+    // newline of its `ok` was told.
+    ensures stands { (g : SmallGeometry) → IsUsed (map string_bytes words.now) geometry.now (B.sizes bench.old) g → Moments (RunMoment (record { geometry = g; fresh = fresh })) (B.tale bench.old) (B.tale bench.new) }
 
     // A status that tells of a failure comes only where one came, whatever the bench and the source tell.
     ensures causes { (g : SmallGeometry) → IsUsed (map string_bytes words.now) geometry.now (B.sizes bench.old) g → HasStatusCause (failures (B.faults bench.old) (B.faults bench.new) (I.faults script.old) (I.faults script.new)) result }
@@ -130,6 +136,8 @@ fn run_lines<B: Bench, I: Source>(
     requires sound { IsSound state.old }
     requires begun { state.old.begun ≡ 0 }
     ensures runs { (t : Tale) → B.tale bench.old ≡ Some t → (input : List ℕ) → I.left script.old ≡ Some input → (u : Tale) × (B.tale bench.new ≡ Some u) × (more : List ℕ) × (told u ≡ told t ++ more) × (IsMadeSafe host.now state.old t → IsMadeSafe host.now state.new u) × ((f : Failures) → IsWithin f (failures (B.faults bench.old) (B.faults bench.new) (I.faults script.old) (I.faults script.new)) → Runs f host.now.geometry state.old false (script_of input) more result state.new) }
+    ensures still { state.old.database ≡ true → Ends (KeptOutside nowhere) (B.tale bench.old) (B.tale bench.new) }
+    ensures moments { Moments (LinesMoment host.now state.old) (B.tale bench.old) (B.tale bench.new) }
     ensures causes { HasStatusCause (failures (B.faults bench.old) (B.faults bench.new) (I.faults script.old) (I.faults script.new)) result }
     ensures keeps { Keeps B.sizes B.faults B.rest B.held bench.old bench.new }
 {
@@ -162,6 +170,9 @@ fn take_turn<B: Bench, I: Source>(
     requires sound { IsSound state.old }
     requires begun { state.old.begun ≤ reader.old.lines }
     ensures leads { (t : Tale) → B.tale bench.old ≡ Some t → (lines : Script) → script_before reader.old (I.left script.old) ≡ Some lines → (u : Tale) × (B.tale bench.new ≡ Some u) × (piece : List ℕ) × (told u ≡ told t ++ piece) × (IsMadeSafe host.now state.old t → IsMadeSafe host.now state.new u) × Leads (failures (B.faults bench.old) (B.faults bench.new) (I.faults script.old) (I.faults script.new)) host.now state.old any_refused lines piece state.new (script_before reader.new (I.left script.new)) result }
+    ensures moments { Moments (TurnMoment host.now state.old state.new) (B.tale bench.old) (B.tale bench.new) }
+    ensures still { state.old.database ≡ true → (state.new ≡ state.old) × Ends (KeptOutside nowhere) (B.tale bench.old) (B.tale bench.new) }
+    ensures turned { IsOn result → Ends (Turned host.now state.old state.new) (B.tale bench.old) (B.tale bench.new) }
     ensures causes { HasTurnCause (failures (B.faults bench.old) (B.faults bench.new) (I.faults script.old) (I.faults script.new)) result }
     ensures sound { IsSound state.new }
     ensures begun { state.new.begun ≤ reader.new.lines }
@@ -202,6 +213,7 @@ fn ended(refused: bool) -> RunStatus
 
 fn tell<B: Bench>(bench: &mut B, reply: Answer, any_refused: bool) -> Turn
     ensures told { (t : Tale) → B.tale bench.old ≡ Some t → (u : Tale) × (B.tale bench.new ≡ Some u) × (piece : List ℕ) × (told u ≡ told t ++ piece) × KeptOutside nowhere t u × IsTold (Rose (B.faults bench.old OnReplies) (B.faults bench.new OnReplies)) reply any_refused piece result }
+    ensures fronts { Moments (TellMoment reply) (B.tale bench.old) (B.tale bench.new) }
     ensures answer { (piece : List ℕ) × IsTold (Rose (B.faults bench.old OnReplies) (B.faults bench.new OnReplies)) reply any_refused piece result }
     ensures keeps { Keeps B.sizes B.faults B.rest B.held bench.old bench.new }
 {

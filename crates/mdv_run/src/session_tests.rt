@@ -1,4 +1,4 @@
-use crate::record::record_block;
+use mdv_store::record_block;
 use crate::{RunStatus, run};
 use mdv_base::{DriveName, DriveNo, Place, SliceName, ZERO_BLOCK};
 use mdv_port::MemSource;

@@ -12,6 +12,7 @@ use Rattle.mdv_replica.specs.declared.replica.Slot.{Slot}
 use Rattle.mdv_replica.specs.declared.replica.Slot.TheVariants.{First, Second}
 use Rattle.mdv_replica.specs.Forms.{master_text, claim_text, gate_text, block_of, IsMark, IsGate}
 use Rattle.mdv_replica.specs.Replica.{slot_blocks, gate_at, body_at}
+use Rattle.mdv_replica.proofs.Heads.{closed_only, no_blank_master}
 use Rattle.mdv_store.specs.Record.{empty_record, IsEmptyRecord}
 use Rattle.mdv_store.specs.Database.{IsReplica, IsFound, SlotFits, with_blocks, with_block, is_open, shows, IsSame, TableImage, SlotImage, before, in_work, done, claimed, slotted}
 use Rattle.mdv_store.proofs.Images.{same_is, here_block, other_block}
@@ -127,18 +128,12 @@ module _ (key : Key) (at : PlaceAt) (size : ℕ) where
 
 -- a gate that spells a closed one isn't open
 pub closed_gate : (gate : Gate) → block_of (gate_text gate) ≡ block_of (gate_text Closed) → is_open gate ≡ false
-unfolding gate_text
-closed_gate Closed is = refl
-closed_gate (Open mark bytes) is = absurd (cc (ap (λ (b : List ℕ). slice_index_or b 8 0) is))
-
-no_blank : (head : Head) → block_of [] ≡ block_of (master_text head.master) → ⊥
-unfolding master_text
-no_blank head is = absurd (cc (ap (λ (b : List ℕ). slice_index_or b 0 0) is))
+closed_gate gate is = ap is_open (closed_only gate is)
 
 module _ (key : Key) (at : PlaceAt) (size : ℕ) (content : ℕ → List ℕ) where
   -- nothing is found behind a blank master, or where both gates are closed
   pub found_none_blank : content at.first ≡ block_of [] → IsFound key at size content None
-  found_none_blank blank head is shown = no_blank head (sym blank ∙ is.of_head.master_block)
+  found_none_blank blank head is shown = no_blank_master head.master (sym blank ∙ is.of_head.master_block)
 
   pub found_none_closed : content (at.first + 2) ≡ block_of (gate_text Closed) → content (at.first + 3) ≡ block_of (gate_text Closed) → IsFound key at size content None
   found_none_closed first second head is shown =

@@ -6,3 +6,4 @@ mod database;
 mod empty_record;
 
 pub use database::{BootEnd, CreateFault, boot, create};
+pub use empty_record::record_block;
