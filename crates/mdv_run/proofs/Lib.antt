@@ -4,6 +4,7 @@ pub mod GeometryCuts
 pub mod GeometryLines
 pub mod GeometryTables
 pub mod Lines
+pub mod Living
 pub mod Replying
 pub mod Standings
 pub mod Telling

@@ -3,3 +3,4 @@ pub mod GeometryParts
 pub mod Run
 pub mod Turns
 pub mod Standing
+pub mod Lives

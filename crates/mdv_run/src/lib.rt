@@ -13,6 +13,6 @@ mod session;
 mod session_tests;
 mod status;
 
-pub use law::one_course;
+pub use law::{lives_stand, one_course};
 pub use session::run;
 pub use status::RunStatus;

@@ -1,5 +1,5 @@
 -- How logs go on, event by event.
-use Rattle.std.proofs.Common.{◌≡◌, ℕ, ◌+◌, ◌||◌, Bool, true, false, List, [], ◌∷◌, ◌++◌, refl, ap, subst, arith}
+use Rattle.std.proofs.Common.{◌≡◌, ℕ, ◌+◌, ◌<◌, ◌||◌, Bool, true, false, List, [], ◌∷◌, ◌++◌, refl, ap, subst, arith}
 use Rattle.std.specs.List.{list_any}
 use Rattle.mdv_base.specs.declared.name.Key.{Key}
 use Rattle.mdv_shelf.specs.Tale.{Tale, IsImage}
@@ -59,3 +59,18 @@ told_covers key at size log m covers image is = elim (covers image is) [
       numbered = agrees.numbered;
     })
 ]
+
+-- what was acknowledged stays so
+stays_acknowledged : (log : Log) (es : List Event) → IsLog log → IsCourse log es → log.is_acknowledged ≡ true → (log_after_all log es).is_acknowledged ≡ true
+stays_acknowledged log [] is course told = told
+stays_acknowledged log (Issued identity ∷ es) is course told = absurd (let firm = is.firm told in cc (firm, course.0))
+stays_acknowledged log (Writing mark parent ∷ es) is course told = stays_acknowledged (log_after log (Writing mark parent)) es (is_log_after log (Writing mark parent) is course.0) course.1 told
+stays_acknowledged log (Written ∷ es) is course told = stays_acknowledged (log_after log Written) es (is_log_after log Written is course.0) course.1 told
+stays_acknowledged log (Told ∷ es) is course told = stays_acknowledged (log_after log Told) es (is_log_after log Told is course.0) course.1 refl
+
+pub told_acknowledges : (log : Log) (es : List Event) → IsLog log → IsCourse log es → 0 < told_count es → (log_after_all log es).is_acknowledged ≡ true
+told_acknowledges log [] is course some = absurd (omega arith)
+told_acknowledges log (Issued identity ∷ es) is course some = told_acknowledges (log_after log (Issued identity)) es (is_log_after log (Issued identity) is course.0) course.1 (omega arith)
+told_acknowledges log (Writing mark parent ∷ es) is course some = told_acknowledges (log_after log (Writing mark parent)) es (is_log_after log (Writing mark parent) is course.0) course.1 (omega arith)
+told_acknowledges log (Written ∷ es) is course some = told_acknowledges (log_after log Written) es (is_log_after log Written is course.0) course.1 (omega arith)
+told_acknowledges log (Told ∷ es) is course some = stays_acknowledged (log_after log Told) es (is_log_after log Told is course.0) course.1 refl

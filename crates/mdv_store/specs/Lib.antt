@@ -2,3 +2,4 @@ pub mod Record
 pub mod Database
 pub mod Log
 pub mod Standing
+pub mod Laws

@@ -4,6 +4,8 @@
 
 mod database;
 mod empty_record;
+mod law;
 
 pub use database::{BootEnd, CreateFault, boot, create};
 pub use empty_record::record_block;
+pub use law::{boots_hold, crashes_stand, new_drives_stand};
