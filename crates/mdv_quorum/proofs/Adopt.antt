@@ -1,17 +1,16 @@
 -- The table that a boot chooses, and the number that it draws.
-use Rattle.std.proofs.Common.{◌≡◌, ◌<◌, ◌≤◌, ◌+◌, ◌-◌, ℕ, zero, suc, Bool, true, false, refl, ap, sym, ◌∙◌, subst, List, [], ◌∷◌, length, inl, inr, ◌⊎◌, Option, None, Some, arith, cond, not, ◌&&◌, ◌||◌, max}
-use Rattle.std.proofs.lemmas.Bool.{cases_Bool, false≢true, cases_lt, and_parts, or_cases, ltb-true, eqb-true, cond_both, cond-true, cond-false, or_left, or_right}
+use Rattle.std.proofs.Common.{◌≡◌, ◌<◌, ◌≤◌, ℕ, Bool, true, false, refl, ap, sym, ◌∙◌, subst, List, [], ◌∷◌, length, inl, inr, ◌⊎◌, Option, None, Some, arith, ◌&&◌, max}
+use Rattle.std.proofs.lemmas.Bool.{cases_Bool, false≢true, cases_lt, and_parts, or_cases, ltb-true, eqb-true, cond-true, cond-false, or_left, or_right}
 use Rattle.std.specs.Prelude.{nat_lt, ◌==◌}
 use Rattle.mdv_base.specs.declared.mark.Mark.{Mark}
-use Rattle.mdv_quorum.specs.declared.spot.Spot.{Spot}
-use Rattle.mdv_quorum.specs.declared.table.Table.{Table}
-use Rattle.mdv_quorum.specs.declared.table.Place.{Place}
-use Rattle.mdv_quorum.specs.Spots.{is_in, same_spot}
-use Rattle.mdv_quorum.specs.Family.{table_at, place_at, boot_of, mark_below, newer, newest_of, greatest_of, shown, knows_above, is_above}
-use Rattle.mdv_quorum.proofs.Meeting.{same_is, same_self}
-use Rattle.mdv_quorum.proofs.PlacesAt.{spot_at}
-use Rattle.mdv_quorum.proofs.Written.{some_same}
-use Rattle.mdv_quorum.proofs.Invariant.{newest, claim, boot_at, TablesOk, Above}
+use Rattle.mdv_votes.specs.declared.spot.Spot.{Spot}
+use Rattle.mdv_votes.specs.declared.table.Table.{Table}
+use Rattle.mdv_votes.specs.declared.table.Place.{Place}
+use Rattle.mdv_votes.specs.Spots.{is_in, same_spot}
+use Rattle.mdv_votes.specs.Family.{table_at, place_at, boot_of, mark_below, newer, newest_of, greatest_of, shown, knows_above, is_above}
+use Rattle.mdv_votes.proofs.Meeting.{same_is, same_self}
+use Rattle.mdv_votes.proofs.PlacesAt.{spot_at}
+use Rattle.mdv_quorum.proofs.Invariant.{newest, claim, TablesOk, Above}
 
 -- marks have an order
 below_once : (a b : Mark) → mark_below a b ≡ true → mark_below b a ≡ true → ⊥

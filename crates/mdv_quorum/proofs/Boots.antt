@@ -1,26 +1,23 @@
 -- A boot reads, chooses and claims.
-use Rattle.std.proofs.Common.{◌≡◌, ◌<◌, ◌≤◌, ◌+◌, ◌-◌, ◌^◌, ℕ, zero, suc, Bool, true, false, refl, ap, sym, ◌∙◌, subst, List, [], ◌∷◌, ◌++◌, length, inl, inr, ◌⊎◌, Option, None, Some, arith, cond, not, ◌&&◌, ◌||◌, append-nil}
-use Rattle.std.proofs.lemmas.Bool.{cases_Bool, false≢true, cases_lt, and_parts, or_cases, or_left, or_right, lt-ltb, and_from}
-use Rattle.std.specs.Prelude.{nat_lt, ◌==◌, option_to_list}
-use Rattle.mdv_base.specs.declared.mark.Mark.{Mark}
-use Rattle.mdv_quorum.specs.declared.spot.Spot.{Spot}
-use Rattle.mdv_quorum.specs.declared.spot.SpotLists.{SpotLists}
-use Rattle.mdv_quorum.specs.declared.table.Table.{Table}
-use Rattle.mdv_quorum.specs.declared.table.Place.{Place}
+use Rattle.std.proofs.Common.{◌≡◌, ◌<◌, ◌≤◌, ◌-◌, ◌^◌, ℕ, Bool, true, false, refl, ap, sym, ◌∙◌, subst, List, [], ◌∷◌, length, inl, inr, Option, None, Some, arith, ◌&&◌, ◌||◌, append-nil}
+use Rattle.std.proofs.lemmas.Bool.{false≢true, cases_lt, and_parts, or_cases, or_left, lt-ltb}
+use Rattle.std.specs.Prelude.{nat_lt, ◌==◌}
+use Rattle.mdv_votes.specs.declared.spot.Spot.{Spot}
+use Rattle.mdv_votes.specs.declared.table.Table.{Table}
+use Rattle.mdv_votes.specs.Spots.{is_in, is_none, same_spot}
+use Rattle.mdv_votes.specs.Quorum.{is_read}
+use Rattle.mdv_votes.specs.Family.{table_at, boot_of, put_at, with_claim, newest_of, greatest_of, knows_above}
+use Rattle.mdv_votes.proofs.Meeting.{same_is, in_more}
+use Rattle.mdv_votes.proofs.Quorums.{lists_at}
 use Rattle.mdv_quorum.specs.declared.machine.Core.{Core}
 use Rattle.mdv_quorum.specs.declared.machine.Stage.{Stage}
 use Rattle.mdv_quorum.specs.declared.machine.Stage.TheVariants.{Reading, Creating, Claiming, Writing, Ready}
-use Rattle.mdv_quorum.specs.Spots.{is_in, is_named, is_none, same_spot}
-use Rattle.mdv_quorum.specs.Quorum.{is_read}
-use Rattle.mdv_quorum.specs.Family.{table_at, place_at, boot_of, put_at, with_claim, newest_of, greatest_of, knows_above, mark_below}
 use Rattle.mdv_quorum.specs.World.{read, claimed, chosen, rewritten, last_table}
-use Rattle.mdv_quorum.specs.May.{is_up, may_read, may_claim, may_choose, is_target, is_boot}
-use Rattle.mdv_quorum.proofs.Meeting.{same_is, same_self, in_more}
-use Rattle.mdv_quorum.proofs.More.{boots_rise, none_some}
-use Rattle.mdv_quorum.proofs.Written.{some_same}
+use Rattle.mdv_quorum.specs.May.{is_up, may_read, may_claim, may_choose, is_target}
+use Rattle.mdv_quorum.proofs.More.{boots_rise}
 use Rattle.mdv_quorum.proofs.Changes.{leaves_ok, claim_leaves, claim_made, claim_taken}
 use Rattle.mdv_quorum.proofs.Adopt.{IsNewest, newest_is, greatest_at, above_known}
-use Rattle.mdv_quorum.proofs.Invariant.{newest, claim, holds, boot_at, lists_at, plan_at, Above, IsLive, Base, Inv, StageOk, ReadingOk, ClaimingOk, WritingOk, TakingOk, IsChosen, Fits, KnownIn, Knows, IsGone, HasTaken, IsBeater}
+use Rattle.mdv_quorum.proofs.Invariant.{newest, holds, boot_at, plan_at, Above, IsLive, Base, Inv, StageOk, ReadingOk}
 
 read_on : (w : Core) (p : Spot) (places : List Spot) → Base w → ReadingOk w.places w.floor w.deleted places → may_read w p (Reading places) ≡ true → Inv (read w p (Reading places))
 read_on w p places b ok may =

@@ -1,23 +1,24 @@
 -- The next table: a creation, a commit or a change of lists.
-use Rattle.std.proofs.Common.{◌≡◌, ◌<◌, ◌≤◌, ◌+◌, ◌-◌, ◌^◌, ℕ, zero, suc, Bool, true, false, refl, ap, sym, ◌∙◌, subst, List, [], ◌∷◌, ◌++◌, length, inl, inr, ◌⊎◌, Option, None, Some, arith, cond, not, ◌&&◌, ◌||◌}
-use Rattle.std.proofs.lemmas.Bool.{cases_Bool, false≢true, and_parts, or_cases, not-false, ltb-true, eqb-true, cases_eq, lt-ltb, eq-eqb, or_left, or_right, and_from}
+use Rattle.std.proofs.Common.{◌≡◌, ◌<◌, ◌+◌, ◌-◌, ◌^◌, ℕ, Bool, true, false, refl, ap, sym, ◌∙◌, subst, List, [], ◌∷◌, ◌++◌, length, inl, inr, ◌⊎◌, Option, None, Some, arith, not, ◌&&◌}
+use Rattle.std.proofs.lemmas.Bool.{false≢true, and_parts, or_cases, not-false, ltb-true, eqb-true, cases_eq, lt-ltb, eq-eqb, or_left, or_right, and_from}
 use Rattle.std.proofs.lemmas.List.Elements.{Contains-append_left}
-use Rattle.std.specs.Prelude.{option_to_list, Contains, nat_lt, ◌==◌}
+use Rattle.std.specs.Prelude.{Contains, nat_lt, ◌==◌}
 use Rattle.mdv_base.specs.declared.mark.Mark.{Mark}
-use Rattle.mdv_quorum.specs.declared.spot.Spot.{Spot}
-use Rattle.mdv_quorum.specs.declared.spot.SpotLists.{SpotLists}
-use Rattle.mdv_quorum.specs.declared.table.Table.{Table}
+use Rattle.mdv_votes.specs.declared.spot.Spot.{Spot}
+use Rattle.mdv_votes.specs.declared.spot.SpotLists.{SpotLists}
+use Rattle.mdv_votes.specs.declared.table.Table.{Table}
+use Rattle.mdv_votes.specs.Spots.{last_list, same_spots}
+use Rattle.mdv_votes.specs.Family.{table_at, mark_below}
+use Rattle.mdv_votes.proofs.SameSpots.{spots_same}
+use Rattle.mdv_votes.proofs.Quorums.{lists_at, IsCommon}
 use Rattle.mdv_quorum.specs.declared.machine.Core.{Core}
 use Rattle.mdv_quorum.specs.declared.machine.Stage.{Stage}
 use Rattle.mdv_quorum.specs.declared.machine.Stage.TheVariants.{Reading, Creating, Claiming, Writing, Ready}
-use Rattle.mdv_quorum.specs.Spots.{last_list}
-use Rattle.mdv_quorum.specs.Family.{table_at, mark_below}
-use Rattle.mdv_quorum.specs.World.{created, changed, lists_at as lists_next, same_spots, last_table}
+use Rattle.mdv_quorum.specs.World.{created, changed, lists_at as lists_next, last_table}
 use Rattle.mdv_quorum.specs.May.{may_list, is_lists, is_new, may_follow}
-use Rattle.mdv_quorum.proofs.More.{none_some}
 use Rattle.mdv_quorum.proofs.Written.{some_same, itself_common, last_in, prefix_itself}
-use Rattle.mdv_quorum.proofs.Follow.{lists_ok, seats_follow, has_follow, spots_same}
-use Rattle.mdv_quorum.proofs.Invariant.{boot_at, lists_at, plan_at, IsLive, Base, Inv, StageOk, ReadingOk, CreatingOk, ReadyOk, NextOk, Fits, IsCommon, ListsOk, IsPrefix, HasAll}
+use Rattle.mdv_quorum.proofs.Follow.{lists_ok, seats_follow, has_follow}
+use Rattle.mdv_quorum.proofs.Invariant.{plan_at, IsLive, Base, Inv, StageOk, Fits, ListsOk, IsPrefix}
 
 -- the first table fits behind nothing
 create_fits : (w : Core) (lists : SpotLists) → Base w → length w.family ≡ 0 → ListsOk w.set lists

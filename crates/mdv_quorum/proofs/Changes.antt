@@ -1,19 +1,18 @@
 -- Changes of places that leave what each shows.
-use Rattle.std.proofs.Common.{◌≡◌, ◌<◌, ◌≤◌, ◌+◌, ◌-◌, ℕ, Bool, true, false, refl, ap, sym, ◌∙◌, subst, List, [], ◌∷◌, ◌++◌, length, inl, inr, ◌⊎◌, Option, None, Some, arith, cond, not}
-use Rattle.std.proofs.lemmas.Bool.{cases_Bool, false≢true, false_from_ne_true}
+use Rattle.std.proofs.Common.{◌≡◌, ◌<◌, ◌≤◌, ◌-◌, ℕ, true, false, refl, ap, sym, ◌∙◌, subst, List, length, inl, inr, ◌⊎◌, Option, None, Some, arith}
+use Rattle.std.proofs.lemmas.Bool.{false≢true, false_from_ne_true}
 use Rattle.mdv_base.specs.declared.drive.DriveNo.{DriveNo}
-use Rattle.mdv_quorum.specs.declared.spot.Spot.{Spot}
-use Rattle.mdv_quorum.specs.declared.spot.SpotLists.{SpotLists}
-use Rattle.mdv_quorum.specs.declared.table.Table.{Table}
-use Rattle.mdv_quorum.specs.declared.table.Place.{Place}
-use Rattle.mdv_quorum.specs.declared.table.Since.{Since}
-use Rattle.mdv_quorum.specs.declared.table.Since.TheVariants.{Never, Listed, Dropped}
-use Rattle.mdv_quorum.specs.Spots.{is_in, is_named, last_list, same_spot}
-use Rattle.mdv_quorum.specs.Family.{table_at, place_at, boot_of, put_at, change_at, changed_at, with_claim, wiped}
-use Rattle.mdv_quorum.specs.May.{is_up}
-use Rattle.mdv_quorum.proofs.Meeting.{same_is, same_self}
-use Rattle.mdv_quorum.proofs.PlacesAt.{put_cases, put_used, wipe_at, wiped_newest, wiped_claim, wiped_since, wiped_held, wiped_other, wiped_itself, map_used, spot_at, Apart}
-use Rattle.mdv_quorum.proofs.Invariant.{newest, claim, holds, since, boot_at, lists_at, Above, Late, Knows, KnownIn, Beats, NumbersOk, IsKept, IsCovered, IsGone, PlacesOk, IsLive, HasTaken}
+use Rattle.mdv_votes.specs.declared.spot.Spot.{Spot}
+use Rattle.mdv_votes.specs.declared.spot.SpotLists.{SpotLists}
+use Rattle.mdv_votes.specs.declared.table.Table.{Table}
+use Rattle.mdv_votes.specs.declared.table.Place.{Place}
+use Rattle.mdv_votes.specs.declared.table.Since.{Since}
+use Rattle.mdv_votes.specs.Spots.{is_named, same_spot}
+use Rattle.mdv_votes.specs.Family.{place_at, boot_of, put_at, change_at, changed_at, with_claim, wiped}
+use Rattle.mdv_votes.proofs.Meeting.{same_is, same_self}
+use Rattle.mdv_votes.proofs.PlacesAt.{put_cases, put_used, wipe_at, wiped_newest, wiped_claim, wiped_since, wiped_held, wiped_other, wiped_itself, map_used, spot_at}
+use Rattle.mdv_votes.proofs.Quorums.{lists_at}
+use Rattle.mdv_quorum.proofs.Invariant.{newest, claim, holds, since, boot_at, Above, Late, Knows, IsCovered, IsGone, PlacesOk, HasTaken}
 
 -- a change that leaves what each place shows, and holds where the firm table names it
 pub record Leaves (family : List Table) (firm : Option ℕ) (deleted : Option Spot) (old new : List Place) : Type 0 where

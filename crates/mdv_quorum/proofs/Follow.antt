@@ -1,27 +1,17 @@
 -- Which lists and mediators may follow which.
-use Rattle.std.proofs.Common.{◌≡◌, ◌<◌, ◌≤◌, ◌+◌, ◌*◌, ℕ, zero, suc, Bool, true, false, refl, ap, sym, ◌∙◌, subst, List, [], ◌∷◌, length, ◌&&◌, ◌||◌, cond, not, inl, inr, ◌⊎◌, Option, None, Some, arith}
-use Rattle.std.proofs.lemmas.Bool.{and_parts, or_cases, cases_Bool, false≢true, not-true, ltb-true, leb-true, and_from, or_parts, false_from_ne_true, cond-true, cond-false, or_left, or_right, not_from_false, not_from_true}
-use Rattle.std.specs.List.{list_any, list_all, count_by}
+use Rattle.std.proofs.Common.{◌≡◌, ◌≤◌, ◌+◌, ◌*◌, ℕ, Bool, true, false, refl, ap, sym, ◌∙◌, subst, List, [], ◌∷◌, length, ◌&&◌, ◌||◌, cond, not, inl, inr, ◌⊎◌, Option, None, Some, arith}
+use Rattle.std.proofs.lemmas.Bool.{and_parts, or_cases, cases_Bool, false≢true, not-true, ltb-true, leb-true, or_parts}
+use Rattle.std.specs.List.{list_all, count_by}
 use Rattle.std.specs.Prelude.{nat_le}
-use Rattle.mdv_quorum.specs.declared.spot.Spot.{Spot}
-use Rattle.mdv_quorum.specs.declared.spot.SpotLists.{SpotLists}
-use Rattle.mdv_quorum.specs.declared.table.Table.{Table}
-use Rattle.mdv_quorum.specs.Spots.{is_in, is_majority, is_none, last_list, last_or, same_spot}
-use Rattle.mdv_quorum.specs.World.{same_spots}
+use Rattle.mdv_votes.specs.declared.spot.Spot.{Spot}
+use Rattle.mdv_votes.specs.declared.spot.SpotLists.{SpotLists}
+use Rattle.mdv_votes.specs.Spots.{is_in, is_majority, is_none, last_list, last_or, same_spot, same_spots}
+use Rattle.mdv_votes.proofs.Meeting.{same_is, meet_counted, step_counted}
+use Rattle.mdv_votes.proofs.SameSpots.{spots_same}
+use Rattle.mdv_votes.proofs.Quorums.{HasList, SeatsMeet}
 use Rattle.mdv_quorum.specs.May.{is_distinct, is_one_more, may_follow, moves_on, same_second, is_lists, is_place, all_second}
-use Rattle.mdv_quorum.proofs.Meeting.{same_is, same_self, meet_counted, step_counted}
 use Rattle.mdv_quorum.proofs.Written.{last_in, seats_itself}
-use Rattle.mdv_quorum.proofs.Invariant.{HasList, IsCommon, SeatsMeet, ListsOk, lists_at}
-
-pub spots_same : (xs ys : List Spot) → same_spots xs ys ≡ true → xs ≡ ys
-spots_same [] [] h = refl
-spots_same [] (y ∷ ys) h = cc
-spots_same (x ∷ xs) [] h = cc
-spots_same (x ∷ xs) (y ∷ ys) h =
-    let parts = and_parts (same_spot x y) (same_spots xs ys) h in
-    let first = same_is x y parts.0 in
-    let rest = spots_same xs ys parts.1 in
-    cc
+use Rattle.mdv_quorum.proofs.Invariant.{ListsOk}
 
 second_same : (a b : Option (List Spot)) → same_second a b ≡ true → a ≡ b
 second_same None None h = refl

@@ -1,24 +1,24 @@
 -- A place or a seat is formatted.
-use Rattle.std.proofs.Common.{◌≡◌, ◌<◌, ◌≤◌, ◌+◌, ◌-◌, ℕ, zero, suc, Bool, true, false, refl, ap, sym, ◌∙◌, subst, List, [], ◌∷◌, ◌++◌, length, inl, inr, ◌⊎◌, Option, None, Some, arith, cond, not, ◌&&◌, ◌||◌, max}
-use Rattle.std.proofs.lemmas.Bool.{cases_Bool, false≢true, cases_lt, and_parts, or_cases, or_right, or_left, not-true, not-false, ltb-false, lt-ltb, false_from_ne_true, and_from, not_from_true}
+use Rattle.std.proofs.Common.{◌≡◌, ◌<◌, ◌≤◌, ◌-◌, ℕ, Bool, true, false, refl, ap, sym, ◌∙◌, subst, List, [], ◌∷◌, length, inl, inr, ◌⊎◌, Option, None, Some, arith, cond, not, ◌&&◌, ◌||◌}
+use Rattle.std.proofs.lemmas.Bool.{false≢true, cases_lt, and_parts, or_cases, or_right, or_left, not-true, ltb-false, false_from_ne_true, and_from}
 use Rattle.std.specs.List.{list_all}
-use Rattle.std.specs.Prelude.{nat_lt}
 use Rattle.mdv_base.specs.declared.drive.DriveNo.{DriveNo}
-use Rattle.mdv_quorum.specs.declared.spot.Spot.{Spot}
-use Rattle.mdv_quorum.specs.declared.spot.SpotLists.{SpotLists}
-use Rattle.mdv_quorum.specs.declared.table.Table.{Table}
-use Rattle.mdv_quorum.specs.declared.table.Place.{Place}
-use Rattle.mdv_quorum.specs.declared.table.Since.{Since}
-use Rattle.mdv_quorum.specs.declared.table.Since.TheVariants.{Never, Listed, Dropped}
-use Rattle.mdv_quorum.specs.Spots.{is_in, is_named, last_list, last_or, in_second, same_spot}
-use Rattle.mdv_quorum.specs.Family.{table_at, place_at, boot_of, put_at, formatted, blank_place}
+use Rattle.mdv_votes.specs.declared.spot.Spot.{Spot}
+use Rattle.mdv_votes.specs.declared.spot.SpotLists.{SpotLists}
+use Rattle.mdv_votes.specs.declared.table.Table.{Table}
+use Rattle.mdv_votes.specs.declared.table.Place.{Place}
+use Rattle.mdv_votes.specs.declared.table.Since.{Since}
+use Rattle.mdv_votes.specs.declared.table.Since.TheVariants.{Never, Listed, Dropped}
+use Rattle.mdv_votes.specs.Spots.{is_in, is_named, last_list, last_or, in_second, same_spot}
+use Rattle.mdv_votes.specs.Family.{place_at, boot_of, put_at, formatted, blank_place}
+use Rattle.mdv_votes.proofs.Meeting.{same_is, same_self}
+use Rattle.mdv_votes.proofs.PlacesAt.{put_cases, put_used, spot_at, Apart}
+use Rattle.mdv_votes.proofs.Quorums.{lists_at}
 use Rattle.mdv_quorum.specs.World.{raised}
 use Rattle.mdv_quorum.specs.May.{is_up, is_clean_at, is_clean, is_clean_but, shows_below}
-use Rattle.mdv_quorum.proofs.Meeting.{same_is, same_self}
-use Rattle.mdv_quorum.proofs.PlacesAt.{put_cases, put_used, spot_at, Apart}
 use Rattle.mdv_quorum.proofs.More.{none_some}
 use Rattle.mdv_quorum.proofs.Written.{some_same, last_in}
-use Rattle.mdv_quorum.proofs.Invariant.{newest, claim, holds, since, boot_at, lists_at, Above, Late, Knows, KnownIn, Beats, IsBeater, NumbersOk, IsKept, IsCovered, PlacesOk, TablesOk, ListsOk}
+use Rattle.mdv_quorum.proofs.Invariant.{newest, holds, since, boot_at, Above, Late, PlacesOk, TablesOk}
 
 -- what holds of each place that is known holds of the one that is looked up, or nothing is known of it
 all_at : (test : Place → Bool) (xs : List Place) (q : Spot) → list_all test xs ≡ true → (test (place_at xs q) ≡ true) ⊎ (place_at xs q ≡ blank_place q)

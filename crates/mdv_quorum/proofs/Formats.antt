@@ -1,26 +1,24 @@
 -- Places and seats are formatted and blanked.
-use Rattle.std.proofs.Common.{◌≡◌, ◌<◌, ◌≤◌, ◌+◌, ◌-◌, ◌*◌, ℕ, zero, suc, Bool, true, false, refl, ap, sym, ◌∙◌, subst, List, [], ◌∷◌, ◌++◌, length, inl, inr, ◌⊎◌, Option, None, Some, arith, cond, not, ◌&&◌, ◌||◌}
-use Rattle.std.proofs.lemmas.Bool.{cases_Bool, false≢true, and_parts, or_cases, not-true, ltb-true, leb-true, cond-true, cond-false}
+use Rattle.std.proofs.Common.{◌≡◌, ◌<◌, ◌≤◌, ◌-◌, ◌*◌, ℕ, Bool, true, false, refl, ap, sym, ◌∙◌, subst, List, [], ◌∷◌, length, inl, inr, Option, None, Some, arith, cond, not, ◌&&◌, ◌||◌}
+use Rattle.std.proofs.lemmas.Bool.{cases_Bool, false≢true, and_parts, or_cases, not-true, ltb-true, leb-true, cond-false}
 use Rattle.std.specs.List.{count_by, list_any}
-use Rattle.mdv_quorum.specs.declared.spot.Spot.{Spot}
-use Rattle.mdv_quorum.specs.declared.spot.SpotLists.{SpotLists}
-use Rattle.mdv_quorum.specs.declared.table.Table.{Table}
-use Rattle.mdv_quorum.specs.declared.table.Place.{Place}
+use Rattle.mdv_votes.specs.declared.spot.Spot.{Spot}
+use Rattle.mdv_votes.specs.declared.table.Table.{Table}
+use Rattle.mdv_votes.specs.Spots.{is_named, is_none, is_majority, is_half, same_spot}
+use Rattle.mdv_votes.specs.Quorum.{is_read, is_read_list}
+use Rattle.mdv_votes.specs.Family.{change_at, wiped}
+use Rattle.mdv_votes.proofs.Meeting.{same_is, step_counted}
+use Rattle.mdv_votes.proofs.Quorums.{covers_at, none_is, lists_at}
 use Rattle.mdv_quorum.specs.declared.machine.Core.{Core}
 use Rattle.mdv_quorum.specs.declared.machine.Stage.{Stage}
 use Rattle.mdv_quorum.specs.declared.machine.Stage.TheVariants.{Reading, Creating, Claiming, Writing, Ready}
-use Rattle.mdv_quorum.specs.Spots.{is_in, is_named, is_none, is_majority, is_half, same_spot, covers, covers_second}
-use Rattle.mdv_quorum.specs.Quorum.{is_read, is_read_list}
-use Rattle.mdv_quorum.specs.Family.{table_at, place_at, put_at, change_at, wiped, formatted}
 use Rattle.mdv_quorum.specs.World.{formatted_at, formatted_place, formatted_seat, formatted_next, wiped_at, without, given_up, raised, last_table}
 use Rattle.mdv_quorum.specs.May.{may_format, may_format_place, may_format_next, may_wipe, is_firm_in, is_clean_but, is_only_place, is_only, is_single}
-use Rattle.mdv_quorum.proofs.Meeting.{same_is, step_counted}
-use Rattle.mdv_quorum.proofs.Quorums.{covers_at, none_is}
 use Rattle.mdv_quorum.proofs.More.{boots_rise, none_some}
 use Rattle.mdv_quorum.proofs.Written.{some_same}
 use Rattle.mdv_quorum.proofs.Changes.{leaves_ok, leaves_to, wipe_leaves, wipe_taken, wipe_shows, wipe_claims, wipe_gone}
 use Rattle.mdv_quorum.proofs.Format.{format_places, seat_places}
-use Rattle.mdv_quorum.proofs.Invariant.{newest, claim, holds, since, boot_at, lists_at, IsLive, Base, Inv, StageOk, ReadingOk, CreatingOk, ClaimingOk, TakingOk, WritingOk, ReadyOk, NextOk, IsGone}
+use Rattle.mdv_quorum.proofs.Invariant.{holds, since, boot_at, Base, Inv, StageOk, NextOk}
 
 -- the firm table doesn't name it
 firm_free : (family : List Table) (firm : Option ℕ) (p : Spot) → is_firm_in family firm p ≡ false → (f : ℕ) → firm ≡ Some f → is_named (lists_at family f) p ≡ false

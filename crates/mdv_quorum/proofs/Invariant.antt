@@ -1,19 +1,20 @@
 -- What every event keeps, in named facts over an arbitrary place.
-use Rattle.std.proofs.Common.{◌≡◌, ◌<◌, ◌≤◌, ◌+◌, ◌-◌, ℕ, Bool, true, false, List, [], ◌∷◌, ◌++◌, length, inl, inr, ◌⊎◌, Option, None, Some}
+use Rattle.std.proofs.Common.{◌≡◌, ◌<◌, ◌≤◌, ◌-◌, ℕ, Bool, true, false, List, [], ◌++◌, length, ◌⊎◌, Option, None, Some}
 use Rattle.std.specs.Prelude.{Contains, option_to_list}
 use Rattle.mdv_base.specs.declared.drive.DriveNo.{DriveNo}
-use Rattle.mdv_quorum.specs.declared.spot.Spot.{Spot}
-use Rattle.mdv_quorum.specs.declared.spot.SpotLists.{SpotLists}
-use Rattle.mdv_quorum.specs.declared.table.Table.{Table}
-use Rattle.mdv_quorum.specs.declared.table.Place.{Place}
-use Rattle.mdv_quorum.specs.declared.table.Since.{Since}
-use Rattle.mdv_quorum.specs.declared.table.Since.TheVariants.{Never, Listed, Dropped}
+use Rattle.mdv_votes.specs.declared.spot.Spot.{Spot}
+use Rattle.mdv_votes.specs.declared.spot.SpotLists.{SpotLists}
+use Rattle.mdv_votes.specs.declared.table.Table.{Table}
+use Rattle.mdv_votes.specs.declared.table.Place.{Place}
+use Rattle.mdv_votes.specs.declared.table.Since.{Since}
+use Rattle.mdv_votes.specs.declared.table.Since.TheVariants.{Never, Listed, Dropped}
+use Rattle.mdv_votes.specs.Spots.{is_in, is_named, last_list}
+use Rattle.mdv_votes.specs.Quorum.{is_read, is_written}
+use Rattle.mdv_votes.specs.Family.{table_at, place_at, boot_of, mark_below}
+use Rattle.mdv_votes.proofs.Quorums.{lists_at, HasList, IsCommon}
 use Rattle.mdv_quorum.specs.declared.machine.Core.{Core}
 use Rattle.mdv_quorum.specs.declared.machine.Stage.{Stage}
 use Rattle.mdv_quorum.specs.declared.machine.Stage.TheVariants.{Reading, Creating, Claiming, Writing, Ready}
-use Rattle.mdv_quorum.specs.Spots.{is_in, is_named, last_list, is_majority}
-use Rattle.mdv_quorum.specs.Quorum.{is_read, is_written}
-use Rattle.mdv_quorum.specs.Family.{table_at, place_at, boot_of, mark_below}
 use Rattle.mdv_quorum.specs.May.{is_up, is_distinct}
 
 abbrev pub newest : List Place → Spot → Option ℕ
@@ -30,9 +31,6 @@ since places p = (place_at places p).since
 
 abbrev pub boot_at : List Table → ℕ → ℕ
 boot_at family i = (table_at family i).mark.boot
-
-abbrev pub lists_at : List Table → ℕ → SpotLists
-lists_at family i = (table_at family i).lists
 
 abbrev pub plan_at : List Table → ℕ → List ℕ
 plan_at family i = (table_at family i).plan
@@ -61,22 +59,6 @@ Late (Dropped m) i = i < m
 -- its claim or the boot number of its newest table is at least this one
 abbrev pub Knows : List Table → List Place → Spot → ℕ → Type 0
 Knows family places p b = (b ≤ claim places p) ⊎ (b ≤ boot_of family (newest places p))
-
-abbrev pub HasList : SpotLists → List Spot → Type 0
-HasList lists list = (lists.first ≡ list) ⊎ (lists.second ≡ Some list)
-
--- more than half of the one's mediators and more than half of the other's have one of the first in common
-abbrev pub SeatsMeet : List Spot → List Spot → Type 0
-SeatsMeet a b =
-    (took read : Spot → Bool) → is_majority took b ≡ true → is_majority read a ≡ true → (m : Spot) × (took m ≡ true) × (read m ≡ true) × (is_in a m ≡ true)
-
--- two tables have a list in common: the second one's last, or the firm one's last; and their mediators meet
-pub record IsCommon (family : List Table) (firm : Option ℕ) (a b : SpotLists) : Type 0 where
-  pub list : List Spot
-  pub in_a : HasList a list
-  pub in_b : HasList b list
-  pub seats : SeatsMeet a.mediators b.mediators
-  pub last : (list ≡ last_list b) ⊎ ((f : ℕ) × (firm ≡ Some f) × (list ≡ last_list (lists_at family f)))
 
 abbrev pub MadeFrom : List Table → ℕ → Table → Option ℕ → Type 0
 MadeFrom family i t None = t.plan ≡ option_to_list t.change

@@ -1,7 +1,4 @@
-mod Meeting
-mod PlacesAt
 mod Invariant
-mod Quorums
 mod Changes
 mod More
 mod Written
@@ -13,7 +10,6 @@ mod Writes
 mod Formats
 mod Changed
 mod Steps
-mod Listing
 pub mod Stands
 mod Rising
 mod Limits

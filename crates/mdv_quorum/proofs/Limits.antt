@@ -1,20 +1,20 @@
 -- What may happen keeps the numbers in their limits.
-use Rattle.std.proofs.Common.{◌≡◌, ◌<◌, ◌≤◌, ◌+◌, ◌^◌, ℕ, zero, suc, Bool, true, false, refl, ap, sym, ◌∙◌, subst, List, [], ◌∷◌, length, Option, None, Some, arith, ◌&&◌, ◌||◌, not, cond, inl, inr, ◌⊎◌}
-use Rattle.std.proofs.lemmas.Bool.{and_parts, ltb-true, false≢true, cases_Bool, eqb-true, eqb-false, ne_eqb}
+use Rattle.std.proofs.Common.{◌≡◌, ◌<◌, ◌+◌, ◌^◌, ℕ, Bool, true, false, refl, ap, sym, ◌∙◌, subst, List, [], ◌∷◌, Option, None, Some, ◌&&◌, ◌||◌, not, cond, inl, inr, ◌⊎◌}
+use Rattle.std.proofs.lemmas.Bool.{and_parts, ltb-true, cases_Bool, eqb-true, eqb-false, ne_eqb}
 use Rattle.std.specs.Prelude.{nat_lt, ◌==◌}
 use Rattle.std.specs.List.{list_any}
 use Rattle.mdv_base.specs.declared.drive.DriveNo.{DriveNo}
-use Rattle.mdv_quorum.specs.declared.spot.Spot.{Spot}
-use Rattle.mdv_quorum.specs.declared.spot.SpotLists.{SpotLists}
-use Rattle.mdv_quorum.specs.declared.table.Table.{Table}
+use Rattle.mdv_votes.specs.declared.spot.Spot.{Spot}
+use Rattle.mdv_votes.specs.declared.spot.SpotLists.{SpotLists}
+use Rattle.mdv_votes.specs.declared.table.Table.{Table}
+use Rattle.mdv_votes.specs.Spots.{is_in}
+use Rattle.mdv_votes.specs.Quorum.{is_read}
+use Rattle.mdv_votes.specs.Family.{table_at, newest_of, greatest_of, knows_above}
 use Rattle.mdv_quorum.specs.declared.machine.Core.{Core}
 use Rattle.mdv_quorum.specs.declared.machine.Stage.{Stage}
-use Rattle.mdv_quorum.specs.declared.machine.Stage.TheVariants.{Reading, Creating, Claiming, Writing, Ready}
-use Rattle.mdv_quorum.specs.Spots.{is_in, same_spot}
-use Rattle.mdv_quorum.specs.Quorum.{is_read}
-use Rattle.mdv_quorum.specs.Family.{table_at, newest_of, greatest_of, knows_above}
-use Rattle.mdv_quorum.specs.World.{rewritten, last_table, same_spots, without_drive}
-use Rattle.mdv_quorum.specs.May.{is_up, may_claim, may_choose, is_target, may_list, is_lists, is_new, may_follow}
+use Rattle.mdv_quorum.specs.declared.machine.Stage.TheVariants.{Reading, Ready}
+use Rattle.mdv_quorum.specs.World.{rewritten, last_table, without_drive}
+use Rattle.mdv_quorum.specs.May.{is_up, may_claim, may_choose, is_target, may_list, is_lists, may_follow}
 
 -- the number that is drawn
 pub claim_fits : (w : Core) (p : Spot) (places : List Spot) (i : ℕ) → w.stage ≡ Reading places → may_claim w p w.stage ≡ true → newest_of w.family w.places None places ≡ Some i
@@ -25,13 +25,6 @@ claim_fits w p places i stage may e =
     let n = and_parts (is_read (table_at w.family i) (is_in places) (knows_above w.family w.places (table_at w.family i)))
     (is_target w (table_at w.family i).lists p && nat_lt (rewritten w places i).mark.boot (2 ^ 63)) m in
     ltb-true (rewritten w places i).mark.boot (2 ^ 63) (and_parts (is_target w (table_at w.family i).lists p) (nat_lt (rewritten w places i).mark.boot (2 ^ 63)) n.1).1
-
--- lists of different lengths aren't the same
-pub same_length : (xs ys : List Spot) → same_spots xs ys ≡ true → length xs ≡ length ys
-same_length [] [] h = refl
-same_length [] (y ∷ ys) h = cc
-same_length (x ∷ xs) [] h = cc
-same_length (x ∷ xs) (y ∷ ys) h = ap (λ (n : ℕ). suc n) (same_length xs ys (and_parts (same_spot x y) (same_spots xs ys) h).1)
 
 -- the count of the next table, and how many changes there are
 pub commit_fits : (w : Core) (lists : SpotLists) (next : Option Table) → w.stage ≡ Ready next → may_list w lists w.stage ≡ true → (w.changes < 2 ^ 63) × ((last_table w).mark.count + 1 < 2 ^ 63)

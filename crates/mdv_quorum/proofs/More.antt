@@ -1,18 +1,19 @@
 -- One table more in the family.
-use Rattle.std.proofs.Common.{◌≡◌, ◌<◌, ◌≤◌, ◌+◌, ◌-◌, ℕ, Bool, true, false, refl, ap, sym, ◌∙◌, subst, List, [], ◌∷◌, ◌++◌, length, inl, inr, ◌⊎◌, Option, None, Some, arith, cond, not, length-append, ◌&&◌, ◌||◌}
+use Rattle.std.proofs.Common.{◌≡◌, ◌<◌, ◌≤◌, ◌+◌, ℕ, Bool, true, refl, ap, sym, ◌∙◌, subst, List, [], ◌∷◌, ◌++◌, length, inl, inr, ◌⊎◌, Option, None, Some, arith, length-append, ◌&&◌}
 use Rattle.std.proofs.lemmas.List.{get_or_append_left, get_or_push}
-use Rattle.std.proofs.lemmas.Bool.{cases_Bool, false≢true, or_cases, and_parts, ltb-true, eqb-true, cases_eq}
+use Rattle.std.proofs.lemmas.Bool.{or_cases, and_parts, ltb-true, eqb-true, cases_eq}
 use Rattle.std.specs.Prelude.{option_to_list, nat_lt, ◌==◌}
 use Rattle.mdv_base.specs.declared.drive.DriveNo.{DriveNo}
 use Rattle.mdv_base.specs.declared.mark.Mark.{Mark}
-use Rattle.mdv_quorum.specs.declared.spot.Spot.{Spot}
-use Rattle.mdv_quorum.specs.declared.spot.SpotLists.{SpotLists}
-use Rattle.mdv_quorum.specs.declared.table.Table.{Table}
-use Rattle.mdv_quorum.specs.declared.table.Place.{Place}
-use Rattle.mdv_quorum.specs.Spots.{is_in, is_named, last_list, same_spot}
-use Rattle.mdv_quorum.specs.Quorum.{is_read, is_written}
-use Rattle.mdv_quorum.specs.Family.{table_at, no_table, place_at, boot_of, mark_below}
-use Rattle.mdv_quorum.proofs.Invariant.{newest, claim, holds, since, boot_at, lists_at, plan_at, Above, Late, Knows, KnownIn, Beats, NumbersOk, IsKept, IsCovered, IsGone, PlacesOk, IsLive, HasList, IsCommon, MadeFrom, TablesOk, ListsOk, AllCommon, PlansOk, Fits, IsPrefix, HasAll}
+use Rattle.mdv_votes.specs.declared.spot.Spot.{Spot}
+use Rattle.mdv_votes.specs.declared.spot.SpotLists.{SpotLists}
+use Rattle.mdv_votes.specs.declared.table.Table.{Table}
+use Rattle.mdv_votes.specs.declared.table.Place.{Place}
+use Rattle.mdv_votes.specs.Spots.{is_in, is_named, last_list}
+use Rattle.mdv_votes.specs.Quorum.{is_read, is_written}
+use Rattle.mdv_votes.specs.Family.{table_at, no_table, boot_of, mark_below}
+use Rattle.mdv_votes.proofs.Quorums.{lists_at, IsCommon}
+use Rattle.mdv_quorum.proofs.Invariant.{newest, boot_at, plan_at, Knows, KnownIn, PlacesOk, IsLive, MadeFrom, TablesOk, ListsOk, AllCommon, PlansOk, Fits, IsPrefix, HasAll}
 
 -- a mark above another has no smaller boot number
 pub boot_rises : (a b : Mark) → mark_below a b ≡ true → a.boot ≤ b.boot

@@ -1,21 +1,21 @@
 -- The numbers of completed boots rise.
-use Rattle.std.proofs.Common.{◌≡◌, ◌<◌, ◌≤◌, ◌+◌, ◌-◌, ℕ, Bool, true, false, refl, ap, sym, ◌∙◌, subst, List, [], ◌∷◌, ◌++◌, length, Option, None, Some, arith, cond, not}
+use Rattle.std.proofs.Common.{◌≡◌, ◌<◌, ◌-◌, ℕ, Bool, true, false, refl, ap, sym, ◌∙◌, subst, List, [], ◌∷◌, ◌++◌, length, Option, None, Some, arith, cond}
 use Rattle.std.proofs.lemmas.Bool.{false≢true}
-use Rattle.mdv_quorum.specs.declared.spot.Spot.{Spot}
-use Rattle.mdv_quorum.specs.declared.spot.SlotEnd.{SlotEnd}
-use Rattle.mdv_quorum.specs.declared.spot.Event.{Event}
-use Rattle.mdv_quorum.specs.declared.spot.Event.TheVariants.{Read, Claimed, Slotted, Formatted, Wiped, Lists, Told, Crash, Lose, Back}
-use Rattle.mdv_quorum.specs.declared.spot.SpotLists.{SpotLists}
-use Rattle.mdv_quorum.specs.declared.table.Table.{Table}
+use Rattle.mdv_votes.specs.declared.spot.Spot.{Spot}
+use Rattle.mdv_votes.specs.declared.spot.SpotLists.{SpotLists}
+use Rattle.mdv_votes.specs.declared.table.Table.{Table}
+use Rattle.mdv_votes.specs.Spots.{is_in, is_named}
+use Rattle.mdv_votes.specs.Quorum.{is_written}
+use Rattle.mdv_votes.specs.Family.{table_at, newest_of, change_at, wiped}
+use Rattle.mdv_quorum.specs.declared.event.SlotEnd.{SlotEnd}
+use Rattle.mdv_quorum.specs.declared.event.Event.{Event}
+use Rattle.mdv_quorum.specs.declared.event.Event.TheVariants.{Read, Claimed, Slotted, Formatted, Wiped, Lists, Told, Crash, Lose, Back}
 use Rattle.mdv_quorum.specs.declared.machine.Core.{Core}
 use Rattle.mdv_quorum.specs.declared.machine.Stage.{Stage}
 use Rattle.mdv_quorum.specs.declared.machine.Stage.TheVariants.{Reading, Creating, Claiming, Writing, Ready}
-use Rattle.mdv_quorum.specs.Spots.{is_in, is_named}
-use Rattle.mdv_quorum.specs.Quorum.{is_written}
-use Rattle.mdv_quorum.specs.Family.{table_at, newest_of, change_at, wiped}
 use Rattle.mdv_quorum.specs.World.{start, happens, after_all, read, claimed, chosen, slotted, slotted_next, wrote, with_table, settled, last_table, places_after, taken_after, formatted_at, formatted_next, formatted_seat, wiped_at, given_up, lists_at as lists_next, told_at, told_of}
-use Rattle.mdv_quorum.specs.May.{MayAll, may, may_tell}
-use Rattle.mdv_quorum.specs.Standing.{Standing, BootsAt, drawn_at, drawn_number, NumbersRise}
+use Rattle.mdv_quorum.specs.May.{MayAll, may_tell}
+use Rattle.mdv_quorum.specs.Standing.{BootsAt, drawn_at, NumbersRise}
 use Rattle.mdv_quorum.proofs.More.{longer, old_table}
 use Rattle.mdv_quorum.proofs.Written.{some_same}
 use Rattle.mdv_quorum.proofs.Stands.{stands_always}

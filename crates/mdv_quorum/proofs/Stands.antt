@@ -1,20 +1,16 @@
 -- The invariant gives standing.
-use Rattle.std.proofs.Common.{◌≡◌, ◌<◌, ◌≤◌, ◌+◌, ◌-◌, ℕ, Bool, true, false, refl, ap, sym, ◌∙◌, subst, List, [], ◌∷◌, ◌++◌, length, inl, inr, ◌⊎◌, Option, None, Some, arith, ◌&&◌, ◌||◌}
-use Rattle.std.proofs.lemmas.Bool.{false≢true, and_parts, or_cases, ltb-true, eqb-true}
+use Rattle.std.proofs.Common.{◌≡◌, ◌≤◌, ℕ, Bool, true, sym, ◌∙◌, List, inl, inr, Option, None, Some, arith, ◌&&◌}
+use Rattle.std.proofs.lemmas.Bool.{and_parts, or_cases, ltb-true, eqb-true}
 use Rattle.std.specs.Prelude.{nat_lt, ◌==◌}
 use Rattle.mdv_base.specs.declared.mark.Mark.{Mark}
 use Rattle.mdv_base.specs.Mark.{IsBelow}
-use Rattle.mdv_quorum.specs.declared.spot.Spot.{Spot}
-use Rattle.mdv_quorum.specs.declared.spot.Event.{Event}
-use Rattle.mdv_quorum.specs.declared.table.Table.{Table}
+use Rattle.mdv_votes.specs.Family.{table_at, mark_below, knows_above}
+use Rattle.mdv_quorum.specs.declared.event.Event.{Event}
 use Rattle.mdv_quorum.specs.declared.machine.Core.{Core}
 use Rattle.mdv_quorum.specs.declared.machine.Stage.{Stage}
 use Rattle.mdv_quorum.specs.declared.machine.Stage.TheVariants.{Reading, Creating, Claiming, Writing, Ready}
-use Rattle.mdv_quorum.specs.Family.{table_at, place_at, mark_below, knows_above}
 use Rattle.mdv_quorum.specs.World.{start, after_all}
-use Rattle.mdv_quorum.specs.May.{MayAll}
-use Rattle.mdv_quorum.specs.Standing.{Standing, IsFamily, IsMade, IsDescended, HoldsAtLeast, IsHeld, IsReadable, Reads, IsBeaten, AreBeaten, AreNumbersKnown, Adopts, AdoptsOf, BootsAt, StandsAlways, newest_at, table_of}
-use Rattle.mdv_quorum.proofs.Adopt.{above_known}
+use Rattle.mdv_quorum.specs.Standing.{Standing, IsMade, AdoptsOf, BootsAt, StandsAlways}
 use Rattle.mdv_quorum.proofs.Boots.{above_some}
 use Rattle.mdv_quorum.proofs.Written.{some_same}
 use Rattle.mdv_quorum.proofs.Steps.{reached_ok}

@@ -1,14 +1,14 @@
 -- Each event keeps the invariant, and so does every list of events.
-use Rattle.std.proofs.Common.{◌≡◌, ◌<◌, ◌≤◌, ◌+◌, ◌-◌, ℕ, Bool, true, false, refl, ap, sym, ◌∙◌, subst, List, [], ◌∷◌, ◌++◌, length, inl, inr, ◌⊎◌, Option, None, Some, arith, not, ◌&&◌, ◌||◌}
-use Rattle.std.proofs.lemmas.Bool.{false≢true, and_parts, or_parts, not-true, not_from_false, cases_Bool}
+use Rattle.std.proofs.Common.{◌≡◌, ◌≤◌, ℕ, Bool, true, false, refl, sym, ◌∙◌, List, [], ◌∷◌, ◌++◌, None, Some, arith}
+use Rattle.std.proofs.lemmas.Bool.{false≢true, and_parts, or_parts, not-true, not_from_false}
 use Rattle.std.proofs.lemmas.List.Folds.{list_any-append}
 use Rattle.std.specs.List.{list_any}
-use Rattle.std.specs.Prelude.{◌==◌, Contains}
+use Rattle.std.specs.Prelude.{◌==◌}
 use Rattle.mdv_base.specs.declared.drive.DriveNo.{DriveNo}
-use Rattle.mdv_quorum.specs.declared.spot.Spot.{Spot}
-use Rattle.mdv_quorum.specs.declared.spot.Event.{Event}
-use Rattle.mdv_quorum.specs.declared.spot.Event.TheVariants.{Read, Claimed, Slotted, Formatted, Wiped, Lists, Told, Crash, Lose, Back}
-use Rattle.mdv_quorum.specs.declared.table.Since.TheVariants.{Never, Listed, Dropped}
+use Rattle.mdv_votes.specs.declared.spot.Spot.{Spot}
+use Rattle.mdv_votes.specs.declared.table.Since.TheVariants.{Never, Listed, Dropped}
+use Rattle.mdv_quorum.specs.declared.event.Event.{Event}
+use Rattle.mdv_quorum.specs.declared.event.Event.TheVariants.{Read, Claimed, Slotted, Formatted, Wiped, Lists, Told, Crash, Lose, Back}
 use Rattle.mdv_quorum.specs.declared.machine.Core.{Core}
 use Rattle.mdv_quorum.specs.World.{start, happens, after_all, without_drive, crashed}
 use Rattle.mdv_quorum.specs.May.{may, MayAll, is_up, is_lost, is_clean}
@@ -18,7 +18,7 @@ use Rattle.mdv_quorum.proofs.Formats.{formatted_ok, wiped_ok}
 use Rattle.mdv_quorum.proofs.Changed.{lists_event_ok}
 use Rattle.mdv_quorum.proofs.Format.{clean_places}
 use Rattle.mdv_quorum.proofs.More.{none_some}
-use Rattle.mdv_quorum.proofs.Invariant.{newest, holds, Base, Inv, PlacesOk}
+use Rattle.mdv_quorum.proofs.Invariant.{newest, holds, Inv, PlacesOk}
 
 none_is : (j : ℕ) → None ≡ Some j → ⊥
 none_is j e = cc

@@ -1,27 +1,27 @@
 -- A table is written, becomes firm and is told.
-use Rattle.std.proofs.Common.{◌≡◌, ◌<◌, ◌≤◌, ◌+◌, ◌-◌, ◌^◌, ℕ, zero, suc, Bool, true, false, refl, ap, sym, ◌∙◌, subst, List, [], ◌∷◌, ◌++◌, length, inl, inr, ◌⊎◌, Option, None, Some, arith, cond, not, ◌&&◌, ◌||◌}
-use Rattle.std.proofs.lemmas.Bool.{cases_Bool, false≢true, and_parts}
-use Rattle.std.proofs.lemmas.List.Elements.{Contains-append_left, Contains-append_right, Contains-append_cases}
+use Rattle.std.proofs.Common.{◌≡◌, ◌<◌, ◌≤◌, ◌-◌, ℕ, Bool, true, false, refl, ap, sym, ◌∙◌, subst, List, [], ◌∷◌, ◌++◌, length, inl, inr, ◌⊎◌, Option, None, Some, arith}
+use Rattle.std.proofs.lemmas.Bool.{false≢true, and_parts}
+use Rattle.std.proofs.lemmas.List.Elements.{Contains-append_right, Contains-append_cases}
 use Rattle.std.specs.Prelude.{option_to_list, Contains}
-use Rattle.mdv_quorum.specs.declared.spot.Spot.{Spot}
-use Rattle.mdv_quorum.specs.declared.spot.SlotEnd.{SlotEnd}
-use Rattle.mdv_quorum.specs.declared.spot.SlotEnd.TheVariants.{Closed, Holds}
-use Rattle.mdv_quorum.specs.declared.table.Table.{Table}
-use Rattle.mdv_quorum.specs.declared.table.Place.{Place}
+use Rattle.mdv_votes.specs.declared.spot.Spot.{Spot}
+use Rattle.mdv_votes.specs.declared.table.Table.{Table}
+use Rattle.mdv_votes.specs.declared.table.Place.{Place}
+use Rattle.mdv_votes.specs.Spots.{is_in, is_named, last_list}
+use Rattle.mdv_votes.specs.Quorum.{is_read, is_written, is_claimed}
+use Rattle.mdv_votes.specs.Family.{table_at, put_at, with_newest}
+use Rattle.mdv_votes.proofs.Meeting.{same_self, in_more}
+use Rattle.mdv_votes.proofs.Quorums.{claimed_meets, lists_at}
+use Rattle.mdv_votes.proofs.PlacesAt.{put_cases}
+use Rattle.mdv_quorum.specs.declared.event.SlotEnd.{SlotEnd}
+use Rattle.mdv_quorum.specs.declared.event.SlotEnd.TheVariants.{Closed, Holds}
 use Rattle.mdv_quorum.specs.declared.machine.Core.{Core}
 use Rattle.mdv_quorum.specs.declared.machine.Stage.{Stage}
 use Rattle.mdv_quorum.specs.declared.machine.Stage.TheVariants.{Reading, Creating, Claiming, Writing, Ready}
-use Rattle.mdv_quorum.specs.Spots.{is_in, is_named, same_spot, last_list}
-use Rattle.mdv_quorum.specs.Quorum.{is_read, is_written, is_claimed}
-use Rattle.mdv_quorum.specs.Family.{table_at, place_at, put_at, with_newest}
 use Rattle.mdv_quorum.specs.World.{slotted, slotted_next, wrote, settled, with_table, taken_after, places_after, last_table, told_at, told_of}
 use Rattle.mdv_quorum.specs.May.{may_slot, may_slot_next, may_tell, is_target}
-use Rattle.mdv_quorum.proofs.Meeting.{same_is, same_self, in_more}
-use Rattle.mdv_quorum.proofs.Quorums.{claimed_meets}
-use Rattle.mdv_quorum.proofs.PlacesAt.{put_cases}
-use Rattle.mdv_quorum.proofs.More.{longer, old_table, new_at, which, tables_more, all_common_more, plans_more, places_more, none_some}
-use Rattle.mdv_quorum.proofs.Written.{write_places, write_taken, settle_places, settle_taken, settle_common, settle_plans, some_same, prefix_itself}
-use Rattle.mdv_quorum.proofs.Invariant.{newest, claim, holds, boot_at, lists_at, plan_at, IsLive, Base, Inv, StageOk, TakingOk, WritingOk, ReadyOk, ClaimingOk, CreatingOk, BootOk, IsChosen, Fits, KnownIn, HasTaken, IsAlone, MadeFrom, HasAll, IsPrefix}
+use Rattle.mdv_quorum.proofs.More.{longer, old_table, new_at, which, tables_more, all_common_more, plans_more, places_more}
+use Rattle.mdv_quorum.proofs.Written.{write_places, write_taken, settle_places, settle_taken, settle_common, settle_plans, prefix_itself}
+use Rattle.mdv_quorum.proofs.Invariant.{holds, boot_at, plan_at, IsLive, Base, Inv, StageOk, TakingOk, BootOk, Fits, KnownIn, HasTaken, IsAlone, MadeFrom, HasAll, IsPrefix}
 
 -- one more place, where it took the table
 taken_put : (family : List Table) (places : List Place) (p : Spot) → holds places p ≡ true → is_named (lists_at family (length family - 1)) p ≡ true → HasTaken family (put_at places p (with_newest (length family - 1))) p

@@ -1,22 +1,21 @@
 -- A place takes the last table, and that table becomes firm.
-use Rattle.std.proofs.Common.{◌≡◌, ◌<◌, ◌≤◌, ◌+◌, ◌-◌, ℕ, zero, suc, Bool, true, false, refl, ap, sym, ◌∙◌, subst, List, [], ◌∷◌, ◌++◌, length, inl, inr, ◌⊎◌, Option, None, Some, arith, cond, not, map, append-nil}
-use Rattle.std.proofs.lemmas.Bool.{cases_Bool, false≢true, cases_lt, cases_eq}
+use Rattle.std.proofs.Common.{◌≡◌, ◌<◌, ◌≤◌, ◌-◌, ℕ, Bool, true, false, refl, ap, sym, ◌∙◌, subst, List, [], length, inl, inr, ◌⊎◌, Option, None, Some, arith, map, append-nil}
+use Rattle.std.proofs.lemmas.Bool.{false≢true, cases_lt}
 use Rattle.mdv_base.specs.declared.drive.DriveNo.{DriveNo}
-use Rattle.mdv_quorum.specs.declared.spot.Spot.{Spot}
-use Rattle.mdv_quorum.specs.declared.spot.SpotLists.{SpotLists}
-use Rattle.mdv_quorum.specs.declared.table.Table.{Table}
-use Rattle.mdv_quorum.specs.declared.table.Place.{Place}
-use Rattle.mdv_quorum.specs.declared.table.Since.{Since}
-use Rattle.mdv_quorum.specs.declared.table.Since.TheVariants.{Never, Listed, Dropped}
-use Rattle.mdv_quorum.specs.Spots.{is_in, is_named, last_list, last_or, same_spot}
-use Rattle.mdv_quorum.specs.Quorum.{is_read, is_written}
-use Rattle.mdv_quorum.specs.Family.{table_at, place_at, boot_of, put_at, with_newest, with_since, since_after, blank_place}
-use Rattle.mdv_quorum.specs.May.{is_up}
-use Rattle.mdv_quorum.proofs.Quorums.{written_meets}
-use Rattle.mdv_quorum.proofs.Meeting.{meet, half_of_majority}
-use Rattle.mdv_quorum.proofs.PlacesAt.{put_cases, put_used, map_at, map_used, spot_at}
+use Rattle.mdv_votes.specs.declared.spot.Spot.{Spot}
+use Rattle.mdv_votes.specs.declared.spot.SpotLists.{SpotLists}
+use Rattle.mdv_votes.specs.declared.table.Table.{Table}
+use Rattle.mdv_votes.specs.declared.table.Place.{Place}
+use Rattle.mdv_votes.specs.declared.table.Since.{Since}
+use Rattle.mdv_votes.specs.declared.table.Since.TheVariants.{Never, Listed, Dropped}
+use Rattle.mdv_votes.specs.Spots.{is_in, last_list, last_or}
+use Rattle.mdv_votes.specs.Quorum.{is_written}
+use Rattle.mdv_votes.specs.Family.{table_at, boot_of, put_at, with_newest, with_since, since_after}
+use Rattle.mdv_votes.proofs.Quorums.{written_meets, lists_at, HasList, IsCommon, SeatsMeet}
+use Rattle.mdv_votes.proofs.Meeting.{meet, half_of_majority}
+use Rattle.mdv_votes.proofs.PlacesAt.{put_cases, put_used, map_at, map_used, spot_at}
 use Rattle.mdv_quorum.proofs.More.{boots_rise, none_some}
-use Rattle.mdv_quorum.proofs.Invariant.{newest, claim, holds, since, boot_at, lists_at, plan_at, Above, Late, Knows, KnownIn, Beats, NumbersOk, IsKept, IsCovered, IsGone, PlacesOk, IsLive, HasList, IsCommon, TablesOk, AllCommon, PlansOk, IsPrefix, HasAll, HasTaken, IsAlone, SeatsMeet}
+use Rattle.mdv_quorum.proofs.Invariant.{newest, claim, holds, since, boot_at, plan_at, Above, Late, IsCovered, PlacesOk, IsLive, TablesOk, AllCommon, PlansOk, IsPrefix, HasTaken, IsAlone}
 
 pub some_same : {A : Type 0} (a b : A) → Some a ≡ Some b → a ≡ b
 some_same a b e = cc

@@ -1,6 +1,6 @@
-pub mod Spots
-pub mod Quorum
-pub mod Family
+pub use Rattle.mdv_votes.specs.Spots
+pub use Rattle.mdv_votes.specs.Quorum
+pub use Rattle.mdv_votes.specs.Family
 pub mod World
 pub mod May
 pub mod Standing

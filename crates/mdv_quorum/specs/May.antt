@@ -1,20 +1,20 @@
 -- When each event may happen.
-use Rattle.std.specs.Prelude.{◌≡◌, ℕ, ◌+◌, ◌-◌, ◌^◌, ◌&&◌, ◌||◌, ◌==◌, not, Bool, true, false, List, [], ◌∷◌, Option, None, Some, length, nat_lt, nat_le, cond, IsTrue}
+use Rattle.std.specs.Prelude.{ℕ, ◌+◌, ◌^◌, ◌&&◌, ◌||◌, ◌==◌, not, Bool, true, false, List, [], ◌∷◌, Option, None, Some, length, nat_lt, nat_le, cond, IsTrue}
 use Rattle.std.specs.List.{list_any, list_all}
 use Rattle.mdv_base.specs.declared.drive.DriveNo.{DriveNo}
-use Rattle.mdv_quorum.specs.declared.spot.Spot.{Spot}
-use Rattle.mdv_quorum.specs.declared.spot.SpotLists.{SpotLists}
-use Rattle.mdv_quorum.specs.declared.spot.Event.{Event}
-use Rattle.mdv_quorum.specs.declared.spot.Event.TheVariants.{Read, Claimed, Slotted, Formatted, Wiped, Lists, Told, Crash, Lose, Back}
-use Rattle.mdv_quorum.specs.declared.table.Table.{Table}
-use Rattle.mdv_quorum.specs.declared.table.Place.{Place}
+use Rattle.mdv_votes.specs.declared.spot.Spot.{Spot}
+use Rattle.mdv_votes.specs.declared.spot.SpotLists.{SpotLists}
+use Rattle.mdv_votes.specs.declared.table.Table.{Table}
+use Rattle.mdv_votes.specs.declared.table.Place.{Place}
+use Rattle.mdv_votes.specs.Spots.{same_spot, is_in, is_named, is_none, same_spots}
+use Rattle.mdv_votes.specs.Quorum.{is_written, is_claimed, is_read}
+use Rattle.mdv_votes.specs.Family.{table_at, place_at, newest_of, knows_above}
+use Rattle.mdv_quorum.specs.declared.event.Event.{Event}
+use Rattle.mdv_quorum.specs.declared.event.Event.TheVariants.{Read, Claimed, Slotted, Formatted, Wiped, Lists, Told, Crash, Lose, Back}
 use Rattle.mdv_quorum.specs.declared.machine.Core.{Core}
 use Rattle.mdv_quorum.specs.declared.machine.Stage.{Stage}
 use Rattle.mdv_quorum.specs.declared.machine.Stage.TheVariants.{Reading, Creating, Claiming, Writing, Ready}
-use Rattle.mdv_quorum.specs.Spots.{same_spot, is_in, is_named, is_none, in_second}
-use Rattle.mdv_quorum.specs.Quorum.{is_written, is_claimed, is_read}
-use Rattle.mdv_quorum.specs.Family.{table_at, place_at, newest_of, greatest_of, knows_above}
-use Rattle.mdv_quorum.specs.World.{last_table, happens, raised, without_drive, same_spots, rewritten}
+use Rattle.mdv_quorum.specs.World.{last_table, happens, raised, without_drive, rewritten}
 
 abbrev pub is_up : List DriveNo → Spot → Bool
 is_up lost p = not (list_any (λ (d : DriveNo). d.0 == p.drive.0) lost)

@@ -1,15 +1,15 @@
 -- What holds of the replicas and mediators of one database after every list of events.
-use Rattle.std.specs.Prelude.{◌≡◌, ℕ, ◌+◌, ◌-◌, ◌<◌, ◌≤◌, ◌⊎◌, Bool, true, false, List, [], ◌∷◌, ◌++◌, Option, None, Some, length, option_to_list, Contains, IsTrue}
+use Rattle.std.specs.Prelude.{◌≡◌, ℕ, ◌-◌, ◌<◌, ◌≤◌, ◌⊎◌, Bool, false, List, [], ◌∷◌, ◌++◌, Option, None, Some, length, option_to_list, Contains, IsTrue}
 use Rattle.mdv_base.specs.Mark.{IsBelow}
-use Rattle.mdv_quorum.specs.declared.spot.Spot.{Spot}
-use Rattle.mdv_quorum.specs.declared.spot.Event.{Event}
-use Rattle.mdv_quorum.specs.declared.spot.Event.TheVariants.{Told}
-use Rattle.mdv_quorum.specs.declared.table.Table.{Table}
+use Rattle.mdv_votes.specs.declared.spot.Spot.{Spot}
+use Rattle.mdv_votes.specs.declared.table.Table.{Table}
+use Rattle.mdv_votes.specs.Quorum.{is_written, is_read}
+use Rattle.mdv_votes.specs.Family.{table_at, place_at, boot_of, knows_above}
+use Rattle.mdv_quorum.specs.declared.event.Event.{Event}
+use Rattle.mdv_quorum.specs.declared.event.Event.TheVariants.{Told}
 use Rattle.mdv_quorum.specs.declared.machine.Core.{Core}
 use Rattle.mdv_quorum.specs.declared.machine.Stage.{Stage}
 use Rattle.mdv_quorum.specs.declared.machine.Stage.TheVariants.{Reading, Creating, Claiming, Writing, Ready}
-use Rattle.mdv_quorum.specs.Quorum.{is_written, is_read}
-use Rattle.mdv_quorum.specs.Family.{table_at, place_at, boot_of, knows_above}
 use Rattle.mdv_quorum.specs.World.{start, after_all}
 use Rattle.mdv_quorum.specs.May.{is_up, MayAll}
 

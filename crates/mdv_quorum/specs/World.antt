@@ -1,23 +1,23 @@
 -- What each event does to the replicas and mediators of one database.
-use Rattle.std.specs.Prelude.{◌≡◌, ℕ, ◌+◌, ◌-◌, ◌&&◌, ◌||◌, ◌==◌, not, Bool, true, false, List, [], ◌∷◌, ◌++◌, Option, None, Some, length, nat_lt, max, cond, map, filter, option_to_list}
+use Rattle.std.specs.Prelude.{ℕ, ◌+◌, ◌-◌, ◌&&◌, ◌==◌, not, Bool, true, false, List, [], ◌∷◌, ◌++◌, Option, None, Some, length, max, cond, map, filter, option_to_list}
 use Rattle.mdv_base.specs.declared.drive.DriveNo.{DriveNo}
 use Rattle.mdv_base.specs.declared.mark.Mark.{Mark}
-use Rattle.mdv_quorum.specs.declared.spot.Spot.{Spot}
-use Rattle.mdv_quorum.specs.declared.spot.SpotLists.{SpotLists}
-use Rattle.mdv_quorum.specs.declared.spot.SlotEnd.{SlotEnd}
-use Rattle.mdv_quorum.specs.declared.spot.SlotEnd.TheVariants.{Closed, Holds}
-use Rattle.mdv_quorum.specs.declared.spot.Event.{Event}
-use Rattle.mdv_quorum.specs.declared.spot.Event.TheVariants.{Read, Claimed, Slotted, Formatted, Wiped, Lists, Told, Crash, Lose, Back}
-use Rattle.mdv_quorum.specs.declared.table.Table.{Table}
-use Rattle.mdv_quorum.specs.declared.table.Place.{Place}
-use Rattle.mdv_quorum.specs.declared.table.Since.{Since}
-use Rattle.mdv_quorum.specs.declared.table.Since.TheVariants.{Never, Listed, Dropped}
+use Rattle.mdv_votes.specs.declared.spot.Spot.{Spot}
+use Rattle.mdv_votes.specs.declared.spot.SpotLists.{SpotLists}
+use Rattle.mdv_votes.specs.declared.table.Table.{Table}
+use Rattle.mdv_votes.specs.declared.table.Place.{Place}
+use Rattle.mdv_votes.specs.declared.table.Since.{Since}
+use Rattle.mdv_votes.specs.declared.table.Since.TheVariants.{Never, Listed, Dropped}
+use Rattle.mdv_votes.specs.Spots.{is_in, is_none, is_named, last_list, same_spots}
+use Rattle.mdv_votes.specs.Quorum.{is_written}
+use Rattle.mdv_votes.specs.Family.{table_at, place_at, change_at, put_at, with_claim, with_newest, with_since, wiped, formatted, newest_of, greatest_of}
+use Rattle.mdv_quorum.specs.declared.event.SlotEnd.{SlotEnd}
+use Rattle.mdv_quorum.specs.declared.event.SlotEnd.TheVariants.{Closed, Holds}
+use Rattle.mdv_quorum.specs.declared.event.Event.{Event}
+use Rattle.mdv_quorum.specs.declared.event.Event.TheVariants.{Read, Claimed, Slotted, Formatted, Wiped, Lists, Told, Crash, Lose, Back}
 use Rattle.mdv_quorum.specs.declared.machine.Core.{Core}
 use Rattle.mdv_quorum.specs.declared.machine.Stage.{Stage}
 use Rattle.mdv_quorum.specs.declared.machine.Stage.TheVariants.{Reading, Creating, Claiming, Writing, Ready}
-use Rattle.mdv_quorum.specs.Spots.{is_in, is_none, is_named, last_list, is_majority, covers, covers_second, last_or, same_spot, in_second}
-use Rattle.mdv_quorum.specs.Quorum.{is_written, is_claimed, is_read}
-use Rattle.mdv_quorum.specs.Family.{table_at, place_at, change_at, put_at, with_claim, with_newest, with_since, wiped, formatted, newest_of, greatest_of, knows_above, boot_of}
 
 -- nothing has happened yet
 abbrev pub start : Bool → Core
@@ -195,13 +195,6 @@ changed w lists by_majority =
       plan = t.plan ++ w.changes ∷ [];
     } in
     record w { stage = Ready (Some next); changes = w.changes + 1; log = next.plan }
-
--- the same spots in the same order
-abbrev pub same_spots : List Spot → List Spot → Bool
-same_spots [] [] = true
-same_spots [] (q ∷ qs) = false
-same_spots (p ∷ ps) [] = false
-same_spots (p ∷ ps) (q ∷ qs) = same_spot p q && same_spots ps qs
 
 abbrev pub lists_at : Core → SpotLists → Stage → Core
 lists_at w lists (Reading places) = created w lists

@@ -2,21 +2,15 @@
 //! of a database is in force: a pure machine over what happens to them.
 #![tactic(auto)]
 
-mod family;
+mod event;
 mod machine;
 mod may;
-mod places;
-mod quorum;
-mod row;
-mod spot;
-mod spots;
 mod step;
-mod table;
 mod theorem;
 
+pub use event::{Event, SlotEnd};
 pub use machine::Core;
-pub use row::Row;
-pub use spot::{Event, SlotEnd, Spot, SpotList, SpotLists};
-pub use spots::{at_least_half, more_than_half};
-pub use table::{Place, Since, Table};
+pub use mdv_votes::{
+    Place, Row, Since, Spot, SpotList, SpotLists, Table, at_least_half, more_than_half,
+};
 pub use theorem::{numbers_rise, stands_always};

@@ -1,6 +1,5 @@
-use crate::family::mark_at;
-use crate::{Place, Row, Spot, Table};
 use mdv_base::{DriveNo, Mark};
+use mdv_votes::{Place, Row, Spot, Table, mark_at};
 use std::alloc::Global;
 
 /// How far the boot or the change in work has come.
@@ -51,8 +50,8 @@ pub struct Core {
 }
 
 impl Core {
-    ghost use Rattle.mdv_quorum.specs.World.{start, adopted_mark};
     ghost use Rattle.std.specs.Prelude.{◌≡◌};
+    ghost use Rattle.mdv_quorum.specs.World.{start, adopted_mark};
 
     pub fn new(alloc: Global, set: bool) -> Core
         ensures { result ≡ start set }

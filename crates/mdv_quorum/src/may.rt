@@ -1,98 +1,23 @@
 //! When each event may happen.
 
 ghost use Rattle.std.specs.Prelude.{◌≡◌, ◌&&◌, ◌||◌, not};
-ghost use Rattle.std.specs.List.{list_all, list_any};
+ghost use Rattle.std.specs.List.{list_all};
+ghost use Rattle.mdv_votes.specs.Spots.{is_in as spec_is_in, is_none as spec_is_none};
+ghost use Rattle.mdv_votes.specs.declared.spot.Spot.{Spot};
+ghost use Rattle.mdv_votes.specs.Quorum.{is_written as spec_is_written, is_claimed as spec_is_claimed, is_read as spec_is_read};
+ghost use Rattle.mdv_votes.specs.Family.{knows_above as spec_knows_above};
 ghost use Rattle.mdv_quorum.specs.World.{without_drive};
-ghost use Rattle.mdv_quorum.specs.Spots.{is_in as spec_is_in, is_none as spec_is_none, is_half as spec_is_half, is_majority as spec_is_majority};
-ghost use Rattle.mdv_quorum.specs.declared.spot.Spot.{Spot};
-ghost use Rattle.mdv_quorum.specs.Quorum.{is_written as spec_is_written, is_claimed as spec_is_claimed, is_claimed_list as spec_is_claimed_list, is_read as spec_is_read, is_read_list as spec_is_read_list};
-ghost use Rattle.mdv_quorum.specs.Family.{knows_above as spec_knows_above};
 ghost use Rattle.mdv_quorum.specs.May.{is_place, all_second, shows_below as spec_shows_below, is_up as spec_is_up, is_clean_at as spec_is_clean_at, is_clean as spec_is_clean, is_clean_but as spec_is_clean_but, is_only_place as spec_is_only_place, is_lists as spec_is_lists, is_distinct as spec_is_distinct, is_one_more as spec_is_one_more, may_follow as spec_may_follow, is_lost as spec_is_lost, moves_on as spec_moves_on, same_second as spec_same_second};
 
-use crate::family::{greatest_of, mark_at, mark_below, newest_of, no_table, table_at};
+use crate::Event;
 use crate::machine::{Core, Stage};
-use crate::places::place_at;
-use crate::quorum::is_written;
-use crate::spots::{is_half, is_in, is_majority, is_named, same_spot, same_spots};
 use crate::step::raised;
-use crate::{Event, Place, Spot, SpotLists, Table};
 use mdv_base::{DriveNo, NUMBER_LIMIT};
+use mdv_votes::{
+    Place, Spot, SpotLists, Table, greatest_of, is_claimed, is_in, is_named, is_read, is_written,
+    newest_of, no_table, place_at, same_spot, same_spots, table_at,
+};
 use std::alloc::Global;
-
-fn is_claimed_list(set: bool, mediators: &[Spot], claimed: &[Spot], list: &[Spot]) -> bool
-    ensures { result ≡ spec_is_claimed_list set mediators.now (spec_is_in claimed.now) list.now }
-{
-    let backed = if mediators.is_empty() {
-        !set
-    } else {
-        is_majority(claimed, mediators)
-    };
-    is_majority(claimed, list) || (is_half(claimed, list) && backed)
-}
-
-/// Whether the claims of a boot that adopts this table suffice.
-fn is_claimed(set: bool, table: &Table, claimed: &[Spot]) -> bool
-    ensures { result ≡ spec_is_claimed set table.now (spec_is_in claimed.now) }
-{
-    let mediators = table.lists.mediators.as_slice();
-    let first = is_claimed_list(set, mediators, claimed, table.lists.first.as_slice());
-    let second = match &table.lists.second {
-        Some(list) => is_claimed_list(set, mediators, claimed, list.as_slice()),
-        None => true,
-    };
-    first && second
-}
-
-/// Whether a place or mediator knows a greater mark than that of this table.
-fn knows_above(family: &[Table], places: &[Place], table: &Table, p: Spot) -> bool
-    ensures { result ≡ spec_knows_above family.now places.now table.now p }
-{
-    match place_at(places, p).newest {
-        Some(number) => mark_below(table.mark, mark_at(family, number)),
-        None => false,
-    }
-}
-
-/// Whether a mediator that was read knows a greater mark than that of this table.
-fn is_denied(family: &[Table], places: &[Place], table: &Table, read: &[Spot]) -> bool
-    ensures { result ≡ list_any (λ m. spec_is_in read.now m && spec_knows_above family.now places.now table.now m) table.now.lists.mediators }
-{
-    let mediators = table.lists.mediators.as_slice();
-    mediators.iter().any(|m| is_in(read, *m) && knows_above(family, places, table, *m))
-}
-
-/// Whether exactly half suffices, by the mediators that were read.
-fn is_mediated(denied: bool, mediators: &[Spot], read: &[Spot], list: &[Spot]) -> bool
-    ensures { result ≡ ((not (spec_is_none mediators.now) && spec_is_half (spec_is_in read.now) list.now) && (spec_is_majority (spec_is_in read.now) mediators.now && not denied)) }
-{
-    (!mediators.is_empty() && is_half(read, list)) && (is_majority(read, mediators) && !denied)
-}
-
-fn is_read_list(
-    family: &[Table],
-    places: &[Place],
-    table: &Table,
-    read: &[Spot],
-    list: &[Spot],
-) -> bool
-    ensures { result ≡ spec_is_read_list table.now.lists.mediators (spec_is_in read.now) (spec_knows_above family.now places.now table.now) list.now }
-{
-    let denied = is_denied(family, places, table, read);
-    let mediated = is_mediated(denied, table.lists.mediators.as_slice(), read, list);
-    is_majority(read, list) || mediated
-}
-
-/// Whether what was read suffices to adopt this table.
-fn is_read(family: &[Table], places: &[Place], table: &Table, read: &[Spot]) -> bool
-    ensures { result ≡ spec_is_read table.now (spec_is_in read.now) (spec_knows_above family.now places.now table.now) }
-{
-    let first = is_read_list(family, places, table, read, table.lists.first.as_slice());
-    let second = match &table.lists.second {
-        Some(list) => is_read_list(family, places, table, read, list.as_slice()),
-        None => true,
-    };
-    first && second
-}
 
 fn is_lost(lost: &[DriveNo], drive: DriveNo) -> bool
     ensures { result ≡ spec_is_lost lost.now drive.0 }
@@ -262,7 +187,7 @@ fn may_follow(old: &SpotLists, new: &SpotLists) -> bool
 
 impl Core {
     ghost use Rattle.std.specs.Prelude.{None, nat_lt, ◌+◌, ◌^◌};
-    ghost use Rattle.mdv_quorum.specs.Family.{newest_of as spec_newest_of, greatest_of as spec_greatest_of};
+    ghost use Rattle.mdv_votes.specs.Family.{newest_of as spec_newest_of, greatest_of as spec_greatest_of};
     ghost use Rattle.mdv_quorum.specs.World.{last_table as spec_last_table};
     ghost use Rattle.mdv_quorum.specs.May.{may as spec_may, may_read as spec_may_read, may_choose as spec_may_choose, may_commit as spec_may_commit, may_come_back as spec_may_come_back, is_target as spec_is_target, may_claim as spec_may_claim, may_slot as spec_may_slot, is_firm_in, may_format_place as spec_may_format_place, may_format as spec_may_format, may_wipe as spec_may_wipe, may_list as spec_may_list, may_tell as spec_may_tell};
 

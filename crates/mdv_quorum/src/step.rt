@@ -1,16 +1,17 @@
 //! What each event does.
 
 ghost use Rattle.std.specs.Prelude.{◌≡◌, ◌^◌, ◌<◌, IfOk, IsTrue};
-ghost use Rattle.mdv_quorum.specs.Family.{place_at as spec_place_at};
+ghost use Rattle.mdv_votes.specs.Family.{place_at as spec_place_at};
 ghost use Rattle.mdv_quorum.specs.World.{rewritten_of, taken_after, places_after, raised as spec_raised, without_drive as spec_without_drive};
 
-use crate::family::{greatest_of, last_list, newest_of, no_table, table_at};
 use crate::machine::{Core, Stage};
-use crate::places::{format, place_at, set_claim, set_newest, settle, wipe};
-use crate::quorum::is_written;
-use crate::spots::{is_named, same_spots};
-use crate::{Event, Place, Row, Since, SlotEnd, Spot, SpotLists, Table};
+use crate::{Event, SlotEnd};
 use mdv_base::{DriveNo, Mark};
+use mdv_votes::{
+    Place, Row, Since, Spot, SpotLists, Table, format, greatest_of, is_named, is_written,
+    last_list, newest_of, no_table, place_at, same_spots, set_claim, set_newest, settle, table_at,
+    wipe,
+};
 use std::alloc::{AllocError, Global};
 
 /// The adopted table once more, under the number that the boot draws.
@@ -92,11 +93,11 @@ fn without_drive(
 
 impl Core {
     ghost use Rattle.std.specs.Prelude.{◌+◌, ◌-◌, ◌++◌, ◌∷◌, [], OnOk, OnErr, None, Some, option_to_list, not, length, map};
-    ghost use Rattle.mdv_quorum.specs.Spots.{is_in as spec_is_in};
-    ghost use Rattle.mdv_quorum.specs.Quorum.{is_written as spec_is_written};
-    ghost use Rattle.mdv_quorum.specs.World.{read as spec_read, claimed as spec_claimed, last_table as spec_last_table, settled, with_table, wrote as spec_wrote, slotted as spec_slotted, told_at, created, changed, same_spots as spec_same_spots, lists_at, formatted_seat, formatted_at, wiped_at, crashed, happens};
+    ghost use Rattle.mdv_votes.specs.Spots.{is_in as spec_is_in, same_spots as spec_same_spots};
+    ghost use Rattle.mdv_votes.specs.Quorum.{is_written as spec_is_written};
+    ghost use Rattle.mdv_votes.specs.Family.{put_at, formatted};
+    ghost use Rattle.mdv_quorum.specs.World.{read as spec_read, claimed as spec_claimed, last_table as spec_last_table, settled, with_table, wrote as spec_wrote, slotted as spec_slotted, told_at, created, changed, lists_at, formatted_seat, formatted_at, wiped_at, crashed, happens};
     ghost use Rattle.mdv_quorum.specs.May.{may_claim, may_slot, may_list, may, IsReady};
-    ghost use Rattle.mdv_quorum.specs.Family.{put_at, formatted};
     ghost use Rattle.mdv_quorum.specs.declared.machine.Stage.TheVariants.{Writing};
 
     /// A boot knows what is at this place.

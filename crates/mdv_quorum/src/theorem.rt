@@ -1,7 +1,7 @@
 //! What holds of every list of events, as contracts of functions that do nothing.
 
 ghost use Rattle.std.specs.Prelude.{Bool, List};
-ghost use Rattle.mdv_quorum.specs.declared.spot.Event.{Event};
+ghost use Rattle.mdv_quorum.specs.declared.event.Event.{Event};
 ghost use Rattle.mdv_quorum.specs.Standing.{StandsAlways, NumbersRise};
 
 /// Whatever happens to the replicas and mediators of a database, in any order, with crashes and lost

@@ -1,6 +1,5 @@
 use Rattle.std.proofs.Common.{sym, ◌∙◌, ap, Bool, ◌||◌}
 use Rattle.std.proofs.lemmas.Bool.{eq-eqb, ne_eqb}
-use Rattle.std.specs.Prelude.{◌==◌}
 use Rattle.mdv_quorum.specs.May.{is_up}
 use Rattle.mdv_quorum.proofs.Limits.{up_back}
 use Rattle.mdv_quorum.proofs.may.is_up_back.Goals as goal

@@ -1,10 +1,10 @@
 use Rattle.std.proofs.Common.{sym, ◌∙◌, ap, List, ◌&&◌, ◌≡◌, ◌+◌, ◌^◌, Bool}
 use Rattle.std.specs.Prelude.{nat_lt}
-use Rattle.mdv_quorum.specs.declared.table.Table.{Table}
-use Rattle.mdv_quorum.specs.declared.table.Place.{Place}
-use Rattle.mdv_quorum.specs.Spots.{is_in}
-use Rattle.mdv_quorum.specs.Quorum.{is_read}
-use Rattle.mdv_quorum.specs.Family.{knows_above, greatest_of}
+use Rattle.mdv_votes.specs.declared.table.Table.{Table}
+use Rattle.mdv_votes.specs.declared.table.Place.{Place}
+use Rattle.mdv_votes.specs.Spots.{is_in}
+use Rattle.mdv_votes.specs.Quorum.{is_read}
+use Rattle.mdv_votes.specs.Family.{knows_above, greatest_of}
 use Rattle.mdv_quorum.specs.May.{is_target}
 use Rattle.mdv_quorum.proofs.machine.Core.may_adopt.Goals as goal
 use Rattle.mdv_quorum.proofs.machine.Core.may_adopt.Goals.{After-is_read}

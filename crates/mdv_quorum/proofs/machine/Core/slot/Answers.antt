@@ -1,11 +1,11 @@
-use Rattle.std.proofs.Common.{sym, ◌∙◌, ap, ◌≡◌, ◌-◌, List, length}
-use Rattle.mdv_quorum.specs.declared.spot.Spot.{Spot}
+use Rattle.std.proofs.Common.{sym, ◌∙◌, ap, ◌-◌, List, length}
+use Rattle.mdv_votes.specs.declared.spot.Spot.{Spot}
+use Rattle.mdv_votes.specs.Spots.{is_in}
+use Rattle.mdv_votes.specs.Quorum.{is_written}
 use Rattle.mdv_quorum.specs.declared.machine.Core.{Core}
 use Rattle.mdv_quorum.specs.declared.machine.Stage.{Stage}
 use Rattle.mdv_quorum.specs.declared.machine.Stage.TheVariants.{Writing}
-use Rattle.mdv_quorum.specs.Spots.{is_in}
-use Rattle.mdv_quorum.specs.Quorum.{is_written}
-use Rattle.mdv_quorum.specs.World.{settled, places_after, taken_after, last_table, slotted}
+use Rattle.mdv_quorum.specs.World.{settled, places_after, last_table, slotted}
 use Rattle.mdv_quorum.proofs.machine.Core.slot.Goals as goal
 
 pub returns-in_ok-took-in-Writing-clause-ok : goal.returns-in_ok-took-in-Writing-clause-ok

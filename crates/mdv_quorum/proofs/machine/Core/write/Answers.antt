@@ -1,11 +1,11 @@
-use Rattle.std.proofs.Common.{sym, ◌∙◌, ap, ◌≡◌, ◌-◌, List, ℕ, Bool, length}
-use Rattle.mdv_quorum.specs.declared.spot.Spot.{Spot}
-use Rattle.mdv_quorum.specs.declared.table.Table.{Table}
-use Rattle.mdv_quorum.specs.declared.table.Place.{Place}
+use Rattle.std.proofs.Common.{◌∙◌, ap, ◌≡◌, ◌-◌, List, ℕ, length}
+use Rattle.mdv_votes.specs.declared.spot.Spot.{Spot}
+use Rattle.mdv_votes.specs.declared.table.Table.{Table}
+use Rattle.mdv_votes.specs.declared.table.Place.{Place}
+use Rattle.mdv_votes.specs.Spots.{is_in}
+use Rattle.mdv_votes.specs.Quorum.{is_written}
+use Rattle.mdv_votes.specs.Family.{table_at}
 use Rattle.mdv_quorum.specs.declared.machine.Stage.TheVariants.{Writing}
-use Rattle.mdv_quorum.specs.Spots.{is_in}
-use Rattle.mdv_quorum.specs.Quorum.{is_written}
-use Rattle.mdv_quorum.specs.Family.{table_at}
 use Rattle.mdv_quorum.specs.World.{settled, last_table, places_after}
 use Rattle.mdv_quorum.proofs.machine.Core.write.Goals as goal
 

@@ -1,11 +1,11 @@
-use Rattle.std.proofs.Common.{sym, ◌∙◌, ap, ◌≡◌, ◌-◌, ◌++◌, ◌∷◌, [], List, length}
-use Rattle.mdv_quorum.specs.declared.spot.Spot.{Spot}
-use Rattle.mdv_quorum.specs.declared.table.Table.{Table}
+use Rattle.std.proofs.Common.{◌∙◌, ap, ◌≡◌, ◌-◌, ◌++◌, ◌∷◌, [], List, length}
+use Rattle.mdv_votes.specs.declared.spot.Spot.{Spot}
+use Rattle.mdv_votes.specs.declared.table.Table.{Table}
+use Rattle.mdv_votes.specs.Spots.{is_in}
+use Rattle.mdv_votes.specs.Quorum.{is_written}
+use Rattle.mdv_votes.specs.Family.{table_at}
 use Rattle.mdv_quorum.specs.declared.machine.Core.{Core}
 use Rattle.mdv_quorum.specs.declared.machine.Stage.TheVariants.{Writing}
-use Rattle.mdv_quorum.specs.Spots.{is_in}
-use Rattle.mdv_quorum.specs.Quorum.{is_written}
-use Rattle.mdv_quorum.specs.Family.{table_at}
 use Rattle.mdv_quorum.specs.World.{settled, places_after, taken_after}
 use Rattle.mdv_quorum.proofs.machine.Core.write_first.Goals as goal
 

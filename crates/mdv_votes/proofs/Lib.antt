@@ -1,0 +1,5 @@
+pub mod Meeting
+pub mod SameSpots
+pub mod PlacesAt
+mod Listing
+pub mod Quorums

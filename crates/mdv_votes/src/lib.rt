@@ -1,0 +1,19 @@
+//! What a vote is over: lists of places and mediators, the tables of a family, what each place
+//! holds, and which places suffice to write a table, to claim it and to read it.
+#![tactic(auto)]
+
+mod family;
+mod places;
+mod quorum;
+mod row;
+mod spot;
+mod spots;
+mod table;
+
+pub use family::{greatest_of, last_list, mark_at, newest_of, no_table, table_at};
+pub use places::{format, place_at, set_claim, set_newest, settle, wipe};
+pub use quorum::{is_claimed, is_read, is_written};
+pub use row::Row;
+pub use spot::{Spot, SpotList, SpotLists};
+pub use spots::{at_least_half, is_in, is_named, more_than_half, same_spot, same_spots};
+pub use table::{Place, Since, Table};

@@ -1,0 +1,166 @@
+//! What is known of each place.
+
+ghost use Rattle.std.specs.Prelude.{◌≡◌, OnOk, OnErr, map, length, IsTrue};
+ghost use Rattle.mdv_votes.specs.Spots.{is_in as spec_is_in};
+ghost use Rattle.mdv_votes.specs.Family.{place_at as spec_place_at, blank_place as spec_blank_place, replaced_at, index_at, changed_at, wiped as spec_wiped, formatted as spec_formatted, put_at, with_claim, with_newest, with_since, since_after as spec_since_after};
+
+use crate::spots::{is_in, same_spot};
+use crate::{Place, Row, Since, Spot};
+use std::alloc::AllocError;
+
+fn blank_place(spot: Spot) -> Place
+    ensures { result ≡ spec_blank_place spot }
+{
+    Place {
+        spot,
+        holds: false,
+        claim: 0,
+        newest: None,
+        since: Since::Never,
+    }
+}
+
+/// What is known of a place; nothing, where it was never told of.
+pub fn place_at(places: &[Place], p: Spot) -> Place
+    ensures { result ≡ spec_place_at places.now p }
+{
+    for place in places {
+        if same_spot(place.spot, p) {
+            return *place;
+        }
+    }
+    blank_place(p)
+}
+
+/// Where the place stands in the list, or the list's length.
+fn index_of(places: &[Place], p: Spot) -> usize
+    ensures { result ≡ index_at places.now p }
+{
+    let mut index = 0;
+    for place in places {
+        if same_spot(place.spot, p) {
+            return index;
+        }
+        index += 1;
+    }
+    index
+}
+
+/// Puts a place in for the one that is known of this spot, or at the end of the list.
+fn put(places: &mut Row<Place>, p: Spot, place: Place) -> Result<(), AllocError>
+    ensures ok { OnOk result (places.new ≡ replaced_at places.old p place) }
+    ensures err { OnErr result (places.new ≡ places.old) }
+{
+    let index = index_of(places.as_slice(), p);
+    if index < places.as_slice().len() {
+        places.set(index, place);
+        Ok(())
+    } else {
+        places.push(place)
+    }
+}
+
+/// The same for a place that is known.
+fn change(places: &mut Row<Place>, p: Spot, place: Place)
+    requires { IsTrue (spec_place_at places.old p).holds }
+    ensures { places.new ≡ replaced_at places.old p place }
+{
+    let index = index_of(places.as_slice(), p);
+    places.set(index, place);
+}
+
+/// A place is claimed. It is known, so this takes no memory.
+pub fn set_claim(places: &mut Row<Place>, p: Spot, claim: u64)
+    requires { IsTrue (spec_place_at places.old p).holds }
+    ensures { places.new ≡ put_at places.old p (with_claim claim) }
+{
+    let place = place_at(places.as_slice(), p);
+    change(places, p, Place { claim, ..place });
+}
+
+/// A place took the table of this number. It is known, so this takes no memory.
+pub fn set_newest(places: &mut Row<Place>, p: Spot, number: usize)
+    requires { IsTrue (spec_place_at places.old p).holds }
+    ensures { places.new ≡ put_at places.old p (with_newest number) }
+{
+    let place = place_at(places.as_slice(), p);
+    let newest = Some(number);
+    change(places, p, Place { newest, ..place });
+}
+
+/// A place is formatted with this claim, a seat also with the mark of a table. Memory is taken only
+/// for a place that is new to the list.
+pub fn format(
+    places: &mut Row<Place>,
+    p: Spot,
+    claim: u64,
+    newest: Option<usize>,
+) -> Result<(), AllocError>
+    ensures ok { OnOk result (places.new ≡ put_at places.old p (spec_formatted claim newest)) }
+    ensures err { OnErr result (places.new ≡ places.old) }
+{
+    let place = place_at(places.as_slice(), p);
+    let formatted = Place {
+        spot: place.spot,
+        holds: true,
+        claim,
+        newest,
+        since: place.since,
+    };
+    put(places, p, formatted)
+}
+
+fn wiped(p: Spot, place: Place) -> Place
+    ensures { result ≡ changed_at p spec_wiped place }
+{
+    if same_spot(place.spot, p) {
+        Place {
+            holds: false,
+            ..place
+        }
+    } else {
+        place
+    }
+}
+
+/// A place is blanked. Its claim and its newest table stay known.
+pub fn wipe(places: &mut Row<Place>, p: Spot)
+    ensures { places.new ≡ map (changed_at p spec_wiped) places.old }
+{
+    for i in 0..places.as_slice().len() {
+        let place = places.as_slice()[i];
+        places.set(i, wiped(p, place));
+    }
+}
+
+fn since_after(table: usize, listed: bool, since: Since) -> Since
+    ensures { result ≡ spec_since_after table listed since }
+{
+    if listed {
+        return Since::Listed;
+    }
+    match since {
+        Since::Never => Since::Never,
+        Since::Listed => Since::Dropped(table),
+        Since::Dropped(first) => Since::Dropped(first),
+    }
+}
+
+fn settled(table: usize, list: &[Spot], place: Place) -> Place
+    ensures { result ≡ with_since table list.now place }
+{
+    Place {
+        since: since_after(table, is_in(list, place.spot), place.since),
+        ..place
+    }
+}
+
+/// A table is firm whose last list this is.
+pub fn settle(places: &mut Row<Place>, table: usize, list: &[Spot])
+    ensures { places.new ≡ map (with_since table list.now) places.old }
+{
+    for i in 0..places.as_slice().len() {
+        let place = places.as_slice()[i];
+        places.set(i, settled(table, list, place));
+    }
+}
