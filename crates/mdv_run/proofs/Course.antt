@@ -1,13 +1,16 @@
 -- Where nothing failed, a run has one course.
-use Rattle.std.proofs.Common.{◌≡◌, ◌≢◌, ◌⊎◌, inl, inr, ◌≤◌, ◌<◌, ◌+◌, ◌^◌, ◌||◌, ℕ, Bool, true, false, refl, sym, ◌∙◌, ap, subst, List, ◌++◌, drop, Option, Some, None, Result, Ok, Err, arith}
+use Rattle.std.proofs.Common.{◌≡◌, ◌≢◌, ◌⊎◌, inl, inr, ◌≤◌, ◌<◌, ◌+◌, ◌^◌, ◌||◌, ℕ, Bool, true, false, refl, sym, ◌∙◌, ap, subst, List, ◌++◌, drop, Option, Some, None, Result, Ok, Err, codes, get_or, arith}
 use Rattle.mdv_base.specs.declared.drive.SliceName.{SliceName}
 use Rattle.mdv_base.specs.declared.name.Key.{Key}
 use Rattle.mdv_base.specs.declared.name.Key.TheVariants.{Local}
 use Rattle.mdv_base.specs.declared.refusal.Refusal.{Refusal}
-use Rattle.mdv_base.specs.declared.refusal.Refusal.TheVariants.{NoSuchSlice, SliceInUse, TooSmall, WrongState, LineTooLong}
+use Rattle.mdv_base.specs.declared.refusal.Refusal.TheVariants.{NeedForce, NoSuchSlice, SliceInUse, TooSmall, WrongState, LineTooLong}
 use Rattle.mdv_base.specs.declared.state_word.StateWord.{StateWord}
 use Rattle.mdv_base.specs.declared.state_word.StateWord.TheVariants as word
+use Rattle.mdv_name.specs.Drive.{slice_text}
 use Rattle.mdv_name.proofs.Drives.{slice_text_injective}
+use Rattle.mdv_run.specs.declared.command.Command.{Command}
+use Rattle.mdv_run.specs.declared.command.Command.TheVariants.{Create}
 use Rattle.mdv_port.specs.Script.{Script, at_end, spent, too_long, line}
 use Rattle.mdv_replica.specs.declared.replica.Head.{Head}
 use Rattle.mdv_replica.specs.declared.replica.PlaceAt.{PlaceAt}
@@ -19,7 +22,7 @@ use Rattle.mdv_run.specs.declared.host.State.{State}
 use Rattle.mdv_run.specs.declared.status.RunStatus.{RunStatus}
 use Rattle.mdv_run.specs.declared.status.RunStatus.TheVariants.{Panic, ScriptTooLong}
 use Rattle.mdv_store.specs.Database.{IsReplica, IsBooted, greatest}
-use Rattle.mdv_run.specs.Run.{Failures, IsUndisturbed, Outcome, Replied, Panicked, Stops, Follows, Runs, RunsFrom, MayCreate, IsAnswered, IsCarriedOut, IsCommand, IsCreation, IsRefused, IsDownWord, booted_state, drive_failed, source_failed, ok_line, opened, place_of, refusal_line, start_of, status_of}
+use Rattle.mdv_run.specs.Run.{Failures, IsUndisturbed, Outcome, Replied, Panicked, Stops, Follows, Runs, RunsFrom, MayCreate, IsAnswered, IsCarriedOut, IsCommand, IsOfGrammar, command_text, IsCreation, IsRefused, IsDownWord, booted_state, drive_failed, source_failed, ok_line, opened, place_of, refusal_line, start_of, status_of}
 use Rattle.mdv_run.specs.Turns.{OneCourse}
 
 -- the boot
@@ -47,56 +50,84 @@ module _ (failed : Type 0) (calm : failed → ⊥) (key : Key) (at : PlaceAt) (s
   one_end a Down first second = absurd (calm second)
   one_end a Lost first second = absurd (calm second)
 
-one_command : (text : List ℕ) (c d : Option SliceName) → IsCommand text c → IsCommand text d → c ≡ d
-one_command text (Some s) (Some t) first second = ap (λ (n : SliceName). Some n) (slice_text_injective s t first.0 second.0 (ap (drop 13) (sym first.1 ∙ second.1)))
-one_command text (Some s) None first second = absurd (second s first.0 first.1)
-one_command text None (Some t) first second = absurd (first t second.0 second.1)
+-- a slice's name doesn't begin as `-f` does
+forced_apart : (s t : SliceName) → ◌≡◌ {A = List ℕ} (codes "-f " ++ slice_text s) (slice_text t) → ⊥
+forced_apart s t is = absurd (let first : 45 ≡ 99 = ap (λ (l : List ℕ). get_or l 0 0) is in omega (arith, first))
+
+same_command : (c d : Command) → IsOfGrammar c → IsOfGrammar d → command_text c ≡ command_text d → c ≡ d
+same_command (Create s true) (Create t true) first second is = ap (λ (n : SliceName). Create n true) (slice_text_injective s t first second (ap (drop 13) is))
+same_command (Create s false) (Create t false) first second is = ap (λ (n : SliceName). Create n false) (slice_text_injective s t first second (ap (drop 10) is))
+same_command (Create s true) (Create t false) first second is = absurd (forced_apart s t (ap (drop 10) is))
+same_command (Create s false) (Create t true) first second is = absurd (forced_apart t s (ap (drop 10) (sym is)))
+
+one_command : (text : List ℕ) (c d : Option Command) → IsCommand text c → IsCommand text d → c ≡ d
+one_command text (Some c) (Some d) first second = ap (λ (x : Command). Some x) (same_command c d first.0 second.0 (sym first.1 ∙ second.1))
+one_command text (Some c) None first second = absurd (second c first.0 first.1)
+one_command text None (Some d) first second = absurd (first d second.0 second.1)
 one_command text None None first second = refl
 
 -- the cause of a refusal
-data Cause (g : SmallGeometry) (state : State) (slice : SliceName) (r : Refusal) : Type 0 where
-  elsewhere : slice ≢ g.slice → r ≡ NoSuchSlice → Cause g state slice r
-  was_down : slice ≡ g.slice → state.down ≡ true → r ≡ WrongState word.Down → Cause g state slice r
-  is_there : slice ≡ g.slice → state.down ≡ false → state.database ≡ true → r ≡ SliceInUse → Cause g state slice r
-  too_small : slice ≡ g.slice → state.down ≡ false → state.database ≡ false → g.blocks < 8208 → r ≡ TooSmall → Cause g state slice r
+data Cause (g : SmallGeometry) (state : State) (slice : SliceName) (force : Bool) (r : Refusal) : Type 0 where
+  elsewhere : slice ≢ g.slice → r ≡ NoSuchSlice → Cause g state slice force r
+  was_down : slice ≡ g.slice → state.down ≡ true → r ≡ WrongState word.Down → Cause g state slice force r
+  is_there : slice ≡ g.slice → state.down ≡ false → state.database ≡ true → r ≡ SliceInUse → Cause g state slice force r
+  unforced : slice ≡ g.slice → state.down ≡ false → state.database ≡ false → force ≡ false → r ≡ NeedForce → Cause g state slice force r
+  too_small : slice ≡ g.slice → state.down ≡ false → state.database ≡ false → force ≡ true → g.blocks < 8208 → r ≡ TooSmall → Cause g state slice force r
 
-down_cause : (g : SmallGeometry) (state : State) (slice : SliceName) (w : StateWord) → slice ≡ g.slice → IsDownWord w state → Cause g state slice (WrongState w)
-down_cause g state slice word.Down same is = was_down same is refl
-down_cause g state slice w same is = absurd is
+down_cause : (g : SmallGeometry) (state : State) (slice : SliceName) (force : Bool) (w : StateWord) → slice ≡ g.slice → IsDownWord w state → Cause g state slice force (WrongState w)
+down_cause g state slice force word.Down same is = was_down same is refl
+down_cause g state slice force w same is = absurd is
 
-cause_of : (g : SmallGeometry) (state : State) (slice : SliceName) (r : Refusal) → IsRefused g state slice r → Cause g state slice r
-cause_of g state slice NoSuchSlice is = elsewhere is refl
-cause_of g state slice (WrongState w) is = down_cause g state slice w is.0 is.1
-cause_of g state slice SliceInUse is = is_there is.0 is.1 is.2 refl
-cause_of g state slice TooSmall is = too_small is.0 is.1 is.2 is.3 refl
-cause_of g state slice other is = absurd is
+cause_of : (g : SmallGeometry) (state : State) (slice : SliceName) (force : Bool) (r : Refusal) → IsRefused g state slice force r → Cause g state slice force r
+cause_of g state slice force NoSuchSlice is = elsewhere is refl
+cause_of g state slice force (WrongState w) is = down_cause g state slice force w is.0 is.1
+cause_of g state slice force NeedForce is = unforced is.0 is.1 is.2 is.3 refl
+cause_of g state slice force SliceInUse is = is_there is.0 is.1 is.2 refl
+cause_of g state slice force TooSmall is = too_small is.0 is.1 is.2 is.3 is.4 refl
+cause_of g state slice force other is = absurd is
 
 never_other : (v : Bool) → v ≡ true → v ≡ false → ⊥
 never_other v holds fails = cc
 
-one_cause : (g : SmallGeometry) (state : State) (slice : SliceName) (r q : Refusal) → Cause g state slice r → Cause g state slice q → r ≡ q
-one_cause g state slice r q (elsewhere apart is) (elsewhere too also) = is ∙ sym also
-one_cause g state slice r q (elsewhere apart is) (was_down same down also) = absurd (apart same)
-one_cause g state slice r q (elsewhere apart is) (is_there same up there also) = absurd (apart same)
-one_cause g state slice r q (elsewhere apart is) (too_small same up none few also) = absurd (apart same)
-one_cause g state slice r q (was_down same down is) (elsewhere apart also) = absurd (apart same)
-one_cause g state slice r q (was_down same down is) (was_down too holds also) = is ∙ sym also
-one_cause g state slice r q (was_down same down is) (is_there too up there also) = absurd (never_other state.down down up)
-one_cause g state slice r q (was_down same down is) (too_small too up none few also) = absurd (never_other state.down down up)
-one_cause g state slice r q (is_there same up there is) (elsewhere apart also) = absurd (apart same)
-one_cause g state slice r q (is_there same up there is) (was_down too down also) = absurd (never_other state.down down up)
-one_cause g state slice r q (is_there same up there is) (is_there too holds found also) = is ∙ sym also
-one_cause g state slice r q (is_there same up there is) (too_small too holds none few also) = absurd (never_other state.database there none)
-one_cause g state slice r q (too_small same up none few is) (elsewhere apart also) = absurd (apart same)
-one_cause g state slice r q (too_small same up none few is) (was_down too down also) = absurd (never_other state.down down up)
-one_cause g state slice r q (too_small same up none few is) (is_there too holds there also) = absurd (never_other state.database there none)
-one_cause g state slice r q (too_small same up none few is) (too_small too holds fails less also) = is ∙ sym also
+-- the refusal that what is kept asks for
+abbrev refusal_for : Bool → Bool → Bool → Refusal
+refusal_for true database force = WrongState word.Down
+refusal_for false true force = SliceInUse
+refusal_for false false false = NeedForce
+refusal_for false false true = TooSmall
 
-never_allowed : (g : SmallGeometry) (state : State) (slice : SliceName) (r : Refusal) → Cause g state slice r → MayCreate g state slice → ⊥
-never_allowed g state slice r (elsewhere apart is) may = apart may.same_slice
-never_allowed g state slice r (was_down same down is) may = never_other state.down down may.was_up
-never_allowed g state slice r (is_there same up there is) may = never_other state.database there may.no_database
-never_allowed g state slice r (too_small same up none few is) may = omega (arith, few, may.room)
+caused : (g : SmallGeometry) (state : State) (slice : SliceName) (force : Bool) (r : Refusal) → slice ≡ g.slice → Cause g state slice force r → r ≡ refusal_for state.down state.database force
+caused g state slice force r same (elsewhere apart is) = absurd (apart same)
+caused g state slice force r same (was_down here down is) = is ∙ ap (λ (b : Bool). refusal_for b state.database force) (sym down)
+caused g state slice force r same (is_there here up there is) = is ∙ ap (λ (b : Bool). refusal_for false b force) (sym there) ∙ ap (λ (b : Bool). refusal_for b state.database force) (sym up)
+caused g state slice force r same (unforced here up none not is) =
+    is ∙ ap (λ (b : Bool). refusal_for false false b) (sym not) ∙ ap (λ (b : Bool). refusal_for false b force) (sym none) ∙ ap (λ (b : Bool). refusal_for b state.database force) (sym up)
+caused g state slice force r same (too_small here up none forced few is) =
+    is ∙ ap (λ (b : Bool). refusal_for false false b) (sym forced) ∙ ap (λ (b : Bool). refusal_for false b force) (sym none) ∙ ap (λ (b : Bool). refusal_for b state.database force) (sym up)
+
+-- a cause on this slice, or on another
+elsewhere_or_here : (g : SmallGeometry) (state : State) (slice : SliceName) (force : Bool) (r : Refusal) → Cause g state slice force r → ((slice ≢ g.slice) × (r ≡ NoSuchSlice)) ⊎ (slice ≡ g.slice)
+elsewhere_or_here g state slice force r (elsewhere apart is) = inl (apart, is)
+elsewhere_or_here g state slice force r (was_down here down is) = inr here
+elsewhere_or_here g state slice force r (is_there here up there is) = inr here
+elsewhere_or_here g state slice force r (unforced here up none not is) = inr here
+elsewhere_or_here g state slice force r (too_small here up none forced few is) = inr here
+
+one_cause : (g : SmallGeometry) (state : State) (slice : SliceName) (force : Bool) (r q : Refusal) → Cause g state slice force r → Cause g state slice force q → r ≡ q
+one_cause g state slice force r q one other = elim (elsewhere_or_here g state slice force r one) [
+  | inl apart ↦ elim (elsewhere_or_here g state slice force q other) [
+    | inl also ↦ apart.1 ∙ sym also.1
+    | inr here ↦ absurd (apart.0 here)
+  ]
+  | inr same ↦ caused g state slice force r same one ∙ sym (caused g state slice force q same other)
+]
+
+never_allowed : (g : SmallGeometry) (state : State) (slice : SliceName) (force : Bool) (r : Refusal) → Cause g state slice force r → MayCreate g state slice force → ⊥
+never_allowed g state slice force r (elsewhere apart is) may = apart may.same_slice
+never_allowed g state slice force r (was_down same down is) may = never_other state.down down may.was_up
+never_allowed g state slice force r (is_there same up there is) may = never_other state.database there may.no_database
+never_allowed g state slice force r (unforced same up none not is) may = never_other force may.is_forced not
+never_allowed g state slice force r (too_small same up none forced few is) may = omega (arith, few, may.room)
 
 -- a line
 module _ (failed : Type 0) (calm : failed → ⊥) (g : SmallGeometry) (state : State) where
@@ -104,17 +135,17 @@ module _ (failed : Type 0) (calm : failed → ⊥) (g : SmallGeometry) (state : 
   created o (inl is) = is
   created o (inr bad) = absurd (calm bad.0)
 
-  one_outcome : (command : Option SliceName) (a b : Outcome) → IsCarriedOut failed g state command a → IsCarriedOut failed g state command b → a ≡ b
+  one_outcome : (command : Option Command) (a b : Outcome) → IsCarriedOut failed g state command a → IsCarriedOut failed g state command b → a ≡ b
   one_outcome None a b first second = first ∙ sym second
-  one_outcome (Some slice) a b (inl first) (inl second) =
-      first.2 ∙ ap (λ (r : Refusal). Replied (refusal_line r) state true) (one_cause g state slice first.0 second.0 (cause_of g state slice first.0 first.1) (cause_of g state slice second.0 second.1)) ∙ sym second.2
-  one_outcome (Some slice) a b (inl first) (inr second) = absurd (never_allowed g state slice first.0 (cause_of g state slice first.0 first.1) second.0)
-  one_outcome (Some slice) a b (inr first) (inl second) = absurd (never_allowed g state slice second.0 (cause_of g state slice second.0 second.1) first.0)
-  one_outcome (Some slice) a b (inr first) (inr second) = created a first.1 ∙ sym (created b second.1)
+  one_outcome (Some (Create slice force)) a b (inl first) (inl second) =
+      first.2 ∙ ap (λ (r : Refusal). Replied (refusal_line r) state true) (one_cause g state slice force first.0 second.0 (cause_of g state slice force first.0 first.1) (cause_of g state slice force second.0 second.1)) ∙ sym second.2
+  one_outcome (Some (Create slice force)) a b (inl first) (inr second) = absurd (never_allowed g state slice force first.0 (cause_of g state slice force first.0 first.1) second.0)
+  one_outcome (Some (Create slice force)) a b (inr first) (inl second) = absurd (never_allowed g state slice force second.0 (cause_of g state slice force second.0 second.1) first.0)
+  one_outcome (Some (Create slice force)) a b (inr first) (inr second) = created a first.1 ∙ sym (created b second.1)
 
   one_answer : (text : List ℕ) (a b : Outcome) → IsAnswered failed g state text a → IsAnswered failed g state text b → a ≡ b
   one_answer text a b first second =
-      one_outcome first.0 a b first.2 (subst (λ (c : Option SliceName). IsCarriedOut failed g state c b) (one_command text second.0 first.0 second.1 first.1) second.2)
+      one_outcome first.0 a b first.2 (subst (λ (c : Option Command). IsCarriedOut failed g state c b) (one_command text second.0 first.0 second.1 first.1) second.2)
 
 -- two ends of a run are the same
 abbrev Same : List ℕ → List ℕ → RunStatus → RunStatus → State → State → Type 0

@@ -9,11 +9,12 @@ use Rattle.mdv_port.specs.Script.{pieces}
 use Rattle.mdv_run.specs.GeometryParts.{lacks}
 use Rattle.mdv_run.specs.Run.{Outcome, Replied, Panicked, IsAnswered, IsRefused, begun, opened, ok_line, refusal_line}
 use Rattle.mdv_run.specs.declared.geometry.SmallGeometry.{SmallGeometry}
+use Rattle.mdv_run.specs.declared.command.Command.TheVariants.{Create}
 use Rattle.mdv_run.specs.declared.host.State.{State}
 use Rattle.mdv_base.specs.Refusal.{refusal_text}
 use Rattle.mdv_base.specs.declared.drive.SliceName.{SliceName}
 use Rattle.mdv_base.specs.declared.refusal.Refusal.{Refusal}
-use Rattle.mdv_base.specs.declared.refusal.Refusal.TheVariants.{BadLine, NoSuchSlice, SliceInUse, TooSmall, WrongState, IoFault, LineTooLong}
+use Rattle.mdv_base.specs.declared.refusal.Refusal.TheVariants.{BadLine, NeedForce, NoSuchSlice, SliceInUse, TooSmall, WrongState, IoFault, LineTooLong}
 use Rattle.mdv_base.specs.declared.state_word.StateWord.TheVariants.{Down}
 use Rattle.mdv_shelf.proofs.Blocks.{both_ways}
 use Rattle.std.proofs.lemmas.List.{append-nil, take_all, take-append-le}
@@ -123,14 +124,15 @@ pub too_long_reply : IsReply (refusal_line LineTooLong) false
 unfolding digits
 too_long_reply = record { text = refusal_text LineTooLong; line = refl; whole = refl; says = refl }
 
-refused_reply : (g : SmallGeometry) (state : State) (slice : SliceName) (r : Refusal) → IsRefused g state slice r → IsReply (refusal_line r) false
+refused_reply : (g : SmallGeometry) (state : State) (slice : SliceName) (force : Bool) (r : Refusal) → IsRefused g state slice force r → IsReply (refusal_line r) false
 unfolding digits
-refused_reply g state slice NoSuchSlice is = record { text = refusal_text NoSuchSlice; line = refl; whole = refl; says = refl }
-refused_reply g state slice (WrongState Down) is = record { text = refusal_text (WrongState Down); line = refl; whole = refl; says = refl }
-refused_reply g state slice SliceInUse is = record { text = refusal_text SliceInUse; line = refl; whole = refl; says = refl }
-refused_reply g state slice TooSmall is = record { text = refusal_text TooSmall; line = refl; whole = refl; says = refl }
-refused_reply g state slice (WrongState other) is = absurd is.1
-refused_reply g state slice other is = absurd is
+refused_reply g state slice force NoSuchSlice is = record { text = refusal_text NoSuchSlice; line = refl; whole = refl; says = refl }
+refused_reply g state slice force (WrongState Down) is = record { text = refusal_text (WrongState Down); line = refl; whole = refl; says = refl }
+refused_reply g state slice force NeedForce is = record { text = refusal_text NeedForce; line = refl; whole = refl; says = refl }
+refused_reply g state slice force SliceInUse is = record { text = refusal_text SliceInUse; line = refl; whole = refl; says = refl }
+refused_reply g state slice force TooSmall is = record { text = refusal_text TooSmall; line = refl; whole = refl; says = refl }
+refused_reply g state slice force (WrongState other) is = absurd is.1
+refused_reply g state slice force other is = absurd is
 
 ok_reply : IsReply ok_line true
 ok_reply = record { text = codes "ok"; line = refl; whole = refl; says = refl }
@@ -158,7 +160,7 @@ long_fair state outcome is = refused_fair state state (refusal_line LineTooLong)
 
 pub answered_fair : (failed : Type 0) (g : SmallGeometry) (state : State) (text : List ℕ) (outcome : Outcome) → IsAnswered failed g state text outcome → IsFair state outcome
 answered_fair failed g state text outcome (None, is, carried) = refused_fair state state (refusal_line BadLine) outcome refl bad_reply carried
-answered_fair failed g state text outcome (Some slice, is, inl (refusal, cause, so)) = refused_fair state state (refusal_line refusal) outcome refl (refused_reply g state slice refusal cause) so
-answered_fair failed g state text outcome (Some slice, is, inr (may, inl so)) = subst (IsFair state) (sym so) (ok_reply, (λ told. refl), (λ made. refl))
-answered_fair failed g state text outcome (Some slice, is, inr (may, inr (why, inl so))) = refused_fair state (begun state) (refusal_line IoFault) outcome refl fault_reply so
-answered_fair failed g state text outcome (Some slice, is, inr (may, inr (why, inr so))) = subst (IsFair state) (sym so) tt
+answered_fair failed g state text outcome (Some (Create slice force), is, inl (refusal, cause, so)) = refused_fair state state (refusal_line refusal) outcome refl (refused_reply g state slice force refusal cause) so
+answered_fair failed g state text outcome (Some (Create slice force), is, inr (may, inl so)) = subst (IsFair state) (sym so) (ok_reply, (λ told. refl), (λ made. refl))
+answered_fair failed g state text outcome (Some (Create slice force), is, inr (may, inr (why, inl so))) = refused_fair state (begun state) (refusal_line IoFault) outcome refl fault_reply so
+answered_fair failed g state text outcome (Some (Create slice force), is, inr (may, inr (why, inr so))) = subst (IsFair state) (sym so) tt

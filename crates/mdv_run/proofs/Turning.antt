@@ -4,7 +4,8 @@ use Rattle.mdv_base.specs.Causes.{Rose}
 use Rattle.mdv_port.specs.Reader.{Reader}
 use Rattle.mdv_port.specs.Script.{Script, at_end, spent, too_long, line, script_before, IsTurn}
 use Rattle.mdv_port.specs.declared.reader.LineEnd.TheVariants.{Line, TooLong, End, Spent}
-use Rattle.mdv_base.specs.declared.drive.SliceName.{SliceName}
+use Rattle.mdv_run.specs.declared.command.Command.{Command}
+use Rattle.mdv_run.specs.declared.command.Command.TheVariants.{Create}
 use Rattle.mdv_run.specs.declared.geometry.SmallGeometry.{SmallGeometry}
 use Rattle.mdv_run.specs.declared.host.Answer.{Answer}
 use Rattle.mdv_run.specs.declared.host.Answer.TheVariants as answer
@@ -79,18 +80,18 @@ follows_over f failed answer.Panic next any piece status course cause told = rec
 pub answered_more : (failed more : Type 0) (g : SmallGeometry) (state : State) (text : List ℕ) (outcome : Outcome) → (failed → more) → IsAnswered failed g state text outcome → IsAnswered more g state text outcome
 answered_more failed more g state text outcome cause answered = (answered.0, answered.1, carried answered.0 answered.2)
   where
-    carried : (command : Option SliceName) → IsCarriedOut failed g state command outcome → IsCarriedOut more g state command outcome
+    carried : (command : Option Command) → IsCarriedOut failed g state command outcome → IsCarriedOut more g state command outcome
     carried None is = is
-    carried (Some slice) (inl refused) = inl refused
-    carried (Some slice) (inr (may, inl ok)) = inr (may, inl ok)
-    carried (Some slice) (inr (may, inr (so, rest))) = inr (may, inr (cause so, rest))
+    carried (Some (Create slice force)) (inl refused) = inl refused
+    carried (Some (Create slice force)) (inr (may, inl ok)) = inr (may, inl ok)
+    carried (Some (Create slice force)) (inr (may, inr (so, rest))) = inr (may, inr (cause so, rest))
 
 -- the replica is lost only where the drive failed
 pub panicked_cause : (failed : Type 0) (g : SmallGeometry) (state next : State) (text : List ℕ) → IsAnswered failed g state text (Panicked next) → failed
 panicked_cause failed g state next text (None, is, carried) = absurd (cc carried)
-panicked_cause failed g state next text (Some slice, is, inl (refusal, refused, outcome)) = absurd (cc outcome)
-panicked_cause failed g state next text (Some slice, is, inr (may, inl ok)) = absurd (cc ok)
-panicked_cause failed g state next text (Some slice, is, inr (may, inr (so, rest))) = so
+panicked_cause failed g state next text (Some (Create slice force), is, inl (refusal, refused, outcome)) = absurd (cc outcome)
+panicked_cause failed g state next text (Some (Create slice force), is, inr (may, inl ok)) = absurd (cc ok)
+panicked_cause failed g state next text (Some (Create slice force), is, inr (may, inr (so, rest))) = so
 
 -- why a run is over with an answer
 pub told_cause : (f : Failures) (failed : Type 0) (reply : Answer) (any : Bool) (piece : List ℕ) (end : Turn) → (failed → replies_failed f) → (reply ≡ answer.Panic → drive_failed f) → IsTold failed reply any piece end → HasTurnCause f end
@@ -169,5 +170,5 @@ refused_state answer.Panic next state text is = absurd (cc (is))
 -- with a database open every line leaves what the run keeps
 pub answered_stays : (failed : Type 0) (g : SmallGeometry) (state next : State) (text : List ℕ) (reply : Answer) → IsAnswered failed g state text (outcome_of reply next) → state.database ≡ true → next ≡ state
 answered_stays failed g state next text reply (None, is, carried) held = refused_state reply next state _ carried
-answered_stays failed g state next text reply (Some slice, is, inl (refusal, cause, so)) held = refused_state reply next state _ so
-answered_stays failed g state next text reply (Some slice, is, inr (may, so)) held = absurd (cc (sym held ∙ may.no_database))
+answered_stays failed g state next text reply (Some (Create slice force), is, inl (refusal, cause, so)) held = refused_state reply next state _ so
+answered_stays failed g state next text reply (Some (Create slice force), is, inr (may, so)) held = absurd (cc (sym held ∙ may.no_database))

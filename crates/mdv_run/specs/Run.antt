@@ -4,7 +4,7 @@ use Rattle.mdv_base.specs.Causes.{Rose}
 use Rattle.mdv_base.specs.Refusal.{refusal_text}
 use Rattle.mdv_base.specs.declared.drive.SliceName.{SliceName}
 use Rattle.mdv_base.specs.declared.refusal.Refusal.{Refusal}
-use Rattle.mdv_base.specs.declared.refusal.Refusal.TheVariants.{BadLine, NoSuchSlice, SliceInUse, TooSmall, WrongState, IoFault, LineTooLong}
+use Rattle.mdv_base.specs.declared.refusal.Refusal.TheVariants.{BadLine, NeedForce, NoSuchSlice, SliceInUse, TooSmall, WrongState, IoFault, LineTooLong}
 use Rattle.mdv_base.specs.declared.state_word.StateWord.{StateWord}
 use Rattle.mdv_base.specs.declared.state_word.StateWord.TheVariants.{Down}
 use Rattle.mdv_name.specs.Drive.{IsSliceName, slice_text}
@@ -14,6 +14,8 @@ use Rattle.mdv_replica.specs.declared.replica.PlaceAt.{PlaceAt}
 use Rattle.mdv_run.specs.declared.geometry.SmallGeometry.{SmallGeometry}
 use Rattle.mdv_store.specs.declared.database.BootEnd.{BootEnd}
 use Rattle.mdv_store.specs.declared.database.BootEnd.TheVariants as boot
+use Rattle.mdv_run.specs.declared.command.Command.{Command}
+use Rattle.mdv_run.specs.declared.command.Command.TheVariants.{Create}
 use Rattle.mdv_run.specs.declared.host.State.{State}
 use Rattle.mdv_run.specs.declared.status.RunStatus.{RunStatus}
 use Rattle.mdv_run.specs.declared.status.RunStatus.TheVariants.{Done, SomeRefused, Usage, NoQuorum, Panic, ReadFault, WriteFault, NoMemory, TwoDatabases, ScriptTooLong, NumbersSpent}
@@ -29,33 +31,39 @@ pub record IsUsed (words : List (List ℕ)) (text : List ℕ) (sizes : List ℕ)
   pub table : IsGeometry text g
   pub drive : sizes ≡ g.drive_blocks ∷ []
 
--- `metadb -a -f SLICE`
-abbrev pub creation_text : SliceName → List ℕ
-creation_text slice = codes "metadb -a -f " ++ slice_text slice
+-- `metadb -a SLICE`, or with `-f`
+abbrev pub command_text : Command → List ℕ
+command_text (Create slice true) = codes "metadb -a -f " ++ slice_text slice
+command_text (Create slice false) = codes "metadb -a " ++ slice_text slice
 
--- what a line asks: a creation on a slice, or nothing that the grammar has
-abbrev pub IsCommand : List ℕ → Option SliceName → Type 0
-IsCommand text (Some slice) = IsSliceName slice × (text ≡ creation_text slice)
-IsCommand text None = (slice : SliceName) → IsSliceName slice → text ≡ creation_text slice → ⊥
+abbrev pub IsOfGrammar : Command → Type 0
+IsOfGrammar (Create slice force) = IsSliceName slice
+
+-- what a line asks, or nothing that the grammar has
+abbrev pub IsCommand : List ℕ → Option Command → Type 0
+IsCommand text (Some command) = IsOfGrammar command × (text ≡ command_text command)
+IsCommand text None = (command : Command) → IsOfGrammar command → text ≡ command_text command → ⊥
 
 -- a call on the drive failed in the last boot
 abbrev pub IsDownWord : StateWord → State → Type 0
 IsDownWord Down state = state.down ≡ true
 IsDownWord word state = ⊥
 
--- the first cause in this order: another slice, a drive that wasn't up, a database that is there, too few blocks
-abbrev pub IsRefused : SmallGeometry → State → SliceName → Refusal → Type 0
-IsRefused g state slice NoSuchSlice = slice ≢ g.slice
-IsRefused g state slice (WrongState word) = (slice ≡ g.slice) × IsDownWord word state
-IsRefused g state slice SliceInUse = (slice ≡ g.slice) × (state.down ≡ false) × (state.database ≡ true)
-IsRefused g state slice TooSmall = (slice ≡ g.slice) × (state.down ≡ false) × (state.database ≡ false) × (g.blocks < 8208)
-IsRefused g state slice other = ⊥
+-- the first cause in this order: another slice, a drive that wasn't up, no force where none is there, a database that is there, too few blocks
+abbrev pub IsRefused : SmallGeometry → State → SliceName → Bool → Refusal → Type 0
+IsRefused g state slice force NoSuchSlice = slice ≢ g.slice
+IsRefused g state slice force (WrongState word) = (slice ≡ g.slice) × IsDownWord word state
+IsRefused g state slice force NeedForce = (slice ≡ g.slice) × (state.down ≡ false) × (state.database ≡ false) × (force ≡ false)
+IsRefused g state slice force SliceInUse = (slice ≡ g.slice) × (state.down ≡ false) × (state.database ≡ true)
+IsRefused g state slice force TooSmall = (slice ≡ g.slice) × (state.down ≡ false) × (state.database ≡ false) × (force ≡ true) × (g.blocks < 8208)
+IsRefused g state slice force other = ⊥
 
 -- none of these causes holds
-pub record MayCreate (g : SmallGeometry) (state : State) (slice : SliceName) : Type 0 where
+pub record MayCreate (g : SmallGeometry) (state : State) (slice : SliceName) (force : Bool) : Type 0 where
   pub same_slice : slice ≡ g.slice
   pub was_up : state.down ≡ false
   pub no_database : state.database ≡ false
+  pub is_forced : force ≡ true
   pub room : 8208 ≤ g.blocks
 
 abbrev pub refusal_line : Refusal → List ℕ
@@ -81,14 +89,14 @@ abbrev pub IsCreation : Type 0 → State → Outcome → Type 0
 IsCreation failed state outcome = (outcome ≡ Replied ok_line (opened state) false)
     ⊎ (failed × ((outcome ≡ Replied (refusal_line IoFault) (begun state) true) ⊎ (outcome ≡ Panicked (begun state))))
 
-abbrev pub IsCarriedOut : Type 0 → SmallGeometry → State → Option SliceName → Outcome → Type 0
+abbrev pub IsCarriedOut : Type 0 → SmallGeometry → State → Option Command → Outcome → Type 0
 IsCarriedOut failed g state None outcome = outcome ≡ Replied (refusal_line BadLine) state true
-IsCarriedOut failed g state (Some slice) outcome =
-    ((refusal : Refusal) × IsRefused g state slice refusal × (outcome ≡ Replied (refusal_line refusal) state true))
-    ⊎ (MayCreate g state slice × IsCreation failed state outcome)
+IsCarriedOut failed g state (Some (Create slice force)) outcome =
+    ((refusal : Refusal) × IsRefused g state slice force refusal × (outcome ≡ Replied (refusal_line refusal) state true))
+    ⊎ (MayCreate g state slice force × IsCreation failed state outcome)
 
 abbrev pub IsAnswered : Type 0 → SmallGeometry → State → List ℕ → Outcome → Type 0
-IsAnswered failed g state text outcome = (command : Option SliceName) × IsCommand text command × IsCarriedOut failed g state command outcome
+IsAnswered failed g state text outcome = (command : Option Command) × IsCommand text command × IsCarriedOut failed g state command outcome
 
 -- counts of failures before and after: of the drive, of the source, and of the giving of replies
 pub record Failures : Type 0 where

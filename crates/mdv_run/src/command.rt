@@ -1,17 +1,40 @@
-ghost use Rattle.std.specs.Prelude.{◌≡◌, ◌++◌, IfSome, IfNone};
+ghost use Rattle.std.specs.Prelude.{◌≡◌, IfSome, IfNone};
+ghost use Rattle.mdv_run.specs.declared.command.Command.{Command};
 ghost use Rattle.mdv_base.specs.declared.drive.SliceName.{SliceName};
-ghost use Rattle.mdv_name.specs.Drive.{IsSliceName};
-ghost use Rattle.mdv_run.specs.Run.{creation_text};
+ghost use Rattle.mdv_name.specs.Drive.{IsSliceName, slice_text};
+ghost use Rattle.mdv_run.specs.Run.{IsOfGrammar, command_text};
 
 use mdv_base::SliceName;
 use mdv_name::parse_plain_slice;
 
-const CREATION: &[u8] = b"metadb -a -f ";
+const CREATION: &[u8] = b"metadb -a ";
 
-/// The slice of a line `metadb -a -f SLICE`; None for every other line.
-pub fn read_line(text: &[u8]) -> Option<SliceName>
-    ensures value { IfSome result (λ slice. IsSliceName slice × (text.now ≡ creation_text slice)) }
-    ensures none { IfNone result ((slice : SliceName) → IsSliceName slice → text.now ≡ creation_text slice → ⊥) }
+const FORCED: &[u8] = b"-f ";
+
+/// What a line asks.
+#[derive(Clone, Copy, Debug, PartialEq, Eq)]
+pub enum Command {
+    /// `metadb -a SLICE`, or with `-f`, which the first replica of a database needs.
+    Create { slice: SliceName, force: bool },
+}
+
+/// The command of a line; None for a line that isn't in the grammar.
+pub fn read_line(text: &[u8]) -> Option<Command>
+    ensures value { IfSome result (λ c. IsOfGrammar c × (text.now ≡ command_text c)) }
+    ensures none { IfNone result ((c : Command) → IsOfGrammar c → text.now ≡ command_text c → ⊥) }
 {
-    parse_plain_slice(text.strip_prefix(CREATION)?)
+    let rest = text.strip_prefix(CREATION)?;
+    match rest.strip_prefix(FORCED) {
+        Some(slice) => creation(slice, true),
+        None => creation(rest, false),
+    }
+}
+
+// A creation on the slice that the text names.
+fn creation(text: &[u8], force: bool) -> Option<Command>
+    ensures value { IfSome result (λ c. (slice : SliceName) × IsSliceName slice × (c ≡ Command.Create slice force) × (text.now ≡ slice_text slice)) }
+    ensures none { IfNone result ((slice : SliceName) → IsSliceName slice → text.now ≡ slice_text slice → ⊥) }
+{
+    let slice = parse_plain_slice(text)?;
+    Some(Command::Create { slice, force })
 }

@@ -9,7 +9,7 @@ ghost use Rattle.mdv_run.specs.Run.{Replied, place_of, refusal_line, ok_line, Is
 ghost use Rattle.mdv_run.specs.Turns.{outcome_of, IsReady, IsSound, IsMadeSafe};
 ghost use Rattle.mdv_run.specs.Standing.{CarryMoment, CarriedTo};
 
-use crate::command::read_line;
+use crate::command::{Command, read_line};
 use mdv_store::{CreateFault, create};
 use crate::geometry::SmallGeometry;
 use arrayvec::ArrayString;
@@ -92,19 +92,24 @@ pub fn carry_out<S: Shelf>(host: &Host, state: &mut State, shelf: &mut S, line: 
     ensures still { state.new.begun ≡ state.old.begun → S.tale shelf.new ≡ S.tale shelf.old }
     ensures keeps { Keeps S.sizes S.faults S.rest S.held shelf.old shelf.new }
 {
-    let Some(slice) = read_line(line) else {
+    let Some(Command::Create { slice, force }) = read_line(line) else {
         return refused(&Refusal::BadLine);
     };
-    match refusal_of(&host.geometry, state, slice) {
+    match refusal_of(&host.geometry, state, slice, force) {
         Some(refusal) => refused(&refusal),
         None => make(host, state, shelf),
     }
 }
 
 // The first cause that the line is refused for before anything is done.
-fn refusal_of(geometry: &SmallGeometry, state: &State, slice: SliceName) -> Option<Refusal>
-    ensures refused { IfSome result (IsRefused geometry.now state.now slice) }
-    ensures free { IfNone result (MayCreate geometry.now state.now slice) }
+fn refusal_of(
+    geometry: &SmallGeometry,
+    state: &State,
+    slice: SliceName,
+    force: bool,
+) -> Option<Refusal>
+    ensures refused { IfSome result (IsRefused geometry.now state.now slice force) }
+    ensures free { IfNone result (MayCreate geometry.now state.now slice force) }
 {
     if slice != geometry.slice {
         return Some(Refusal::NoSuchSlice);
@@ -114,6 +119,9 @@ fn refusal_of(geometry: &SmallGeometry, state: &State, slice: SliceName) -> Opti
     }
     if state.database {
         return Some(Refusal::SliceInUse);
+    }
+    if !force {
+        return Some(Refusal::NeedForce);
     }
     if geometry.blocks < SLICE_BLOCKS {
         return Some(Refusal::TooSmall);
