@@ -1,0 +1,163 @@
+use crate::Draws;
+use crate::act::{Act, Lists, PLACES, Spots, bit, has, spot_at};
+use crate::world::World;
+use mdv_quorum::{Core, Event, SlotEnd};
+use std::alloc::{AllocError, Global};
+use std::process::Abort;
+use std::test::Fail;
+
+// Each of them with three chances of four.
+fn drawn_set(draws: &mut Draws, of: Spots) -> Spots {
+    (draws.below(1 << 28) | draws.below(1 << 28)) & of
+}
+
+// Some of the places, never none.
+fn drawn_places(draws: &mut Draws, all: Spots) -> Spots {
+    match draws.below(1 << 28) & all & PLACES {
+        0 => all & PLACES,
+        places => places,
+    }
+}
+
+// As before, or the places change, or a mediator comes or goes.
+fn drawn_lists(draws: &mut Draws, all: Spots, last: Option<Lists>) -> Lists {
+    let places = drawn_places(draws, all);
+    let seat = bit(16 + 4 * draws.below(3)) & all;
+    let Some(last) = last else {
+        return Lists {
+            first: places,
+            second: None,
+            mediators: 0,
+        };
+    };
+    match draws.below(5) {
+        0 | 1 => Lists {
+            first: last.second.unwrap_or(last.first),
+            second: if last.second.is_none() {
+                Some(places)
+            } else {
+                None
+            },
+            mediators: last.mediators,
+        },
+        2 => Lists {
+            mediators: last.mediators ^ seat,
+            ..last
+        },
+        _ => last,
+    }
+}
+
+fn drawn_act(draws: &mut Draws, all: Spots, last: Option<Lists>) -> Act {
+    let some = drawn_set(draws, all);
+    match draws.below(20) {
+        0..=3 => Act::Read(some),
+        4..=6 => Act::Claim(some),
+        7..=10 => Act::Write(some),
+        11..=13 => Act::Tell,
+        14 | 15 => Act::List(drawn_lists(draws, all, last)),
+        16 => Act::Format(some & !PLACES),
+        17 | 18 => Act::Back(draws.below(7)),
+        _ => drawn_end(draws, some),
+    }
+}
+
+fn drawn_end(draws: &mut Draws, some: Spots) -> Act {
+    match draws.below(8) {
+        0 => Act::Wipe(some),
+        1 => Act::Close(some),
+        2 | 3 => Act::Lose(draws.below(7)),
+        _ => Act::Crash,
+    }
+}
+
+// The core and the plain world say the same of what a boot may do at this place or seat.
+fn agree_at<R: Abort>(rt: &R, alloc: Global, core: &Core, world: &World, index: u32) {
+    let spot = spot_at(index);
+    if world.is_reading() {
+        let read = core.may(alloc, &Event::Read(spot));
+        let claimed = core.may(alloc, &Event::Claimed(spot));
+        assert_eq!(rt; read, world.may_read(index), "at {index}");
+        assert_eq!(rt; claimed, world.may_claim(index), "at {index}");
+    }
+    if world.is_claiming() {
+        let slotted = core.may(alloc, &Event::Slotted(spot, SlotEnd::Holds));
+        assert_eq!(rt; slotted, world.may_write(index), "at {index}");
+    }
+}
+
+// They also agree on what was adopted and what may be told, and a boot keeps what was told.
+fn agree<R: Abort>(rt: &R, alloc: Global, core: &Core, world: &World) {
+    assert_eq!(rt; core.adopted(), world.adopted_mark());
+    assert_eq!(rt; core.may(alloc, &Event::Told), world.may_tell());
+    assert!(rt; world.keeps_what_was_told());
+    for index in 0..28 {
+        agree_at(rt, alloc, core, world, index);
+    }
+}
+
+// The core beside the plain world, and how many events happened to both.
+#[derive(Drop)]
+struct Pair {
+    core: Core,
+    world: World,
+    events: u32,
+}
+
+// Each event of the act that may happen, at the core and in the plain world.
+fn play_both<R: Abort>(rt: &R, alloc: Global, pair: &mut Pair, act: Act) -> Result<(), AllocError> {
+    for index in 0..32 {
+        if has(act.spots(), index) {
+            let event = act.event(alloc, index)?;
+            if pair.core.may(alloc, &event) {
+                pair.core.step(alloc, event)?;
+                pair.world.step(alloc, act, index)?;
+                pair.events = pair.events.saturating_add(1);
+                agree(rt, alloc, &pair.core, &pair.world);
+            }
+        }
+    }
+    Ok(())
+}
+
+// A world of these places and seats; new places are mostly formatted before they are written.
+fn play_drawn<R: Abort>(rt: &R, alloc: Global, seed: u64, all: Spots) -> Result<Pair, AllocError> {
+    let mut draws = Draws::new(seed);
+    let set = all > PLACES || draws.below(2) == 1;
+    let mut pair = Pair {
+        core: Core::new(alloc, set),
+        world: World::new(alloc, set)?,
+        events: 0,
+    };
+    for _ in 0..400 {
+        let act = drawn_act(&mut draws, all, pair.world.lists());
+        play_both(rt, alloc, &mut pair, act)?;
+        if let Act::List(_) = act {
+            let places = drawn_set(&mut draws, all & PLACES);
+            play_both(rt, alloc, &mut pair, Act::Format(places))?;
+        }
+    }
+    Ok(pair)
+}
+
+#[test]
+fn boots_agree_with_a_plain_world(rt: HostRuntime) -> Result<(), Fail> {
+    // One to five places, and mediators beside them.
+    let cases: [Spots; 8] = [
+        0x1, 0x11, 0x111, 0x1111, 0x1113, 0x11_0011, 0x111_0011, 0x111_1113,
+    ];
+    for all in cases {
+        let mut events: u32 = 0;
+        let mut boots: u32 = 0;
+        for seed in 1..5 {
+            let pair = play_drawn(&rt, rt.alloc(), seed, all)?;
+            events = events.saturating_add(pair.events);
+            boots = boots.saturating_add(pair.world.boots());
+        }
+        assert!(rt;
+            events > 300 && boots > 4,
+            "{all:x}: {events} events, {boots} boots"
+        );
+    }
+    Ok(())
+}
