@@ -1,24 +1,21 @@
 -- What carrying a line out leaves of the log.
-use Rattle.std.proofs.Common.{◌≡◌, ℕ, ◌≤◌, Bool, true, false, List, [], ◌∷◌, slice_index_or, Option, Some, None, IfSome, is_some, refl, sym, ◌∙◌, ap, subst, Result, Ok, Err}
+use Rattle.std.proofs.Common.{◌≡◌, ℕ, true, false, List, [], ◌∷◌, slice_index_or, Option, Some, None, IfSome, refl, sym, ◌∙◌, ap, subst}
 use Rattle.mdv_base.specs.declared.name.Key.{Key}
 use Rattle.mdv_base.specs.declared.name.Key.TheVariants.{Local}
 use Rattle.mdv_base.specs.declared.mark.Identity.{Identity}
 use Rattle.mdv_shelf.specs.Tale.{Tale}
-use Rattle.mdv_shelf.specs.Moments.{Moments, Ends}
-use Rattle.mdv_shelf.proofs.Moments.{moments_both, moments_weaker, moments_none, ends_both}
+use Rattle.mdv_shelf.specs.Moments.{Moments}
+use Rattle.mdv_shelf.proofs.Moments.{moments_both, moments_weaker}
 use Rattle.mdv_replica.specs.declared.replica.PlaceAt.{PlaceAt}
-use Rattle.mdv_store.specs.Log.{Log, Event, is_firm, log_after_all, IsCourse, told_count}
+use Rattle.mdv_store.specs.Log.{Log, is_firm, log_after_all}
 use Rattle.mdv_store.specs.Database.{IsSafe, IsQuiet}
-use Rattle.mdv_store.specs.Standing.{ShowsNothing, GoesOn, GoesOnTo, IsCreatedTo, created_log}
-use Rattle.mdv_store.specs.declared.database.CreateFault.{CreateFault}
-use Rattle.mdv_store.specs.declared.database.CreateFault.TheVariants as fault
+use Rattle.mdv_store.specs.Standing.{ShowsNothing, GoesOn, GoesOnTo, created_log}
 use Rattle.mdv_store.proofs.Quiet.{quiet_same}
-use Rattle.mdv_run.specs.declared.geometry.SmallGeometry.{SmallGeometry}
 use Rattle.mdv_run.specs.declared.host.Host.{Host}
 use Rattle.mdv_run.specs.declared.host.State.{State}
-use Rattle.mdv_run.specs.Run.{Outcome, Replied, Panicked, place_of, begun, opened}
+use Rattle.mdv_run.specs.Run.{Outcome, Replied, Panicked, place_of}
 use Rattle.mdv_run.specs.Turns.{IsSound, IsMadeSafe, identity_of}
-use Rattle.mdv_run.specs.Standing.{IsKnown, CarryMoment, CarriedTo, IsUntold}
+use Rattle.mdv_run.specs.Standing.{CarryMoment, CarriedTo}
 
 -- a line that is refused before anything is done
 module _ (host : Host) (state : State) where
@@ -64,31 +61,33 @@ module _ (host : Host) (state : State) (place : PlaceAt) (key : Key) (sizes : Li
       → (ShowsNothing key place size t → GoesOnTo key place size (λ log. log ≡ created_log identity) t u) → CarriedTo host state outcome t u
   made_carried next text identity outcome t u is there goes = subst (λ (o : Outcome). CarriedTo host state o t u) (sym is)
       (λ log known.
-          let went = here (λ k p s. ShowsNothing k p s t → GoesOnTo k p s (λ l. l ≡ created_log identity) t u) goes (known.nothing none up) log known.covers in
-          let firm : is_firm (log_after_all log went.0) ≡ true = ap is_firm went.4 in (
-            went.0,
-            went.1,
-            went.2,
-            (record { covers = went.3; firm = λ held. firm; nothing = λ not. absurd (cc (sym there ∙ not)) },
-            λ told. record { firm = firm; untold = ap (λ (l : Log). l.is_acknowledged) went.4 }),
-          ))
+      let went = here (λ k p s. ShowsNothing k p s t → GoesOnTo k p s (λ l. l ≡ created_log identity) t u) goes (known.nothing none up) log known.covers in
+      let firm : is_firm (log_after_all log went.0) ≡ true = ap is_firm went.4 in (
+        went.0,
+        went.1,
+        went.2,
+        (
+          record { covers = went.3; firm = λ held. firm; nothing = λ not. absurd (cc (sym there ∙ not)) },
+          λ told. record { firm = firm; untold = ap (λ (l : Log). l.is_acknowledged) went.4 },
+        ),
+      ))
 
   -- it failed, and nothing is there
   pub failed_carried : (next : State) (text : List ℕ) (outcome : Outcome) (t u : Tale) → outcome ≡ Replied text next true → next.database ≡ false
       → (ShowsNothing key place size t → GoesOnTo key place size (λ log. is_firm log ≡ false) t u) → (ShowsNothing key place size t → ShowsNothing key place size u) → CarriedTo host state outcome t u
   failed_carried next text outcome t u is not goes nothing = subst (λ (o : Outcome). CarriedTo host state o t u) (sym is)
       (λ log known.
-          let went = here (λ k p s. ShowsNothing k p s t → GoesOnTo k p s (λ l. is_firm l ≡ false) t u) goes (known.nothing none up) log known.covers in
-          let empty = here (λ k p s. ShowsNothing k p s t → ShowsNothing k p s u) nothing (known.nothing none up) in (
-            went.0,
-            went.1,
-            went.2,
-            (record { covers = went.3; firm = λ held. absurd (cc (sym not ∙ held)); nothing = λ none up. empty }, λ told. absurd (cc (told))),
-          ))
+      let went = here (λ k p s. ShowsNothing k p s t → GoesOnTo k p s (λ l. is_firm l ≡ false) t u) goes (known.nothing none up) log known.covers in
+      let empty = here (λ k p s. ShowsNothing k p s t → ShowsNothing k p s u) nothing (known.nothing none up) in (
+        went.0,
+        went.1,
+        went.2,
+        (record { covers = went.3; firm = λ held. absurd (cc (sym not ∙ held)); nothing = λ none up. empty }, λ told. absurd (cc (told))),
+      ))
 
   -- whether it is there isn't known
   pub lost_carried : (next : State) (outcome : Outcome) (t u : Tale) → outcome ≡ Panicked next → (ShowsNothing key place size t → GoesOn key place size t u) → CarriedTo host state outcome t u
   lost_carried next outcome t u is goes = subst (λ (o : Outcome). CarriedTo host state o t u) (sym is)
       (λ log known.
-          let went = here (λ k p s. ShowsNothing k p s t → GoesOn k p s t u) goes (known.nothing none up) log known.covers in
-          (went.0, went.1, went.2, went.3))
+      let went = here (λ k p s. ShowsNothing k p s t → GoesOn k p s t u) goes (known.nothing none up) log known.covers in
+      (went.0, went.1, went.2, went.3))

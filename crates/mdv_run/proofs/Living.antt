@@ -1,8 +1,7 @@
 -- Standing over every life.
-use Rattle.std.proofs.Common.{◌≡◌, ℕ, ◌+◌, ◌<◌, true, false, List, [], ◌++◌, None, refl, sym, ◌∙◌, ap, subst, arith}
+use Rattle.std.proofs.Common.{◌≡◌, ℕ, ◌<◌, true, List, [], ◌++◌, None, refl, sym, subst, arith}
 use Rattle.mdv_base.specs.declared.name.Key.TheVariants.{Local}
 use Rattle.mdv_shelf.specs.Tale.{Tale, last}
-use Rattle.mdv_shelf.specs.MemHistory.{blank}
 use Rattle.mdv_store.specs.Log.{Log, Event, empty_log, log_after_all, is_firm, IsCourse, told_count}
 use Rattle.mdv_store.specs.Database.{IsFound}
 use Rattle.mdv_store.specs.Standing.{nothing, replica}
@@ -12,7 +11,7 @@ use Rattle.mdv_store.proofs.Lawful.{crashes_stand, new_drives_stand}
 use Rattle.mdv_store.proofs.Logs.{log_after_more, course_more, told_more, told_acknowledges}
 use Rattle.mdv_run.specs.declared.geometry.SmallGeometry.{SmallGeometry}
 use Rattle.mdv_run.specs.Run.{place_of}
-use Rattle.mdv_run.specs.Standing.{oks, StandsAt}
+use Rattle.mdv_run.specs.Standing.{StandsAt}
 use Rattle.mdv_run.specs.Lives.{Life, new_drives, run_and_crash, LivesStand, AcknowledgedIsFound}
 
 lives : (g : SmallGeometry) (said : ℕ) (t : Tale) → Life g said t

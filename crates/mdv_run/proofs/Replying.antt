@@ -1,13 +1,12 @@
 -- The lines that replies are, and how many of them say ok.
-use Rattle.std.proofs.Common.{◌≡◌, ◌⊎◌, inl, inr, ⊎_elim, ℕ, suc, zero, ◌+◌, ◌≤◌, ◌<◌, Bool, true, false, ◌==◌, not, ◌&&◌, List, [], ◌∷◌, ◌++◌, length, take, codes, refl, sym, ◌∙◌, ap, subst, cond, arith, append_assoc, length-append, is_some, Option, Some, None}
-use Rattle.std.specs.List.{count_by, sum_by, onto_first}
+use Rattle.std.proofs.Common.{◌≡◌, ◌⊎◌, inl, inr, ⊎_elim, ℕ, suc, zero, ◌+◌, ◌≤◌, ◌<◌, Bool, true, false, ◌==◌, not, ◌&&◌, List, [], ◌∷◌, ◌++◌, length, take, codes, refl, sym, ◌∙◌, ap, subst, cond, arith, append_assoc, length-append, is_some, Some, None}
+use Rattle.std.specs.List.{count_by, onto_first}
 use Rattle.std.specs.Fmt.{digits}
 use Rattle.std.specs.Str.{bytes_eq}
 use Rattle.std.proofs.lemmas.Slice.Eq.{bytes_eq-Decides}
-use Rattle.mdv_port.specs.Lines.{is_newline}
 use Rattle.mdv_port.specs.Script.{pieces}
 use Rattle.mdv_run.specs.GeometryParts.{lacks}
-use Rattle.mdv_run.specs.Run.{Outcome, Replied, Panicked, IsAnswered, IsRefused, begun, opened, ok_line, refusal_line}
+use Rattle.mdv_run.specs.Run.{Outcome, Replied, Panicked, IsAnswered, IsRefused, begun, ok_line, refusal_line}
 use Rattle.mdv_run.specs.declared.geometry.SmallGeometry.{SmallGeometry}
 use Rattle.mdv_run.specs.declared.command.Command.TheVariants.{Create}
 use Rattle.mdv_run.specs.declared.host.State.{State}

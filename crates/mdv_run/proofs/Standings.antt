@@ -1,25 +1,22 @@
 -- How the moments of the lines, and of the boot before them, add up.
-use Rattle.std.proofs.Common.{◌≡◌, ◌⊎◌, inl, inr, ⊎_elim, ℕ, ◌+◌, ◌<◌, true, false, List, [], ◌++◌, Option, Some, None, IfSome, is_some, Result, Ok, Err, slice_index_or, refl, sym, ◌∙◌, ap, subst, append_assoc, arith, ◌∷◌}
+use Rattle.std.proofs.Common.{◌≡◌, ◌⊎◌, ⊎_elim, ℕ, ◌+◌, ◌<◌, true, List, [], ◌++◌, Option, Some, None, IfSome, is_some, Ok, slice_index_or, refl, sym, ◌∙◌, ap, subst, append_assoc, arith, ◌∷◌}
 use Rattle.std.proofs.lemmas.List.{append-nil}
-use Rattle.mdv_base.specs.declared.name.Key.{Key}
 use Rattle.mdv_base.specs.declared.name.Key.TheVariants.{Local}
 use Rattle.mdv_shelf.specs.Tale.{Tale, told}
 use Rattle.mdv_shelf.specs.Moments.{Moments, Ends}
 use Rattle.mdv_shelf.proofs.Moments.{moments_end, some_is}
 use Rattle.mdv_replica.specs.declared.replica.PlaceAt.{PlaceAt}
-use Rattle.mdv_store.specs.Log.{Log, Event, log_after_all, is_firm, IsCourse, told_count}
+use Rattle.mdv_store.specs.Log.{Log, Event, log_after_all, IsCourse, told_count}
 use Rattle.mdv_store.specs.Database.{IsQuiet, IsSafe}
 use Rattle.mdv_store.specs.Standing.{GoesOn, GoesOnTo, IsBootedTo, ShowsNothing}
 use Rattle.mdv_store.specs.declared.database.BootEnd.{BootEnd}
 use Rattle.mdv_store.specs.declared.database.BootEnd.TheVariants.{Adopted, Empty, Down, Lost, Spent}
 use Rattle.mdv_store.proofs.Logs.{log_after_more, course_more, told_more, is_log_after_all}
-use Rattle.mdv_run.specs.declared.geometry.SmallGeometry.{SmallGeometry}
 use Rattle.mdv_run.specs.declared.host.Host.{Host}
 use Rattle.mdv_run.specs.declared.host.State.{State}
-use Rattle.mdv_run.specs.declared.status.RunStatus.{RunStatus}
 use Rattle.mdv_run.specs.Run.{start_of, place_of}
 use Rattle.mdv_run.specs.Turns.{IsMadeSafe, identity_of}
-use Rattle.mdv_run.specs.Standing.{oks, CoversAt, StandsAt, ShowsMade, IsKnown, RunMoment, TurnMoment, Turned, LinesMoment}
+use Rattle.mdv_run.specs.Standing.{oks, CoversAt, ShowsMade, IsKnown, RunMoment, TurnMoment, Turned, LinesMoment}
 use Rattle.mdv_run.proofs.Replying.{oks_none, oks_more, lines_none, lines_more}
 use Rattle.mdv_run.proofs.Whole.{none_made, none_safe}
 
@@ -147,8 +144,7 @@ module _ (host : Host) (place : PlaceAt) (sizes : List ℕ) (place_is : place �
       → (end ≡ Empty → Ends (λ t u. ShowsNothing (Local host.geometry.host) place (slice_index_or sizes place.drive.0 0) u) a b) → Ends (Booted end) a b
   booted_ends end a b quiet goes nothing t is =
       let one = moments_end (IsQuiet place) a b quiet t is in
-      let two = goes t is in
-      (
+      let two = goes t is in (
         one.0,
         one.1,
         record {

@@ -6,7 +6,7 @@ use Rattle.mdv_shelf.specs.Area.{KeptOutside, nowhere}
 use Rattle.mdv_shelf.specs.Calls.{and_then}
 use Rattle.mdv_shelf.specs.Moments.{Grew}
 use Rattle.mdv_shelf.proofs.Blocks.{kept_unwritten}
-use Rattle.mdv_shelf.proofs.Moments.{grew_one, grew_none}
+use Rattle.mdv_shelf.proofs.Moments.{grew_one}
 use Rattle.mdv_run.specs.declared.host.Answer.{Answer}
 use Rattle.mdv_run.specs.Standing.{TellMoment, text_of}
 use Rattle.mdv_shelf.proofs.Frame.{kept_outside_same}

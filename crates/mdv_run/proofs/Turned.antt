@@ -1,12 +1,12 @@
 -- What the moments of a line and of its answer leave of the log.
-use Rattle.std.proofs.Common.{◌≡◌, ◌⊎◌, inl, inr, ⊎_elim, ℕ, zero, suc, ◌+◌, ◌<◌, Bool, true, false, not, List, [], ◌∷◌, ◌++◌, length, take, cond, is_some, Option, Some, refl, sym, ◌∙◌, ap, subst, arith}
+use Rattle.std.proofs.Common.{◌≡◌, ⊎_elim, ℕ, zero, suc, ◌+◌, ◌<◌, Bool, true, false, not, List, [], ◌∷◌, ◌++◌, length, take, is_some, Option, Some, refl, sym, ◌∙◌, ap, subst, arith}
 use Rattle.std.proofs.lemmas.List.{append-nil, take_all}
 use Rattle.mdv_base.specs.declared.name.Key.TheVariants.{Local}
 use Rattle.mdv_shelf.specs.Tale.{Tale, told}
 use Rattle.mdv_shelf.specs.Area.{KeptOutside, nowhere}
 use Rattle.mdv_shelf.specs.Moments.{Moments, Ends}
 use Rattle.mdv_shelf.proofs.Moments.{moments_end, ends_both}
-use Rattle.mdv_store.specs.Log.{Log, Event, Told, log_after, log_after_all, is_firm, IsCourse, told_count}
+use Rattle.mdv_store.specs.Log.{Log, Event, Told, log_after, log_after_all, IsCourse, told_count}
 use Rattle.mdv_store.proofs.Covering.{kept_covers, kept_image}
 use Rattle.mdv_store.proofs.Logs.{log_after_more, course_more, told_more, told_covers}
 use Rattle.mdv_run.specs.declared.host.Answer.{Answer}
@@ -15,7 +15,7 @@ use Rattle.mdv_run.specs.declared.host.Host.{Host}
 use Rattle.mdv_run.specs.declared.host.State.{State}
 use Rattle.mdv_run.specs.declared.session.Turn.{Turn}
 use Rattle.mdv_run.specs.declared.session.Turn.TheVariants.{On, Over}
-use Rattle.mdv_run.specs.Run.{Outcome, Replied, Panicked, place_of}
+use Rattle.mdv_run.specs.Run.{Outcome, Replied, place_of}
 use Rattle.mdv_run.specs.Turns.{outcome_of, IsMadeSafe, IsTold, IsOn}
 use Rattle.mdv_run.specs.Standing.{oks, CoversAt, IsKnown, CarryMoment, CarriedTo, IsKnownAfter, IsUntold, text_of, TellMoment, TurnMoment, Turned, AreLines}
 use Rattle.mdv_run.proofs.Carrying.{carry_none}

@@ -10,12 +10,12 @@ ghost use Rattle.mdv_run.specs.Turns.{outcome_of, IsReady, IsSound, IsMadeSafe};
 ghost use Rattle.mdv_run.specs.Standing.{CarryMoment, CarriedTo};
 
 use crate::command::{Command, read_line};
-use mdv_store::{CreateFault, create};
 use crate::geometry::SmallGeometry;
 use arrayvec::ArrayString;
 use mdv_base::{DriveNo, Identity, Key, Place, Refusal, ReplyText, SliceName, StateWord};
 use mdv_replica::{MAX_BLOCKS, PlaceAt};
 use mdv_shelf::Shelf;
+use mdv_store::{CreateFault, create};
 
 /// The first block of a replica, counted from its slice's.
 pub const FIRST_BLOCK: u32 = 16;

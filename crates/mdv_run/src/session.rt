@@ -14,13 +14,13 @@ ghost use Rattle.mdv_shelf.specs.Area.{KeptOutside, nowhere};
 ghost use Rattle.mdv_shelf.specs.Moments.{Moments, Ends};
 ghost use Rattle.mdv_base.specs.Causes.{Rose};
 
-use mdv_store::{BootEnd, boot};
 use crate::geometry::{SmallGeometry, read};
 use crate::host::{Answer, Host, State, carry_out, place_at, refused};
 use crate::status::RunStatus;
 use mdv_base::{DriveNo, Failed, Key, Refusal};
 use mdv_port::{LineEnd, LineReader, Source};
 use mdv_shelf::Bench;
+use mdv_store::{BootEnd, boot};
 
 /// Runs one host: it boots from the drive, then answers the lines of the script one by one. The words
 /// are the host's name alone; the table of drives is the small one, with one drive and one slice.

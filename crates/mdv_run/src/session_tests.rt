@@ -1,8 +1,8 @@
-use mdv_store::record_block;
 use crate::{RunStatus, run};
 use mdv_base::{DriveName, DriveNo, Place, SliceName, ZERO_BLOCK};
 use mdv_port::MemSource;
 use mdv_shelf::{MemShelf, Shelf};
+use mdv_store::record_block;
 use std::alloc::AllocError;
 use std::process::Abort;
 use std::test::Fail;
@@ -62,8 +62,10 @@ fn expect_block<R: Abort>(rt: &R, shelf: &mut MemShelf, at: u64, text: &[u8]) ->
 fn answers_each_line(rt: HostRuntime) -> Result<(), Fail> {
     let mut shelf = MemShelf::new(rt.alloc(), &[BLOCKS])?;
     expect_run(&rt, &mut shelf, "", RunStatus::Done, "")?;
-    let script = "metadb -a c0t0d0s7\nmetadb -a -f c0t0d0s7\nmetadb -a c0t0d0s7\nmetadb -a -f c0t1d0s7\nmetadb";
-    let told = "refused E3 NeedForce\nok\nrefused E7 SliceInUse\nrefused E6 NoSuchSlice\nrefused E1 BadLine\n";
+    let script =
+        "metadb -a c0t0d0s7\nmetadb -a -f c0t0d0s7\nmetadb -a c0t0d0s7\nmetadb -a -f c0t1d0s7\nmetadb";
+    let told =
+        "refused E3 NeedForce\nok\nrefused E7 SliceInUse\nrefused E6 NoSuchSlice\nrefused E1 BadLine\n";
     expect_run(&rt, &mut shelf, script, RunStatus::SomeRefused, told)?;
     expect_run(&rt, &mut shelf, "", RunStatus::Done, told)?;
     Ok(())

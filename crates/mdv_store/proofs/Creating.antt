@@ -36,12 +36,14 @@ module _ (key : Key) (at : PlaceAt) (size : ℕ) where
   pub format_nothing : (master : List ℕ) (claim : ℕ) (t m : Tale) → Formatting at (block_of []) master (formatted_rest claim) t m → ShowsNothing key at size t → ShowsNothing key at size m
   format_nothing master claim t m formatting none image is = elim (formatting.stretch) [
     | starting (only, kept) ↦ ⊎_elim
-        (λ old. none image (record { each = λ drive block. elim (both_ways (range at.drive.0 at.first 1 drive block)) [
-          | inl inside ↦
-              let here = covers_one at.drive.0 at.first drive block inside in
-              subst (λ (n : ℕ). MayLeave t n block (image n block)) (sym here.0) (subst (λ (b : ℕ). MayLeave t at.drive.0 b (image at.drive.0 b)) (sym here.1) old)
-          | inr outside ↦ (kept drive block outside).left (image drive block) (is.each drive block)
-        ] }))
+        (λ old. none image (record {
+          each = λ drive block. elim (both_ways (range at.drive.0 at.first 1 drive block)) [
+            | inl inside ↦
+                let here = covers_one at.drive.0 at.first drive block inside in
+                subst (λ (n : ℕ). MayLeave t n block (image n block)) (sym here.0) (subst (λ (b : ℕ). MayLeave t at.drive.0 b (image at.drive.0 b)) (sym here.1) old)
+            | inr outside ↦ (kept drive block outside).left (image drive block) (is.each drive block)
+          ];
+        }))
         (λ blank. found_none_blank key at size (image at.drive.0) blank)
         (only (image at.drive.0 at.first) (is.each at.drive.0 at.first))
     | between only ↦ found_none_blank key at size (image at.drive.0) (only (image at.drive.0 at.first) (is.each at.drive.0 at.first))
@@ -61,7 +63,7 @@ module _ (key : Key) (at : PlaceAt) (size : ℕ) where
 
   -- once the place is formatted
   module _ (identity : Identity) (form : IsMaster (master_of at key identity)) (lies : LiesAt at size (master_of at key identity)) (u : Tale)
-    (formatted : IsSettled at.drive.0 at.first (block_of (master_text (master_of at key identity)) ∷ formatted_rest 1) u) where
+      (formatted : IsSettled at.drive.0 at.first (block_of (master_text (master_of at key identity)) ∷ formatted_rest 1) u) where
     abbrev pub old : ℕ → List ℕ
     old = last u at.drive.0
 
@@ -127,14 +129,22 @@ module _ (key : Key) (at : PlaceAt) (size : ℕ) where
     in_table new (done same) = replica made_head (made_agrees false new (made_replica new same))
 
     pub table_goes_on : (t m : Tale) → Leaves at.drive.0 (TableImage at First first_mark) u m → ShowsNothing key at size t → GoesOn key at size t m
-    table_goes_on t m leaves none log covers =
-        (Issued identity ∷ Writing first_mark None ∷ [], (not_firm key at size log t covers none, ((λ k d lt. absurd (omega arith), refl), tt)), refl,
-        (λ image is. in_table (image at.drive.0) (leaves formatted.synced image is)), tt)
+    table_goes_on t m leaves none log covers = (
+      Issued identity ∷ Writing first_mark None ∷ [],
+      (not_firm key at size log t covers none, ((λ k d lt. absurd (omega arith), refl), tt)),
+      refl,
+      (λ image is. in_table (image at.drive.0) (leaves formatted.synced image is)),
+      tt,
+    )
 
     pub table_ends_on : (t v : Tale) → Leaves at.drive.0 (λ from to. IsSame (slotted at First first_mark from) to) u v → ShowsNothing key at size t → GoesOnTo key at size (λ log. log ≡ created_log identity) t v
-    table_ends_on t v leaves none log covers =
-        (Issued identity ∷ Writing first_mark None ∷ Written ∷ [], (not_firm key at size log t covers none, ((λ k d lt. absurd (omega arith), refl), (tt, tt))), refl,
-        (λ image is. replica made_head (made_agrees true (image at.drive.0) (made_replica (image at.drive.0) (leaves formatted.synced image is)))), refl)
+    table_ends_on t v leaves none log covers = (
+      Issued identity ∷ Writing first_mark None ∷ Written ∷ [],
+      (not_firm key at size log t covers none, ((λ k d lt. absurd (omega arith), refl), (tt, tt))),
+      refl,
+      (λ image is. replica made_head (made_agrees true (image at.drive.0) (made_replica (image at.drive.0) (leaves formatted.synced image is)))),
+      refl,
+    )
 
     pub made_safe : (v : Tale) → Leaves at.drive.0 (λ from to. IsSame (slotted at First first_mark from) to) u v → IsSafe key at size identity first_mark v
     made_safe v leaves image is = record {

@@ -63,11 +63,11 @@ module _ (drive gate body : ℕ) (closed opened text : List ℕ) (t m : Tale) (a
       → IsSame (with_block (with_block (last t drive) gate opened) body text) (image drive)
   slot_done image is_open is_text others = same_with (with_block (last t drive) gate opened) (image drive) body text is_text
       (λ block from_body. same_with_at block from_body) where
-    same_with_at : (block : ℕ) → block ≢ body → image drive block ≡ with_block (last t drive) gate opened block
-    same_with_at block from_body = ⊎_elim
-        (λ is. ap (image drive) is.1 ∙ is_open ∙ sym (here_block (last t drive) gate opened) ∙ ap (with_block (last t drive) gate opened) (sym is.1))
-        (λ not. others block not.1 from_body ∙ sym (other_block (last t drive) gate opened block not.1))
-        (eqb_tells block gate)
+        same_with_at : (block : ℕ) → block ≢ body → image drive block ≡ with_block (last t drive) gate opened block
+        same_with_at block from_body = ⊎_elim
+            (λ is. ap (image drive) is.1 ∙ is_open ∙ sym (here_block (last t drive) gate opened) ∙ ap (with_block (last t drive) gate opened) (sym is.1))
+            (λ not. others block not.1 from_body ∙ sym (other_block (last t drive) gate opened block not.1))
+            (eqb_tells block gate)
 
   pub slot_image : SlotWriting drive gate body closed opened (text ∷ []) t m → (image : ℕ → ℕ → List ℕ) → IsImage m image → SlotImage gate body closed opened text (last t drive) (image drive)
   slot_image writing image is =
@@ -75,9 +75,9 @@ module _ (drive gate body : ℕ) (closed opened text : List ℕ) (t m : Tale) (a
       elim (writing.stretch) [
         | starting (only, kept) ↦ ⊎_elim
             (λ old. before (λ block. ⊎_elim
-                (λ (e : _). ap (image drive) e.1 ∙ synced gate (image drive gate) old ∙ ap (last t drive) (sym e.1))
-                (λ not. synced block (image drive block) ((kept drive block (apart_range drive gate block not.1)).left (image drive block) (is.each drive block)))
-                (eqb_tells block gate)))
+            (λ (e : _). ap (image drive) e.1 ∙ synced gate (image drive gate) old ∙ ap (last t drive) (sym e.1))
+            (λ not. synced block (image drive block) ((kept drive block (apart_range drive gate block not.1)).left (image drive block) (is.each drive block)))
+            (eqb_tells block gate)))
             (λ shut. in_work shut others)
             (only (image drive gate) (is.each drive gate))
         | between only ↦ in_work (only (image drive gate) (is.each drive gate)) others

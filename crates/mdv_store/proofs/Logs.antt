@@ -50,14 +50,14 @@ pub told_covers : (key : Key) (at : PlaceAt) (size : ℕ) (log : Log) (m : Tale)
 told_covers key at size log m covers image is = elim (covers image is) [
   | nothing not_firm none ↦ nothing not_firm none
   | replica head agrees ↦ replica head (record {
-      replica = agrees.replica;
-      shown = agrees.shown;
-      as_issued = agrees.as_issued;
-      of_first = agrees.of_first;
-      of_second = agrees.of_second;
-      covered = agrees.covered;
-      numbered = agrees.numbered;
-    })
+    replica = agrees.replica;
+    shown = agrees.shown;
+    as_issued = agrees.as_issued;
+    of_first = agrees.of_first;
+    of_second = agrees.of_second;
+    covered = agrees.covered;
+    numbered = agrees.numbered;
+  })
 ]
 
 -- what was acknowledged stays so

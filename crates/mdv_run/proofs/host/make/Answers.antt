@@ -27,9 +27,12 @@ pub returns-in-Err-Failed-clause-carried : goal.returns-in-Err-Failed-clause-car
 returns-in-Err-Failed-clause-carried g c = λ t told. (
     let end = (rw c.in-Err-Failed.field-0-is at c.in-Err-Failed.ensures.ends) t told in
     let empty = c.create.ensures.failed (c.in-Err-Failed.is ∙ ap Err c.in-Err-Failed.field-0-is) t told in
-    let same : empty.0 ≡ end.0 = some_is _ empty.0 end.0 empty.1 end.1 in
-    (end.0, end.1, failed_carried c.args.host.now c.args.state.now c.place_at.result (Local c.args.host.now.geometry.host) (g.S.Shelf.sizes c.args.shelf.now) c.place_at.ensures refl c.requires.ready.drive c.requires.none c.requires.up c.requires.sound (begun c.args.state.now) (refusal_line IoFault) _ t end.0 (c.refused.ensures (begun c.args.state.now)) c.requires.none end.2
-    (subst (λ (u : Tale). ShowsNothing (Local c.args.host.now.geometry.host) c.place_at.result (slice_index_or (g.S.Shelf.sizes c.args.shelf.now) c.place_at.result.drive.0 0) t → ShowsNothing (Local c.args.host.now.geometry.host) c.place_at.result (slice_index_or (g.S.Shelf.sizes c.args.shelf.now) c.place_at.result.drive.0 0) u) same empty.2)))
+    let same : empty.0 ≡ end.0 = some_is _ empty.0 end.0 empty.1 end.1 in (
+      end.0,
+      end.1,
+      failed_carried c.args.host.now c.args.state.now c.place_at.result (Local c.args.host.now.geometry.host) (g.S.Shelf.sizes c.args.shelf.now) c.place_at.ensures refl c.requires.ready.drive c.requires.none c.requires.up c.requires.sound (begun c.args.state.now) (refusal_line IoFault) _ t end.0 (c.refused.ensures (begun c.args.state.now)) c.requires.none end.2
+          (subst (λ (u : Tale). ShowsNothing (Local c.args.host.now.geometry.host) c.place_at.result (slice_index_or (g.S.Shelf.sizes c.args.shelf.now) c.place_at.result.drive.0 0) t → ShowsNothing (Local c.args.host.now.geometry.host) c.place_at.result (slice_index_or (g.S.Shelf.sizes c.args.shelf.now) c.place_at.result.drive.0 0) u) same empty.2),
+    ))
 
 pub returns-in-Err-Lost-clause-carried : goal.returns-in-Err-Lost-clause-carried
 returns-in-Err-Lost-clause-carried g c = λ t told. (

@@ -31,12 +31,12 @@ returns-in-Ok-clause-runs g c = λ x used t is input left. (
     (booted_at (failures (g.B.Shelf.faults c.args.bench.now) (g.B.Shelf.faults c.run_lines.new.bench) (g.I.Source.faults c.args.script.now) (g.I.Source.faults c.run_lines.new.script)) (g.B.Shelf.faults c.args.bench.now) (g.B.Shelf.faults c.boot-end.new.shelf) c.in-Some.geometry x c.place_at.result (g.B.Shelf.sizes c.args.bench.now) t c.boot-end.result same c.place_at.ensures c.in-Some.ensures.value.drive (omega arith) (c.run_lines.ensures.keeps.no_fewer_faults (OnDrive 0)) (c.boot-end.ensures.booted t is))
     start
     (λ adopted. (
-        let left = c.boot-end.ensures.adopted adopted t is in
-        adopted_at c.in-Some.geometry c.place_at.result (g.B.Shelf.sizes c.args.bench.now) t quiet.0 c.place_at.ensures c.in-Some.ensures.value.drive
-        (subst (λ (u : Tale). IsAdopted (Local c.in-Some.geometry.host) c.place_at.result (slice_index_or (g.B.Shelf.sizes c.args.bench.now) c.place_at.result.drive.0 0) (last t c.place_at.result.drive.0) u) (some_is _ left.0 quiet.0 left.1 quiet.1) left.2)))
+    let left = c.boot-end.ensures.adopted adopted t is in
+    adopted_at c.in-Some.geometry c.place_at.result (g.B.Shelf.sizes c.args.bench.now) t quiet.0 c.place_at.ensures c.in-Some.ensures.value.drive
+    (subst (λ (u : Tale). IsAdopted (Local c.in-Some.geometry.host) c.place_at.result (slice_index_or (g.B.Shelf.sizes c.args.bench.now) c.place_at.result.drive.0 0) (last t c.place_at.result.drive.0) u) (some_is _ left.0 quiet.0 left.1 quiet.1) left.2)))
     (λ held. (
-        let kept = c.run_lines.ensures.still held quiet.0 quiet.1 in
-        subst (λ (v : Tale). KeptOutside nowhere quiet.0 v) (some_is _ kept.0 lines.0 kept.1 lines.1) kept.2)))
+    let kept = c.run_lines.ensures.still held quiet.0 quiet.1 in
+    subst (λ (v : Tale). KeptOutside nowhere quiet.0 v) (some_is _ kept.0 lines.0 kept.1 lines.1) kept.2)))
 
 -- src/session.rt:26:1
 pub returns-in-Err-clause-runs : goal.returns-in-Err-clause-runs

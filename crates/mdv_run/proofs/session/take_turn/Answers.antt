@@ -111,8 +111,8 @@ returns-in-Ok-TooLong-clause-moments g c =
     let old = c.args.state.now in
     moments_weaker (TellMoment c.refused.result) (TurnMoment host old old) _ _
     (λ t m tell.
-        let both = carried_none host old (refusal_line LineTooLong) c.refused.result t (c.refused.ensures old) in
-        turn_tell host old old c.refused.result t t both.0 both.1 both.2 (long_fair old (outcome_of c.refused.result old) (c.refused.ensures old)) m tell)
+    let both = carried_none host old (refusal_line LineTooLong) c.refused.result t (c.refused.ensures old) in
+    turn_tell host old old c.refused.result t t both.0 both.1 both.2 (long_fair old (outcome_of c.refused.result old) (c.refused.ensures old)) m tell)
     c.tell-in-Ok-TooLong.ensures.fronts
 
 pub returns-in-Ok-TooLong-clause-turned : goal.returns-in-Ok-TooLong-clause-turned

@@ -46,8 +46,8 @@ returns-clause-only g c =
     let sizes : g.S.Shelf.sizes c.sync.new.self ≡ g.S.Shelf.sizes c.args.shelf.now = c.sync.ensures.keeps.same_sizes ∙ c.read.ensures.keeps.same_sizes in
     if_some_weaker c.in_ok-found.found _ _
     (λ head only t is other replica.
-        let content : last (Then t (Synced c.args.at.drive.0)) c.args.at.drive.0 ≡ last t c.args.at.drive.0 = λ i block. last_unwritten t (Synced c.args.at.drive.0) c.args.at.drive.0 block refl i in
-        only (Then t (Synced c.args.at.drive.0)) (step ∙ ap (λ (o : Option Tale). and_then o (Synced c.args.at.drive.0)) is) other
-        (subst (λ (s : List ℕ). IsReplica c.args.key.now c.args.at (slice_index_or s c.args.at.drive.0 0) (last (Then t (Synced c.args.at.drive.0)) c.args.at.drive.0) other) (sym sizes)
-        (subst (λ (f : ℕ → List ℕ). IsReplica c.args.key.now c.args.at (slice_index_or (g.S.Shelf.sizes c.args.shelf.now) c.args.at.drive.0 0) f other) (sym content) replica)))
+    let content : last (Then t (Synced c.args.at.drive.0)) c.args.at.drive.0 ≡ last t c.args.at.drive.0 = λ i block. last_unwritten t (Synced c.args.at.drive.0) c.args.at.drive.0 block refl i in
+    only (Then t (Synced c.args.at.drive.0)) (step ∙ ap (λ (o : Option Tale). and_then o (Synced c.args.at.drive.0)) is) other
+    (subst (λ (s : List ℕ). IsReplica c.args.key.now c.args.at (slice_index_or s c.args.at.drive.0 0) (last (Then t (Synced c.args.at.drive.0)) c.args.at.drive.0) other) (sym sizes)
+    (subst (λ (f : ℕ → List ℕ). IsReplica c.args.key.now c.args.at (slice_index_or (g.S.Shelf.sizes c.args.shelf.now) c.args.at.drive.0 0) f other) (sym content) replica)))
     c.in_ok-found.ensures.only
