@@ -1,10 +1,9 @@
 -- Replicas that agree with a log, and how they go on agreeing.
-use Rattle.std.proofs.Common.{◌≡◌, ◌⊎◌, inl, inr, ⊎_elim, ℕ, suc, zero, ◌+◌, ◌≤◌, ◌<◌, ◌^◌, max, Bool, true, false, ◌||◌, List, [], ◌∷◌, length, refl, sym, ◌∙◌, ap, subst, slice_index_or, Option, Some, None, All, arith}
+use Rattle.std.proofs.Common.{◌≡◌, ◌⊎◌, inl, inr, ⊎_elim, ℕ, suc, zero, ◌≤◌, ◌<◌, max, Bool, true, false, ◌||◌, List, [], ◌∷◌, refl, sym, ◌∙◌, ap, subst, slice_index_or, Option, Some, All, arith}
 use Rattle.std.proofs.lemmas.List.Elements.{All-weaker}
 use Rattle.std.proofs.Math.Nat.{le-max_left}
 use Rattle.mdv_base.specs.Mark.{IsBelow}
 use Rattle.mdv_base.specs.declared.mark.Mark.{Mark}
-use Rattle.mdv_base.specs.declared.mark.Identity.{Identity}
 use Rattle.mdv_base.specs.declared.name.Key.{Key}
 use Rattle.mdv_replica.specs.declared.forms.Gate.{Gate}
 use Rattle.mdv_replica.specs.declared.forms.Gate.TheVariants.{Closed, Open}
@@ -12,7 +11,7 @@ use Rattle.mdv_replica.specs.declared.replica.PlaceAt.{PlaceAt}
 use Rattle.mdv_replica.specs.declared.replica.Head.{Head}
 use Rattle.mdv_replica.specs.declared.replica.Slot.{Slot}
 use Rattle.mdv_replica.specs.declared.replica.Slot.TheVariants.{First, Second}
-use Rattle.mdv_store.specs.Log.{Version, Log, Event, Issued, Writing, Written, log_after, log_after_all, is_firm, HasMark, IsParent, IsAbove}
+use Rattle.mdv_store.specs.Log.{Version, Log, IsParent}
 use Rattle.mdv_store.specs.Database.{IsReplica, is_open, shows, greatest, boot_of, IsSpare, IsSpareSlot}
 use Rattle.mdv_store.specs.Standing.{IsOfFamily, IsAtLeast, ShowsAtLeast, Agrees}
 use Rattle.mdv_store.proofs.Replicas.{with_slot, with_claim}

@@ -1,10 +1,10 @@
 -- What boots and creations leave of a log.
-use Rattle.std.proofs.Common.{◌≡◌, ◌⊎◌, inl, inr, ⊎_elim, ℕ, ◌+◌, ◌≤◌, ◌<◌, ◌^◌, true, false, List, [], ◌∷◌, length, refl, sym, ◌∙◌, ap, subst, slice_index_or, Option, Some, None, IfSome, All, arith, lit<}
+use Rattle.std.proofs.Common.{◌≡◌, inl, ⊎_elim, ℕ, ◌+◌, ◌≤◌, ◌<◌, ◌^◌, true, false, List, [], ◌∷◌, refl, sym, ◌∙◌, subst, Option, Some, None, IfSome, All, arith, lit<}
 use Rattle.std.proofs.lemmas.List.Elements.{All-weaker}
 use Rattle.mdv_base.specs.Mark.{IsBelow}
 use Rattle.mdv_base.specs.declared.mark.Mark.{Mark}
 use Rattle.mdv_base.specs.declared.name.Key.{Key}
-use Rattle.mdv_shelf.specs.Tale.{Tale, last, MayLeave, IsImage}
+use Rattle.mdv_shelf.specs.Tale.{Tale, last, IsImage}
 use Rattle.mdv_shelf.specs.Area.{KeptOutside, nowhere}
 use Rattle.mdv_shelf.specs.Settle.{IsSynced}
 use Rattle.mdv_shelf.specs.Moments.{Moments, Ends}
@@ -17,9 +17,8 @@ use Rattle.mdv_replica.specs.declared.replica.Head.{Head}
 use Rattle.mdv_replica.specs.declared.replica.Slot.{Slot}
 use Rattle.mdv_replica.specs.declared.replica.Slot.TheVariants.{First, Second}
 use Rattle.mdv_replica.specs.Forms.{IsMark}
-use Rattle.mdv_replica.specs.Replica.{gate_at, body_at}
-use Rattle.mdv_store.specs.Log.{Version, Log, Event, Issued, Writing, Written, log_after, log_after_all, is_firm, IsAbove, IsParent, IsCourse, told_count}
-use Rattle.mdv_store.specs.Database.{IsReplica, IsFound, with_blocks, shows, greatest, IsSpareSlot, IsSame, SlotImage, before, in_work, done, TableImage, ClaimImage, Rewrites, Leaves, claimed, slotted}
+use Rattle.mdv_store.specs.Log.{Version, Log, Event, Writing, Written, log_after, log_after_all, is_firm, IsAbove, IsParent, IsCourse, told_count}
+use Rattle.mdv_store.specs.Database.{IsReplica, IsFound, with_blocks, greatest, IsSpareSlot, IsSame, before, in_work, done, TableImage, ClaimImage, Rewrites, Leaves, claimed, slotted}
 use Rattle.mdv_store.specs.declared.database.BootEnd.TheVariants.{Adopted, Empty}
 use Rattle.mdv_store.specs.Standing.{Agrees, Holds, nothing, replica, Covers, ShowsNothing, GoesOnTo, GoesOn, Anything, IsTheReplica, IsAdopted, IsBootedTo, rewritten}
 use Rattle.mdv_store.proofs.Images.{same_is}

@@ -1,27 +1,25 @@
 -- What the moments of a creation leave.
-use Rattle.std.proofs.Common.{◌≡◌, ◌≢◌, ◌⊎◌, inl, inr, ⊎_elim, ℕ, ◌+◌, ◌≤◌, ◌<◌, ◌^◌, max, Bool, true, false, List, [], ◌∷◌, length, refl, sym, ◌∙◌, ap, subst, slice_index_or, Option, Some, None, All, arith, lit<}
+use Rattle.std.proofs.Common.{◌≡◌, ◌⊎◌, inl, inr, ⊎_elim, ℕ, ◌+◌, ◌≤◌, ◌<◌, max, Bool, true, false, List, [], ◌∷◌, refl, sym, ◌∙◌, ap, subst, slice_index_or, Some, None, arith, lit<}
 use Rattle.std.proofs.lemmas.Bool.Decides.{nat_tests}
 use Rattle.std.proofs.Math.Nat.{le-max_left}
 use Rattle.mdv_base.specs.Mark.{IsBelow}
 use Rattle.mdv_base.specs.declared.mark.Mark.{Mark}
 use Rattle.mdv_base.specs.declared.mark.Identity.{Identity}
 use Rattle.mdv_base.specs.declared.name.Key.{Key}
-use Rattle.mdv_shelf.specs.Tale.{Tale, last, MayLeave, IsImage, covers}
-use Rattle.mdv_shelf.specs.Area.{KeptOutside, range}
-use Rattle.mdv_shelf.specs.Settle.{IsSettled, IsSynced}
+use Rattle.mdv_shelf.specs.Tale.{Tale, last, MayLeave, covers}
+use Rattle.mdv_shelf.specs.Area.{range}
+use Rattle.mdv_shelf.specs.Settle.{IsSettled}
 use Rattle.mdv_shelf.proofs.Blocks.{both_ways}
-use Rattle.mdv_replica.specs.declared.forms.Master.{Master}
 use Rattle.mdv_replica.specs.declared.forms.Gate.TheVariants.{Closed, Open}
 use Rattle.mdv_replica.specs.declared.replica.PlaceAt.{PlaceAt}
 use Rattle.mdv_replica.specs.declared.replica.Head.{Head}
 use Rattle.mdv_replica.specs.declared.replica.Slot.TheVariants.{First}
 use Rattle.mdv_replica.specs.Forms.{master_text, gate_text, block_of, IsMaster, IsMark}
 use Rattle.mdv_replica.specs.Replica.{LiesAt, Formatting, starting, between, ending, formatted_rest}
-use Rattle.mdv_store.specs.Log.{Version, Log, Event, Issued, Writing, Written, log_after, log_after_all, is_firm, IsCourse, told_count}
-use Rattle.mdv_store.specs.Database.{IsReplica, IsFound, ShowsAlone, IsSafe, master_of, greatest, boot_of, IsSame, TableImage, before, in_work, done, Leaves, slotted}
-use Rattle.mdv_store.specs.declared.database.CreateFault.TheVariants as fault
-use Rattle.mdv_store.specs.Standing.{Agrees, Holds, nothing, replica, Covers, ShowsNothing, GoesOnTo, GoesOn, Anything, created_log}
-use Rattle.mdv_store.proofs.Replicas.{with_slot, slotted_replica, same_replica, found_none_blank, found_none_closed}
+use Rattle.mdv_store.specs.Log.{Version, Log, Issued, Writing, Written, log_after, is_firm}
+use Rattle.mdv_store.specs.Database.{IsReplica, IsSafe, master_of, greatest, boot_of, IsSame, TableImage, before, in_work, done, Leaves, slotted}
+use Rattle.mdv_store.specs.Standing.{Agrees, Holds, nothing, replica, ShowsNothing, GoesOnTo, GoesOn, created_log}
+use Rattle.mdv_store.proofs.Replicas.{slotted_replica, same_replica, found_none_blank, found_none_closed}
 use Rattle.mdv_store.proofs.Agreeing.{all_more, all_none}
 use Rattle.mdv_store.proofs.Covering.{not_firm, nothing_covers}
 

@@ -1,11 +1,11 @@
 -- What a crash leaves of a claim and of a slot that were being written, told as contents.
-use Rattle.std.proofs.Common.{◌≡◌, ◌≢◌, ◌⊎◌, inl, inr, ⊎_elim, ℕ, ◌+◌, ◌<◌, ◌==◌, Bool, true, false, ◌||◌, List, [], ◌∷◌, length, refl, sym, ◌∙◌, ap, subst, slice_index_or, cond, arith}
+use Rattle.std.proofs.Common.{◌≡◌, ◌≢◌, ◌⊎◌, inl, inr, ⊎_elim, ℕ, Bool, false, List, [], ◌∷◌, refl, sym, ◌∙◌, ap, subst, cond, arith}
 use Rattle.std.proofs.lemmas.Bool.Decides.{nat_tests, eqb_tells}
-use Rattle.mdv_shelf.specs.Tale.{Tale, last, MayLeave, IsImage, covers}
+use Rattle.mdv_shelf.specs.Tale.{Tale, last, MayLeave, IsImage}
 use Rattle.mdv_shelf.specs.Area.{range, joined, KeptOutside}
 use Rattle.mdv_shelf.specs.Settle.{Settling, IsSettled, IsSynced}
 use Rattle.mdv_shelf.proofs.Frame.{settling_one, settled_one}
-use Rattle.mdv_replica.specs.Replica.{Stretch, starting, between, ending, SlotWriting, IsSlotWritten}
+use Rattle.mdv_replica.specs.Replica.{starting, between, ending, SlotWriting, IsSlotWritten}
 use Rattle.mdv_store.specs.Database.{with_block, IsSame, SlotImage, before, in_work, done}
 
 pub same_is : (old new : ℕ → List ℕ) → IsSame old new → new ≡ old

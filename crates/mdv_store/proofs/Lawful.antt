@@ -1,9 +1,9 @@
 -- Standing over crashes, on new drives, and at boots.
-use Rattle.std.proofs.Common.{◌≡◌, ◌⊎◌, inl, inr, ⊎_elim, ℕ, ◌+◌, ◌<◌, ◌≤◌, Bool, true, false, List, [], length, refl, sym, ◌∙◌, ap, subst, Option, None, All, nat_lt, cond, slice_index, arith}
+use Rattle.std.proofs.Common.{◌≡◌, ◌⊎◌, inl, inr, ⊎_elim, ℕ, ◌+◌, ◌<◌, ◌≤◌, Bool, true, false, List, [], refl, sym, ◌∙◌, ap, subst, None, nat_lt, cond, slice_index, arith}
 use Rattle.std.proofs.lemmas.List.Elements.{All-weaker}
 use Rattle.mdv_base.specs.declared.name.Key.{Key}
 use Rattle.mdv_shelf.specs.Tale.{Tale, Begun, Start, last, MayLeave, values, IsImage}
-use Rattle.mdv_shelf.specs.MemHistory.{zero_block, blank_block, blank}
+use Rattle.mdv_shelf.specs.MemHistory.{zero_block, blank_block}
 use Rattle.mdv_shelf.proofs.Blocks.{both_ways}
 use Rattle.mdv_replica.specs.declared.forms.Master.{Master}
 use Rattle.mdv_replica.specs.declared.replica.PlaceAt.{PlaceAt}
@@ -12,9 +12,9 @@ use Rattle.mdv_replica.specs.Forms.{master_text, block_of}
 use Rattle.mdv_replica.proofs.Heads.{no_blank_master}
 use Rattle.mdv_replica.proofs.Parts.{master_parts}
 use Rattle.mdv_base.specs.Causes.{Rose}
-use Rattle.mdv_store.specs.Log.{Version, Log, empty_log, is_firm}
+use Rattle.mdv_store.specs.Log.{Version, Log, is_firm}
 use Rattle.mdv_store.specs.Database.{IsReplica, IsFound, IsBooted, shows, greatest}
-use Rattle.mdv_store.specs.Standing.{Agrees, Holds, nothing, replica, Covers, Stands}
+use Rattle.mdv_store.specs.Standing.{Agrees, Holds, nothing, replica, Stands}
 use Rattle.mdv_store.specs.Laws.{CrashesStand, NewDrivesStand, BootHolds, BootsHold}
 use Rattle.mdv_store.specs.declared.database.BootEnd.{BootEnd}
 use Rattle.mdv_store.specs.declared.database.BootEnd.TheVariants.{Adopted, Empty, Down, Lost, Spent}

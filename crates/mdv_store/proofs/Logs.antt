@@ -1,11 +1,11 @@
 -- How logs go on, event by event.
-use Rattle.std.proofs.Common.{◌≡◌, ℕ, ◌+◌, ◌<◌, ◌||◌, Bool, true, false, List, [], ◌∷◌, ◌++◌, refl, ap, subst, arith}
+use Rattle.std.proofs.Common.{◌≡◌, ℕ, ◌+◌, ◌<◌, true, List, [], ◌∷◌, ◌++◌, refl, arith}
 use Rattle.std.specs.List.{list_any}
 use Rattle.mdv_base.specs.declared.name.Key.{Key}
-use Rattle.mdv_shelf.specs.Tale.{Tale, IsImage}
+use Rattle.mdv_shelf.specs.Tale.{Tale}
 use Rattle.mdv_replica.specs.declared.replica.PlaceAt.{PlaceAt}
-use Rattle.mdv_store.specs.Log.{Version, Log, Event, Issued, Writing, Written, Told, answered, log_after, log_after_all, is_firm, MayHappen, IsCourse, told_by, told_count, IsRising, IsDescended, IsLog}
-use Rattle.mdv_store.specs.Standing.{Agrees, Holds, nothing, replica, Covers, Stands}
+use Rattle.mdv_store.specs.Log.{Version, Log, Event, Issued, Writing, Written, Told, answered, log_after, log_after_all, MayHappen, IsCourse, told_count, IsRising, IsDescended, IsLog}
+use Rattle.mdv_store.specs.Standing.{nothing, replica, Covers}
 
 pub log_after_more : (log : Log) (es fs : List Event) → log_after_all log (es ++ fs) ≡ log_after_all (log_after_all log es) fs
 log_after_more log [] fs = refl

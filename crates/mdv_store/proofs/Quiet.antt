@@ -1,11 +1,11 @@
 -- Calls that tell nothing and touch nothing outside a replica's place.
 use Rattle.std.proofs.Common.{◌≡◌, ℕ, ◌+◌, ◌≤◌, subst, slice_index_or, false, List, length, Option, Some, None, IfSome, refl, sym, ◌∙◌, ap, arith}
-use Rattle.mdv_shelf.specs.Tale.{Tale, Then, Synced, last}
+use Rattle.mdv_shelf.specs.Tale.{Tale, Then, Synced}
 use Rattle.mdv_shelf.specs.Area.{KeptOutside, range, joined, nowhere}
 use Rattle.mdv_shelf.specs.Calls.{and_then}
 use Rattle.mdv_shelf.specs.Moments.{Moments, Ends}
 use Rattle.mdv_shelf.specs.Settle.{Settling, IsSynced}
-use Rattle.mdv_shelf.proofs.Blocks.{kept_unwritten, last_unwritten}
+use Rattle.mdv_shelf.proofs.Blocks.{kept_unwritten}
 use Rattle.mdv_shelf.proofs.Frame.{kept_outside_same, kept_outside_more, kept_outside_wider, within_range}
 use Rattle.mdv_shelf.proofs.Moments.{grew_one}
 use Rattle.mdv_shelf.proofs.Settled.{told_synced, synced_drive}

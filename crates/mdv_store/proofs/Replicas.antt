@@ -1,5 +1,5 @@
 -- Replicas whose blocks are changed one by one.
-use Rattle.std.proofs.Common.{◌≡◌, ◌≢◌, ◌⊎◌, inl, inr, ℕ, ◌+◌, ◌≤◌, ◌<◌, ◌^◌, max, Bool, true, false, ◌||◌, List, [], ◌∷◌, length, take, refl, sym, ◌∙◌, ap, subst, slice_index_or, Option, Some, None, arith, lit<}
+use Rattle.std.proofs.Common.{◌≡◌, ◌≢◌, ℕ, ◌+◌, ◌≤◌, ◌<◌, ◌^◌, Bool, false, ◌||◌, List, [], length, take, refl, sym, ◌∙◌, ap, subst, None, arith, lit<}
 use Rattle.std.proofs.lemmas.List.{take_at}
 use Rattle.mdv_base.specs.declared.mark.Mark.{Mark}
 use Rattle.mdv_base.specs.declared.name.Key.{Key}
@@ -10,11 +10,11 @@ use Rattle.mdv_replica.specs.declared.replica.PlaceAt.{PlaceAt}
 use Rattle.mdv_replica.specs.declared.replica.Head.{Head}
 use Rattle.mdv_replica.specs.declared.replica.Slot.{Slot}
 use Rattle.mdv_replica.specs.declared.replica.Slot.TheVariants.{First, Second}
-use Rattle.mdv_replica.specs.Forms.{master_text, claim_text, gate_text, block_of, IsMark, IsGate}
+use Rattle.mdv_replica.specs.Forms.{claim_text, gate_text, block_of, IsMark, IsGate}
 use Rattle.mdv_replica.specs.Replica.{slot_blocks, gate_at, body_at}
 use Rattle.mdv_replica.proofs.Heads.{closed_only, no_blank_master}
 use Rattle.mdv_store.specs.Record.{empty_record, IsEmptyRecord}
-use Rattle.mdv_store.specs.Database.{IsReplica, IsFound, SlotFits, with_blocks, with_block, is_open, shows, IsSame, TableImage, SlotImage, before, in_work, done, claimed, slotted}
+use Rattle.mdv_store.specs.Database.{IsReplica, IsFound, SlotFits, with_blocks, with_block, is_open, shows, IsSame, claimed, slotted}
 use Rattle.mdv_store.proofs.Images.{same_is, here_block, other_block}
 
 -- a head with this gate in that slot

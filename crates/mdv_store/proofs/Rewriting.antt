@@ -1,12 +1,12 @@
 -- The moments of a claim and a table that are written one after the other.
-use Rattle.std.proofs.Common.{◌≡◌, ◌⊎◌, inl, inr, ⊎_elim, ℕ, ◌+◌, List, [], ◌∷◌, sym, ◌∙◌, ap, subst}
+use Rattle.std.proofs.Common.{◌≡◌, inl, inr, ℕ, ◌+◌, List, [], ◌∷◌, subst}
 use Rattle.mdv_base.specs.declared.mark.Mark.{Mark}
-use Rattle.mdv_shelf.specs.Tale.{Tale, last, IsImage}
+use Rattle.mdv_shelf.specs.Tale.{Tale, last}
 use Rattle.mdv_shelf.specs.Settle.{Settling, IsSettled, IsSynced}
 use Rattle.mdv_replica.specs.declared.replica.PlaceAt.{PlaceAt}
 use Rattle.mdv_replica.specs.declared.replica.Slot.{Slot}
 use Rattle.mdv_replica.specs.Forms.{claim_text, block_of}
-use Rattle.mdv_store.specs.Database.{IsSame, TableImage, ClaimImage, Rewrites, Leaves, claimed, slotted}
+use Rattle.mdv_store.specs.Database.{IsSame, TableImage, Rewrites, Leaves, claimed, slotted}
 use Rattle.mdv_store.proofs.Images.{same_is, settling_image, settled_last}
 
 module _ (at : PlaceAt) (slot : Slot) (mark : Mark) where

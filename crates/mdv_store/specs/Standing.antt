@@ -1,17 +1,17 @@
 -- What a crash may leave of a database with one place, told by its log.
-use Rattle.std.specs.Prelude.{◌≡◌, ◌⊎◌, ℕ, ◌+◌, ◌≤◌, true, false, List, [], ◌∷◌, Option, Some, None, Result, Ok, Err, All}
+use Rattle.std.specs.Prelude.{◌≡◌, ◌⊎◌, ℕ, ◌+◌, ◌≤◌, true, false, List, [], ◌∷◌, Some, None, Result, Ok, Err, All}
 use Rattle.mdv_base.specs.declared.mark.Mark.{Mark}
 use Rattle.mdv_base.specs.declared.mark.Identity.{Identity}
 use Rattle.mdv_base.specs.declared.name.Key.{Key}
 use Rattle.mdv_base.specs.Mark.{IsBelow}
-use Rattle.mdv_shelf.specs.Tale.{Tale, last, IsImage}
+use Rattle.mdv_shelf.specs.Tale.{Tale, IsImage}
 use Rattle.mdv_replica.specs.declared.forms.Gate.{Gate}
 use Rattle.mdv_replica.specs.declared.forms.Gate.TheVariants.{Closed, Open}
 use Rattle.mdv_replica.specs.declared.replica.PlaceAt.{PlaceAt}
 use Rattle.mdv_replica.specs.declared.replica.Head.{Head}
 use Rattle.mdv_replica.specs.declared.replica.Slot.{Slot}
 use Rattle.mdv_replica.specs.declared.replica.Slot.TheVariants.{First, Second}
-use Rattle.mdv_store.specs.Log.{Version, Log, Event, Issued, Writing, Written, log_after_all, is_firm, HasMark, IsCourse, told_count, IsLog}
+use Rattle.mdv_store.specs.Log.{Version, Log, Event, log_after_all, is_firm, HasMark, IsCourse, told_count, IsLog}
 use Rattle.mdv_store.specs.Database.{IsReplica, IsFound, shows, greatest, IsSpareSlot}
 use Rattle.mdv_store.specs.declared.database.BootEnd.{BootEnd}
 use Rattle.mdv_store.specs.declared.database.BootEnd.TheVariants.{Adopted, Empty, Down, Lost, Spent}

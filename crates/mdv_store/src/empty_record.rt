@@ -28,11 +28,11 @@ pub fn is_record(place: &Place, bytes: u32, body: &Block) -> bool
     bytes == RECORD_BYTES && begins_with(body, record_page(place).as_slice())
 }
 
-fn begins_with(body: &Block, record: &[u8]) -> bool
-    requires { length record.now ≡ 36 }
-    ensures { IsTrue result ↔ (take 36 body.now ≡ record.now) }
+fn begins_with(body: &Block, text: &[u8]) -> bool
+    requires { length text.now ≡ 36 }
+    ensures { IsTrue result ↔ (take 36 body.now ≡ text.now) }
 {
-    &body[..36] == record
+    &body[..36] == text
 }
 
 #[tactic(auto, unfolding(crate::specs::Record::empty_record))]

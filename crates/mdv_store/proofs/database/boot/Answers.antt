@@ -1,12 +1,11 @@
-use Rattle.std.proofs.Common.{◌≡◌, ℕ, List, subst, sym, refl, slice_index_or, Option, Some, None, IfSome}
-use Rattle.mdv_shelf.specs.Tale.{Tale, last}
+use Rattle.std.proofs.Common.{ℕ, List, subst, sym, slice_index_or, Some, None}
+use Rattle.mdv_shelf.specs.Tale.{last}
 use Rattle.mdv_shelf.specs.Area.{KeptOutside, nowhere}
-use Rattle.mdv_shelf.specs.Moments.{Moments, Ends}
-use Rattle.mdv_replica.specs.declared.replica.Head.{Head}
+use Rattle.mdv_shelf.specs.Moments.{Ends}
 use Rattle.mdv_replica.specs.Replica.{IsFormed}
 use Rattle.mdv_shelf.proofs.Moments.{moments_more, moments_after, moments_weaker, moments_end, ends_more}
-use Rattle.mdv_store.specs.Database.{IsQuiet, IsReplica, IsFound}
-use Rattle.mdv_store.specs.Standing.{Anything, GoesOn, GoesOnTo, IsBootedTo, IsAdopted, ShowsNothing}
+use Rattle.mdv_store.specs.Database.{IsQuiet}
+use Rattle.mdv_store.specs.Standing.{Anything, GoesOn, GoesOnTo, IsBootedTo, IsAdopted}
 use Rattle.mdv_store.proofs.Covering.{HasLooked, looked_from, adopted_from, kept_goes_on, the_replica, nothing_found, empty_goes_on, goes_on_more}
 use Rattle.mdv_store.proofs.Quiet.{quiet_more}
 use Rattle.mdv_store.proofs.database.boot.Goals as goal

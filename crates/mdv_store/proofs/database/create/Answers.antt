@@ -1,12 +1,10 @@
-use Rattle.std.proofs.Common.{◌≡◌, ◌∷◌, refl, slice_index_or, arith, lit<}
-use Rattle.mdv_base.specs.declared.mark.Mark.{Mark}
+use Rattle.std.proofs.Common.{◌≡◌, ◌∷◌, refl, slice_index_or, arith}
 use Rattle.mdv_shelf.specs.Settle.{IsSettled}
 use Rattle.mdv_shelf.specs.Moments.{Moments}
 use Rattle.mdv_shelf.proofs.Moments.{moments_weaker, moments_more, moments_after, moments_end, ends_more}
 use Rattle.mdv_shelf.proofs.Counts.{took_more}
 use Rattle.mdv_replica.specs.Forms.{master_text, block_of}
 use Rattle.mdv_replica.specs.Replica.{formatted_rest, LiesAt}
-use Rattle.mdv_store.specs.Log.{is_firm}
 use Rattle.mdv_store.specs.Database.{IsQuiet, IsSafe, master_of}
 use Rattle.mdv_store.specs.Standing.{ShowsNothing, GoesOn, GoesOnTo, created_log}
 use Rattle.mdv_store.proofs.Creating.{format_nothing, format_goes_on, format_ends_on, table_goes_on, table_ends_on, made_safe}
