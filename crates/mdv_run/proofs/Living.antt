@@ -23,7 +23,7 @@ lives g said t (run_and_crash before fresh from m image told life moment is) =
     let stands = crashes_stand (Local g.host) (place_of g) g.drive_blocks (log_after_all (log_after_all empty_log old.0) more.0) m image told more.3 is in (
       old.0 ++ more.0,
       course_more empty_log old.0 more.0 old.1 more.1,
-      (let sum = told_more old.0 more.0 in let one = old.2 in let other = more.2 in omega arith),
+      (let sum = told_more old.0 more.0 in let one = old.2 in let other = more.2.tells in omega arith),
       subst (λ (log : Log). StandsAt (record { geometry = g; fresh = 0 }) log (restarted image told)) (sym (log_after_more empty_log old.0 more.0)) stands,
     )
 

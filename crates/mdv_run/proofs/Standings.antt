@@ -6,17 +6,17 @@ use Rattle.mdv_shelf.specs.Tale.{Tale, told}
 use Rattle.mdv_shelf.specs.Moments.{Moments, Ends}
 use Rattle.mdv_shelf.proofs.Moments.{moments_end, some_is}
 use Rattle.mdv_replica.specs.declared.replica.PlaceAt.{PlaceAt}
-use Rattle.mdv_store.specs.Log.{Log, Event, log_after_all, IsCourse, told_count}
+use Rattle.mdv_store.specs.Log.{Log, Event, log_after_all, IsCourse, Adds, NoCreation}
 use Rattle.mdv_store.specs.Database.{IsQuiet, IsSafe}
 use Rattle.mdv_store.specs.Standing.{GoesOn, GoesOnTo, IsBootedTo, ShowsNothing}
 use Rattle.mdv_store.specs.declared.database.BootEnd.{BootEnd}
 use Rattle.mdv_store.specs.declared.database.BootEnd.TheVariants.{Adopted, Empty, Down, Lost, Spent}
-use Rattle.mdv_store.proofs.Logs.{log_after_more, course_more, told_more, is_log_after_all}
+use Rattle.mdv_store.proofs.Logs.{log_after_more, course_more, adds_more, adds_weaker, is_log_after_all}
 use Rattle.mdv_run.specs.declared.host.Host.{Host}
 use Rattle.mdv_run.specs.declared.host.State.{State}
 use Rattle.mdv_run.specs.Run.{start_of, place_of}
 use Rattle.mdv_run.specs.Turns.{IsMadeSafe, identity_of}
-use Rattle.mdv_run.specs.Standing.{oks, CoversAt, ShowsMade, IsKnown, RunMoment, TurnMoment, Turned, LinesMoment}
+use Rattle.mdv_run.specs.Standing.{IsOfRun, oks, CoversAt, ShowsMade, IsKnown, RunMoment, TurnMoment, Turned, LinesMoment}
 use Rattle.mdv_run.proofs.Replying.{oks_none, oks_more, lines_none, lines_more}
 use Rattle.mdv_run.proofs.Whole.{none_made, none_safe}
 
@@ -37,7 +37,7 @@ module _ (host : Host) (first : State) (t : Tale) where
     bytes = [];
     is_told = sym (append-nil (told t));
     made = λ safe some. absurd (let none = oks_none in omega arith);
-    goes = λ log known. ([], tt, sym oks_none, known.covers);
+    goes = λ log known. ([], tt, record { tells = sym oks_none; issues = tt }, known.covers);
   }
 
   pub turned_start : Turned host first first t t
@@ -48,7 +48,7 @@ module _ (host : Host) (first : State) (t : Tale) where
     safe = λ safe. safe;
     made = λ some. absurd (let none = oks_none in omega arith);
     still = λ made. made;
-    goes = λ log known. ([], tt, sym oks_none, known);
+    goes = λ log known. ([], tt, record { tells = sym oks_none; issues = tt }, known);
   }
 
   module _ (now new : State) (u : Tale) (turned : Turned host first now t u) where
@@ -56,14 +56,14 @@ module _ (host : Host) (first : State) (t : Tale) where
     told_both m bytes more = more ∙ ap (λ (l : List ℕ). l ++ bytes) turned.is_told ∙ append_assoc (told t) turned.bytes bytes
 
     goes_both : (bytes : List ℕ) (Known : Log → Type 0)
-        → ((log : Log) → IsKnown host now log u → (es : List Event) × IsCourse log es × (told_count es ≡ oks bytes) × Known (log_after_all log es))
-        → (log : Log) → IsKnown host first log t → (es : List Event) × IsCourse log es × (told_count es ≡ oks (turned.bytes ++ bytes)) × Known (log_after_all log es)
+        → ((log : Log) → IsKnown host now log u → (es : List Event) × IsCourse log es × Adds (IsOfRun host) (oks bytes) es × Known (log_after_all log es))
+        → (log : Log) → IsKnown host first log t → (es : List Event) × IsCourse log es × Adds (IsOfRun host) (oks (turned.bytes ++ bytes)) es × Known (log_after_all log es)
     goes_both bytes Known goes log known =
         let before = turned.goes log known in
         let after = goes (log_after_all log before.0) before.3 in (
           before.0 ++ after.0,
           course_more log before.0 after.0 before.1 after.1,
-          (let sum = oks_more turned.bytes bytes turned.lines in let count = told_more before.0 after.0 in let one = before.2 in let other = after.2 in omega arith),
+          adds_more (IsOfRun host) (oks turned.bytes) (oks bytes) (oks (turned.bytes ++ bytes)) before.0 after.0 (sym (oks_more turned.bytes bytes turned.lines)) before.2 after.2,
           subst Known (sym (log_after_more log before.0 after.0)) after.3,
         )
 
@@ -100,20 +100,20 @@ module _ (host : Host) (place : PlaceAt) (sizes : List ℕ) (place_is : place �
       subst (λ (s : List ℕ). P (place_of host.geometry) (slice_index_or s 0 0)) sizes_are
       (subst (λ (p : PlaceAt). P p (slice_index_or sizes p.drive.0 0)) place_is is)
 
-  pub boot_moment : (t m : Tale) → IsQuiet place t m × GoesOn (Local host.geometry.host) place (slice_index_or sizes place.drive.0 0) t m → RunMoment host t m
+  pub boot_moment : (t m : Tale) → IsQuiet place t m × GoesOn (Local host.geometry.host) place (slice_index_or sizes place.drive.0 0) NoCreation t m → RunMoment host t m
   boot_moment t m is = record {
     bytes = [];
     is_told = is.0.quiet ∙ sym (append-nil (told t));
     made = λ some. absurd (let none = oks_none in omega arith);
     stands = λ log stands.
-        let went = at_place (λ p s. GoesOn (Local host.geometry.host) p s t m) is.1 log stands.covers in
-        (went.0, went.1, went.2 ∙ sym oks_none, record { is_log = is_log_after_all log went.0 stands.is_log went.1; covers = went.3 });
+        let went = at_place (λ p s. GoesOn (Local host.geometry.host) p s NoCreation t m) is.1 log stands.covers in
+        (went.0, went.1, adds_weaker NoCreation (IsOfRun host) 0 (oks []) went.0 (λ identity none. absurd none) (sym oks_none) went.2, record { is_log = is_log_after_all log went.0 stands.is_log went.1; covers = went.3 });
   }
 
   -- a boot that is followed by lines
   pub record Booted (end : BootEnd) (t u : Tale) : Type 0 where
     pub quiet : told u ≡ told t
-    pub goes : GoesOnTo (Local host.geometry.host) place (slice_index_or sizes place.drive.0 0) (IsBootedTo end) t u
+    pub goes : GoesOnTo (Local host.geometry.host) place (slice_index_or sizes place.drive.0 0) NoCreation (IsBootedTo end) t u
     pub nothing : end ≡ Empty → ShowsNothing (Local host.geometry.host) place (slice_index_or sizes place.drive.0 0) u
 
   known_booted : (end : BootEnd) (state : State) (log : Log) (u : Tale) → start_of end ≡ Ok state → CoversAt host log u → IsBootedTo end log → (end ≡ Empty → ShowsNothing (Local host.geometry.host) (place_of host.geometry) host.geometry.drive_blocks u) → IsKnown host state log u
@@ -129,18 +129,18 @@ module _ (host : Host) (place : PlaceAt) (sizes : List ℕ) (place_is : place �
     is_told = lines.is_told ∙ ap (λ (l : List ℕ). l ++ lines.bytes) booted.quiet;
     made = lines.made (none_safe host state u (none_made end state is));
     stands = λ log stands.
-        let went = at_place (λ p s. GoesOnTo (Local host.geometry.host) p s (IsBootedTo end) t u) booted.goes log stands.covers in
+        let went = at_place (λ p s. GoesOnTo (Local host.geometry.host) p s NoCreation (IsBootedTo end) t u) booted.goes log stands.covers in
         let empty = at_place (λ p s. end ≡ Empty → ShowsNothing (Local host.geometry.host) p s u) booted.nothing in
         let then = lines.goes (log_after_all log went.0) (known_booted end state (log_after_all log went.0) u is went.3 went.4 empty) in
         let course = course_more log went.0 then.0 went.1 then.1 in (
           went.0 ++ then.0,
           course,
-          (let count = told_more went.0 then.0 in let none = went.2 in let some = then.2 in omega arith),
+          adds_more (IsOfRun host) 0 (oks lines.bytes) (oks lines.bytes) went.0 then.0 (omega arith) (adds_weaker NoCreation (IsOfRun host) 0 0 went.0 (λ identity none. absurd none) refl went.2) then.2,
           record { is_log = is_log_after_all log (went.0 ++ then.0) stands.is_log course; covers = subst (λ (l : Log). CoversAt host l m) (sym (log_after_more log went.0 then.0)) then.3 },
         );
   }
 
-  pub booted_ends : (end : BootEnd) (a b : Option Tale) → Moments (IsQuiet place) a b → Ends (GoesOnTo (Local host.geometry.host) place (slice_index_or sizes place.drive.0 0) (IsBootedTo end)) a b
+  pub booted_ends : (end : BootEnd) (a b : Option Tale) → Moments (IsQuiet place) a b → Ends (GoesOnTo (Local host.geometry.host) place (slice_index_or sizes place.drive.0 0) NoCreation (IsBootedTo end)) a b
       → (end ≡ Empty → Ends (λ t u. ShowsNothing (Local host.geometry.host) place (slice_index_or sizes place.drive.0 0) u) a b) → Ends (Booted end) a b
   booted_ends end a b quiet goes nothing t is =
       let one = moments_end (IsQuiet place) a b quiet t is in
@@ -149,7 +149,7 @@ module _ (host : Host) (place : PlaceAt) (sizes : List ℕ) (place_is : place �
         one.1,
         record {
           quiet = one.2.quiet;
-          goes = subst (λ (u : Tale). GoesOnTo (Local host.geometry.host) place (slice_index_or sizes place.drive.0 0) (IsBootedTo end) t u) (some_is b two.0 one.0 two.1 one.1) two.2;
+          goes = subst (λ (u : Tale). GoesOnTo (Local host.geometry.host) place (slice_index_or sizes place.drive.0 0) NoCreation (IsBootedTo end) t u) (some_is b two.0 one.0 two.1 one.1) two.2;
           nothing = λ empty.
               let three = nothing empty t is in
               subst (λ (u : Tale). ShowsNothing (Local host.geometry.host) place (slice_index_or sizes place.drive.0 0) u) (some_is b three.0 one.0 three.1 one.1) three.2;

@@ -3,6 +3,7 @@ use Rattle.std.proofs.Common.{◌≡◌, inl, ⊎_elim, ℕ, ◌+◌, ◌≤◌,
 use Rattle.std.proofs.lemmas.List.Elements.{All-weaker}
 use Rattle.mdv_base.specs.Mark.{IsBelow}
 use Rattle.mdv_base.specs.declared.mark.Mark.{Mark}
+use Rattle.mdv_base.specs.declared.mark.Identity.{Identity}
 use Rattle.mdv_base.specs.declared.name.Key.{Key}
 use Rattle.mdv_shelf.specs.Tale.{Tale, last, IsImage}
 use Rattle.mdv_shelf.specs.Area.{KeptOutside, nowhere}
@@ -17,7 +18,7 @@ use Rattle.mdv_replica.specs.declared.replica.Head.{Head}
 use Rattle.mdv_replica.specs.declared.replica.Slot.{Slot}
 use Rattle.mdv_replica.specs.declared.replica.Slot.TheVariants.{First, Second}
 use Rattle.mdv_replica.specs.Forms.{IsMark}
-use Rattle.mdv_store.specs.Log.{Version, Log, Event, Writing, Written, log_after, log_after_all, is_firm, IsAbove, IsParent, IsCourse, told_count}
+use Rattle.mdv_store.specs.Log.{Version, Log, Event, Writing, Written, log_after, log_after_all, is_firm, IsAbove, IsParent, IsCourse, Adds, NoCreation}
 use Rattle.mdv_store.specs.Database.{IsReplica, IsFound, with_blocks, greatest, IsSpareSlot, IsSame, before, in_work, done, TableImage, ClaimImage, Rewrites, Leaves, claimed, slotted}
 use Rattle.mdv_store.specs.declared.database.BootEnd.TheVariants.{Adopted, Empty}
 use Rattle.mdv_store.specs.Standing.{Agrees, Holds, nothing, replica, Covers, ShowsNothing, GoesOnTo, GoesOn, Anything, IsTheReplica, IsAdopted, IsBootedTo, rewritten}
@@ -44,8 +45,8 @@ module _ (key : Key) (at : PlaceAt) (size : ℕ) where
   pub kept_covers : (log : Log) (t m : Tale) → KeptOutside nowhere t m → Covers key at size log t → Covers key at size log m
   kept_covers log t m kept covers image is = covers image (kept_image t m image kept is)
 
-  pub kept_goes_on : (t m : Tale) → KeptOutside nowhere t m → GoesOn key at size t m
-  kept_goes_on t m kept log covers = ([], tt, refl, kept_covers log t m kept covers, tt)
+  pub kept_goes_on : (Which : Identity → Type 0) (t m : Tale) → KeptOutside nowhere t m → GoesOn key at size Which t m
+  kept_goes_on Which t m kept log covers = ([], tt, record { tells = refl; issues = tt }, kept_covers log t m kept covers, tt)
 
   -- where every image shows nothing no table is firm
   pub not_firm : (log : Log) (t : Tale) → Covers key at size log t → ShowsNothing key at size t → is_firm log ≡ false
@@ -143,10 +144,10 @@ module _ (key : Key) (at : PlaceAt) (size : ℕ) where
           (same_replica key at size (slotted sized slot mark (claimed at number old)) new (with_slot on_claim slot (Open mark 36)) same final_replica) (inl refl) (λ written. absurd (cc (written))))
 
       pub goes_on : (m : Tale) → Rewrites sized slot mark t m → IsSynced at.drive.0 t
-          → (es : List Event) × IsCourse log es × (told_count es ≡ 0) × Covers key at size (log_after_all log es) m × Anything (log_after_all log es)
+          → (es : List Event) × IsCourse log es × Adds NoCreation 0 es × Covers key at size (log_after_all log es) m × Anything (log_after_all log es)
       goes_on m rewrites synced = ⊎_elim
-          (λ claim. ([], tt, refl, in_claim m claim synced, tt))
-          (λ table. (Writing mark (Some parent) ∷ [], ((above, from_parent), tt), refl, (λ image is. in_table_image (image at.drive.0) (table synced image is)), tt))
+          (λ claim. ([], tt, record { tells = refl; issues = tt }, in_claim m claim synced, tt))
+          (λ table. (Writing mark (Some parent) ∷ [], ((above, from_parent), tt), record { tells = refl; issues = tt }, (λ image is. in_table_image (image at.drive.0) (table synced image is)), tt))
           rewrites
 
       in_end : (new : ℕ → List ℕ) → IsSame (slotted sized slot mark (claimed at number old)) new → Holds key at size (log_after_all log (Writing mark (Some parent) ∷ Written ∷ [])) new
@@ -156,19 +157,19 @@ module _ (key : Key) (at : PlaceAt) (size : ℕ) where
           (λ written below. grind arith))
 
       pub ends_on : (u : Tale) → Leaves at.drive.0 (λ before after. IsSame (slotted sized slot mark (claimed at number before)) after) t u → IsSynced at.drive.0 t
-          → (es : List Event) × IsCourse log es × (told_count es ≡ 0) × Covers key at size (log_after_all log es) u × (is_firm (log_after_all log es) ≡ true)
+          → (es : List Event) × IsCourse log es × Adds NoCreation 0 es × Covers key at size (log_after_all log es) u × (is_firm (log_after_all log es) ≡ true)
       ends_on u leaves synced =
-          (Writing mark (Some parent) ∷ Written ∷ [], ((above, from_parent), (tt, tt)), refl, (λ image is. in_end (image at.drive.0) (leaves synced image is)), refl)
+          (Writing mark (Some parent) ∷ Written ∷ [], ((above, from_parent), (tt, tt)), record { tells = refl; issues = tt }, (λ image is. in_end (image at.drive.0) (leaves synced image is)), refl)
 
   -- the same, where the code names the place, the slot's mark and the slot
   module _ (head : Head) (slot : Slot) (place : PlaceAt) (drawn : Mark) (place_is : place ≡ with_blocks at head.master.blocks) (drawn_is : drawn ≡ record { boot = greatest head + 1; count = 0 }) (fits : greatest head + 1 < 2 ^ 63) (spare : IsSpareSlot head slot) where
-    pub rewriting_goes_on : (t m : Tale) → Rewrites place slot drawn t m → IsSynced at.drive.0 t → IsTheReplica key at size (last t at.drive.0) head → GoesOn key at size t m
+    pub rewriting_goes_on : (t m : Tale) → Rewrites place slot drawn t m → IsSynced at.drive.0 t → IsTheReplica key at size (last t at.drive.0) head → GoesOn key at size NoCreation t m
     rewriting_goes_on t m rewrites synced the log covers =
         goes_on head slot fits spare t the log covers m
         (subst (λ (p : PlaceAt). Rewrites p slot (record { boot = greatest head + 1; count = 0 }) t m) place_is (subst (λ (k : Mark). Rewrites place slot k t m) drawn_is rewrites)) synced
 
     pub rewritten_goes_on : (t u : Tale) → Leaves place.drive.0 (λ before after. IsSame (slotted place slot drawn (claimed place drawn.boot before)) after) t u → IsSynced at.drive.0 t
-        → IsTheReplica key at size (last t at.drive.0) head → GoesOnTo key at size (IsBootedTo Adopted) t u
+        → IsTheReplica key at size (last t at.drive.0) head → GoesOnTo key at size NoCreation (IsBootedTo Adopted) t u
     rewritten_goes_on t u leaves synced the log covers = ends_on head slot fits spare t the log covers u (written_here t u leaves) synced where
       written_here : (t u : Tale) → Leaves place.drive.0 (λ before after. IsSame (slotted place slot drawn (claimed place drawn.boot before)) after) t u
           → Leaves at.drive.0 (λ before after. IsSame (slotted (with_blocks at head.master.blocks) slot (record { boot = greatest head + 1; count = 0 }) (claimed at (greatest head + 1) before)) after) t u
@@ -221,14 +222,14 @@ module _ (key : Key) (at : PlaceAt) (size : ℕ) where
   nothing_found t u looked image is =
       subst (λ (c : ℕ → List ℕ). IsFound key at size c None) (sym (same_is (last t at.drive.0) (image at.drive.0) (λ block. looked.synced block (image at.drive.0 block) (is.each at.drive.0 block) ∙ (looked.kept at.drive.0 block refl).last))) looked.is_found
 
-  pub empty_goes_on : (t u : Tale) → HasLooked None t u → GoesOnTo key at size (IsBootedTo Empty) t u
+  pub empty_goes_on : (t u : Tale) → HasLooked None t u → GoesOnTo key at size NoCreation (IsBootedTo Empty) t u
   empty_goes_on t u looked log covers =
       let after = kept_covers log t u looked.kept covers in
-      ([], tt, refl, after, not_firm log u after (nothing_found t u looked))
+      ([], tt, record { tells = refl; issues = tt }, after, not_firm log u after (nothing_found t u looked))
 
   -- a look, and then what goes on from there
-  pub goes_on_more : (Known : Log → Type 0) (t u m : Tale) → KeptOutside nowhere t u → GoesOnTo key at size Known u m → GoesOnTo key at size Known t m
-  goes_on_more Known t u m kept on log covers = on log (kept_covers log t u kept covers)
+  pub goes_on_more : (Which : Identity → Type 0) (Known : Log → Type 0) (t u m : Tale) → KeptOutside nowhere t u → GoesOnTo key at size Which Known u m → GoesOnTo key at size Which Known t m
+  goes_on_more Which Known t u m kept on log covers = on log (kept_covers log t u kept covers)
 
   -- what was adopted, told from before the look
   pub adopted_from : (t u v : Tale) (found : Option Head) → HasLooked found t u → IsAdopted key at size (last u at.drive.0) v → IsAdopted key at size (last t at.drive.0) v

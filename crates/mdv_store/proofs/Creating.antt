@@ -16,7 +16,7 @@ use Rattle.mdv_replica.specs.declared.replica.Head.{Head}
 use Rattle.mdv_replica.specs.declared.replica.Slot.TheVariants.{First}
 use Rattle.mdv_replica.specs.Forms.{master_text, gate_text, block_of, IsMaster, IsMark}
 use Rattle.mdv_replica.specs.Replica.{LiesAt, Formatting, starting, between, ending, formatted_rest}
-use Rattle.mdv_store.specs.Log.{Version, Log, Issued, Writing, Written, log_after, is_firm}
+use Rattle.mdv_store.specs.Log.{IsThis, Version, Log, Issued, Writing, Written, log_after, is_firm}
 use Rattle.mdv_store.specs.Database.{IsReplica, IsSafe, master_of, greatest, boot_of, IsSame, TableImage, before, in_work, done, Leaves, slotted}
 use Rattle.mdv_store.specs.Standing.{Agrees, Holds, nothing, replica, ShowsNothing, GoesOnTo, GoesOn, created_log}
 use Rattle.mdv_store.proofs.Replicas.{slotted_replica, same_replica, found_none_blank, found_none_closed}
@@ -50,14 +50,14 @@ module _ (key : Key) (at : PlaceAt) (size : ℕ) where
         (fixed.fixed_only 2 (omega arith) (image at.drive.0 (at.first + 3)) (subst (λ (b : ℕ). MayLeave m at.drive.0 b (image at.drive.0 (at.first + 3))) (omega arith) (is.each at.drive.0 (at.first + 3))))
   ]
 
-  pub format_goes_on : (master : List ℕ) (claim : ℕ) (t m : Tale) → Formatting at (block_of []) master (formatted_rest claim) t m → ShowsNothing key at size t → GoesOn key at size t m
-  format_goes_on master claim t m formatting none log covers =
-      ([], tt, refl, nothing_covers key at size log m (not_firm key at size log t covers none) (format_nothing master claim t m formatting none), tt)
+  pub format_goes_on : (master : List ℕ) (claim : ℕ) (identity : Identity) (t m : Tale) → Formatting at (block_of []) master (formatted_rest claim) t m → ShowsNothing key at size t → GoesOn key at size (IsThis identity) t m
+  format_goes_on master claim identity t m formatting none log covers =
+      ([], tt, record { tells = refl; issues = tt }, nothing_covers key at size log m (not_firm key at size log t covers none) (format_nothing master claim t m formatting none), tt)
 
   -- a format that failed began a creation of which nothing is left
-  pub format_ends_on : (master : List ℕ) (claim : ℕ) (identity : Identity) (t m : Tale) → Formatting at (block_of []) master (formatted_rest claim) t m → ShowsNothing key at size t → GoesOnTo key at size (λ log. is_firm log ≡ false) t m
+  pub format_ends_on : (master : List ℕ) (claim : ℕ) (identity : Identity) (t m : Tale) → Formatting at (block_of []) master (formatted_rest claim) t m → ShowsNothing key at size t → GoesOnTo key at size (IsThis identity) (λ log. is_firm log ≡ false) t m
   format_ends_on master claim identity t m formatting none log covers =
-      (Issued identity ∷ [], (not_firm key at size log t covers none, tt), refl, nothing_covers key at size (log_after log (Issued identity)) m refl (format_nothing master claim t m formatting none), refl)
+      (Issued identity ∷ [], (not_firm key at size log t covers none, tt), record { tells = refl; issues = (refl, tt) }, nothing_covers key at size (log_after log (Issued identity)) m refl (format_nothing master claim t m formatting none), refl)
 
   -- once the place is formatted
   module _ (identity : Identity) (form : IsMaster (master_of at key identity)) (lies : LiesAt at size (master_of at key identity)) (u : Tale)
@@ -126,20 +126,20 @@ module _ (key : Key) (at : PlaceAt) (size : ℕ) where
     in_table new (in_work shut others) = nothing refl (found_none_closed key at size new shut (others (at.first + 3) (λ e. omega arith) (λ e. omega arith) ∙ second_closed))
     in_table new (done same) = replica made_head (made_agrees false new (made_replica new same))
 
-    pub table_goes_on : (t m : Tale) → Leaves at.drive.0 (TableImage at First first_mark) u m → ShowsNothing key at size t → GoesOn key at size t m
+    pub table_goes_on : (t m : Tale) → Leaves at.drive.0 (TableImage at First first_mark) u m → ShowsNothing key at size t → GoesOn key at size (IsThis identity) t m
     table_goes_on t m leaves none log covers = (
       Issued identity ∷ Writing first_mark None ∷ [],
       (not_firm key at size log t covers none, ((λ k d lt. absurd (omega arith), refl), tt)),
-      refl,
+      record { tells = refl; issues = (refl, tt) },
       (λ image is. in_table (image at.drive.0) (leaves formatted.synced image is)),
       tt,
     )
 
-    pub table_ends_on : (t v : Tale) → Leaves at.drive.0 (λ from to. IsSame (slotted at First first_mark from) to) u v → ShowsNothing key at size t → GoesOnTo key at size (λ log. log ≡ created_log identity) t v
+    pub table_ends_on : (t v : Tale) → Leaves at.drive.0 (λ from to. IsSame (slotted at First first_mark from) to) u v → ShowsNothing key at size t → GoesOnTo key at size (IsThis identity) (λ log. log ≡ created_log identity) t v
     table_ends_on t v leaves none log covers = (
       Issued identity ∷ Writing first_mark None ∷ Written ∷ [],
       (not_firm key at size log t covers none, ((λ k d lt. absurd (omega arith), refl), (tt, tt))),
-      refl,
+      record { tells = refl; issues = (refl, tt) },
       (λ image is. replica made_head (made_agrees true (image at.drive.0) (made_replica (image at.drive.0) (leaves formatted.synced image is)))),
       refl,
     )

@@ -1,10 +1,11 @@
 -- How logs go on, event by event.
-use Rattle.std.proofs.Common.{◌≡◌, ℕ, ◌+◌, ◌<◌, true, List, [], ◌∷◌, ◌++◌, refl, arith}
+use Rattle.std.proofs.Common.{◌≡◌, ℕ, ◌+◌, ◌<◌, true, List, [], ◌∷◌, ◌++◌, refl, ◌∙◌, arith}
 use Rattle.std.specs.List.{list_any}
+use Rattle.mdv_base.specs.declared.mark.Identity.{Identity}
 use Rattle.mdv_base.specs.declared.name.Key.{Key}
 use Rattle.mdv_shelf.specs.Tale.{Tale}
 use Rattle.mdv_replica.specs.declared.replica.PlaceAt.{PlaceAt}
-use Rattle.mdv_store.specs.Log.{Version, Log, Event, Issued, Writing, Written, Told, answered, log_after, log_after_all, MayHappen, IsCourse, told_count, IsRising, IsDescended, IsLog}
+use Rattle.mdv_store.specs.Log.{Version, Log, Event, Issued, Writing, Written, Told, answered, log_after, log_after_all, MayHappen, IsCourse, told_count, IssuesOnly, Adds, IsRising, IsDescended, IsLog}
 use Rattle.mdv_store.specs.Standing.{nothing, replica, Covers}
 
 pub log_after_more : (log : Log) (es fs : List Event) → log_after_all log (es ++ fs) ≡ log_after_all (log_after_all log es) fs
@@ -74,3 +75,26 @@ told_acknowledges log (Issued identity ∷ es) is course some = told_acknowledge
 told_acknowledges log (Writing mark parent ∷ es) is course some = told_acknowledges (log_after log (Writing mark parent)) es (is_log_after log (Writing mark parent) is course.0) course.1 (omega arith)
 told_acknowledges log (Written ∷ es) is course some = told_acknowledges (log_after log Written) es (is_log_after log Written is course.0) course.1 (omega arith)
 told_acknowledges log (Told ∷ es) is course some = stays_acknowledged (log_after log Told) es (is_log_after log Told is course.0) course.1 refl
+
+issues_more : (Which : Identity → Type 0) (es fs : List Event) → IssuesOnly Which es → IssuesOnly Which fs → IssuesOnly Which (es ++ fs)
+issues_more Which [] fs one other = other
+issues_more Which (Issued identity ∷ es) fs one other = (one.0, issues_more Which es fs one.1 other)
+issues_more Which (Writing mark parent ∷ es) fs one other = issues_more Which es fs one other
+issues_more Which (Written ∷ es) fs one other = issues_more Which es fs one other
+issues_more Which (Told ∷ es) fs one other = issues_more Which es fs one other
+
+issues_weaker : (Which Any : Identity → Type 0) → ((identity : Identity) → Which identity → Any identity) → (es : List Event) → IssuesOnly Which es → IssuesOnly Any es
+issues_weaker Which Any weaker [] is = tt
+issues_weaker Which Any weaker (Issued identity ∷ es) is = (weaker identity is.0, issues_weaker Which Any weaker es is.1)
+issues_weaker Which Any weaker (Writing mark parent ∷ es) is = issues_weaker Which Any weaker es is
+issues_weaker Which Any weaker (Written ∷ es) is = issues_weaker Which Any weaker es is
+issues_weaker Which Any weaker (Told ∷ es) is = issues_weaker Which Any weaker es is
+
+pub adds_more : (Which : Identity → Type 0) (a b c : ℕ) (es fs : List Event) → a + b ≡ c → Adds Which a es → Adds Which b fs → Adds Which c (es ++ fs)
+adds_more Which a b c es fs sum one other = record {
+  tells = (let both = told_more es fs in let first = one.tells in let second = other.tells in omega arith);
+  issues = issues_more Which es fs one.issues other.issues;
+}
+
+pub adds_weaker : (Which Any : Identity → Type 0) (a b : ℕ) (es : List Event) → ((identity : Identity) → Which identity → Any identity) → a ≡ b → Adds Which a es → Adds Any b es
+adds_weaker Which Any a b es weaker same adds = record { tells = adds.tells ∙ same; issues = issues_weaker Which Any weaker es adds.issues }

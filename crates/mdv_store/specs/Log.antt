@@ -89,6 +89,25 @@ abbrev pub told_count : List Event → ℕ
 told_count [] = 0
 told_count (e ∷ es) = told_by e + told_count es
 
+-- each creation that these events issue is such a one
+abbrev pub IssuesOnly : (Identity → Type 0) → List Event → Type 0
+IssuesOnly Which [] = Unit {0}
+IssuesOnly Which (Issued identity ∷ es) = Which identity × IssuesOnly Which es
+IssuesOnly Which (Writing mark parent ∷ es) = IssuesOnly Which es
+IssuesOnly Which (Written ∷ es) = IssuesOnly Which es
+IssuesOnly Which (Told ∷ es) = IssuesOnly Which es
+
+-- the events tell so many creations, and issue only such ones
+pub record Adds (Which : Identity → Type 0) (count : ℕ) (es : List Event) : Type 0 where
+  pub tells : told_count es ≡ count
+  pub issues : IssuesOnly Which es
+
+abbrev pub NoCreation : Identity → Type 0
+NoCreation identity = ⊥
+
+abbrev pub IsThis : Identity → Identity → Type 0
+IsThis identity other = other ≡ identity
+
 -- marks rise, so that a mark names one table
 abbrev pub IsRising : List Version → Type 0
 IsRising [] = Unit {0}

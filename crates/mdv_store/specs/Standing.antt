@@ -11,7 +11,7 @@ use Rattle.mdv_replica.specs.declared.replica.PlaceAt.{PlaceAt}
 use Rattle.mdv_replica.specs.declared.replica.Head.{Head}
 use Rattle.mdv_replica.specs.declared.replica.Slot.{Slot}
 use Rattle.mdv_replica.specs.declared.replica.Slot.TheVariants.{First, Second}
-use Rattle.mdv_store.specs.Log.{Version, Log, Event, log_after_all, is_firm, HasMark, IsCourse, told_count, IsLog}
+use Rattle.mdv_store.specs.Log.{Version, Log, Event, log_after_all, is_firm, HasMark, IsCourse, Adds, IsLog}
 use Rattle.mdv_store.specs.Database.{IsReplica, IsFound, shows, greatest, IsSpareSlot}
 use Rattle.mdv_store.specs.declared.database.BootEnd.{BootEnd}
 use Rattle.mdv_store.specs.declared.database.BootEnd.TheVariants.{Adopted, Empty, Down, Lost, Spent}
@@ -60,17 +60,18 @@ pub record Stands (key : Key) (at : PlaceAt) (size : ℕ) (log : Log) (m : Tale)
 abbrev pub ShowsNothing : Key → PlaceAt → ℕ → Tale → Type 0
 ShowsNothing key at size m = (image : ℕ → ℕ → List ℕ) → IsImage m image → IsFound key at size (image at.drive.0) None
 
--- a log that the drives stood with goes on, with nothing told, to one that they stand with, of which more is known
-abbrev pub GoesOnTo : Key → PlaceAt → ℕ → (Log → Type 0) → Tale → Tale → Type 0
-GoesOnTo key at size Known t m =
+-- a log that the drives stood with goes on, with nothing told and only such creations issued, to one that they
+-- stand with, of which more is known
+abbrev pub GoesOnTo : Key → PlaceAt → ℕ → (Identity → Type 0) → (Log → Type 0) → Tale → Tale → Type 0
+GoesOnTo key at size Which Known t m =
     (log : Log) → Covers key at size log t
-    → (es : List Event) × IsCourse log es × (told_count es ≡ 0) × Covers key at size (log_after_all log es) m × Known (log_after_all log es)
+    → (es : List Event) × IsCourse log es × Adds Which 0 es × Covers key at size (log_after_all log es) m × Known (log_after_all log es)
 
 abbrev pub Anything : Log → Type 0
 Anything log = Unit {0}
 
-abbrev pub GoesOn : Key → PlaceAt → ℕ → Tale → Tale → Type 0
-GoesOn key at size t m = GoesOnTo key at size Anything t m
+abbrev pub GoesOn : Key → PlaceAt → ℕ → (Identity → Type 0) → Tale → Tale → Type 0
+GoesOn key at size Which t m = GoesOnTo key at size Which Anything t m
 
 -- the one replica that the contents have, and it shows a table
 pub record IsTheReplica (key : Key) (at : PlaceAt) (size : ℕ) (content : ℕ → List ℕ) (head : Head) : Type 0 where

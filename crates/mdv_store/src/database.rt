@@ -9,6 +9,7 @@ ghost use Rattle.mdv_replica.specs.Replica.{IsOnDrive, IsPlaced, IsFormed, IsSlo
 ghost use Rattle.mdv_replica.specs.Forms.{IsMark, IsMaster, block_of, gate_text};
 ghost use Rattle.mdv_store.specs.Record.{IsEmptyRecord, empty_record};
 ghost use Rattle.mdv_store.specs.Database.{master_of, IsReplica, IsFound, IsBooted, IsSafe, IsQuiet, IsSpareSlot, SlotFits, greatest, with_blocks, is_open, shows, boot_of, IsSame, TableImage, Rewrites, Leaves, claimed, slotted};
+ghost use Rattle.mdv_store.specs.Log.{NoCreation, IsThis};
 ghost use Rattle.mdv_store.specs.Standing.{IsTheReplica, IsAdopted, IsBootedTo, IsCreatedTo, IsRefusal, ShowsNothing, GoesOn, GoesOnTo};
 
 use crate::empty_record::{RECORD_BYTES, is_record, record_block};
@@ -50,8 +51,8 @@ pub fn boot<S: Shelf>(shelf: &mut S, at: PlaceAt, key: &Key) -> BootEnd
     // An adoption is on the disk before it is answered. At each moment the log goes on.
     ensures adopted { result ≡ BootEnd.Adopted → Ends (λ t u. IsAdopted key.now at (slice_index_or (S.sizes shelf.old) at.drive.0 0) (last t at.drive.0) u) (S.tale shelf.old) (S.tale shelf.new) }
     ensures empty { result ≡ BootEnd.Empty → Ends (λ _ u. ShowsNothing key.now at (slice_index_or (S.sizes shelf.old) at.drive.0 0) u) (S.tale shelf.old) (S.tale shelf.new) }
-    ensures stays { Moments (GoesOn key.now at (slice_index_or (S.sizes shelf.old) at.drive.0 0)) (S.tale shelf.old) (S.tale shelf.new) }
-    ensures ends { Ends (GoesOnTo key.now at (slice_index_or (S.sizes shelf.old) at.drive.0 0) (IsBootedTo result)) (S.tale shelf.old) (S.tale shelf.new) }
+    ensures stays { Moments (GoesOn key.now at (slice_index_or (S.sizes shelf.old) at.drive.0 0) NoCreation) (S.tale shelf.old) (S.tale shelf.new) }
+    ensures ends { Ends (GoesOnTo key.now at (slice_index_or (S.sizes shelf.old) at.drive.0 0) NoCreation (IsBootedTo result)) (S.tale shelf.old) (S.tale shelf.new) }
 
     // Each other answer has its cause, and then nothing is written but by an adoption that failed.
     ensures refuses { IsRefusal result → Ends (KeptOutside nowhere) (S.tale shelf.old) (S.tale shelf.new) }
@@ -189,8 +190,8 @@ fn adopt<S: Shelf>(shelf: &mut S, at: PlaceAt, head: &Head) -> BootEnd
     ensures lost { result ≡ BootEnd.Lost → Rose (S.faults shelf.old (OnDrive at.drive.0)) (S.faults shelf.new (OnDrive at.drive.0)) }
     ensures looked { (result ≡ BootEnd.Empty → ⊥) × (result ≡ BootEnd.Down → ⊥) }
     ensures rewrites { result ≡ BootEnd.Adopted → Ends (λ t u. IsSynced at.drive.0 t → (key : Key) → IsTheReplica key at (slice_index_or (S.sizes shelf.old) at.drive.0 0) (last t at.drive.0) head.now → IsAdopted key at (slice_index_or (S.sizes shelf.old) at.drive.0 0) (last t at.drive.0) u) (S.tale shelf.old) (S.tale shelf.new) }
-    ensures stays { Moments (λ t m. IsSynced at.drive.0 t → (key : Key) → IsTheReplica key at (slice_index_or (S.sizes shelf.old) at.drive.0 0) (last t at.drive.0) head.now → GoesOn key at (slice_index_or (S.sizes shelf.old) at.drive.0 0) t m) (S.tale shelf.old) (S.tale shelf.new) }
-    ensures ends { Ends (λ t u. IsSynced at.drive.0 t → (key : Key) → IsTheReplica key at (slice_index_or (S.sizes shelf.old) at.drive.0 0) (last t at.drive.0) head.now → GoesOnTo key at (slice_index_or (S.sizes shelf.old) at.drive.0 0) (IsBootedTo result) t u) (S.tale shelf.old) (S.tale shelf.new) }
+    ensures stays { Moments (λ t m. IsSynced at.drive.0 t → (key : Key) → IsTheReplica key at (slice_index_or (S.sizes shelf.old) at.drive.0 0) (last t at.drive.0) head.now → GoesOn key at (slice_index_or (S.sizes shelf.old) at.drive.0 0) NoCreation t m) (S.tale shelf.old) (S.tale shelf.new) }
+    ensures ends { Ends (λ t u. IsSynced at.drive.0 t → (key : Key) → IsTheReplica key at (slice_index_or (S.sizes shelf.old) at.drive.0 0) (last t at.drive.0) head.now → GoesOnTo key at (slice_index_or (S.sizes shelf.old) at.drive.0 0) NoCreation (IsBootedTo result) t u) (S.tale shelf.old) (S.tale shelf.new) }
     ensures refuses { IsRefusal result → S.tale shelf.new ≡ S.tale shelf.old }
     ensures moments { Moments (IsQuiet at) (S.tale shelf.old) (S.tale shelf.new) }
     ensures keeps { Keeps S.sizes S.faults S.rest S.held shelf.old shelf.new }
@@ -292,8 +293,8 @@ pub fn create<S: Shelf>(
     ensures moments { Moments (IsQuiet at) (S.tale shelf.old) (S.tale shelf.new) }
 
     // Where nothing was there, the log goes on at each moment.
-    ensures stays { Moments (λ t m. ShowsNothing key.now at (slice_index_or (S.sizes shelf.old) at.drive.0 0) t → GoesOn key.now at (slice_index_or (S.sizes shelf.old) at.drive.0 0) t m) (S.tale shelf.old) (S.tale shelf.new) }
-    ensures ends { Ends (λ t u. ShowsNothing key.now at (slice_index_or (S.sizes shelf.old) at.drive.0 0) t → GoesOnTo key.now at (slice_index_or (S.sizes shelf.old) at.drive.0 0) (IsCreatedTo identity result) t u) (S.tale shelf.old) (S.tale shelf.new) }
+    ensures stays { Moments (λ t m. ShowsNothing key.now at (slice_index_or (S.sizes shelf.old) at.drive.0 0) t → GoesOn key.now at (slice_index_or (S.sizes shelf.old) at.drive.0 0) (IsThis identity) t m) (S.tale shelf.old) (S.tale shelf.new) }
+    ensures ends { Ends (λ t u. ShowsNothing key.now at (slice_index_or (S.sizes shelf.old) at.drive.0 0) t → GoesOnTo key.now at (slice_index_or (S.sizes shelf.old) at.drive.0 0) (IsThis identity) (IsCreatedTo identity result) t u) (S.tale shelf.old) (S.tale shelf.new) }
     ensures failed { result ≡ Result.Err CreateFault.Failed → Ends (λ t u. ShowsNothing key.now at (slice_index_or (S.sizes shelf.old) at.drive.0 0) t → ShowsNothing key.now at (slice_index_or (S.sizes shelf.old) at.drive.0 0) u) (S.tale shelf.old) (S.tale shelf.new) }
     ensures cause { HasCause (S.faults shelf.old (OnDrive at.drive.0)) (S.faults shelf.new (OnDrive at.drive.0)) result }
     ensures counted { OnOk result (Took S.calls S.written shelf.old shelf.new 12 8) }

@@ -4,6 +4,7 @@ use Rattle.mdv_shelf.specs.Tale.{Tale, last}
 use Rattle.mdv_shelf.specs.Area.{KeptOutside, nowhere}
 use Rattle.mdv_shelf.specs.Moments.{Moments}
 use Rattle.mdv_store.specs.Database.{IsQuiet}
+use Rattle.mdv_store.specs.Log.{NoCreation}
 use Rattle.mdv_store.specs.Standing.{GoesOn, IsAdopted}
 use Rattle.mdv_run.specs.declared.geometry.SmallGeometry.{SmallGeometry}
 use Rattle.mdv_run.specs.Standing.{RunMoment, LinesMoment}
@@ -55,10 +56,10 @@ returns-in-Ok-clause-stands g c = λ x used. (
     let same = one_geometry c.args.geometry.now c.in-Some.geometry x c.in-Some.ensures.value.table used.table in
     let start = sym c.started.ensures ∙ c.in-Ok.is in
     subst (λ (y : SmallGeometry). Moments (RunMoment (record { geometry = y; fresh = c.args.fresh })) (g.B.Shelf.tale c.args.bench.now) (g.B.Shelf.tale c.run_lines.new.bench)) same
-    (moments_after (λ t m. IsQuiet c.place_at.result t m × GoesOn (Local c.in-Some.geometry.host) c.place_at.result (slice_index_or (g.B.Shelf.sizes c.args.bench.now) c.place_at.result.drive.0 0) t m) (Booted (record { geometry = c.in-Some.geometry; fresh = c.args.fresh }) c.place_at.result (g.B.Shelf.sizes c.args.bench.now) c.place_at.ensures c.in-Some.ensures.value.drive c.boot-end.result) (LinesMoment (record { geometry = c.in-Some.geometry; fresh = c.args.fresh }) c.in-Ok.state) (RunMoment (record { geometry = c.in-Some.geometry; fresh = c.args.fresh })) _ _ _
+    (moments_after (λ t m. IsQuiet c.place_at.result t m × GoesOn (Local c.in-Some.geometry.host) c.place_at.result (slice_index_or (g.B.Shelf.sizes c.args.bench.now) c.place_at.result.drive.0 0) NoCreation t m) (Booted (record { geometry = c.in-Some.geometry; fresh = c.args.fresh }) c.place_at.result (g.B.Shelf.sizes c.args.bench.now) c.place_at.ensures c.in-Some.ensures.value.drive c.boot-end.result) (LinesMoment (record { geometry = c.in-Some.geometry; fresh = c.args.fresh }) c.in-Ok.state) (RunMoment (record { geometry = c.in-Some.geometry; fresh = c.args.fresh })) _ _ _
     (λ t m moment. boot_moment (record { geometry = c.in-Some.geometry; fresh = c.args.fresh }) c.place_at.result (g.B.Shelf.sizes c.args.bench.now) c.place_at.ensures c.in-Some.ensures.value.drive t m moment)
     (λ t u m booted lines. booted_lines (record { geometry = c.in-Some.geometry; fresh = c.args.fresh }) c.place_at.result (g.B.Shelf.sizes c.args.bench.now) c.place_at.ensures c.in-Some.ensures.value.drive c.boot-end.result c.in-Ok.state t u m start booted lines)
-    (moments_both (IsQuiet c.place_at.result) (GoesOn (Local c.in-Some.geometry.host) c.place_at.result (slice_index_or (g.B.Shelf.sizes c.args.bench.now) c.place_at.result.drive.0 0)) _ _ c.boot-end.ensures.moments c.boot-end.ensures.stays)
+    (moments_both (IsQuiet c.place_at.result) (GoesOn (Local c.in-Some.geometry.host) c.place_at.result (slice_index_or (g.B.Shelf.sizes c.args.bench.now) c.place_at.result.drive.0 0) NoCreation) _ _ c.boot-end.ensures.moments c.boot-end.ensures.stays)
     (booted_ends (record { geometry = c.in-Some.geometry; fresh = c.args.fresh }) c.place_at.result (g.B.Shelf.sizes c.args.bench.now) c.place_at.ensures c.in-Some.ensures.value.drive c.boot-end.result _ _ c.boot-end.ensures.moments c.boot-end.ensures.ends c.boot-end.ensures.empty)
     c.run_lines.ensures.moments))
 
@@ -66,6 +67,6 @@ pub returns-in-Err-clause-stands : goal.returns-in-Err-clause-stands
 returns-in-Err-clause-stands g c = λ x used. (
     let same = one_geometry c.args.geometry.now c.in-Some.geometry x c.in-Some.ensures.value.table used.table in
     subst (λ (y : SmallGeometry). Moments (RunMoment (record { geometry = y; fresh = c.args.fresh })) (g.B.Shelf.tale c.args.bench.now) (g.B.Shelf.tale c.boot-end.new.shelf)) same
-    (moments_weaker (λ t m. IsQuiet c.place_at.result t m × GoesOn (Local c.in-Some.geometry.host) c.place_at.result (slice_index_or (g.B.Shelf.sizes c.args.bench.now) c.place_at.result.drive.0 0) t m) (RunMoment (record { geometry = c.in-Some.geometry; fresh = c.args.fresh })) _ _
+    (moments_weaker (λ t m. IsQuiet c.place_at.result t m × GoesOn (Local c.in-Some.geometry.host) c.place_at.result (slice_index_or (g.B.Shelf.sizes c.args.bench.now) c.place_at.result.drive.0 0) NoCreation t m) (RunMoment (record { geometry = c.in-Some.geometry; fresh = c.args.fresh })) _ _
     (λ t m moment. boot_moment (record { geometry = c.in-Some.geometry; fresh = c.args.fresh }) c.place_at.result (g.B.Shelf.sizes c.args.bench.now) c.place_at.ensures c.in-Some.ensures.value.drive t m moment)
-    (moments_both (IsQuiet c.place_at.result) (GoesOn (Local c.in-Some.geometry.host) c.place_at.result (slice_index_or (g.B.Shelf.sizes c.args.bench.now) c.place_at.result.drive.0 0)) _ _ c.boot-end.ensures.moments c.boot-end.ensures.stays)))
+    (moments_both (IsQuiet c.place_at.result) (GoesOn (Local c.in-Some.geometry.host) c.place_at.result (slice_index_or (g.B.Shelf.sizes c.args.bench.now) c.place_at.result.drive.0 0) NoCreation) _ _ c.boot-end.ensures.moments c.boot-end.ensures.stays)))

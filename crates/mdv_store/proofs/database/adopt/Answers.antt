@@ -7,6 +7,7 @@ use Rattle.mdv_base.specs.declared.name.Key.{Key}
 use Rattle.mdv_shelf.specs.Tale.{last}
 use Rattle.mdv_shelf.specs.Settle.{IsSynced}
 use Rattle.mdv_store.specs.Database.{IsQuiet, with_blocks, greatest}
+use Rattle.mdv_store.specs.Log.{NoCreation}
 use Rattle.mdv_store.specs.Standing.{IsTheReplica, GoesOn}
 use Rattle.mdv_store.proofs.Covering.{rewriting_goes_on, rewritten_goes_on, rewritten_adopted}
 use Rattle.mdv_store.proofs.Quiet.{placed_again, quiet_sized}
@@ -32,7 +33,7 @@ pub returns-in-Ok-clause-stays : goal.returns-in-Ok-clause-stays
 returns-in-Ok-clause-stays g c =
     let drawn : ◌≡◌ {A = Mark} (record { boot = c.greatest_of-number.result + 1; count = 0 }) (record { boot = greatest c.args.head.now + 1; count = 0 }) = ap (λ (n : ℕ). record { boot = n + 1; count = 0 }) c.greatest_of-number.ensures in
     let fits : greatest c.args.head.now + 1 < 2 ^ 63 = omega (arith, c.greatest_of-number.ensures, c.if-number-ge-NUMBER_LIMIT.false) in
-    moments_weaker _ (λ t m. IsSynced c.args.at.drive.0 t → (key : Key) → IsTheReplica key c.args.at (slice_index_or (g.S.Shelf.sizes c.args.shelf.now) c.args.at.drive.0 0) (last t c.args.at.drive.0) c.args.head.now → GoesOn key c.args.at (slice_index_or (g.S.Shelf.sizes c.args.shelf.now) c.args.at.drive.0 0) t m) _ _
+    moments_weaker _ (λ t m. IsSynced c.args.at.drive.0 t → (key : Key) → IsTheReplica key c.args.at (slice_index_or (g.S.Shelf.sizes c.args.shelf.now) c.args.at.drive.0 0) (last t c.args.at.drive.0) c.args.head.now → GoesOn key c.args.at (slice_index_or (g.S.Shelf.sizes c.args.shelf.now) c.args.at.drive.0 0) NoCreation t m) _ _
     (λ t m rewrites synced key the. rewriting_goes_on key c.args.at (slice_index_or (g.S.Shelf.sizes c.args.shelf.now) c.args.at.drive.0 0) c.args.head.now c.older_slot.result c.at_length-sized.result (record { boot = c.greatest_of-number.result + 1; count = 0 }) c.at_length-sized.ensures drawn fits c.older_slot.ensures t m rewrites synced the)
     c.rewrite.ensures.leaves
 
@@ -40,7 +41,7 @@ pub returns-in-Err-clause-stays : goal.returns-in-Err-clause-stays
 returns-in-Err-clause-stays g c =
     let drawn : ◌≡◌ {A = Mark} (record { boot = c.greatest_of-number.result + 1; count = 0 }) (record { boot = greatest c.args.head.now + 1; count = 0 }) = ap (λ (n : ℕ). record { boot = n + 1; count = 0 }) c.greatest_of-number.ensures in
     let fits : greatest c.args.head.now + 1 < 2 ^ 63 = omega (arith, c.greatest_of-number.ensures, c.if-number-ge-NUMBER_LIMIT.false) in
-    moments_weaker _ (λ t m. IsSynced c.args.at.drive.0 t → (key : Key) → IsTheReplica key c.args.at (slice_index_or (g.S.Shelf.sizes c.args.shelf.now) c.args.at.drive.0 0) (last t c.args.at.drive.0) c.args.head.now → GoesOn key c.args.at (slice_index_or (g.S.Shelf.sizes c.args.shelf.now) c.args.at.drive.0 0) t m) _ _
+    moments_weaker _ (λ t m. IsSynced c.args.at.drive.0 t → (key : Key) → IsTheReplica key c.args.at (slice_index_or (g.S.Shelf.sizes c.args.shelf.now) c.args.at.drive.0 0) (last t c.args.at.drive.0) c.args.head.now → GoesOn key c.args.at (slice_index_or (g.S.Shelf.sizes c.args.shelf.now) c.args.at.drive.0 0) NoCreation t m) _ _
     (λ t m rewrites synced key the. rewriting_goes_on key c.args.at (slice_index_or (g.S.Shelf.sizes c.args.shelf.now) c.args.at.drive.0 0) c.args.head.now c.older_slot.result c.at_length-sized.result (record { boot = c.greatest_of-number.result + 1; count = 0 }) c.at_length-sized.ensures drawn fits c.older_slot.ensures t m rewrites synced the)
     c.rewrite.ensures.leaves
 
