@@ -2,8 +2,9 @@
 use Rattle.std.proofs.Common.{◌≡◌, ◌≢◌, ◌⊎◌, inl, inr, ◌≤◌, ◌+◌, ℕ, refl, sym, ◌∙◌, ap, subst, List, [], ◌∷◌, ◌++◌, append_assoc, arith, codes}
 use Rattle.mdv_base.specs.Name.{IsName}
 use Rattle.mdv_base.specs.declared.drive.DriveName.{DriveName}
-use Rattle.mdv_run.specs.declared.geometry.SmallGeometry.{SmallGeometry}
-use Rattle.mdv_run.specs.Geometry.{IsGeometry, IsFile, IsSmall, IsTable, host_line, drive_line, slice_line}
+use Rattle.mdv_engine.specs.declared.geometry.SmallGeometry.{SmallGeometry}
+use Rattle.mdv_run.specs.Geometry.{IsGeometry, IsFile, IsTable, host_line, drive_line, slice_line}
+use Rattle.mdv_engine.specs.Home.{IsSmall}
 use Rattle.mdv_run.specs.GeometryParts.{HasHostLine, HasDriveLine, IsSliceLine}
 use Rattle.mdv_run.proofs.GeometryCuts.{lacks-name}
 use Rattle.mdv_run.proofs.GeometryLines.{one_host_line, one_drive_line, one_slice_line}

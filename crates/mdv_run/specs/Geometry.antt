@@ -5,7 +5,8 @@ use Rattle.mdv_base.specs.Name.{IsName}
 use Rattle.mdv_base.specs.declared.drive.DriveName.{DriveName}
 use Rattle.mdv_base.specs.declared.drive.SliceName.{SliceName}
 use Rattle.mdv_name.specs.Drive.{IsSliceName, drive_text, slice_text}
-use Rattle.mdv_run.specs.declared.geometry.SmallGeometry.{SmallGeometry}
+use Rattle.mdv_engine.specs.declared.geometry.SmallGeometry.{SmallGeometry}
+use Rattle.mdv_engine.specs.Home.{IsSmall}
 
 -- as `host alpha`
 abbrev pub host_line : List ℕ → List ℕ
@@ -33,16 +34,6 @@ pub record IsFile (file : List ℕ) : Type 0 where
   pub some : 0 < length file
   pub short : length file ≤ 255
   pub each : IsTrue (list_all is_file_byte file)
-
--- what the host, the drive and the slice of a small table keep to
-pub record IsSmall (g : SmallGeometry) : Type 0 where
-  pub host : IsName g.host
-  pub not_shared : g.host ≢ codes "shared"
-  pub some_drive_blocks : 1 ≤ g.drive_blocks
-  pub few_drive_blocks : g.drive_blocks ≤ 2 ^ 40
-  pub slice : IsSliceName g.slice
-  pub some_blocks : 1 ≤ g.blocks
-  pub within : g.start + g.blocks ≤ g.drive_blocks
 
 -- the text is the table of this geometry, whose drive lies in this file
 pub record IsTable (text : List ℕ) (g : SmallGeometry) (file : List ℕ) : Type 0 where

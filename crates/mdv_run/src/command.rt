@@ -1,28 +1,27 @@
 ghost use Rattle.std.specs.Prelude.{◌≡◌, IfSome, IfNone};
-ghost use Rattle.mdv_run.specs.declared.command.Command.{Command};
+ghost use Rattle.mdv_engine.specs.declared.command.Command.{Command};
 ghost use Rattle.mdv_base.specs.declared.drive.SliceName.{SliceName};
 ghost use Rattle.mdv_name.specs.Drive.{IsSliceName, slice_text};
-ghost use Rattle.mdv_run.specs.Run.{IsOfGrammar, command_text};
+ghost use Rattle.mdv_run.specs.Grammar.{IsOfGrammar, command_text};
 
 use mdv_base::SliceName;
+use mdv_engine::Command;
 use mdv_name::parse_plain_slice;
+
+const BOOT: &[u8] = b"boot";
 
 const CREATION: &[u8] = b"metadb -a ";
 
 const FORCED: &[u8] = b"-f ";
-
-/// What a line asks.
-#[derive(Clone, Copy, Debug, PartialEq, Eq)]
-pub enum Command {
-    /// `metadb -a SLICE`, or with `-f`, which the first replica of a database needs.
-    Create { slice: SliceName, force: bool },
-}
 
 /// The command of a line; None for a line that isn't in the grammar.
 pub fn read_line(text: &[u8]) -> Option<Command>
     ensures value { IfSome result (λ c. IsOfGrammar c × (text.now ≡ command_text c)) }
     ensures none { IfNone result ((c : Command) → IsOfGrammar c → text.now ≡ command_text c → ⊥) }
 {
+    if text == BOOT {
+        return Some(Command::Boot);
+    }
     let rest = text.strip_prefix(CREATION)?;
     match rest.strip_prefix(FORCED) {
         Some(slice) => creation(slice, true),

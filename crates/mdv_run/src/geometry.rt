@@ -5,24 +5,14 @@ ghost use Rattle.mdv_base.specs.Name.{IsName};
 ghost use Rattle.mdv_base.specs.declared.drive.DriveName.{DriveName};
 ghost use Rattle.mdv_base.specs.declared.drive.SliceName.{SliceName};
 ghost use Rattle.mdv_name.specs.Drive.{IsDriveName, IsSliceName, drive_text, slice_text};
-ghost use Rattle.mdv_run.specs.declared.geometry.SmallGeometry.{SmallGeometry};
+ghost use Rattle.mdv_engine.specs.declared.geometry.SmallGeometry.{SmallGeometry};
 ghost use Rattle.mdv_run.specs.Geometry.{IsFile, IsTable, IsGeometry, is_file_byte as spec_is_file_byte};
 ghost use Rattle.mdv_run.specs.GeometryParts.{IsCut, HasHostLine, HasDriveLine, IsSliceLine, IsEnd};
 
 use mdv_base::{DriveName, Name, SliceName};
+use mdv_engine::SmallGeometry;
 use mdv_name::{parse_drive, parse_name, parse_plain_slice};
 use mdv_text::number;
-
-/// A host with one drive, which has one slice for replicas. Sizes are in blocks, and the slice begins
-/// at block `start` of the drive.
-#[derive(Clone, Copy, Debug, PartialEq, Eq)]
-pub struct SmallGeometry {
-    pub host: Name,
-    pub drive_blocks: u64,
-    pub slice: SliceName,
-    pub start: u64,
-    pub blocks: u64,
-}
 
 const SHARED: &[u8] = b"shared";
 

@@ -1,4 +1,5 @@
-use crate::geometry::{SmallGeometry, image_of, read};
+use crate::geometry::{image_of, read};
+use mdv_engine::SmallGeometry;
 use mdv_base::{DriveName, Name, SliceName};
 use std::test::Fail;
 

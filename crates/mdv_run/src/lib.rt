@@ -6,7 +6,6 @@ mod command;
 pub mod geometry;
 #[cfg(test)]
 mod geometry_tests;
-mod host;
 mod law;
 mod session;
 #[cfg(test)]

@@ -1,26 +1,27 @@
-ghost use Rattle.std.specs.Prelude.{◌≡◌, ◌<◌, ◌≤◌, ◌+◌, ◌^◌, ◌++◌, ◌↔◌, ◌||◌, ℕ, List, [], ◌∷◌, map, string_bytes, Some, IfSome, IfNone, IsTrue, true, false};
-ghost use Rattle.mdv_shelf.specs.Tale.{Tale, told};
+ghost use Rattle.std.specs.Prelude.{◌≡◌, ◌<◌, ◌≤◌, ◌+◌, ◌^◌, ◌↔◌, ℕ, List, [], ◌∷◌, map, string_bytes, Some, IfSome, IfNone, IsTrue};
+ghost use Rattle.mdv_shelf.specs.Tale.{Tale};
 ghost use Rattle.mdv_shelf.specs.Calls.{OnDrive, OnReplies, Keeps};
-ghost use Rattle.mdv_port.specs.Script.{Script, script_before, script_of};
-ghost use Rattle.mdv_base.specs.declared.name.Key.TheVariants.{Local};
-ghost use Rattle.mdv_run.specs.declared.geometry.SmallGeometry.{SmallGeometry};
-ghost use Rattle.mdv_store.specs.declared.database.BootEnd.{BootEnd};
-ghost use Rattle.mdv_run.specs.declared.host.State.{State};
-ghost use Rattle.mdv_store.specs.Database.{IsBooted};
-ghost use Rattle.mdv_run.specs.Run.{IsUsed, Failures, failures, Runs, HasStatusCause, status_of, start_of, booted_state};
-ghost use Rattle.mdv_run.specs.Turns.{IsReady, IsSound, IsMadeSafe, IsTold, IsOn, IsWholeRun, IsWithin, Leads, HasTurnCause};
-ghost use Rattle.mdv_run.specs.Standing.{RunMoment, TellMoment, TurnMoment, Turned, LinesMoment};
-ghost use Rattle.mdv_shelf.specs.Area.{KeptOutside, nowhere};
 ghost use Rattle.mdv_shelf.specs.Moments.{Moments, Ends};
+ghost use Rattle.mdv_port.specs.Script.{Script, script_before, script_of};
 ghost use Rattle.mdv_base.specs.Causes.{Rose};
+ghost use Rattle.mdv_engine.specs.declared.geometry.SmallGeometry.{SmallGeometry};
+ghost use Rattle.mdv_engine.specs.declared.command.Command.TheVariants.{Boot};
+ghost use Rattle.mdv_engine.specs.Home.{IsReady};
+ghost use Rattle.mdv_engine.specs.Replies.{IsReplied, IsLost, HasReplyCause};
+ghost use Rattle.mdv_engine.specs.Line.{IsSound};
+ghost use Rattle.mdv_engine.specs.Standing.{Executed, Knows, TurnMoment, Turned};
+ghost use Rattle.mdv_run.specs.Grammar.{makes};
+ghost use Rattle.mdv_run.specs.Run.{IsUsed, failures, HasStatusCause, status_of, IsWholeRun};
+ghost use Rattle.mdv_run.specs.Turns.{over_status, LineAnswered, Turns, turn_of as spec_turn_of, IsOn, IsLostTurn, HasTurnCause, LinesRun};
+ghost use Rattle.mdv_run.specs.Standing.{RunMoment, LinesMoment, RanTo};
 
-use crate::geometry::{SmallGeometry, read};
-use crate::host::{Answer, Host, State, carry_out, place_at, refused};
+use crate::command::read_line;
+use crate::geometry::read;
 use crate::status::RunStatus;
-use mdv_base::{DriveNo, Failed, Key, Refusal};
+use mdv_base::{DriveNo, Failed, Refusal};
+use mdv_engine::{BootRefusal, Command, Engine, Host, Reply, SmallGeometry};
 use mdv_port::{LineEnd, LineReader, Source};
 use mdv_shelf::Bench;
-use mdv_store::{BootEnd, boot};
 
 /// Runs one host: it boots from the drive, then answers the lines of the script one by one. The words
 /// are the host's name alone; the table of drives is the small one, with one drive and one slice.
@@ -36,12 +37,12 @@ pub fn run<B: Bench, I: Source>(
     ensures usage { (result ≡ RunStatus.Usage) ↔ ((g : SmallGeometry) → IsUsed (map string_bytes words.now) geometry.now (B.sizes bench.old) g → ⊥) }
 
     // Else the boot answers from what the drive's blocks held, and the bytes told and the status are
-    // those of the script; where the run made the open database, every crash leaves it.
+    // those of the script; where a database is open at the end, every crash leaves it.
     ensures runs { (g : SmallGeometry) → IsUsed (map string_bytes words.now) geometry.now (B.sizes bench.old) g → (t : Tale) → B.tale bench.old ≡ Some t → (input : List ℕ) → I.left script.old ≡ Some input → IsWholeRun (failures (B.faults bench.old) (B.faults bench.new) (I.faults script.old) (I.faults script.new)) (record { geometry = g; fresh = fresh }) t (script_of input) (B.tale bench.new) result }
 
     // At each moment the drive stands with the log so far, in which a creation is acknowledged once the
     // newline of its `ok` was told.
-    ensures stands { (g : SmallGeometry) → IsUsed (map string_bytes words.now) geometry.now (B.sizes bench.old) g → Moments (RunMoment (record { geometry = g; fresh = fresh })) (B.tale bench.old) (B.tale bench.new) }
+    ensures stands { (g : SmallGeometry) → IsUsed (map string_bytes words.now) geometry.now (B.sizes bench.old) g → (input : List ℕ) → I.left script.old ≡ Some input → Moments (RunMoment (record { geometry = g; fresh = fresh }) (script_of input)) (B.tale bench.old) (B.tale bench.new) }
 
     // A status that tells of a failure comes only where one came, whatever the bench and the source tell.
     ensures causes { (g : SmallGeometry) → IsUsed (map string_bytes words.now) geometry.now (B.sizes bench.old) g → HasStatusCause (failures (B.faults bench.old) (B.faults bench.new) (I.faults script.old) (I.faults script.new)) result }
@@ -50,45 +51,19 @@ pub fn run<B: Bench, I: Source>(
     let Some(geometry) = usable(words, geometry, bench) else {
         return RunStatus::Usage;
     };
-    let host = Host { geometry, fresh };
-    let key = Key::Local(geometry.host);
-    let end = boot(bench, place_at(&geometry), &key);
-    match started(end) {
-        Ok(mut state) => run_lines(&host, &mut state, bench, script),
-        Err(status) => status,
+    match Engine::boot(bench, Host { geometry, fresh }) {
+        Ok(mut engine) => run_lines(&mut engine, bench, script),
+        Err(refusal) => over(refusal),
     }
 }
 
-// What a run keeps as it begins, or the status where it is over.
-fn started(end: BootEnd) -> Result<State, RunStatus>
-    ensures { result ≡ start_of end }
+// The status of a run that is over with a boot.
+fn over(refusal: BootRefusal) -> RunStatus
+    ensures { result ≡ over_status refusal }
 {
-    match end {
-        BootEnd::Adopted => Ok(booted(true, false)),
-        BootEnd::Empty => Ok(booted(false, false)),
-        BootEnd::Down => Ok(booted(false, true)),
-        BootEnd::Lost => Err(lost()),
-        BootEnd::Spent => Err(RunStatus::NumbersSpent),
-    }
-}
-
-fn booted(database: bool, down: bool) -> State
-    ensures { result ≡ booted_state database down }
-{
-    State {
-        database,
-        down,
-        begun: 0,
-        made: None,
-    }
-}
-
-fn lost() -> RunStatus
-    ensures { result ≡ RunStatus.Panic 0 1 }
-{
-    RunStatus::Panic {
-        active: 0,
-        listed: 1,
+    match refusal {
+        BootRefusal::Lost { active, listed } => RunStatus::Panic { active, listed },
+        BootRefusal::Spent => RunStatus::NumbersSpent,
     }
 }
 
@@ -126,25 +101,19 @@ fn has_drive<B: Bench>(bench: &B, blocks: u64) -> bool
     bench.drives() == 1 && bench.blocks(DriveNo(0)) == blocks
 }
 
-fn run_lines<B: Bench, I: Source>(
-    host: &Host,
-    state: &mut State,
-    bench: &mut B,
-    script: &mut I,
-) -> RunStatus
-    requires ready { IsReady host.now (B.sizes bench.old) }
-    requires sound { IsSound state.old }
-    requires begun { state.old.begun ≡ 0 }
-    ensures runs { (t : Tale) → B.tale bench.old ≡ Some t → (input : List ℕ) → I.left script.old ≡ Some input → (u : Tale) × (B.tale bench.new ≡ Some u) × (more : List ℕ) × (told u ≡ told t ++ more) × (IsMadeSafe host.now state.old t → IsMadeSafe host.now state.new u) × ((f : Failures) → IsWithin f (failures (B.faults bench.old) (B.faults bench.new) (I.faults script.old) (I.faults script.new)) → Runs f host.now.geometry state.old false (script_of input) more result state.new) }
-    ensures still { state.old.database ≡ true → Ends (KeptOutside nowhere) (B.tale bench.old) (B.tale bench.new) }
-    ensures moments { Moments (LinesMoment host.now state.old) (B.tale bench.old) (B.tale bench.new) }
+fn run_lines<B: Bench, I: Source>(engine: &mut Engine, bench: &mut B, script: &mut I) -> RunStatus
+    requires ready { IsReady engine.old.host (B.sizes bench.old) }
+    requires sound { IsSound engine.old.state }
+    requires begun { engine.old.state.begun ≡ 0 }
+    ensures runs { (input : List ℕ) → I.left script.old ≡ Some input → Ends (LinesRun (failures (B.faults bench.old) (B.faults bench.new) (I.faults script.old) (I.faults script.new)) engine.old.host engine.old.state false (script_of input) result) (B.tale bench.old) (B.tale bench.new) }
+    ensures moments { (input : List ℕ) → I.left script.old ≡ Some input → Moments (LinesMoment engine.old.host (script_of input) engine.old.state) (B.tale bench.old) (B.tale bench.new) }
     ensures causes { HasStatusCause (failures (B.faults bench.old) (B.faults bench.new) (I.faults script.old) (I.faults script.new)) result }
     ensures keeps { Keeps B.sizes B.faults B.rest B.held bench.old bench.new }
 {
     let mut reader = LineReader::new();
     let mut any_refused = false;
     loop {
-        match take_turn(host, state, bench, script, &mut reader, any_refused) {
+        match take_turn(engine, bench, script, &mut reader, any_refused) {
             Turn::On { refused } => any_refused = refused,
             Turn::Over(status) => return status,
         }
@@ -159,33 +128,30 @@ enum Turn {
 
 // One line: it is taken, carried out and answered.
 fn take_turn<B: Bench, I: Source>(
-    host: &Host,
-    state: &mut State,
+    engine: &mut Engine,
     bench: &mut B,
     script: &mut I,
     reader: &mut LineReader,
     any_refused: bool,
 ) -> Turn
-    requires ready { IsReady host.now (B.sizes bench.old) }
-    requires sound { IsSound state.old }
-    requires begun { state.old.begun ≤ reader.old.lines }
-    ensures leads { (t : Tale) → B.tale bench.old ≡ Some t → (lines : Script) → script_before reader.old (I.left script.old) ≡ Some lines → (u : Tale) × (B.tale bench.new ≡ Some u) × (piece : List ℕ) × (told u ≡ told t ++ piece) × (IsMadeSafe host.now state.old t → IsMadeSafe host.now state.new u) × Leads (failures (B.faults bench.old) (B.faults bench.new) (I.faults script.old) (I.faults script.new)) host.now state.old any_refused lines piece state.new (script_before reader.new (I.left script.new)) result }
-    ensures moments { Moments (TurnMoment host.now state.old state.new) (B.tale bench.old) (B.tale bench.new) }
-    ensures still { state.old.database ≡ true → (state.new ≡ state.old) × Ends (KeptOutside nowhere) (B.tale bench.old) (B.tale bench.new) }
-    ensures turned { IsOn result → Ends (Turned host.now state.old state.new) (B.tale bench.old) (B.tale bench.new) }
+    requires ready { IsReady engine.old.host (B.sizes bench.old) }
+    requires sound { IsSound engine.old.state }
+    requires begun { engine.old.state.begun ≤ reader.old.lines }
+    ensures turns { (lines : Script) → script_before reader.old (I.left script.old) ≡ Some lines → Ends (Turns (failures (B.faults bench.old) (B.faults bench.new) (I.faults script.old) (I.faults script.new)) engine.old.host engine.old.state engine.new.state any_refused lines (script_before reader.new (I.left script.new)) result) (B.tale bench.old) (B.tale bench.new) }
+    ensures moments { (lines : Script) → script_before reader.old (I.left script.old) ≡ Some lines → Moments (LinesMoment engine.old.host lines engine.old.state) (B.tale bench.old) (B.tale bench.new) }
+    ensures ran { IsOn result → (lines : Script) → script_before reader.old (I.left script.old) ≡ Some lines → (left : Script) × (script_before reader.new (I.left script.new) ≡ Some left) × Ends (RanTo engine.old.host lines engine.old.state engine.new.state left) (B.tale bench.old) (B.tale bench.new) }
+    ensures knows { (IsLostTurn result → ⊥) → Ends (λ t u. Knows engine.old.host engine.old.state t → Knows engine.old.host engine.new.state u) (B.tale bench.old) (B.tale bench.new) }
     ensures causes { HasTurnCause (failures (B.faults bench.old) (B.faults bench.new) (I.faults script.old) (I.faults script.new)) result }
-    ensures sound { IsSound state.new }
-    ensures begun { state.new.begun ≤ reader.new.lines }
+    ensures host { engine.new.host ≡ engine.old.host }
+    ensures sound { IsSound engine.new.state }
+    ensures begun { engine.new.state.begun ≤ reader.new.lines }
     ensures on { IsOn result → (reader.old.lines < reader.new.lines) × (reader.new.lines ≤ 1048576) }
     ensures source { I.faults script.old ≤ I.faults script.new }
     ensures keeps { Keeps B.sizes B.faults B.rest B.held bench.old bench.new }
 {
     match reader.next(script) {
-        Ok(LineEnd::Line) => {
-            let reply = carry_out(host, state, bench, reader.line());
-            tell(bench, reply, any_refused)
-        }
-        Ok(LineEnd::TooLong) => tell(bench, refused(&Refusal::LineTooLong), any_refused),
+        Ok(LineEnd::Line) => turn_of(answer(engine, bench, reader.line()), any_refused),
+        Ok(LineEnd::TooLong) => turn_of(engine.refuse(bench, &Refusal::LineTooLong), any_refused),
         Ok(LineEnd::End) => Turn::Over(ended(any_refused)),
         Ok(LineEnd::Spent { lines, bytes }) => Turn::Over(RunStatus::ScriptTooLong {
             lines,
@@ -195,10 +161,64 @@ fn take_turn<B: Bench, I: Source>(
     }
 }
 
-fn either(one: bool, other: bool) -> bool
-    ensures { result ≡ one || other }
+// Carries a line out and replies to it.
+fn answer<B: Bench>(engine: &mut Engine, bench: &mut B, line: &[u8]) -> Reply
+    requires ready { IsReady engine.old.host (B.sizes bench.old) }
+    requires sound { IsSound engine.old.state }
+    requires begun { engine.old.state.begun + 1 < 2 ^ 32 }
+    ensures answered { Ends (LineAnswered (Rose (B.faults bench.old (OnDrive 0)) (B.faults bench.new (OnDrive 0))) (Rose (B.faults bench.old OnReplies) (B.faults bench.new OnReplies)) engine.old.host line.now engine.old.state engine.new.state result) (B.tale bench.old) (B.tale bench.new) }
+    ensures moments { Moments (TurnMoment engine.old.host (makes line.now) engine.old.state) (B.tale bench.old) (B.tale bench.new) }
+    ensures turned { IsReplied result → Ends (Turned engine.old.host (makes line.now) engine.old.state engine.new.state) (B.tale bench.old) (B.tale bench.new) }
+    ensures knows { (IsLost result → ⊥) → Ends (λ t u. Knows engine.old.host engine.old.state t → Knows engine.old.host engine.new.state u) (B.tale bench.old) (B.tale bench.new) }
+    ensures cause { HasReplyCause (Rose (B.faults bench.old (OnDrive 0)) (B.faults bench.new (OnDrive 0))) (Rose (B.faults bench.old OnReplies) (B.faults bench.new OnReplies)) result }
+    ensures host { engine.new.host ≡ engine.old.host }
+    ensures sound { IsSound engine.new.state }
+    ensures begun { engine.new.state.begun ≤ engine.old.state.begun + 1 }
+    ensures keeps { Keeps B.sizes B.faults B.rest B.held bench.old bench.new }
 {
-    one || other
+    match read_line(line) {
+        Some(Command::Boot) => boot_anew(engine, bench),
+        Some(command) => engine.exec(bench, &command),
+        None => engine.refuse(bench, &Refusal::BadLine),
+    }
+}
+
+fn boot_anew<B: Bench>(engine: &mut Engine, bench: &mut B) -> Reply
+    requires ready { IsReady engine.old.host (B.sizes bench.old) }
+    requires sound { IsSound engine.old.state }
+    ensures answered { Ends (Executed (Rose (B.faults bench.old (OnDrive 0)) (B.faults bench.new (OnDrive 0))) (Rose (B.faults bench.old OnReplies) (B.faults bench.new OnReplies)) engine.old.host Boot engine.old.state engine.new.state result) (B.tale bench.old) (B.tale bench.new) }
+    ensures moments { Moments (TurnMoment engine.old.host false engine.old.state) (B.tale bench.old) (B.tale bench.new) }
+    ensures turned { IsReplied result → Ends (Turned engine.old.host false engine.old.state engine.new.state) (B.tale bench.old) (B.tale bench.new) }
+    ensures knows { (IsLost result → ⊥) → Ends (λ t u. Knows engine.old.host engine.old.state t → Knows engine.old.host engine.new.state u) (B.tale bench.old) (B.tale bench.new) }
+    ensures cause { HasReplyCause (Rose (B.faults bench.old (OnDrive 0)) (B.faults bench.new (OnDrive 0))) (Rose (B.faults bench.old OnReplies) (B.faults bench.new OnReplies)) result }
+    ensures host { engine.new.host ≡ engine.old.host }
+    ensures sound { IsSound engine.new.state }
+    ensures begun { engine.new.state.begun ≤ engine.old.state.begun }
+    ensures keeps { Keeps B.sizes B.faults B.rest B.held bench.old bench.new }
+{
+    match engine.reboot(bench) {
+        Ok(booted) => {
+            *engine = booted;
+            engine.accept(bench)
+        }
+        Err(BootRefusal::Lost { active, listed }) => Reply::Panic { active, listed },
+        Err(BootRefusal::Spent) => Reply::Spent,
+    }
+}
+
+// How the run goes on with a reply.
+fn turn_of(reply: Reply, any_refused: bool) -> Turn
+    ensures { result ≡ spec_turn_of reply any_refused }
+{
+    match reply {
+        Reply::Ok => Turn::On {
+            refused: any_refused,
+        },
+        Reply::Refused(_) => Turn::On { refused: true },
+        Reply::Panic { active, listed } => Turn::Over(RunStatus::Panic { active, listed }),
+        Reply::Spent => Turn::Over(RunStatus::NumbersSpent),
+        Reply::Told => Turn::Over(RunStatus::WriteFault),
+    }
 }
 
 fn ended(refused: bool) -> RunStatus
@@ -208,22 +228,5 @@ fn ended(refused: bool) -> RunStatus
         RunStatus::SomeRefused
     } else {
         RunStatus::Done
-    }
-}
-
-fn tell<B: Bench>(bench: &mut B, reply: Answer, any_refused: bool) -> Turn
-    ensures told { (t : Tale) → B.tale bench.old ≡ Some t → (u : Tale) × (B.tale bench.new ≡ Some u) × (piece : List ℕ) × (told u ≡ told t ++ piece) × KeptOutside nowhere t u × IsTold (Rose (B.faults bench.old OnReplies) (B.faults bench.new OnReplies)) reply any_refused piece result }
-    ensures fronts { Moments (TellMoment reply) (B.tale bench.old) (B.tale bench.new) }
-    ensures answer { (piece : List ℕ) × IsTold (Rose (B.faults bench.old OnReplies) (B.faults bench.new OnReplies)) reply any_refused piece result }
-    ensures keeps { Keeps B.sizes B.faults B.rest B.held bench.old bench.new }
-{
-    match reply {
-        Answer::Reply { text, refused } => match bench.give(text.as_bytes()) {
-            Ok(()) => Turn::On {
-                refused: either(any_refused, refused),
-            },
-            Err(Failed) => Turn::Over(RunStatus::WriteFault),
-        },
-        Answer::Panic => Turn::Over(lost()),
     }
 }

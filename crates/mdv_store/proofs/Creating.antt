@@ -148,7 +148,7 @@ module _ (key : Key) (at : PlaceAt) (size : ℕ) where
     made_safe v leaves image is = record {
       head = made_head;
       replica = made_replica (image at.drive.0) (leaves formatted.synced image is);
-      as_identity = refl;
+      as_master = refl;
       as_claim = refl;
       as_first = refl;
       as_second = refl;

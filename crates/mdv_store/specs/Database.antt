@@ -102,11 +102,11 @@ abbrev pub Rewrites : PlaceAt → Slot → Mark → Tale → Tale → Type 0
 Rewrites at slot mark t m =
     Leaves at.drive.0 (ClaimImage at mark.boot) t m ⊎ Leaves at.drive.0 (λ old new. TableImage at slot mark (claimed at mark.boot old) new) t m
 
--- the blocks show a replica of this identity whose table, under this mark, is the only one
+-- the blocks show the replica that a creation of this identity makes, whose table, under this mark, is the only one
 pub record ShowsAlone (key : Key) (at : PlaceAt) (size : ℕ) (identity : Identity) (mark : Mark) (content : ℕ → List ℕ) : Type 0 where
   pub head : Head
   pub replica : IsReplica key at size content head
-  pub as_identity : head.master.identity ≡ identity
+  pub as_master : head.master ≡ master_of at key identity
   pub as_claim : head.claim ≡ mark.boot
   pub as_first : head.first ≡ Open mark 36
   pub as_second : head.second ≡ Closed

@@ -1,5 +1,5 @@
 use Rattle.std.proofs.Common.{◌≡◌, [], ◌∷◌, map, string_bytes, subst, sym, IfNone}
-use Rattle.mdv_run.specs.declared.geometry.SmallGeometry.{SmallGeometry}
+use Rattle.mdv_engine.specs.declared.geometry.SmallGeometry.{SmallGeometry}
 use Rattle.std.specs.Bool.{IsTrue}
 use Rattle.mdv_run.specs.Run.{IsUsed}
 use Rattle.mdv_run.proofs.GeometryTables.{one_geometry}
