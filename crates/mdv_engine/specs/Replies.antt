@@ -26,6 +26,16 @@ text_of outcome.Spent = []
 abbrev pub lacks : ℕ → List ℕ → Bool
 lacks byte text = list_all (λ b. not (b == byte)) text
 
+-- the refusal's text is one line
+abbrev pub IsPlain : Refusal → Type 0
+IsPlain refusal = lacks 10 (refusal_text refusal) ≡ true
+
+abbrev pub IsPlainAnswer : Answer → Type 0
+IsPlainAnswer outcome.Ok = Unit {0}
+IsPlainAnswer (outcome.Refused refusal) = IsPlain refusal
+IsPlainAnswer outcome.Panic = Unit {0}
+IsPlainAnswer outcome.Spent = Unit {0}
+
 -- one line: a text without a newline, and a newline
 pub record IsLine (bytes : List ℕ) : Type 0 where
   pub text : List ℕ
@@ -80,3 +90,10 @@ HasReplyCause drive replies (reply.Refused refusal) = Unit {0}
 HasReplyCause drive replies (reply.Panic active listed) = drive × (active ≡ 0) × (listed ≡ 1)
 HasReplyCause drive replies reply.Spent = Unit {0}
 HasReplyCause drive replies reply.Told = replies
+
+-- a panic comes only where the drive failed
+abbrev pub HasAnswerCause : Type 0 → Answer → Type 0
+HasAnswerCause drive outcome.Ok = Unit {0}
+HasAnswerCause drive (outcome.Refused refusal) = Unit {0}
+HasAnswerCause drive outcome.Panic = drive
+HasAnswerCause drive outcome.Spent = Unit {0}

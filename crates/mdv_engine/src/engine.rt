@@ -1,16 +1,12 @@
-ghost use Rattle.std.specs.Prelude.{◌≡◌, ◌<◌, ◌≤◌, ◌+◌, ◌^◌, ◌++◌, ℕ, List, true, false, Some, IfSome, IfNone, IfOk};
+ghost use Rattle.std.specs.Prelude.{◌≡◌, ◌<◌, ◌≤◌, ◌+◌, ◌^◌, true, false, IfSome, IfNone, IfOk};
 ghost use Rattle.mdv_base.specs.Causes.{Rose};
-ghost use Rattle.mdv_shelf.specs.Tale.{Tale, told};
-ghost use Rattle.mdv_shelf.specs.Area.{KeptOutside, nowhere};
 ghost use Rattle.mdv_shelf.specs.Calls.{OnDrive, OnReplies, Keeps};
 ghost use Rattle.mdv_shelf.specs.Moments.{Moments, Ends};
-ghost use Rattle.mdv_engine.specs.declared.answer.Answer.{Answer};
-
-ghost use Rattle.mdv_engine.specs.declared.answer.Reply.{Reply};
+ghost use Rattle.mdv_engine.specs.declared.engine.State.{State};
 ghost use Rattle.mdv_engine.specs.Home.{IsReady};
-ghost use Rattle.mdv_engine.specs.Replies.{IsReplied, IsLost, HasReplyCause};
-ghost use Rattle.mdv_engine.specs.Line.{IsSound, IsRefused, MayCreate, IsCreation, IsCarriedOut, IsRebooted, IsExecuted, IsTurnedDown, Stays, boot_answer, boot_state, HasBootCause, kept_at, unbooted};
-ghost use Rattle.mdv_engine.specs.Standing.{OnlyReplied, Executed, Knows, BootMoment, BootedTo, CarryMoment, CarriedTo, TurnMoment, Turned};
+ghost use Rattle.mdv_engine.specs.Replies.{IsPlain, IsPlainAnswer, IsReplied, IsLost, HasAnswerCause, HasReplyCause};
+ghost use Rattle.mdv_engine.specs.Line.{IsSound, IsRefused, MayCreate, IsCreation, IsCarriedOut, IsRebooted, IsExecuted, boot_answer, boot_state, HasBootCause, kept_at, unbooted};
+ghost use Rattle.mdv_engine.specs.Standing.{OnlyReplied, Executed, Knows, IsFree, BootMoment, BootedTo, CarryMoment, CarriedTo, TurnMoment, Turned};
 
 use crate::answer::{Answer, BootRefusal, Reply};
 use crate::command::Command;
@@ -82,7 +78,7 @@ impl Engine {
         requires sound { IsSound self.old.state }
         requires begun { self.old.state.begun + 1 < 2 ^ 32 }
         requires executed { IsExecuted command.now }
-        ensures answered { Ends (Executed (Rose (B.faults bench.old (OnDrive 0)) (B.faults bench.new (OnDrive 0))) (Rose (B.faults bench.old OnReplies) (B.faults bench.new OnReplies)) self.old.host command.now self.old.state self.new.state result) (B.tale bench.old) (B.tale bench.new) }
+        ensures answered { Ends (λ t u. Knows self.old.host self.old.state t → Executed (Rose (B.faults bench.old (OnDrive 0)) (B.faults bench.new (OnDrive 0))) (Rose (B.faults bench.old OnReplies) (B.faults bench.new OnReplies)) self.old.host command.now self.old.state self.new.state result t u) (B.tale bench.old) (B.tale bench.new) }
         ensures moments { Moments (TurnMoment self.old.host true self.old.state) (B.tale bench.old) (B.tale bench.new) }
         ensures turned { IsReplied result → Ends (Turned self.old.host true self.old.state self.new.state) (B.tale bench.old) (B.tale bench.new) }
         ensures knows { (IsLost result → ⊥) → Ends (λ t u. Knows self.old.host self.old.state t → Knows self.old.host self.new.state u) (B.tale bench.old) (B.tale bench.new) }
@@ -96,8 +92,9 @@ impl Engine {
         tell(bench, &answer)
     }
 
-    /// Tells this refusal.
+    /// Tells this refusal, whose text is one line.
     pub fn refuse<B: Bench>(&mut self, bench: &mut B, refusal: &Refusal) -> Reply
+        requires { IsPlain refusal.now }
         ensures told { Ends (OnlyReplied (Rose (B.faults bench.old OnReplies) (B.faults bench.new OnReplies)) (Answer.Refused refusal.now) result) (B.tale bench.old) (B.tale bench.new) }
         ensures moments { Moments (TurnMoment self.old.host true self.old.state) (B.tale bench.old) (B.tale bench.new) }
         ensures turned { IsReplied result → Ends (Turned self.old.host true self.old.state self.old.state) (B.tale bench.old) (B.tale bench.new) }
@@ -128,9 +125,12 @@ impl Engine {
         requires sound { IsSound self.old.state }
         requires begun { self.old.state.begun + 1 < 2 ^ 32 }
         requires executed { IsExecuted command.now }
-        ensures answered { Ends (λ t u. IsCarriedOut (Rose (S.faults shelf.old (OnDrive 0)) (S.faults shelf.new (OnDrive 0))) self.old.host (kept_at self.old.state t) command.now result (kept_at self.new.state u)) (S.tale shelf.old) (S.tale shelf.new) }
+        ensures answered { Ends (λ t u. Knows self.old.host self.old.state t → IsCarriedOut (Rose (S.faults shelf.old (OnDrive 0)) (S.faults shelf.new (OnDrive 0))) self.old.host (kept_at self.old.state t) command.now result (kept_at self.new.state u)) (S.tale shelf.old) (S.tale shelf.new) }
         ensures moments { Moments (CarryMoment self.old.host self.old.state) (S.tale shelf.old) (S.tale shelf.new) }
         ensures carried { Ends (CarriedTo self.old.host true self.old.state result self.new.state) (S.tale shelf.old) (S.tale shelf.new) }
+        ensures free { result ≡ Answer.Ok → IsFree self.old.state }
+        ensures plain { IsPlainAnswer result }
+        ensures cause { HasAnswerCause (Rose (S.faults shelf.old (OnDrive 0)) (S.faults shelf.new (OnDrive 0))) result }
         ensures host { self.new.host ≡ self.old.host }
         ensures sound { IsSound self.new.state }
         ensures begun { self.new.state.begun ≤ self.old.state.begun + 1 }
@@ -148,6 +148,7 @@ impl Engine {
     // The first cause that a creation is refused for before anything is done.
     fn refusal_of(&self, slice: SliceName, force: bool) -> Option<Refusal>
         ensures refused { IfSome result (IsRefused self.now.host.geometry self.now.state slice force) }
+        ensures plain { IfSome result IsPlain }
         ensures free { IfNone result (MayCreate self.now.host.geometry self.now.state slice force) }
     {
         let geometry = &self.host.geometry;
@@ -177,9 +178,11 @@ impl Engine {
         requires room { 8208 ≤ self.old.host.geometry.blocks }
         requires none { self.old.state.database ≡ false }
         requires up { self.old.state.down ≡ false }
-        ensures made { Ends (λ t u. IsCreation (Rose (S.faults shelf.old (OnDrive 0)) (S.faults shelf.new (OnDrive 0))) self.old.host (kept_at self.old.state t) result (kept_at self.new.state u)) (S.tale shelf.old) (S.tale shelf.new) }
+        ensures made { Ends (λ t u. Knows self.old.host self.old.state t → IsCreation (Rose (S.faults shelf.old (OnDrive 0)) (S.faults shelf.new (OnDrive 0))) self.old.host (kept_at self.old.state t) result (kept_at self.new.state u)) (S.tale shelf.old) (S.tale shelf.new) }
         ensures moments { Moments (CarryMoment self.old.host self.old.state) (S.tale shelf.old) (S.tale shelf.new) }
         ensures carried { Ends (CarriedTo self.old.host true self.old.state result self.new.state) (S.tale shelf.old) (S.tale shelf.new) }
+        ensures plain { IsPlainAnswer result }
+        ensures cause { HasAnswerCause (Rose (S.faults shelf.old (OnDrive 0)) (S.faults shelf.new (OnDrive 0))) result }
         ensures host { self.new.host ≡ self.old.host }
         ensures sound { IsSound self.new.state }
         ensures begun { self.new.state.begun ≡ self.old.state.begun + 1 }
