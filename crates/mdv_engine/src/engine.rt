@@ -1,4 +1,4 @@
-ghost use Rattle.std.specs.Prelude.{◌≡◌, ◌<◌, ◌≤◌, ◌+◌, ◌^◌, true, false, IfSome, IfNone, IfOk};
+ghost use Rattle.std.specs.Prelude.{◌≡◌, ◌<◌, ◌≤◌, ◌+◌, ◌^◌, Bool, true, false, IfSome, IfNone, IfOk};
 ghost use Rattle.mdv_base.specs.Causes.{Rose};
 ghost use Rattle.mdv_shelf.specs.Calls.{OnDrive, OnReplies, Keeps};
 ghost use Rattle.mdv_shelf.specs.Moments.{Moments, Ends};
@@ -96,8 +96,8 @@ impl Engine {
     pub fn refuse<B: Bench>(&mut self, bench: &mut B, refusal: &Refusal) -> Reply
         requires { IsPlain refusal.now }
         ensures told { Ends (OnlyReplied (Rose (B.faults bench.old OnReplies) (B.faults bench.new OnReplies)) (Answer.Refused refusal.now) result) (B.tale bench.old) (B.tale bench.new) }
-        ensures moments { Moments (TurnMoment self.old.host true self.old.state) (B.tale bench.old) (B.tale bench.new) }
-        ensures turned { IsReplied result → Ends (Turned self.old.host true self.old.state self.old.state) (B.tale bench.old) (B.tale bench.new) }
+        ensures moments { (makes : Bool) → Moments (TurnMoment self.old.host makes self.old.state) (B.tale bench.old) (B.tale bench.new) }
+        ensures turned { (makes : Bool) → IsReplied result → Ends (Turned self.old.host makes self.old.state self.old.state) (B.tale bench.old) (B.tale bench.new) }
         ensures knows { Ends (λ t u. Knows self.old.host self.old.state t → Knows self.old.host self.old.state u) (B.tale bench.old) (B.tale bench.new) }
         ensures cause { HasReplyCause (Rose (B.faults bench.old (OnDrive 0)) (B.faults bench.new (OnDrive 0))) (Rose (B.faults bench.old OnReplies) (B.faults bench.new OnReplies)) result }
         ensures same { self.new ≡ self.old }

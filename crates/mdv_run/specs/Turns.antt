@@ -10,7 +10,7 @@ use Rattle.mdv_engine.specs.declared.answer.Reply.TheVariants as reply
 use Rattle.mdv_engine.specs.declared.engine.Host.{Host}
 use Rattle.mdv_engine.specs.declared.engine.State.{State}
 use Rattle.mdv_engine.specs.Line.{Kept, kept_at}
-use Rattle.mdv_engine.specs.Standing.{Knows, Replied}
+use Rattle.mdv_engine.specs.Standing.{Replied}
 use Rattle.mdv_run.specs.declared.session.Turn.{Turn}
 use Rattle.mdv_run.specs.declared.session.Turn.TheVariants.{On, Over}
 use Rattle.mdv_run.specs.declared.status.RunStatus.{RunStatus}
@@ -45,13 +45,23 @@ turn_of (reply.Panic active listed) any = Over (Panic active listed)
 turn_of reply.Spent any = Over NumbersSpent
 turn_of reply.Told any = Over WriteFault
 
+-- the run is over, and what is on the drive then isn't known
+abbrev pub IsLostStatus : RunStatus → Type 0
+IsLostStatus (Panic active listed) = Unit {0}
+IsLostStatus NumbersSpent = Unit {0}
+IsLostStatus other = ⊥
+
+abbrev pub IsLostTurn : Turn → Type 0
+IsLostTurn (On r) = ⊥
+IsLostTurn (Over status) = IsLostStatus status
+
 -- One turn told this piece, and what then follows follows here behind the piece; or the run is over with it.
 abbrev pub Leads : Failures → Host → Kept → Bool → Script → List ℕ → Kept → Option Script → Turn → Type 0
 Leads here host old refused script piece new before (On r) =
     (more : Script) × (before ≡ Some more)
     × ((f : Failures) → IsWithin f here → (rest : List ℕ) (status : RunStatus) (last : Option Kept) → Runs f host new r more rest status last → Runs f host old refused script (piece ++ rest) status last)
 Leads here host old refused script piece new before (Over status) =
-    (last : Option Kept) × IfSome last (λ kept. kept ≡ new) × ((f : Failures) → IsWithin f here → Runs f host old refused script piece status last)
+    (last : Option Kept) × IfSome last (λ kept. (kept ≡ new) × (IsLostStatus status → ⊥)) × ((f : Failures) → IsWithin f here → Runs f host old refused script piece status last)
 
 -- a turn, told by the script before it
 pub record Turns (here : Failures) (host : Host) (old new : State) (refused : Bool) (script : Script) (before : Option Script) (turn : Turn) (t u : Tale) : Type 0 where
@@ -67,20 +77,10 @@ abbrev pub IsOn : Turn → Type 0
 IsOn (On r) = Unit {0}
 IsOn (Over status) = ⊥
 
--- the run is over, and what is on the drive then isn't known
-abbrev pub IsLostStatus : RunStatus → Type 0
-IsLostStatus (Panic active listed) = Unit {0}
-IsLostStatus NumbersSpent = Unit {0}
-IsLostStatus other = ⊥
-
-abbrev pub IsLostTurn : Turn → Type 0
-IsLostTurn (On r) = ⊥
-IsLostTurn (Over status) = IsLostStatus status
-
 -- the lines of a run from that state on
 pub record LinesRun (here : Failures) (host : Host) (old : State) (refused : Bool) (script : Script) (status : RunStatus) (t u : Tale) : Type 0 where
   pub more : List ℕ
   pub is_told : told u ≡ told t ++ more
   pub last : Option Kept
-  pub left : Knows host old t → IfSome last (IsLeft host u)
+  pub left : IfSome last (IsLeft host u)
   pub runs : (f : Failures) → IsWithin f here → Runs f host (kept_at old t) refused script more status last

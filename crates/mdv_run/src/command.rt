@@ -4,6 +4,7 @@ ghost use Rattle.mdv_base.specs.declared.drive.SliceName.{SliceName};
 ghost use Rattle.mdv_name.specs.Drive.{IsSliceName, slice_text};
 ghost use Rattle.mdv_run.specs.Grammar.{IsOfGrammar, command_text};
 
+use crate::geometry::strip;
 use mdv_base::SliceName;
 use mdv_engine::Command;
 use mdv_name::parse_plain_slice;
@@ -22,8 +23,8 @@ pub fn read_line(text: &[u8]) -> Option<Command>
     if text == BOOT {
         return Some(Command::Boot);
     }
-    let rest = text.strip_prefix(CREATION)?;
-    match rest.strip_prefix(FORCED) {
+    let rest = strip(CREATION, text)?;
+    match strip(FORCED, rest) {
         Some(slice) => creation(slice, true),
         None => creation(rest, false),
     }

@@ -219,8 +219,8 @@ fn count_before(text: &[u8], byte: u8) -> usize
     text.iter().take_while(|b| **b != byte).count()
 }
 
-// What follows the word at the text's front.
-fn strip<'a>(word: &[u8], text: &'a [u8]) -> Option<&'a [u8]>
+/// What follows the word at the text's front.
+pub fn strip<'a>(word: &[u8], text: &'a [u8]) -> Option<&'a [u8]>
     ensures value { IfSome result (λ rest. text.now ≡ word.now ++ rest.now) }
     ensures none { IfNone result ((rest : List ℕ) → text.now ≡ word.now ++ rest → ⊥) }
 {

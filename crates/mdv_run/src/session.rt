@@ -1,4 +1,4 @@
-ghost use Rattle.std.specs.Prelude.{◌≡◌, ◌<◌, ◌≤◌, ◌+◌, ◌^◌, ◌↔◌, ℕ, List, [], ◌∷◌, map, string_bytes, Some, IfSome, IfNone, IsTrue};
+ghost use Rattle.std.specs.Prelude.{◌≡◌, ◌<◌, ◌≤◌, ◌+◌, ◌^◌, ◌↔◌, ℕ, List, [], ◌∷◌, map, string_bytes, Some, IfSome, IfNone, IsTrue, false};
 ghost use Rattle.mdv_shelf.specs.Tale.{Tale};
 ghost use Rattle.mdv_shelf.specs.Calls.{OnDrive, OnReplies, Keeps};
 ghost use Rattle.mdv_shelf.specs.Moments.{Moments, Ends};
@@ -105,7 +105,7 @@ fn run_lines<B: Bench, I: Source>(engine: &mut Engine, bench: &mut B, script: &m
     requires ready { IsReady engine.old.host (B.sizes bench.old) }
     requires sound { IsSound engine.old.state }
     requires begun { engine.old.state.begun ≡ 0 }
-    ensures runs { (input : List ℕ) → I.left script.old ≡ Some input → Ends (LinesRun (failures (B.faults bench.old) (B.faults bench.new) (I.faults script.old) (I.faults script.new)) engine.old.host engine.old.state false (script_of input) result) (B.tale bench.old) (B.tale bench.new) }
+    ensures runs { (input : List ℕ) → I.left script.old ≡ Some input → Ends (λ t u. Knows engine.old.host engine.old.state t → LinesRun (failures (B.faults bench.old) (B.faults bench.new) (I.faults script.old) (I.faults script.new)) engine.old.host engine.old.state false (script_of input) result t u) (B.tale bench.old) (B.tale bench.new) }
     ensures moments { (input : List ℕ) → I.left script.old ≡ Some input → Moments (LinesMoment engine.old.host (script_of input) engine.old.state) (B.tale bench.old) (B.tale bench.new) }
     ensures causes { HasStatusCause (failures (B.faults bench.old) (B.faults bench.new) (I.faults script.old) (I.faults script.new)) result }
     ensures keeps { Keeps B.sizes B.faults B.rest B.held bench.old bench.new }
@@ -137,7 +137,7 @@ fn take_turn<B: Bench, I: Source>(
     requires ready { IsReady engine.old.host (B.sizes bench.old) }
     requires sound { IsSound engine.old.state }
     requires begun { engine.old.state.begun ≤ reader.old.lines }
-    ensures turns { (lines : Script) → script_before reader.old (I.left script.old) ≡ Some lines → Ends (Turns (failures (B.faults bench.old) (B.faults bench.new) (I.faults script.old) (I.faults script.new)) engine.old.host engine.old.state engine.new.state any_refused lines (script_before reader.new (I.left script.new)) result) (B.tale bench.old) (B.tale bench.new) }
+    ensures turns { (lines : Script) → script_before reader.old (I.left script.old) ≡ Some lines → Ends (λ t u. Knows engine.old.host engine.old.state t → Turns (failures (B.faults bench.old) (B.faults bench.new) (I.faults script.old) (I.faults script.new)) engine.old.host engine.old.state engine.new.state any_refused lines (script_before reader.new (I.left script.new)) result t u) (B.tale bench.old) (B.tale bench.new) }
     ensures moments { (lines : Script) → script_before reader.old (I.left script.old) ≡ Some lines → Moments (LinesMoment engine.old.host lines engine.old.state) (B.tale bench.old) (B.tale bench.new) }
     ensures ran { IsOn result → (lines : Script) → script_before reader.old (I.left script.old) ≡ Some lines → (left : Script) × (script_before reader.new (I.left script.new) ≡ Some left) × Ends (RanTo engine.old.host lines engine.old.state engine.new.state left) (B.tale bench.old) (B.tale bench.new) }
     ensures knows { (IsLostTurn result → ⊥) → Ends (λ t u. Knows engine.old.host engine.old.state t → Knows engine.old.host engine.new.state u) (B.tale bench.old) (B.tale bench.new) }
@@ -166,7 +166,7 @@ fn answer<B: Bench>(engine: &mut Engine, bench: &mut B, line: &[u8]) -> Reply
     requires ready { IsReady engine.old.host (B.sizes bench.old) }
     requires sound { IsSound engine.old.state }
     requires begun { engine.old.state.begun + 1 < 2 ^ 32 }
-    ensures answered { Ends (LineAnswered (Rose (B.faults bench.old (OnDrive 0)) (B.faults bench.new (OnDrive 0))) (Rose (B.faults bench.old OnReplies) (B.faults bench.new OnReplies)) engine.old.host line.now engine.old.state engine.new.state result) (B.tale bench.old) (B.tale bench.new) }
+    ensures answered { Ends (λ t u. Knows engine.old.host engine.old.state t → LineAnswered (Rose (B.faults bench.old (OnDrive 0)) (B.faults bench.new (OnDrive 0))) (Rose (B.faults bench.old OnReplies) (B.faults bench.new OnReplies)) engine.old.host line.now engine.old.state engine.new.state result t u) (B.tale bench.old) (B.tale bench.new) }
     ensures moments { Moments (TurnMoment engine.old.host (makes line.now) engine.old.state) (B.tale bench.old) (B.tale bench.new) }
     ensures turned { IsReplied result → Ends (Turned engine.old.host (makes line.now) engine.old.state engine.new.state) (B.tale bench.old) (B.tale bench.new) }
     ensures knows { (IsLost result → ⊥) → Ends (λ t u. Knows engine.old.host engine.old.state t → Knows engine.old.host engine.new.state u) (B.tale bench.old) (B.tale bench.new) }

@@ -1,4 +1,4 @@
-use Rattle.std.proofs.Common.{true, refl}
+use Rattle.std.proofs.Common.{refl}
 use Rattle.mdv_shelf.proofs.Moments.{moments_weaker}
 use Rattle.mdv_engine.specs.Replies.{text_of}
 use Rattle.mdv_engine.specs.Standing.{TellMoment, TurnMoment}
@@ -8,18 +8,18 @@ use Rattle.mdv_engine.proofs.Knowing.{knows_kept}
 use Rattle.mdv_engine.proofs.engine.Engine.refuse.Goals as goal
 
 pub returns-clause-moments : goal.returns-clause-moments
-returns-clause-moments g c =
+returns-clause-moments g c = λ makes.
     let host = c.args.self.now.host in
     let state = c.args.self.now.state in
-    moments_weaker (TellMoment (text_of (outcome.Refused c.args.refusal.now))) (TurnMoment host true state) _ _
-    (λ t m tell. turn_tell host true state state (outcome.Refused c.args.refusal.now) c.requires (λ not made. absurd (cc not)) t t (carry_none host true state t) (refused_none host true state c.args.refusal.now t) m tell) c.tell.ensures.fronts
+    moments_weaker (TellMoment (text_of (outcome.Refused c.args.refusal.now))) (TurnMoment host makes state) _ _
+    (λ t m tell. turn_tell host makes state state (outcome.Refused c.args.refusal.now) c.requires (λ not made. absurd (cc not)) t t (carry_none host makes state t) (refused_none host makes state c.args.refusal.now t) m tell) c.tell.ensures.fronts
 
 pub returns-clause-turned : goal.returns-clause-turned
-returns-clause-turned g c = λ on t is.
+returns-clause-turned g c = λ makes on t is.
     let host = c.args.self.now.host in
     let state = c.args.self.now.state in
     let end = c.tell.ensures.told t is in
-    (end.0, end.1, turned host true state state _ t t end.0 refl (outcome.Refused c.args.refusal.now) c.requires (λ not made. absurd (cc not)) (refused_none host true state c.args.refusal.now t) c.tell.result on end.2)
+    (end.0, end.1, turned host makes state state _ t t end.0 refl (outcome.Refused c.args.refusal.now) c.requires (λ not made. absurd (cc not)) (refused_none host makes state c.args.refusal.now t) c.tell.result on end.2)
 
 pub returns-clause-knows : goal.returns-clause-knows
 returns-clause-knows g c = λ t is.

@@ -1,0 +1,23 @@
+use Rattle.std.proofs.Common.{◌≡◌, ◌≤◌, ◌-◌, ℕ, List, Some}
+use Rattle.mdv_shelf.specs.Calls.{Keeps}
+use Rattle.mdv_port.specs.Script.{script_before}
+use Rattle.mdv_engine.specs.Home.{IsReady}
+use Rattle.mdv_engine.specs.Line.{IsSound}
+use Rattle.mdv_run.specs.Run.{failures}
+use Rattle.mdv_run.proofs.Went.{SoFar}
+use Rattle.mdv_run.proofs.session.run_lines.Given as goal
+
+abbrev pub invariant-loop-refused : goal.invariant-loop-refused
+invariant-loop-refused g l = record {
+  host : l.engine.host ≡ l.fn.engine.host;
+  ready : IsReady l.engine.host (g.B.Shelf.sizes l.bench);
+  sound : IsSound l.engine.state;
+  begun : l.engine.state.begun ≤ l.reader.lines;
+  limit : l.reader.lines ≤ 1048576;
+  keeps : Keeps g.B.Shelf.sizes g.B.Shelf.faults g.B.Shelf.rest g.B.Shelf.held l.fn.bench l.bench;
+  source : g.I.Source.faults l.fn.script ≤ g.I.Source.faults l.script;
+  so_far : (input : List ℕ) → g.I.Source.left l.fn.script ≡ Some input → SoFar l.engine.host l.fn.engine.state l.engine.state l.any_refused input (script_before l.reader (g.I.Source.left l.script)) (failures (g.B.Shelf.faults l.fn.bench) (g.B.Shelf.faults l.bench) (g.I.Source.faults l.fn.script) (g.I.Source.faults l.script)) (g.B.Shelf.tale l.fn.bench) (g.B.Shelf.tale l.bench);
+}
+
+abbrev pub decreases-loop-refused : goal.decreases-loop-refused
+decreases-loop-refused g l = 1048576 - l.reader.lines

@@ -1,0 +1,150 @@
+use Rattle.std.proofs.Common.{◌≡◌, ℕ, inl, inr, false, List, [], Option, Some, refl, sym, ◌∙◌, ap, subst, arith}
+use Rattle.mdv_port.specs.Script.{Script, line, too_long, script_before, IsTurn}
+use Rattle.mdv_port.specs.declared.reader.LineEnd.TheVariants.{Line, TooLong, End, Spent}
+use Rattle.mdv_shelf.specs.Tale.{Tale}
+use Rattle.mdv_shelf.specs.Calls.{OnDrive, OnReplies}
+use Rattle.mdv_shelf.specs.Moments.{Ends}
+use Rattle.mdv_shelf.proofs.Moments.{moments_none, moments_weaker, ends_both}
+use Rattle.mdv_engine.specs.Line.{kept_at}
+use Rattle.mdv_engine.specs.Standing.{Knows, TurnMoment, Turned}
+use Rattle.mdv_engine.specs.declared.engine.Engine.{Engine}
+use Rattle.mdv_engine.proofs.Executing.{rose_within, content_kept}
+use Rattle.mdv_engine.proofs.Plain.{too_long_plain}
+use Rattle.mdv_run.specs.declared.session.Turn.{Turn}
+use Rattle.mdv_run.specs.declared.status.RunStatus.TheVariants.{ScriptTooLong, ReadFault}
+use Rattle.mdv_run.specs.Grammar.{makes}
+use Rattle.mdv_run.specs.Run.{failures, Runs}
+use Rattle.mdv_run.specs.Turns.{Turns, turn_of}
+use Rattle.mdv_run.specs.Standing.{LinesMoment, RanTo}
+use Rattle.mdv_run.proofs.Lining.{line_moment, long_moment, line_ran, long_ran, lines_start}
+use Rattle.mdv_run.proofs.Leading.{end_is, spent_is, long_is, line_is, leads_line, leads_long, read_fault, on_replied, over_turn, ended_known}
+use Rattle.mdv_run.proofs.session.take_turn.Goals as goal
+
+pub refuse-requires : goal.refuse-requires
+refuse-requires g c = too_long_plain
+
+-- a line
+pub returns-in-Ok-Line-clause-moments : goal.returns-in-Ok-Line-clause-moments
+returns-in-Ok-Line-clause-moments g c = λ lines before.
+    let host = c.args.engine.now.host in
+    let old = c.args.engine.now.state in
+    let reads : IsTurn lines Line c.next.new.self (g.I.Source.left c.next.new.source) = rw c.in-Ok-Line.field-0-is at (c.in-Ok-Line.ensures.reads lines before) in
+    let script = line_is lines c.next.new.self (g.I.Source.left c.next.new.source) reads in
+    let is : lines ≡ line c.line.result.now script.0 = script.1 ∙ ap (λ (l : List ℕ). line l script.0) (sym c.line.ensures.value) in
+    moments_weaker (TurnMoment host (makes c.line.result.now) old) (LinesMoment host lines old) _ _
+    (λ t m turn. subst (λ (s : Script). LinesMoment host s old t m) (sym is) (line_moment host old c.line.result.now script.0 t m turn)) c.answer.ensures.moments
+
+pub returns-in-Ok-Line-clause-ran : goal.returns-in-Ok-Line-clause-ran
+returns-in-Ok-Line-clause-ran g c = λ on lines before.
+    let host = c.args.engine.now.host in
+    let old = c.args.engine.now.state in
+    let new = c.answer.new.engine.state in
+    let reads : IsTurn lines Line c.next.new.self (g.I.Source.left c.next.new.source) = rw c.in-Ok-Line.field-0-is at (c.in-Ok-Line.ensures.reads lines before) in
+    let script = line_is lines c.next.new.self (g.I.Source.left c.next.new.source) reads in
+    let is : lines ≡ line c.line.result.now script.0 = script.1 ∙ ap (λ (l : List ℕ). line l script.0) (sym c.line.ensures.value) in (
+      script.0,
+      script.2,
+      λ t told. (
+      let end = c.answer.ensures.turned (on_replied c.answer.result c.args.any_refused c.turn_of.result c.turn_of.ensures on) t told in
+      (end.0, end.1, subst (λ (s : Script). RanTo host s old new script.0 t end.0) (sym is) (line_ran host old new c.line.result.now script.0 t end.0 end.2))),
+    )
+
+pub returns-in-Ok-Line-clause-turns : goal.returns-in-Ok-Line-clause-turns
+returns-in-Ok-Line-clause-turns g c = λ lines before t told.
+    let host = c.args.engine.now.host in
+    let old = c.args.engine.now.state in
+    let new = c.answer.new.engine.state in
+    let here = failures (g.B.Shelf.faults c.args.bench.now) (g.B.Shelf.faults c.answer.new.bench) (g.I.Source.faults c.args.script.now) (g.I.Source.faults c.next.new.source) in
+    let reads : IsTurn lines Line c.next.new.self (g.I.Source.left c.next.new.source) = rw c.in-Ok-Line.field-0-is at (c.in-Ok-Line.ensures.reads lines before) in
+    let script = line_is lines c.next.new.self (g.I.Source.left c.next.new.source) reads in
+    let is : lines ≡ line c.line.result.now script.0 = script.1 ∙ ap (λ (l : List ℕ). line l script.0) (sym c.line.ensures.value) in
+    let end = c.answer.ensures.answered t told in (
+      end.0,
+      end.1,
+      λ knows. subst (λ (turn : Turn). Turns here host old new c.args.any_refused lines (script_before c.next.new.self (g.I.Source.left c.next.new.source)) turn t end.0) (sym c.turn_of.ensures)
+          (leads_line here _ _ host old new c.args.any_refused lines script.0 c.line.result.now c.answer.result (script_before c.next.new.self (g.I.Source.left c.next.new.source)) t end.0 is script.2 (λ rose. rose) (λ rose. rose) (end.2 knows)),
+    )
+
+-- a line that was too long
+pub returns-in-Ok-TooLong-clause-moments : goal.returns-in-Ok-TooLong-clause-moments
+returns-in-Ok-TooLong-clause-moments g c = λ lines before.
+    let host = c.args.engine.now.host in
+    let old = c.args.engine.now.state in
+    let reads : IsTurn lines TooLong c.next.new.self (g.I.Source.left c.next.new.source) = rw c.in-Ok-TooLong.field-0-is at (c.in-Ok-TooLong.ensures.reads lines before) in
+    let script = long_is lines c.next.new.self (g.I.Source.left c.next.new.source) reads in
+    moments_weaker (TurnMoment host false old) (LinesMoment host lines old) _ _
+    (λ t m turn. subst (λ (s : Script). LinesMoment host s old t m) (sym script.1) (long_moment host old script.0 t m turn)) (c.refuse.ensures.moments false)
+
+pub returns-in-Ok-TooLong-clause-ran : goal.returns-in-Ok-TooLong-clause-ran
+returns-in-Ok-TooLong-clause-ran g c = λ on lines before.
+    let host = c.args.engine.now.host in
+    let old = c.args.engine.now.state in
+    let reads : IsTurn lines TooLong c.next.new.self (g.I.Source.left c.next.new.source) = rw c.in-Ok-TooLong.field-0-is at (c.in-Ok-TooLong.ensures.reads lines before) in
+    let script = long_is lines c.next.new.self (g.I.Source.left c.next.new.source) reads in (
+      script.0,
+      script.2,
+      λ t told. (
+      let end = c.refuse.ensures.turned false (on_replied c.refuse.result c.args.any_refused c.turn_of-in-Ok-TooLong.result c.turn_of-in-Ok-TooLong.ensures on) t told in
+      (end.0, end.1, subst (λ (s : Script). RanTo host s old c.refuse.new.self.state script.0 t end.0) (sym script.1)
+      (subst (λ (e : Engine). RanTo host (too_long script.0) old e.state script.0 t end.0) (sym c.refuse.ensures.same) (long_ran host old old script.0 t end.0 end.2)))),
+    )
+
+pub returns-in-Ok-TooLong-clause-turns : goal.returns-in-Ok-TooLong-clause-turns
+returns-in-Ok-TooLong-clause-turns g c = λ lines before t told.
+    let host = c.args.engine.now.host in
+    let old = c.args.engine.now.state in
+    let here = failures (g.B.Shelf.faults c.args.bench.now) (g.B.Shelf.faults c.refuse.new.bench) (g.I.Source.faults c.args.script.now) (g.I.Source.faults c.next.new.source) in
+    let reads : IsTurn lines TooLong c.next.new.self (g.I.Source.left c.next.new.source) = rw c.in-Ok-TooLong.field-0-is at (c.in-Ok-TooLong.ensures.reads lines before) in
+    let script = long_is lines c.next.new.self (g.I.Source.left c.next.new.source) reads in
+    let end = c.refuse.ensures.told t told in (
+      end.0,
+      end.1,
+      λ knows. subst (λ (turn : Turn). Turns here host old c.refuse.new.self.state c.args.any_refused lines (script_before c.next.new.self (g.I.Source.left c.next.new.source)) turn t end.0) (sym c.turn_of-in-Ok-TooLong.ensures)
+          (subst (λ (e : Engine). Turns here host old e.state c.args.any_refused lines (script_before c.next.new.self (g.I.Source.left c.next.new.source)) (turn_of c.refuse.result c.args.any_refused) t end.0) (sym c.refuse.ensures.same)
+          (leads_long here _ host old c.args.any_refused lines script.0 c.refuse.result (script_before c.next.new.self (g.I.Source.left c.next.new.source)) t end.0 script.1 script.2 (λ rose. rose)
+          (refl, record { state = refl; content = λ block. (end.2.1 0 block refl).last }) end.2.0)),
+    )
+
+-- the end of the script, a limit, and a source that failed
+pub returns-in-Ok-End-clause-moments : goal.returns-in-Ok-End-clause-moments
+returns-in-Ok-End-clause-moments g c = λ lines before. moments_none (LinesMoment c.args.engine.now.host lines c.args.engine.now.state) _ _ refl (λ t. lines_start c.args.engine.now.host lines c.args.engine.now.state t)
+
+pub returns-in-Ok-Spent-clause-moments : goal.returns-in-Ok-Spent-clause-moments
+returns-in-Ok-Spent-clause-moments g c = λ lines before. moments_none (LinesMoment c.args.engine.now.host lines c.args.engine.now.state) _ _ refl (λ t. lines_start c.args.engine.now.host lines c.args.engine.now.state t)
+
+pub returns-in-Err-clause-moments : goal.returns-in-Err-clause-moments
+returns-in-Err-clause-moments g c = λ lines before. moments_none (LinesMoment c.args.engine.now.host lines c.args.engine.now.state) _ _ refl (λ t. lines_start c.args.engine.now.host lines c.args.engine.now.state t)
+
+pub returns-in-Ok-End-clause-turns : goal.returns-in-Ok-End-clause-turns
+returns-in-Ok-End-clause-turns g c = λ lines before t told.
+    let host = c.args.engine.now.host in
+    let state = c.args.engine.now.state in
+    let reads : IsTurn lines End c.next.new.self (g.I.Source.left c.next.new.source) = rw c.in-Ok-End.field-0-is at (c.in-Ok-End.ensures.reads lines before) in
+    let script = end_is lines c.next.new.self (g.I.Source.left c.next.new.source) reads in (
+      t,
+      told,
+      λ knows. over_turn _ host state c.args.any_refused lines (script_before c.next.new.self (g.I.Source.left c.next.new.source)) c.ended.result t (ended_known c.args.any_refused c.ended.result c.ended.ensures)
+          (λ f within. subst (λ (x : Script). Runs f host (kept_at state t) c.args.any_refused x [] c.ended.result (Some (kept_at state t))) (sym script) (inr (record { silent = refl; ended = c.ended.ensures; keeps = refl }))),
+    )
+
+pub returns-in-Ok-Spent-clause-turns : goal.returns-in-Ok-Spent-clause-turns
+returns-in-Ok-Spent-clause-turns g c = λ lines before t told.
+    let host = c.args.engine.now.host in
+    let state = c.args.engine.now.state in
+    let reads : IsTurn lines (Spent c.in-Ok-Spent.lines c.in-Ok-Spent.bytes) c.next.new.self (g.I.Source.left c.next.new.source) = rw c.in-Ok-Spent.field-0-is at (c.in-Ok-Spent.ensures.reads lines before) in
+    let script = spent_is lines c.in-Ok-Spent.lines c.in-Ok-Spent.bytes c.next.new.self (g.I.Source.left c.next.new.source) reads in (
+      t,
+      told,
+      λ knows. over_turn _ host state c.args.any_refused lines (script_before c.next.new.self (g.I.Source.left c.next.new.source)) (ScriptTooLong c.in-Ok-Spent.lines c.in-Ok-Spent.bytes) t (λ lost. lost)
+          (λ f within. subst (λ (x : Script). Runs f host (kept_at state t) c.args.any_refused x [] (ScriptTooLong c.in-Ok-Spent.lines c.in-Ok-Spent.bytes) (Some (kept_at state t))) (sym script) (inr (record { silent = refl; ended = refl; keeps = refl }))),
+    )
+
+pub returns-in-Err-clause-turns : goal.returns-in-Err-clause-turns
+returns-in-Err-clause-turns g c = λ lines before t told.
+    let host = c.args.engine.now.host in
+    let state = c.args.engine.now.state in (
+      t,
+      told,
+      λ knows. over_turn _ host state c.args.any_refused lines (script_before c.next.new.self (g.I.Source.left c.next.new.source)) ReadFault t (λ lost. lost)
+          (λ f within. read_fault f host (kept_at state t) c.args.any_refused lines (rose_within _ _ _ _ within.source_from within.source_to c.in-Err.ensures.cause.failed)),
+    )
