@@ -1,5 +1,5 @@
 -- Where nothing failed, a run has one course.
-use Rattle.std.proofs.Common.{◌≡◌, ◌≢◌, ◌⊎◌, inl, inr, ⊎_elim, ◌≤◌, ◌<◌, ◌+◌, ◌^◌, max, ◌||◌, ℕ, Bool, true, false, refl, sym, ◌∙◌, ap, subst, List, [], ◌++◌, drop, take, Option, Some, None, codes, get_or, arith}
+use Rattle.std.proofs.Common.{◌≡◌, ◌≢◌, ◌⊎◌, inl, inr, ⊎_elim, ◌≤◌, ◌<◌, ◌+◌, ◌^◌, max, ℕ, Bool, true, false, refl, sym, ◌∙◌, ap, subst, List, ◌++◌, drop, Option, Some, None, codes, get_or, arith}
 use Rattle.mdv_base.specs.declared.drive.SliceName.{SliceName}
 use Rattle.mdv_base.specs.declared.name.Key.{Key}
 use Rattle.mdv_base.specs.declared.name.Key.TheVariants.{Local}
@@ -19,7 +19,7 @@ use Rattle.mdv_base.specs.declared.mark.Identity.{Identity}
 use Rattle.mdv_replica.proofs.Heads.{one_head}
 use Rattle.mdv_store.specs.declared.database.BootEnd.{BootEnd}
 use Rattle.mdv_store.specs.declared.database.BootEnd.TheVariants.{Adopted, Empty, Down, Lost, Spent}
-use Rattle.mdv_store.specs.Database.{IsReplica, IsBooted, IsFound, IsSame, ShowsAlone, shows, greatest, boot_of}
+use Rattle.mdv_store.specs.Database.{IsReplica, IsBooted, IsSame, ShowsAlone, shows, greatest, boot_of}
 use Rattle.mdv_store.specs.Standing.{rewritten}
 use Rattle.mdv_store.proofs.Images.{same_is}
 use Rattle.mdv_engine.specs.declared.geometry.SmallGeometry.{SmallGeometry}
@@ -31,9 +31,9 @@ use Rattle.mdv_engine.specs.declared.engine.Host.{Host}
 use Rattle.mdv_engine.specs.declared.engine.State.{State}
 use Rattle.mdv_engine.specs.Home.{AtHome, place_of, identity_of}
 use Rattle.mdv_engine.specs.Replies.{ok_line, refusal_line}
-use Rattle.mdv_engine.specs.Line.{Kept, Stays, IsRefused, IsDownWord, MayCreate, IsMade, IsCreation, IsRewritten, BootsTo, IsRebooted, IsCarriedOut, IsTurnedDown, opened}
+use Rattle.mdv_engine.specs.Line.{Kept, Stays, IsRefused, IsDownWord, MayCreate, IsMade, IsCreation, IsRewritten, BootsTo, IsRebooted, opened}
 use Rattle.mdv_run.specs.declared.status.RunStatus.{RunStatus}
-use Rattle.mdv_run.specs.declared.status.RunStatus.TheVariants.{Panic, ScriptTooLong, NumbersSpent, WriteFault}
+use Rattle.mdv_run.specs.declared.status.RunStatus.TheVariants.{Panic, ScriptTooLong, NumbersSpent}
 use Rattle.mdv_run.specs.Grammar.{IsOfGrammar, IsCommand, command_text}
 use Rattle.mdv_run.specs.Run.{Failures, IsUndisturbed, Course, Stops, Replies, Follows, Runs, RunsFrom, IsAnswered, IsDone, IsSameEnd, OneCourse, started, drive_failed, source_failed, replies_failed, status_of}
 
@@ -236,14 +236,20 @@ module _ (failed : Type 0) (calm : failed → ⊥) (host : Host) where
       by : (e o : BootEnd) → e ≡ o → AtHome host (λ key at size. IsBooted failed key at size k.content e) → BootsTo host k e a n → BootsTo host j o b m → (a ≡ b) × (a ≡ outcome.Ok → Same host n m)
       by e o equal is to too = here e is to (subst (λ (x : BootEnd). BootsTo host j x b m) (sym equal) too) where
         here : (e : BootEnd) → AtHome host (λ key at size. IsBooted failed key at size k.content e) → BootsTo host k e a n → BootsTo host j e b m → (a ≡ b) × (a ≡ outcome.Ok → Same host n m)
-        here Adopted is to too = (to.0 ∙ sym too.0, λ ok. record {
-          state = to.1 ∙ ap (λ (s : State). record { database = true; down = false; begun = s.begun }) same.state ∙ sym too.1;
-          content = alike_rewritten (Local host.geometry.host) (place_of host.geometry) host.geometry.drive_blocks k.content j.content n.content m.content same.content to.2 too.2;
-        })
-        here Empty is to too = (to.0 ∙ sym too.0, λ ok. record {
-          state = to.1 ∙ ap (λ (s : State). record { database = false; down = false; begun = s.begun }) same.state ∙ sym too.1;
-          content = alike_same (Local host.geometry.host) (place_of host.geometry) host.geometry.drive_blocks k.content j.content n.content m.content same.content to.2 too.2;
-        })
+        here Adopted is to too = (
+          to.0 ∙ sym too.0,
+          λ ok. record {
+            state = to.1 ∙ ap (λ (s : State). record { database = true; down = false; begun = s.begun }) same.state ∙ sym too.1;
+            content = alike_rewritten (Local host.geometry.host) (place_of host.geometry) host.geometry.drive_blocks k.content j.content n.content m.content same.content to.2 too.2;
+          },
+        )
+        here Empty is to too = (
+          to.0 ∙ sym too.0,
+          λ ok. record {
+            state = to.1 ∙ ap (λ (s : State). record { database = false; down = false; begun = s.begun }) same.state ∙ sym too.1;
+            content = alike_same (Local host.geometry.host) (place_of host.geometry) host.geometry.drive_blocks k.content j.content n.content m.content same.content to.2 too.2;
+          },
+        )
         here Down is to too = absurd (calm is)
         here Lost is to too = absurd (calm is)
         here Spent is to too = (to ∙ sym too, λ ok. absurd (cc (sym to ∙ ok)))
@@ -268,13 +274,15 @@ module _ (failed : Type 0) (calm : failed → ⊥) (host : Host) where
       absurd (never_allowed host.geometry j.state slice force second.0 (cause_of host.geometry j.state slice force second.0 second.1) (subst (λ (s : State). MayCreate host.geometry s slice force) same.state first.0))
   one_command_done (Some (Create slice force)) k j n m a b same (inr first) (inr second) =
       let one = made k n a first.1 in
-      let other = made j m b second.1 in
-      (one.0 ∙ sym other.0, λ replied. record {
-        state = one.1.state ∙ ap opened same.state ∙ sym other.1.state;
-        content = alike_by (Local host.geometry.host) (place_of host.geometry) host.geometry.drive_blocks n.content m.content 1
-            (sees_alone (Local host.geometry.host) (place_of host.geometry) host.geometry.drive_blocks (identity_of host k.state.begun) n.content one.1.content)
-            (sees_alone (Local host.geometry.host) (place_of host.geometry) host.geometry.drive_blocks (identity_of host j.state.begun) m.content other.1.content);
-      })
+      let other = made j m b second.1 in (
+        one.0 ∙ sym other.0,
+        λ replied. record {
+          state = one.1.state ∙ ap opened same.state ∙ sym other.1.state;
+          content = alike_by (Local host.geometry.host) (place_of host.geometry) host.geometry.drive_blocks n.content m.content 1
+              (sees_alone (Local host.geometry.host) (place_of host.geometry) host.geometry.drive_blocks (identity_of host k.state.begun) n.content one.1.content)
+              (sees_alone (Local host.geometry.host) (place_of host.geometry) host.geometry.drive_blocks (identity_of host j.state.begun) m.content other.1.content);
+        },
+      )
   one_command_done (Some Boot) k j n m a b same first second =
       let one = one_boot k j n m a b same first second in
       (one.0, λ replied. ⊎_elim (λ ok. one.1 ok) (λ refused. absurd (boot_refuses_nothing k n a refused.0 first refused.1)) replied)

@@ -1,22 +1,21 @@
 -- A whole run: its boot, and the lines behind it.
-use Rattle.std.proofs.Common.{◌≡◌, ℕ, ◌<◌, List, [], ◌++◌, Option, Some, None, IfSome, Result, Ok, Err, refl, sym, ◌∙◌, ap, subst, arith, false}
+use Rattle.std.proofs.Common.{◌≡◌, ℕ, List, [], ◌++◌, Option, Some, None, Err, refl, sym, ◌∙◌, ap, subst, arith, false}
 use Rattle.std.proofs.lemmas.List.{append-nil}
 use Rattle.mdv_port.specs.Script.{Script}
 use Rattle.mdv_shelf.specs.Tale.{Tale, told}
-use Rattle.mdv_store.specs.Log.{Log, Event, log_after_all, IsCourse, Adds, NoCreation}
+use Rattle.mdv_store.specs.Log.{Log, Event, log_after_all, Adds, NoCreation}
 use Rattle.mdv_store.proofs.Logs.{log_after_more, course_more, adds_more, adds_weaker, is_log_after_all}
 use Rattle.mdv_engine.specs.declared.answer.BootRefusal.{BootRefusal}
 use Rattle.mdv_engine.specs.declared.answer.BootRefusal.TheVariants as refusal
 use Rattle.mdv_engine.specs.declared.answer.Answer.TheVariants as outcome
-use Rattle.mdv_engine.specs.declared.engine.Engine.{Engine}
 use Rattle.mdv_engine.specs.declared.engine.Host.{Host}
 use Rattle.mdv_engine.specs.declared.engine.State.{State}
-use Rattle.mdv_engine.specs.Line.{Kept, IsRebooted, HasBootCause, boot_answer, boot_state, kept_at, unbooted}
+use Rattle.mdv_engine.specs.Line.{Kept, IsRebooted, HasBootCause, boot_answer, kept_at, unbooted}
 use Rattle.mdv_engine.specs.Standing.{CoversAt, IsOfRun, BootMoment, BootedTo}
 use Rattle.mdv_engine.proofs.Executing.{rebooted_more}
 use Rattle.mdv_run.specs.declared.status.RunStatus.{RunStatus}
 use Rattle.mdv_run.specs.declared.status.RunStatus.TheVariants.{Panic}
-use Rattle.mdv_run.specs.Run.{Failures, IsLeft, IsWholeRun, HasStatusCause, drive_failed}
+use Rattle.mdv_run.specs.Run.{Failures, IsWholeRun, HasStatusCause, drive_failed}
 use Rattle.mdv_run.specs.Turns.{IsWithin, LinesRun, over_status}
 use Rattle.mdv_run.specs.Standing.{acknowledged, RunMoment, LinesMoment}
 use Rattle.mdv_run.proofs.Acking.{acknowledged_none}
@@ -24,12 +23,34 @@ use Rattle.mdv_run.proofs.Acking.{acknowledged_none}
 -- a run that is over with its boot
 pub whole_over : (f : Failures) (failed : Type 0) (host : Host) (t u : Tale) (script : Script) (tale : Option Tale) (r : BootRefusal) (kept : Kept) → tale ≡ Some u → told u ≡ told t → (failed → drive_failed f)
     → IsRebooted failed host (kept_at (unbooted 0) t) (boot_answer (Err r)) kept → HasBootCause failed (Err r) → IsWholeRun f host t script tale (over_status r)
-whole_over f failed host t u script tale (refusal.Lost active listed) kept is quiet cause rebooted why =
-    (u, is, [], quiet ∙ sym (append-nil (told t)), None, tt, (outcome.Panic, kept, rebooted_more failed (drive_failed f) cause host (kept_at (unbooted 0) t) kept outcome.Panic rebooted,
-    record { silent = refl; ended = λ i. Panic (why.1 i) (why.2 i); keeps = refl }))
-whole_over f failed host t u script tale refusal.Spent kept is quiet cause rebooted why =
-    (u, is, [], quiet ∙ sym (append-nil (told t)), None, tt, (outcome.Spent, kept, rebooted_more failed (drive_failed f) cause host (kept_at (unbooted 0) t) kept outcome.Spent rebooted,
-    record { silent = refl; ended = refl; keeps = refl }))
+whole_over f failed host t u script tale (refusal.Lost active listed) kept is quiet cause rebooted why = (
+  u,
+  is,
+  [],
+  quiet ∙ sym (append-nil (told t)),
+  None,
+  tt,
+  (
+    outcome.Panic,
+    kept,
+    rebooted_more failed (drive_failed f) cause host (kept_at (unbooted 0) t) kept outcome.Panic rebooted,
+    record { silent = refl; ended = λ i. Panic (why.1 i) (why.2 i); keeps = refl },
+  ),
+)
+whole_over f failed host t u script tale refusal.Spent kept is quiet cause rebooted why = (
+  u,
+  is,
+  [],
+  quiet ∙ sym (append-nil (told t)),
+  None,
+  tt,
+  (
+    outcome.Spent,
+    kept,
+    rebooted_more failed (drive_failed f) cause host (kept_at (unbooted 0) t) kept outcome.Spent rebooted,
+    record { silent = refl; ended = refl; keeps = refl },
+  ),
+)
 
 -- a run that goes on to its lines
 pub whole_lines : (f here : Failures) (failed : Type 0) (host : Host) (t u v : Tale) (script : Script) (tale : Option Tale) (state : State) (status : RunStatus) → tale ≡ Some v → told u ≡ told t → (failed → drive_failed f)

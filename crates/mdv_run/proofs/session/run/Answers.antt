@@ -1,14 +1,12 @@
-use Rattle.std.proofs.Common.{◌≡◌, false, refl, sym, ◌∙◌, ap, subst, arith}
-use Rattle.mdv_base.specs.Causes.{Rose}
+use Rattle.std.proofs.Common.{false, sym, ◌∙◌, ap, subst, arith}
 use Rattle.mdv_port.specs.Script.{script_of}
 use Rattle.mdv_shelf.specs.Tale.{Tale, told}
 use Rattle.mdv_shelf.specs.Calls.{OnDrive, OnReplies}
-use Rattle.mdv_shelf.specs.Moments.{Moments, Ends}
+use Rattle.mdv_shelf.specs.Moments.{Moments}
 use Rattle.mdv_shelf.proofs.Moments.{moments_after, moments_weaker, moments_end, some_is}
 use Rattle.mdv_engine.specs.declared.geometry.SmallGeometry.{SmallGeometry}
-use Rattle.mdv_engine.specs.declared.answer.Answer.TheVariants as outcome
 use Rattle.mdv_engine.specs.declared.engine.Host.{Host}
-use Rattle.mdv_engine.specs.Line.{IsRebooted, kept_at, unbooted}
+use Rattle.mdv_engine.specs.Line.{kept_at, unbooted}
 use Rattle.mdv_engine.specs.Standing.{BootMoment, BootedTo, Knows}
 use Rattle.mdv_engine.proofs.Executing.{rose_within}
 use Rattle.mdv_run.specs.declared.status.RunStatus.{RunStatus}
