@@ -1,6 +1,6 @@
 use crate::geometry::{image_of, read};
-use mdv_engine::SmallGeometry;
 use mdv_base::{DriveName, Name, SliceName};
+use mdv_engine::SmallGeometry;
 use std::test::Fail;
 
 #[test]
