@@ -1,22 +1,40 @@
-// How a run goes, by the numbers of its calls: a plain program to hold `run` against. A run looks with
-// three calls and one for each open slot, adopts with eight, formats a place with six, writes a table
-// with six, and tells each reply with one.
+// How a run goes, by the numbers of its calls: a plain program to hold `run` against. A boot looks with
+// three calls and one for each open slot, and adopts with eight. A creation formats a place with six and
+// writes its first table with six. Each reply is told with one.
 use crate::Shown;
+use crate::writes::{Broken, adopted, made};
+use mdv_base::Identity;
 use mdv_run::RunStatus;
 use std::alloc::{AllocError, Global};
 
 pub const OK: &str = "ok\n";
 
-pub const DOWN: &str = "refused E13 WrongState Down\n";
+const BAD_LINE: &str = "refused E1 BadLine\n";
 
-pub const IN_USE: &str = "refused E7 SliceInUse\n";
+const NEED_FORCE: &str = "refused E3 NeedForce\n";
 
-pub const FAULT: &str = "refused E23 IoFault\n";
+const IN_USE: &str = "refused E7 SliceInUse\n";
+
+const DOWN: &str = "refused E13 WrongState Down\n";
+
+const FAULT: &str = "refused E23 IoFault\n";
 
 pub const PANIC: RunStatus = RunStatus::Panic {
     active: 0,
     listed: 1,
 };
+
+/// A line of a script, by its kind.
+#[derive(Clone, Copy, Debug, PartialEq, Eq)]
+pub enum Line {
+    /// A creation with `-f`.
+    Forced,
+    /// A creation without.
+    Unforced,
+    Boot,
+    /// No command.
+    Other,
+}
 
 /// What goes wrong in a run. Calls are counted from 0 at the run's start.
 #[derive(Clone, Copy, Debug, PartialEq, Eq)]
@@ -30,28 +48,24 @@ pub enum Trouble {
     Stop(u64),
 }
 
-/// What a run wrote, whole or in part.
-#[derive(Clone, Copy, Debug, PartialEq, Eq)]
-pub enum Wrote {
-    /// No table.
-    Nothing,
-    /// The table of the run's creation of that number.
-    Creation { number: u32, whole: bool },
-    /// The table under the number that the boot drew.
-    Adoption { whole: bool },
-}
-
 /// How a run ends, what it tells, how many calls it makes and what it writes.
 #[derive(Drop)]
 pub struct Course {
     trouble: Trouble,
+    fresh: u64,
     begun: u32,
+    standing: Standing,
     pub status: RunStatus,
     pub told: String,
     pub calls: u64,
-    pub wrote: Wrote,
-    /// Whether an `ok` was told.
-    pub acknowledged: bool,
+    /// What the place shows by the writes that were answered.
+    pub shown: Option<Shown>,
+    /// The write that failed.
+    pub broken: Option<Broken>,
+    /// How many numbers its boots drew, with their tables written.
+    pub drawn: u64,
+    /// The database whose creation was told.
+    pub promised: Option<Identity>,
 }
 
 // How the run stands between two lines.
@@ -69,6 +83,18 @@ fn open_slots(shown: Option<Shown>) -> u64 {
         None => 0,
         Some(shown) if shown.first.is_some() && shown.second.is_some() => 2,
         Some(_) => 1,
+    }
+}
+
+impl Line {
+    /// The line with its newline.
+    pub fn text(self) -> &'static str {
+        match self {
+            Line::Forced => "metadb -a -f c0t0d0s7\n",
+            Line::Unforced => "metadb -a c0t0d0s7\n",
+            Line::Boot => "boot\n",
+            Line::Other => "boot c0t0d0s7\n",
+        }
     }
 }
 
@@ -109,25 +135,30 @@ impl Trouble {
 }
 
 impl Course {
-    /// The course of a run of so many lines, each a creation, over a place that shows this.
+    /// The course of a run of these lines, over a place that shows this. `fresh` is the run's word.
     pub fn of(
         alloc: Global,
+        fresh: u64,
         shown: Option<Shown>,
-        lines: u32,
+        lines: &[Line],
         trouble: Trouble,
     ) -> Result<Course, AllocError> {
         let mut course = Course {
             trouble,
+            fresh,
             begun: 0,
+            standing: Standing::Down,
             status: RunStatus::Done,
             told: String::new(alloc),
             calls: 0,
-            wrote: Wrote::Nothing,
-            acknowledged: false,
+            shown,
+            broken: None,
+            drawn: 0,
+            promised: None,
         };
-        let mut standing = course.boot(shown);
-        for _ in 0..lines {
-            standing = course.line(standing)?;
+        course.boot();
+        for line in lines {
+            course.line(*line)?;
         }
         Ok(course)
     }
@@ -146,60 +177,93 @@ impl Course {
         }
     }
 
-    fn boot(&mut self, shown: Option<Shown>) -> Standing {
-        if !self.passes(open_slots(shown).saturating_add(3)) {
-            return Standing::Down;
+    fn boot(&mut self) {
+        if !self.passes(open_slots(self.shown).saturating_add(3)) {
+            self.standing = Standing::Down;
+            return;
         }
-        if shown.is_none() {
-            return Standing::Empty;
-        }
-        let whole = self.passes(8);
-        self.wrote = Wrote::Adoption { whole };
-        if whole { Standing::InUse } else { self.panic() }
-    }
-
-    fn line(&mut self, standing: Standing) -> Result<Standing, AllocError> {
-        match standing {
-            Standing::Over => Ok(Standing::Over),
-            Standing::Down => self.reply(DOWN, Standing::Down),
-            Standing::InUse => self.reply(IN_USE, Standing::InUse),
-            Standing::Empty => self.creation(),
+        match self.shown {
+            None => self.standing = Standing::Empty,
+            Some(shown) => self.adopt(&shown),
         }
     }
 
-    fn creation(&mut self) -> Result<Standing, AllocError> {
-        let number = self.begun;
+    fn adopt(&mut self, shown: &Shown) {
+        if !self.passes(8) {
+            self.panic(Broken::Adoption);
+            return;
+        }
+        self.shown = Some(adopted(shown));
+        self.drawn = self.drawn.saturating_add(1);
+        self.standing = Standing::InUse;
+    }
+
+    fn line(&mut self, line: Line) -> Result<(), AllocError> {
+        match (self.standing, line) {
+            (Standing::Over, _) => {}
+            (_, Line::Boot) => self.boot_line()?,
+            (_, Line::Other) => self.refuse(BAD_LINE)?,
+            (Standing::Down, _) => self.refuse(DOWN)?,
+            (Standing::InUse, _) => self.refuse(IN_USE)?,
+            (Standing::Empty, Line::Unforced) => self.refuse(NEED_FORCE)?,
+            (Standing::Empty, Line::Forced) => self.creation()?,
+        }
+        Ok(())
+    }
+
+    // A boot is accepted whatever it found.
+    fn boot_line(&mut self) -> Result<(), AllocError> {
+        self.boot();
+        if self.standing != Standing::Over {
+            self.tell(OK)?;
+        }
+        Ok(())
+    }
+
+    fn creation(&mut self) -> Result<(), AllocError> {
+        let identity = Identity {
+            fresh: self.fresh,
+            number: self.begun,
+        };
         self.begun = self.begun.saturating_add(1);
         if !self.passes(6) {
-            return self.reply(FAULT, Standing::Empty);
+            return self.refuse(FAULT);
         }
-        let whole = self.passes(6);
-        self.wrote = Wrote::Creation { number, whole };
-        if whole {
-            self.reply(OK, Standing::InUse)
-        } else {
-            Ok(self.panic())
+        if !self.passes(6) {
+            self.panic(Broken::Creation(identity));
+            return Ok(());
         }
+        self.shown = Some(made(identity));
+        self.standing = Standing::InUse;
+        if self.tell(OK)? {
+            self.promised = Some(identity);
+        }
+        Ok(())
     }
 
-    fn reply(&mut self, text: &str, standing: Standing) -> Result<Standing, AllocError> {
+    fn refuse(&mut self, text: &str) -> Result<(), AllocError> {
+        if self.tell(text)? {
+            self.status = RunStatus::SomeRefused;
+        }
+        Ok(())
+    }
+
+    // Whether the reply was told.
+    fn tell(&mut self, text: &str) -> Result<bool, AllocError> {
         let fails = self.trouble.fails_reply(self.calls);
         self.calls = self.calls.saturating_add(1);
         if fails {
             self.status = RunStatus::WriteFault;
-            return Ok(Standing::Over);
-        }
-        if text == OK {
-            self.acknowledged = true;
-        } else {
-            self.status = RunStatus::SomeRefused;
+            self.standing = Standing::Over;
+            return Ok(false);
         }
         self.told.push_str(text)?;
-        Ok(standing)
+        Ok(true)
     }
 
-    fn panic(&mut self) -> Standing {
+    fn panic(&mut self, broken: Broken) {
+        self.broken = Some(broken);
         self.status = PANIC;
-        Standing::Over
+        self.standing = Standing::Over;
     }
 }

@@ -7,8 +7,6 @@ mod boot_tests;
 #[cfg(test)]
 mod course;
 #[cfg(test)]
-mod creation_tests;
-#[cfg(test)]
 mod life;
 #[cfg(test)]
 mod life_tests;
@@ -17,7 +15,11 @@ mod reading;
 mod reading_tests;
 #[cfg(test)]
 mod rows;
+#[cfg(test)]
+mod script_tests;
 mod shown;
+#[cfg(test)]
+mod writes;
 
 pub use reading::{PlaceBlocks, read_place};
 pub use shown::Shown;

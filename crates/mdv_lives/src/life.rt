@@ -1,8 +1,9 @@
-// A life: runs over one drive, each with its trouble and its end, held against the plain course of a run
-// and the plain reading of the place.
-use crate::course::{Course, Trouble, Wrote};
+// A life: runs over one drive, each with its script, its trouble and its end, held against the plain course
+// of a run and the plain reading of the place.
+use crate::course::{Course, Line, Trouble};
+use crate::writes::may_show;
 use crate::{PlaceBlocks, Shown, read_place};
-use mdv_base::{DriveNo, Identity, Mark, ZERO_BLOCK};
+use mdv_base::{DriveNo, Identity, ZERO_BLOCK};
 use mdv_port::MemSource;
 use mdv_run::run;
 use mdv_shelf::{MemShelf, Shelf};
@@ -11,8 +12,6 @@ use std::process::Abort;
 use std::test::Fail;
 
 const TABLE: &str = "host alpha\ndrive c0t0d0 8224 alpha disk.img\nslice c0t0d0s7 16 8208 db\n";
-
-const LINE: &str = "metadb -a -f c0t0d0s7\n";
 
 const BLOCKS: u64 = 8224;
 
@@ -36,10 +35,10 @@ pub enum End {
     Drawn(u64),
 }
 
-/// One run: its lines are creations, all alike.
-#[derive(Clone, Copy, Debug, PartialEq, Eq)]
-pub struct Step {
-    pub lines: u32,
+/// One run.
+#[derive(Clone, Copy, Debug)]
+pub struct Step<'a> {
+    pub lines: &'a [Line],
     pub trouble: Trouble,
     pub end: End,
 }
@@ -55,8 +54,8 @@ pub struct Life {
     pub shown: Option<Shown>,
     // the greatest number that was shown
     seen: u64,
-    // the database whose creation was told
-    promised: Option<Identity>,
+    /// The database whose creation was told.
+    pub promised: Option<Identity>,
 }
 
 impl Life {
@@ -93,7 +92,7 @@ impl Life {
         Ok(())
     }
 
-    fn end(&mut self, alloc: Global, step: Step) -> Result<(), Fail> {
+    fn end(&mut self, alloc: Global, step: &Step) -> Result<(), Fail> {
         match step.end {
             End::Quiet => {}
             End::Stable => self.shelf.crash(&[]),
@@ -153,14 +152,21 @@ fn drawn(alloc: Global, seed: u64) -> Result<Vec<u32>, AllocError> {
     Ok(choice)
 }
 
+fn script_of(alloc: Global, lines: &[Line]) -> Result<String, AllocError> {
+    let mut script = String::new(alloc);
+    for line in lines {
+        script.push_str(line.text())?;
+    }
+    Ok(script)
+}
+
 /// Plays a run and its end: the status and the bytes told are those of its course, the place then shows
 /// what that course may leave, and a database that was promised is there.
 pub fn play<R: Abort + AllocGlobal>(rt: &R, life: &mut Life, step: Step) -> Result<Course, Fail> {
     let fresh = life.fresh();
-    let course = Course::of(rt.alloc(), life.shown, step.lines, step.trouble)?;
+    let course = Course::of(rt.alloc(), fresh, life.shown, step.lines, step.trouble)?;
     life.ask(step.trouble)?;
-    let script = LINE.repeat(rt.alloc(), step.lines as usize)?;
-    let mut source = MemSource::new(script.into_bytes());
+    let mut source = MemSource::new(script_of(rt.alloc(), step.lines)?.into_bytes());
     let words = [format!(in rt.alloc(); "alpha")?];
     let status = run(
         &words,
@@ -176,97 +182,35 @@ pub fn play<R: Abort + AllocGlobal>(rt: &R, life: &mut Life, step: Step) -> Resu
     assert!(rt; !life.shelf.short(), "{step:?}");
     life.calls = life.calls.saturating_add(course.calls);
     life.runs = life.runs.saturating_add(1);
-    life.end(rt.alloc(), step)?;
-    let before = life.shown;
+    life.end(rt.alloc(), &step)?;
     life.shown = life.look()?;
     assert!(rt;
-        may_show(before, fresh, course.wrote, life.shown),
-        "{step:?} {before:?} {:?}",
+        may_show(course.shown, course.broken, life.shown),
+        "{step:?} {:?} {:?}",
+        course.shown,
         life.shown
     );
-    expect_promise(rt, life, fresh, &course);
-    expect_numbers(rt, life, course.wrote);
+    expect_promise(rt, life, &course);
+    expect_numbers(rt, life, course.drawn);
     Ok(course)
 }
 
 // A database whose creation was told is the one that is shown from then on.
-fn expect_promise<R: Abort>(rt: &R, life: &mut Life, fresh: u64, course: &Course) {
-    if let Wrote::Creation { number, .. } = course.wrote {
-        if course.acknowledged {
-            life.promised = Some(Identity { fresh, number });
-        }
+fn expect_promise<R: Abort>(rt: &R, life: &mut Life, course: &Course) {
+    if course.promised.is_some() {
+        life.promised = course.promised;
     }
     if life.promised.is_some() {
         assert_eq!(rt; life.shown.map(|shown| shown.identity), life.promised);
     }
 }
 
-// The greatest number never falls, and one that a boot draws is greater than all before.
-fn expect_numbers<R: Abort>(rt: &R, life: &mut Life, wrote: Wrote) {
+// The greatest number rises by one at least with each number that was drawn.
+fn expect_numbers<R: Abort>(rt: &R, life: &mut Life, drawn: u64) {
     let Some(shown) = life.shown else {
         return;
     };
     let greatest = shown.greatest();
-    assert!(rt; greatest >= life.seen);
-    if wrote == (Wrote::Adoption { whole: true }) {
-        assert!(rt; shown.claim > life.seen);
-    }
+    assert!(rt; greatest >= life.seen.saturating_add(drawn));
     life.seen = greatest;
-}
-
-// Whether a place that showed the first may show the last after a run that wrote so.
-fn may_show(before: Option<Shown>, fresh: u64, wrote: Wrote, after: Option<Shown>) -> bool {
-    match (wrote, before) {
-        (Wrote::Nothing, _) => after == before,
-        (Wrote::Creation { number, whole }, _) => {
-            let made = empty_table(Identity { fresh, number });
-            after == Some(made) || (!whole && after.is_none())
-        }
-        (Wrote::Adoption { whole }, Some(before)) => {
-            after.is_some_and(|after| is_adopted(&before, &after, whole))
-        }
-        (Wrote::Adoption { .. }, None) => false,
-    }
-}
-
-fn empty_table(identity: Identity) -> Shown {
-    Shown {
-        identity,
-        claim: 1,
-        first: Some(Mark { boot: 1, count: 0 }),
-        second: None,
-    }
-}
-
-// The newest table is kept. The claim and the other slot are old, new, or the slot is closed; no slot is
-// new before the claim is.
-fn is_adopted(before: &Shown, after: &Shown, whole: bool) -> bool {
-    let number = before.greatest().saturating_add(1);
-    let (kept, spare) = newest_first(before, before);
-    let (kept_after, spare_after) = newest_first(before, after);
-    let claimed = after.claim == number;
-    let written = spare_after
-        == Some(Mark {
-            boot: number,
-            count: 0,
-        });
-    let between = (claimed || after.claim == before.claim)
-        && (spare_after.is_none() || spare_after == spare || (written && claimed));
-    after.identity == before.identity
-        && kept_after == kept
-        && if whole { claimed && written } else { between }
-}
-
-// The marks of a place, that of the slot first which was the newest before.
-fn newest_first(before: &Shown, shown: &Shown) -> (Option<Mark>, Option<Mark>) {
-    let second_is_newest = match (before.first, before.second) {
-        (Some(first), Some(second)) => first.boot < second.boot,
-        (None, Some(_)) => true,
-        _ => false,
-    };
-    if second_is_newest {
-        (shown.second, shown.first)
-    } else {
-        (shown.first, shown.second)
-    }
 }
