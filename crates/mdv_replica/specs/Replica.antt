@@ -1,5 +1,7 @@
--- A replica at its place: what its head says, and what calls on it leave at each moment.
+-- A replica at its place: what its head says, and what calls on it do at each moment.
 use Rattle.std.specs.Prelude.{◌≡◌, ◌⊎◌, ℕ, ◌+◌, ◌-◌, ◌/◌, ◌≤◌, ◌<◌, ◌^◌, List, [], ◌∷◌, length, slice_index_or}
+use Rattle.mdv_base.specs.declared.mark.Identity.{Identity}
+use Rattle.mdv_base.specs.declared.name.Key.{Key}
 use Rattle.mdv_shelf.specs.Tale.{Tale, MayLeave, told}
 use Rattle.mdv_shelf.specs.Area.{range, joined, KeptOutside}
 use Rattle.mdv_shelf.specs.Settle.{IsSettled, IsFixed}
@@ -24,6 +26,10 @@ abbrev pub body_at : PlaceAt → Slot → ℕ
 body_at at First = at.first + 4
 body_at at Second = at.first + 4 + slot_blocks at.place.blocks
 
+-- the same place with this length
+abbrev pub with_blocks : PlaceAt → ℕ → PlaceAt
+with_blocks at blocks = record at { place = record at.place { blocks = blocks } }
+
 -- its drive is one of the shelf's, and has a block
 pub record IsOnDrive (sizes : List ℕ) (at : PlaceAt) : Type 0 where
   pub drive : at.drive.0 < length sizes
@@ -36,6 +42,11 @@ pub record IsPlaced (sizes : List ℕ) (at : PlaceAt) : Type 0 where
   pub least : 16 ≤ at.place.blocks
   pub within : at.first + at.place.blocks ≤ slice_index_or sizes at.drive.0 0
   pub size : slice_index_or sizes at.drive.0 0 < 2 ^ 64
+
+-- the master of this place in a database
+abbrev pub master_of : PlaceAt → Key → Identity → Master
+master_of at key identity =
+    record { identity = identity; key = key; slice = at.place.slice; start = at.place.start; blocks = at.place.blocks; index = at.index; count = at.count }
 
 -- a master names the place where it was read, with a length that a replica may have on a drive of this size
 pub record LiesAt (at : PlaceAt) (size : ℕ) (master : Master) : Type 0 where

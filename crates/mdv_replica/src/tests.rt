@@ -93,7 +93,7 @@ fn shows_what_was_formatted_and_written(rt: HostRuntime) -> Result<(), Fail> {
     assert_eq!(rt; shelf.drives(), 1);
     assert_eq!(rt; shelf.blocks(at.drive), 36);
     assert_eq!(rt; inspect(&mut shelf, at)?, None);
-    format(&mut shelf, at, &master, 258)?;
+    format(&mut shelf, at, &master.key, master.identity, 258)?;
     write_slot(
         &mut shelf,
         at,
