@@ -1,5 +1,5 @@
 -- Counts of calls and blocks that are at most so much.
-use Rattle.std.proofs.Common.{◌≡◌, ℕ, ◌≤◌, Option, arith}
+use Rattle.std.proofs.Common.{ℕ, ◌≤◌, Option, arith}
 use Rattle.mdv_shelf.specs.Calls.{RoseByAtMost, TookAtMost}
 
 at_most_wider : (j k : ℕ) (a b : Option ℕ) → j ≤ k → RoseByAtMost j a b → RoseByAtMost k a b

@@ -13,7 +13,7 @@ mod replica;
 mod tests;
 
 pub use forms::{Gate, Master};
-pub use law::one_head;
+pub use law::{claims_show, formats_show, newest_stays, one_head, slots_show, wipes_show};
 pub use looking::{Seen, inspect};
 pub use page::Page;
 pub use reading::{read_claim, read_gate, read_master};
