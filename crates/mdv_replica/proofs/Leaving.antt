@@ -80,9 +80,12 @@ leaves_settling drive at x t m settling image is = ⊎_elim
 shown_here : (drive at : ℕ) (blocks : List (List ℕ)) (u : Tale) → Shows u drive at blocks → IsSynced drive u → (image : Image) → IsImage u image → (k : ℕ) → k < length blocks → image drive (at + k) ≡ slice_index_or blocks k []
 shown_here drive at blocks u shows synced image is k lt = synced (at + k) (image drive (at + k)) (is.each drive (at + k)) ∙ sym (shows k lt)
 
+pub settled_here : (drive at : ℕ) (blocks : List (List ℕ)) (u : Tale) → IsSettled drive at blocks u → (image : Image) → IsImage u image → (k : ℕ) → k < length blocks → image drive (at + k) ≡ slice_index_or blocks k []
+settled_here drive at blocks u settled = shown_here drive at blocks u settled.shows settled.synced
+
 pub leaves_settled : (drive at : ℕ) (blocks : List (List ℕ)) (t u : Tale) → KeptOutside (range drive at (length blocks)) t u → IsSettled drive at blocks u → Leaves (Overwrites drive at blocks) t u
 leaves_settled drive at blocks t u kept settled image is =
-    came_from (Overwrites drive at blocks) (range drive at (length blocks)) t u kept image is (λ old same. record { elsewhere = same; here = shown_here drive at blocks u settled.shows settled.synced image is })
+    came_from (Overwrites drive at blocks) (range drive at (length blocks)) t u kept image is (λ old same. record { elsewhere = same; here = settled_here drive at blocks u settled image is })
 
 -- blocks that a crash leaves no other way
 fixed_here : (drive at : ℕ) (blocks : List (List ℕ)) (m : Tale) → IsFixed drive at blocks m → (image : Image) → IsImage m image → (k : ℕ) → k < length blocks → image drive (at + k) ≡ slice_index_or blocks k []

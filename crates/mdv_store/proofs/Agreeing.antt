@@ -12,9 +12,9 @@ use Rattle.mdv_replica.specs.declared.replica.Head.{Head}
 use Rattle.mdv_replica.specs.declared.replica.Slot.{Slot}
 use Rattle.mdv_replica.specs.declared.replica.Slot.TheVariants.{First, Second}
 use Rattle.mdv_store.specs.Log.{Version, Log, IsParent}
-use Rattle.mdv_store.specs.Database.{IsReplica, is_open, shows, greatest, boot_of, IsSpare, IsSpareSlot}
+use Rattle.mdv_replica.specs.Form.{is_open, shows, greatest, boot_of, IsSpare, IsSpareSlot, with_slot, with_claim}
+use Rattle.mdv_store.specs.Database.{IsReplica}
 use Rattle.mdv_store.specs.Standing.{IsOfFamily, IsAtLeast, ShowsAtLeast, Agrees}
-use Rattle.mdv_store.proofs.Replicas.{with_slot, with_claim}
 
 pub all_more : (P : Version → Type 0) (v : Version) (older : List Version) → P v → All P older → All P (v ∷ older)
 all_more P v older here behind zero d lt = here
