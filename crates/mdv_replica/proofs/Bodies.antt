@@ -30,9 +30,9 @@ bytes_of_written content at (suc count) (x ∷ blocks) fits are =
     let here : content at ≡ x = ap content (omega arith) ∙ are 0 (omega arith) in (
       behind.0,
       bytes_of_more content at count
-      ∙ ap (λ (l : List ℕ). l ++ bytes_of content (at + 1) count) here
-      ∙ ap (λ (l : List ℕ). x ++ l) behind.1
-      ∙ sym (append_assoc x (concat blocks) behind.0),
+          ∙ ap (λ (l : List ℕ). l ++ bytes_of content (at + 1) count) here
+          ∙ ap (λ (l : List ℕ). x ++ l) behind.1
+          ∙ sym (append_assoc x (concat blocks) behind.0),
     )
 
 pub take-bytes_of_written : (content : ℕ → List ℕ) (at count bytes : ℕ) (blocks : List (List ℕ)) → length blocks ≤ count → bytes ≤ length (concat blocks) → ((k : ℕ) → k < length blocks → content (at + k) ≡ slice_index_or blocks k []) → take bytes (bytes_of content at count) ≡ take bytes (concat blocks)

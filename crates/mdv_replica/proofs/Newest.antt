@@ -1,5 +1,5 @@
 -- The newest table of a replica.
-use Rattle.std.proofs.Common.{◌≡◌, ℕ, Bool, true, false, ◌||◌, refl, sym, ◌∙◌, arith}
+use Rattle.std.proofs.Common.{◌≡◌, ℕ, Bool, true, false, ◌||◌, refl, sym, ◌∙◌, ap, arith}
 use Rattle.mdv_base.specs.Mark.{IsBelow}
 use Rattle.mdv_base.specs.declared.mark.Mark.{Mark}
 use Rattle.mdv_replica.specs.declared.forms.Gate.{Gate}
@@ -54,10 +54,21 @@ above_slot : (head : Head) (slot : Slot) (mark : Mark) (bytes : ℕ) → ((other
 above_slot head First mark bytes above = above_gate mark bytes head.second above
 above_slot head Second mark bytes above = above_gate mark bytes head.first above
 
+open_gate : (newest other : Gate) → IsNewestGate newest other → is_open newest ≡ true
+open_gate Closed other is = absurd is
+open_gate (Open mark bytes) other is = refl
+
+still_shown : (head : Head) (slot : Slot) (gate : Gate) → IsSpareSlot head slot → shows head ≡ true → shows (with_slot head slot gate) ≡ true
+still_shown head First gate spare shown =
+    either_way (is_open head.second) (is_open gate) (ap (λ (b : Bool). b || is_open gate) (open_gate head.second head.first (beside_slot head First spare shown).0))
+still_shown head Second gate spare shown =
+    ap (λ (b : Bool). b || is_open gate) (open_gate head.first head.second (beside_slot head Second spare shown).0)
+
 pub newest_stays : NewestStays
 newest_stays = record {
   one = one_newest;
   beside = λ head slot spare shown. (beside_slot head slot spare shown).0;
   closed = λ head slot spare shown. (beside_slot head slot spare shown).1;
+  shown = still_shown;
   above = above_slot;
 }

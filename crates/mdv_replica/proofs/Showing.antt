@@ -87,8 +87,8 @@ module _ (Counts : Place → List ℕ → Type 0) (at : PlaceAt) (size : ℕ) (o
     slot_others count fits others block from_gate from_body =
         let one = apart_range at.drive.0 (gate_at own slot) block from_gate in
         let other : range at.drive.0 (body_at own slot) count at.drive.0 block ≡ false = ⊎_elim
-            (λ before. before_range at.drive.0 (body_at own slot) count block before)
-            (λ behind. behind_range at.drive.0 (body_at own slot) count block (omega arith)) from_body in
+        (λ before. before_range at.drive.0 (body_at own slot) count block before)
+        (λ behind. behind_range at.drive.0 (body_at own slot) count block (omega arith)) from_body in
         others at.drive.0 block (rw (one, other))
 
     pub readable_closed : (count : ℕ) → count ≤ slot_blocks head.master.blocks → SameOutside (slot_area own slot count) old new → new at.drive.0 (gate_at own slot) ≡ block_of (gate_text Closed) → IsReadable Counts at size (new at.drive.0) (with_slot head slot Closed)
@@ -133,16 +133,16 @@ pub slots_show : SlotsShow
 slots_show = record {
   moments = λ counts at slot mark bytes body size t m table writing.
       leaves_weaker (MayFill at slot mark bytes body) _ t m (λ old new change. (
-      may_fill_outside at slot mark bytes body old new change,
-      λ head length is. slot_shown (Passes counts) at size old new head is slot mark bytes body
-      (subst (λ (p : PlaceAt). IsTable (Passes counts) p mark bytes body) (own_place at head.master.blocks length) table)
-      (subst (λ (p : PlaceAt). MayFill p slot mark bytes body old new) (own_place at head.master.blocks length) change),
+        may_fill_outside at slot mark bytes body old new change,
+        λ head length is. slot_shown (Passes counts) at size old new head is slot mark bytes body
+            (subst (λ (p : PlaceAt). IsTable (Passes counts) p mark bytes body) (own_place at head.master.blocks length) table)
+            (subst (λ (p : PlaceAt). MayFill p slot mark bytes body old new) (own_place at head.master.blocks length) change),
       )) (leaves_slotting at slot mark bytes body t m writing);
   end = λ counts at slot mark bytes body size t u table writing written.
       leaves_weaker (Fills at slot mark bytes body) _ t u (λ old new fills. (
-      fills.elsewhere,
-      λ head length is. readable_filled (Passes counts) at size old new head is slot mark bytes body
-      (subst (λ (p : PlaceAt). IsTable (Passes counts) p mark bytes body) (own_place at head.master.blocks length) table)
-      (subst (λ (p : PlaceAt). Fills p slot mark bytes body old new) (own_place at head.master.blocks length) fills),
+        fills.elsewhere,
+        λ head length is. readable_filled (Passes counts) at size old new head is slot mark bytes body
+            (subst (λ (p : PlaceAt). IsTable (Passes counts) p mark bytes body) (own_place at head.master.blocks length) table)
+            (subst (λ (p : PlaceAt). Fills p slot mark bytes body old new) (own_place at head.master.blocks length) fills),
       )) (leaves_slotted at slot mark bytes body t u writing.outside written);
 }

@@ -9,6 +9,7 @@ use Rattle.mdv_base.specs.declared.place.Place.{Place}
 use Rattle.mdv_shelf.specs.Tale.{Tale}
 use Rattle.mdv_shelf.specs.Area.{range}
 use Rattle.mdv_shelf.specs.Settle.{Settling, IsSettled}
+use Rattle.mdv_replica.specs.declared.forms.Gate.{Gate}
 use Rattle.mdv_replica.specs.declared.forms.Gate.TheVariants.{Closed, Open}
 use Rattle.mdv_replica.specs.declared.replica.PlaceAt.{PlaceAt}
 use Rattle.mdv_replica.specs.declared.replica.Head.{Head}
@@ -82,8 +83,9 @@ pub record SlotsShow : Type 0 where
 pub record NewestStays : Type 0 where
   -- where both slots hold the newest table they have one mark
   pub one : (head : Head) (a b : Slot) (mark other : Mark) (bytes more : ℕ) → IsNewest head a → IsNewest head b → gate_of head a ≡ Open mark bytes → gate_of head b ≡ Open other more → mark ≡ other
-  -- beside a spare slot the other one holds it, also once the spare slot is closed
+  -- beside a spare slot the other one holds it, also once the spare slot is closed; and while that is written, a table is shown
   pub beside : (head : Head) (slot : Slot) → IsSpareSlot head slot → shows head ≡ true → IsNewest head (other_slot slot)
   pub closed : (head : Head) (slot : Slot) → IsSpareSlot head slot → shows head ≡ true → IsNewest (with_slot head slot Closed) (other_slot slot)
+  pub shown : (head : Head) (slot : Slot) (gate : Gate) → IsSpareSlot head slot → shows head ≡ true → shows (with_slot head slot gate) ≡ true
   -- a table under a mark that the other slot has none above of is the newest
   pub above : (head : Head) (slot : Slot) (mark : Mark) (bytes : ℕ) → ((other : Mark) (more : ℕ) → gate_of head (other_slot slot) ≡ Open other more → IsBelow mark other → ⊥) → IsNewest (with_slot head slot (Open mark bytes)) slot

@@ -30,12 +30,6 @@ body_at at Second = at.first + 4 + slot_blocks at.place.blocks
 abbrev pub with_blocks : PlaceAt → ℕ → PlaceAt
 with_blocks at blocks = record at { place = record at.place { blocks = blocks } }
 
--- its drive is one of the shelf's, and has a block
-pub record IsOnDrive (sizes : List ℕ) (at : PlaceAt) : Type 0 where
-  pub drive : at.drive.0 < length sizes
-  pub some : 0 < slice_index_or sizes at.drive.0 0
-  pub size : slice_index_or sizes at.drive.0 0 < 2 ^ 64
-
 -- the place is large enough for a head and ends within the drive
 pub record IsPlaced (sizes : List ℕ) (at : PlaceAt) : Type 0 where
   pub drive : at.drive.0 < length sizes

@@ -12,9 +12,9 @@ use Rattle.mdv_shelf.proofs.Settled.{told_synced, synced_drive}
 use Rattle.mdv_replica.specs.declared.replica.PlaceAt.{PlaceAt}
 use Rattle.mdv_replica.specs.declared.replica.Slot.{Slot}
 use Rattle.mdv_replica.specs.declared.replica.Slot.TheVariants.{First, Second}
-use Rattle.mdv_replica.specs.Replica.{SlotWriting, Formatting, gate_at, body_at, IsOnDrive, IsPlaced, IsFormed, with_blocks}
+use Rattle.mdv_replica.specs.Replica.{SlotWriting, Formatting, gate_at, body_at, IsPlaced, IsFormed, with_blocks}
 use Rattle.mdv_replica.specs.declared.replica.Head.{Head}
-use Rattle.mdv_store.specs.Database.{IsQuiet}
+use Rattle.mdv_store.specs.Database.{IsOnDrive, IsQuiet}
 
 pub quiet_same : (at : PlaceAt) (t : Tale) → IsQuiet at t t
 quiet_same at t = record { outside = kept_outside_same (range at.drive.0 at.first 8192) t; quiet = refl }

@@ -1,5 +1,5 @@
 -- What a drive's blocks say of a database with one place, and what a boot and a creation leave.
-use Rattle.std.specs.Prelude.{◌≡◌, ◌⊎◌, ℕ, ◌+◌, ◌≤◌, ◌<◌, ◌^◌, true, List, [], ◌∷◌, Option, Some, None}
+use Rattle.std.specs.Prelude.{◌≡◌, ◌⊎◌, ℕ, ◌+◌, ◌≤◌, ◌<◌, ◌^◌, true, List, [], ◌∷◌, length, slice_index_or, Option, Some, None}
 use Rattle.mdv_base.specs.declared.mark.Mark.{Mark}
 use Rattle.mdv_base.specs.declared.mark.Identity.{Identity}
 use Rattle.mdv_base.specs.declared.name.Key.{Key}
@@ -19,6 +19,12 @@ use Rattle.mdv_replica.specs.Images.{Image, Leaves, Claims, MayOverwrite, Fills,
 use Rattle.mdv_store.specs.declared.database.BootEnd.{BootEnd}
 use Rattle.mdv_store.specs.declared.database.BootEnd.TheVariants.{Adopted, Empty, Down, Lost, Spent}
 use Rattle.mdv_store.specs.Record.{empty_record, IsRecord}
+
+-- its drive is one of the shelf's, and has a block
+pub record IsOnDrive (sizes : List ℕ) (at : PlaceAt) : Type 0 where
+  pub drive : at.drive.0 < length sizes
+  pub some : 0 < slice_index_or sizes at.drive.0 0
+  pub size : slice_index_or sizes at.drive.0 0 < 2 ^ 64
 
 -- a replica of this database is readable there
 pub record IsReplica (key : Key) (at : PlaceAt) (size : ℕ) (content : ℕ → List ℕ) (head : Head) : Type 0 where

@@ -5,12 +5,12 @@ ghost use Rattle.mdv_shelf.specs.Area.{KeptOutside, nowhere};
 ghost use Rattle.mdv_shelf.specs.Calls.{OnDrive, Keeps, Took};
 ghost use Rattle.mdv_shelf.specs.Moments.{Moments, Ends};
 ghost use Rattle.mdv_shelf.specs.Settle.{IsSynced};
-ghost use Rattle.mdv_replica.specs.Replica.{IsOnDrive, IsPlaced, IsFormed, IsHead, with_blocks};
+ghost use Rattle.mdv_replica.specs.Replica.{IsPlaced, IsFormed, IsHead, with_blocks};
 ghost use Rattle.mdv_replica.specs.Forms.{IsMark};
 ghost use Rattle.mdv_replica.specs.Form.{SlotFits, IsSpareSlot, room_of, text_of, is_open, shows, boot_of, greatest};
 ghost use Rattle.mdv_replica.specs.Images.{Leaves};
 ghost use Rattle.mdv_store.specs.Record.{IsRecord};
-ghost use Rattle.mdv_store.specs.Database.{IsReplica, IsFound, IsBooted, IsSafe, IsQuiet, TakesTable, MayTakeTable, Rewritten, Rewrites};
+ghost use Rattle.mdv_store.specs.Database.{IsOnDrive, IsReplica, IsFound, IsBooted, IsSafe, IsQuiet, TakesTable, MayTakeTable, Rewritten, Rewrites};
 ghost use Rattle.mdv_store.specs.Log.{NoCreation, IsThis};
 ghost use Rattle.mdv_store.specs.Standing.{IsTheReplica, IsAdopted, IsBootedTo, IsCreatedTo, IsRefusal, ShowsNothing, GoesOn, GoesOnTo};
 
