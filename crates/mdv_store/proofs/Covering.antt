@@ -172,11 +172,11 @@ module _ (key : Key) (at : PlaceAt) (size : ℕ) where
       goes_on m rewrites synced = ⊎_elim
           (λ claim. ([], tt, record { tells = refl; issues = tt }, in_claim m claim synced, tt))
           (λ table. (
-          Writing mark (Some parent) ∷ [],
-          ((above, from_parent), tt),
-          record { tells = refl; issues = tt },
-          (λ image is. (let from = table image is in in_table from.2.between image (on_claim_replica from.0 from.2.between from.1 synced from.2.claims) from.2.takes)),
-          tt,
+            Writing mark (Some parent) ∷ [],
+            ((above, from_parent), tt),
+            record { tells = refl; issues = tt },
+            (λ image is. (let from = table image is in in_table from.2.between image (on_claim_replica from.0 from.2.between from.1 synced from.2.claims) from.2.takes)),
+            tt,
           ))
           rewrites
 

@@ -40,9 +40,9 @@ record_fits at slot bytes content least size =
     let front = front_of_body at slot bytes content least in
     let block = content (body_at at slot) in (
       λ is. (
-      let few : bytes ≡ 36 = is.counted in
-      omega arith,
-      front.1 ∙ ap (λ (n : ℕ). take n (block ++ front.0)) is.counted ∙ take-append-le 36 block front.0 (omega arith) ∙ is.spelled,
+        let few : bytes ≡ 36 = is.counted in
+            omega arith,
+        front.1 ∙ ap (λ (n : ℕ). take n (block ++ front.0)) is.counted ∙ take-append-le 36 block front.0 (omega arith) ∙ is.spelled,
       ),
       λ fits.
           let text : take bytes (block ++ front.0) ≡ empty_record at.place = sym front.1 ∙ fits.1 in

@@ -16,9 +16,7 @@ ghost use Rattle.mdv_store.specs.Standing.{IsTheReplica, IsAdopted, IsBootedTo, 
 
 use crate::empty_record::{RECORD_BYTES, is_record, record_block};
 use mdv_base::{Failed, Identity, Key, Mark, NUMBER_LIMIT, Place, ZERO_BLOCK};
-use mdv_replica::{
-    Gate, Head, PlaceAt, Slot, format, inspect, read_body, write_claim, write_slot,
-};
+use mdv_replica::{Gate, Head, PlaceAt, Slot, format, inspect, read_body, write_claim, write_slot};
 use mdv_shelf::Shelf;
 
 /// What a boot came to.
