@@ -1,5 +1,5 @@
 -- From what calls do at each moment to what a crash leaves then.
-use Rattle.std.proofs.Common.{◌≡◌, inl, inr, ⊎_elim, ℕ, zero, suc, ◌+◌, ◌<◌, Bool, true, List, [], ◌∷◌, length, slice_index_or, refl, sym, ◌∙◌, ap, subst, cond, arith}
+use Rattle.std.proofs.Common.{◌≡◌, ◌⊎◌, inl, inr, ⊎_elim, ℕ, zero, suc, ◌+◌, ◌<◌, Bool, true, List, [], ◌∷◌, length, slice_index_or, refl, sym, ◌∙◌, ap, subst, cond, arith}
 use Rattle.std.proofs.lemmas.Bool.Decides.{nat_tests}
 use Rattle.mdv_base.specs.declared.mark.Mark.{Mark}
 use Rattle.mdv_shelf.specs.Tale.{Tale, last, MayLeave, IsImage}
@@ -8,13 +8,13 @@ use Rattle.mdv_shelf.specs.Calls.{Shows}
 use Rattle.mdv_shelf.specs.Settle.{Settling, IsSettled, IsSynced, IsFixed}
 use Rattle.mdv_shelf.proofs.Blocks.{both_ways, last_may_be_left}
 use Rattle.mdv_shelf.proofs.Frame.{settling_one, settled_one}
-use Rattle.mdv_replica.specs.declared.forms.Gate.TheVariants.{Closed, Open}
+use Rattle.mdv_replica.specs.declared.forms.Gate.TheVariants.{Open}
 use Rattle.mdv_replica.specs.declared.forms.Master.{Master}
 use Rattle.mdv_replica.specs.declared.replica.PlaceAt.{PlaceAt}
 use Rattle.mdv_replica.specs.declared.replica.Slot.{Slot}
 use Rattle.mdv_replica.specs.Forms.{master_text, gate_text, block_of}
-use Rattle.mdv_replica.specs.Replica.{starting, between, ending, Formatting, SlotWriting, IsSlotWritten, gate_at, body_at, formatted_rest}
-use Rattle.mdv_replica.specs.Images.{Image, IsSame, SameOutside, Leaves, Overwrites, MayOverwrite, MayFormat, untouched, blanked, formatted, slot_area, Fills, MayFill, closed, filled}
+use Rattle.mdv_replica.specs.Replica.{starting, between, ending, Formatting, SlotWriting, IsSlotWritten, gate_at, body_at, head_area, slot_area, formatted_rest}
+use Rattle.mdv_replica.specs.Images.{Image, IsSame, SameOutside, Leaves, Overwrites, MayFormat, untouched, blanked, formatted, Fills, MayFill, closed, filled}
 
 covers_one : (drive at other block : ℕ) → range drive at 1 other block ≡ true → (other ≡ drive) × (block ≡ at)
 covers_one drive at other block is = (grind (arith, nat_tests), grind (arith, nat_tests))
@@ -70,10 +70,11 @@ one_here : (drive at : ℕ) (x : List ℕ) (new : Image) → new drive at ≡ x 
 one_here drive at x new here zero lt = ap (new drive) (omega arith) ∙ here
 one_here drive at x new here (suc k) lt = absurd (omega arith)
 
-pub leaves_settling : (drive at : ℕ) (x : List ℕ) (t m : Tale) → Settling drive at (x ∷ []) t m → Leaves (MayOverwrite drive at x) t m
+-- one block that is written alone
+pub leaves_settling : (drive at : ℕ) (x : List ℕ) (t m : Tale) → Settling drive at (x ∷ []) t m → Leaves (λ old new. IsSame old new ⊎ Overwrites drive at (x ∷ []) old new) t m
 leaves_settling drive at x t m settling image is = ⊎_elim
     (λ old. (image, image_before drive at t m settling.outside image is old, inl (λ other block. refl)))
-    (λ new. came_from (MayOverwrite drive at x) (range drive at 1) t m settling.outside image is (λ old same. inr (record { elsewhere = same; here = one_here drive at x image new })))
+    (λ new. came_from (λ old new. IsSame old new ⊎ Overwrites drive at (x ∷ []) old new) (range drive at 1) t m settling.outside image is (λ old same. inr (record { elsewhere = same; here = one_here drive at x image new })))
     (settling_one drive at x t m settling (image drive at) (is.each drive at))
 
 -- what stands in the end
@@ -95,9 +96,9 @@ head_here : (drive at : ℕ) (x : List ℕ) (rest : List (List ℕ)) (m : Tale) 
 head_here drive at x rest m image is here fixed zero lt = ap (image drive) (omega arith) ∙ here
 head_here drive at x rest m image is here fixed (suc k) lt = ap (image drive) (omega arith) ∙ fixed_here drive (at + 1) rest m fixed image is k (omega arith)
 
-pub leaves_formatting : (at : PlaceAt) (master : Master) (claim : ℕ) (t m : Tale) → Formatting at (block_of []) (block_of (master_text master)) (formatted_rest claim) t m → Leaves (MayFormat at master claim) t m
+pub leaves_formatting : (at : PlaceAt) (master : Master) (claim : ℕ) (t m : Tale) → Formatting at master claim t m → Leaves (MayFormat at master claim) t m
 leaves_formatting at master claim t m formatting image is =
-    let came = came_from (MayFormat at master claim) (range at.drive.0 at.first 4) t m formatting.outside image is in
+    let came = came_from (MayFormat at master claim) (head_area at) t m formatting.outside image is in
     let text = block_of (master_text master) in
     elim (formatting.stretch) [
       | starting (only, kept) ↦ ⊎_elim
@@ -113,10 +114,7 @@ leaves_formatting at master claim t m formatting image is =
 
 -- a slot
 module _ (at : PlaceAt) (slot : Slot) (mark : Mark) (bytes : ℕ) (body : List (List ℕ)) where
-  abbrev pub Writes : Tale → Tale → Type 0
-  Writes = SlotWriting at.drive.0 (gate_at at slot) (body_at at slot) (block_of (gate_text Closed)) (block_of (gate_text (Open mark bytes))) body
-
-  pub leaves_slotting : (t m : Tale) → Writes t m → Leaves (MayFill at slot mark bytes body) t m
+  pub leaves_slotting : (t m : Tale) → SlotWriting at slot mark bytes body t m → Leaves (MayFill at slot mark bytes body) t m
   leaves_slotting t m writing image is =
       let came = came_from (MayFill at slot mark bytes body) (slot_area at slot (length body)) t m writing.outside image is in
       elim (writing.stretch) [
@@ -131,7 +129,7 @@ module _ (at : PlaceAt) (slot : Slot) (mark : Mark) (bytes : ℕ) (body : List (
             (only (image at.drive.0 (gate_at at slot)) (is.each at.drive.0 (gate_at at slot)))
       ]
 
-  pub leaves_slotted : (t u : Tale) → KeptOutside (slot_area at slot (length body)) t u → IsSlotWritten at.drive.0 (gate_at at slot) (body_at at slot) (block_of (gate_text (Open mark bytes))) body u → Leaves (Fills at slot mark bytes body) t u
+  pub leaves_slotted : (t u : Tale) → KeptOutside (slot_area at slot (length body)) t u → IsSlotWritten at slot mark bytes body u → Leaves (Fills at slot mark bytes body) t u
   leaves_slotted t u kept written image is =
       came_from (Fills at slot mark bytes body) (slot_area at slot (length body)) t u kept image is (λ old same. record {
         elsewhere = same;

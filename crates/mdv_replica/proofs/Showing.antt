@@ -1,5 +1,5 @@
 -- What a place shows of a replica while it is written.
-use Rattle.std.proofs.Common.{◌≡◌, ◌≢◌, ◌⊎◌, inl, inr, ⊎_elim, ℕ, ◌+◌, ◌≤◌, ◌<◌, ◌^◌, false, List, [], ◌∷◌, length, sym, ◌∙◌, ap, subst, arith}
+use Rattle.std.proofs.Common.{◌≡◌, ◌≢◌, ◌⊎◌, inl, inr, ⊎_elim, ℕ, ◌+◌, ◌≤◌, ◌<◌, ◌^◌, false, List, [], length, sym, ◌∙◌, ap, subst, arith}
 use Rattle.std.proofs.lemmas.Bool.Decides.{nat_tests}
 use Rattle.mdv_base.specs.declared.mark.Identity.{Identity}
 use Rattle.mdv_base.specs.declared.mark.Mark.{Mark}
@@ -11,10 +11,10 @@ use Rattle.mdv_replica.specs.declared.forms.Gate.TheVariants.{Closed, Open}
 use Rattle.mdv_replica.specs.declared.replica.PlaceAt.{PlaceAt}
 use Rattle.mdv_replica.specs.declared.replica.Head.{Head}
 use Rattle.mdv_replica.specs.declared.replica.Slot.{Slot}
-use Rattle.mdv_replica.specs.Forms.{master_text, claim_text, gate_text, block_of, IsMaster}
-use Rattle.mdv_replica.specs.Replica.{IsHead, LiesAt, with_blocks, master_of, gate_at, body_at, slot_blocks, formatted_rest}
+use Rattle.mdv_replica.specs.Forms.{claim_text, gate_text, block_of, IsMaster}
+use Rattle.mdv_replica.specs.Replica.{IsHead, LiesAt, with_blocks, master_of, gate_at, body_at, slot_blocks, head_area, slot_area, claim_blocks, blank_master, formatted_blocks}
 use Rattle.mdv_replica.specs.Form.{IsReadable, IsTable, HasNoHead, formatted_head, with_slot, with_claim}
-use Rattle.mdv_replica.specs.Images.{Image, IsSame, SameOutside, Claims, MayOverwrite, Wipes, Formats, MayFormat, untouched, blanked, formatted, slot_area, Fills, MayFill, closed, filled}
+use Rattle.mdv_replica.specs.Images.{Image, IsSame, SameOutside, Claims, MayClaim, Wipes, MayWipe, Formats, MayFormat, untouched, blanked, formatted, Fills, MayFill, closed, filled}
 use Rattle.mdv_replica.specs.Laws.{FormatsShow, WipesShow, ClaimsShow, SlotsShow, Passes}
 use Rattle.mdv_replica.proofs.Heads.{no_blank_master}
 use Rattle.mdv_replica.proofs.Leaving.{leaves_weaker, leaves_settling, leaves_settled, leaves_formatting, leaves_slotting, leaves_slotted}
@@ -38,7 +38,7 @@ head_formatted at key identity claim size old new form lies small formats = reco
 }
 
 format_shown : (at : PlaceAt) (key : Key) (identity : Identity) (claim size : ℕ) (old new : Image) → IsMaster (master_of at key identity) → LiesAt at size (master_of at key identity) → claim < 2 ^ 63 → MayFormat at (master_of at key identity) claim old new
-    → SameOutside (range at.drive.0 at.first 4) old new × (IsSame old new ⊎ (HasNoHead at size (new at.drive.0) ⊎ IsHead at size (new at.drive.0) (formatted_head at key identity claim)))
+    → SameOutside (head_area at) old new × (IsSame old new ⊎ (HasNoHead at size (new at.drive.0) ⊎ IsHead at size (new at.drive.0) (formatted_head at key identity claim)))
 format_shown at key identity claim size old new form lies small (untouched same) = (λ drive block out. same drive block, inl same)
 format_shown at key identity claim size old new form lies small (blanked others blank) = (others, inr (inl (no_head_blank at size (new at.drive.0) blank)))
 format_shown at key identity claim size old new form lies small (formatted formats) = (formats.elsewhere, inr (inr (head_formatted at key identity claim size old new form lies small formats)))
@@ -49,7 +49,7 @@ formats_show = record {
       leaves_weaker (MayFormat at (master_of at key identity) claim) _ t m (λ old new. format_shown at key identity claim size old new form lies small) (leaves_formatting at (master_of at key identity) claim t m formatting);
   end = λ at key identity claim size t u form lies small formatting settled.
       leaves_weaker (Formats at (master_of at key identity) claim) _ t u (λ old new formats. (formats.elsewhere, head_formatted at key identity claim size old new form lies small formats))
-      (leaves_settled at.drive.0 at.first (block_of (master_text (master_of at key identity)) ∷ formatted_rest claim) t u formatting.outside settled);
+      (leaves_settled at.drive.0 at.first (formatted_blocks (master_of at key identity) claim) t u formatting.outside settled);
 }
 
 no_head_wiped : (at : PlaceAt) (size : ℕ) (old new : Image) → Wipes at old new → HasNoHead at size (new at.drive.0)
@@ -58,11 +58,11 @@ no_head_wiped at size old new wipes = no_head_blank at size (new at.drive.0) (ap
 pub wipes_show : WipesShow
 wipes_show = record {
   moments = λ at size t m settling.
-      leaves_weaker (MayOverwrite at.drive.0 at.first (block_of [])) _ t m (λ old new change. ⊎_elim
+      leaves_weaker (MayWipe at) _ t m (λ old new change. ⊎_elim
       (λ same. (λ drive block out. same drive block, inl same)) (λ wipes. (wipes.elsewhere, inr (no_head_wiped at size old new wipes))) change)
       (leaves_settling at.drive.0 at.first (block_of []) t m settling);
   end = λ at size t u settling settled.
-      leaves_weaker (Wipes at) _ t u (λ old new wipes. (wipes.elsewhere, no_head_wiped at size old new wipes)) (leaves_settled at.drive.0 at.first (block_of [] ∷ []) t u settling.outside settled);
+      leaves_weaker (Wipes at) _ t u (λ old new wipes. (wipes.elsewhere, no_head_wiped at size old new wipes)) (leaves_settled at.drive.0 at.first blank_master t u settling.outside settled);
 }
 
 pub apart_range : (drive at block : ℕ) → block ≢ at → range drive at 1 drive block ≡ false
@@ -116,13 +116,13 @@ may_fill_outside at slot mark bytes body old new (filled fills) = fills.elsewher
 pub claims_show : ClaimsShow
 claims_show = record {
   moments = λ counts at number size t m small settling.
-      leaves_weaker (MayOverwrite at.drive.0 (at.first + 1) (block_of (claim_text number))) _ t m (λ old new change. ⊎_elim
+      leaves_weaker (MayClaim at number) _ t m (λ old new change. ⊎_elim
       (λ same. (λ drive block out. same drive block, λ head is. inl (readable_same (Passes counts) at size old new head is same)))
       (λ claims. (claims.elsewhere, λ head is. inr (readable_with_claim (Passes counts) at size old new head is number small claims))) change)
       (leaves_settling at.drive.0 (at.first + 1) (block_of (claim_text number)) t m settling);
   end = λ counts at number size t u small settling settled.
       leaves_weaker (Claims at number) _ t u (λ old new claims. (claims.elsewhere, λ head is. readable_with_claim (Passes counts) at size old new head is number small claims))
-      (leaves_settled at.drive.0 (at.first + 1) (block_of (claim_text number) ∷ []) t u settling.outside settled);
+      (leaves_settled at.drive.0 (at.first + 1) (claim_blocks number) t u settling.outside settled);
 }
 
 -- a replica of that length lies at the place itself

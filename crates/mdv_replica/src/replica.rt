@@ -4,9 +4,8 @@ ghost use Rattle.std.specs.Prelude.{◌≡◌, ◌<◌, ◌≤◌, ◌+◌, ◌^
 ghost use Rattle.mdv_base.specs.Causes.{HasCause};
 ghost use Rattle.mdv_shelf.specs.Calls.{OnDrive, Keeps, Reads, Took, TookAtMost};
 ghost use Rattle.mdv_shelf.specs.Moments.{Moments, Ends};
-ghost use Rattle.mdv_shelf.specs.Settle.{Settling, IsSettled};
-ghost use Rattle.mdv_replica.specs.Forms.{master_text, claim_text, gate_text, block_of, IsMaster, IsMark};
-ghost use Rattle.mdv_replica.specs.Replica.{IsPlaced, Formatting, SlotWriting, IsSlotWritten, gate_at, body_at, slot_blocks, formatted_rest, master_of};
+ghost use Rattle.mdv_replica.specs.Forms.{IsMaster, IsMark};
+ghost use Rattle.mdv_replica.specs.Replica.{IsPlaced, Claiming, IsClaimed, Wiping, IsWiped, Formatting, IsFormatted, SlotWriting, IsSlotWritten, gate_at, body_at, slot_blocks, master_of};
 
 use crate::forms::{Gate, Master, claim_block, gate_block, master_block};
 use mdv_base::{Block, DriveNo, Failed, Identity, Key, Mark, Place, ZERO_BLOCK};
@@ -89,8 +88,8 @@ impl PlaceAt {
 pub fn write_claim<S: Shelf>(shelf: &mut S, at: PlaceAt, number: u64) -> Result<(), Failed>
     requires placed { IsPlaced (S.sizes shelf.old) at }
     requires number { number < 2 ^ 63 }
-    ensures moments { Moments (Settling at.drive.0 (at.first + 1) (block_of (claim_text number) ∷ [])) (S.tale shelf.old) (S.tale shelf.new) }
-    ensures settled { OnOk result (Ends (λ _ u. IsSettled at.drive.0 (at.first + 1) (block_of (claim_text number) ∷ []) u) (S.tale shelf.old) (S.tale shelf.new)) }
+    ensures moments { Moments (Claiming at number) (S.tale shelf.old) (S.tale shelf.new) }
+    ensures settled { OnOk result (Ends (λ _ u. IsClaimed at number u) (S.tale shelf.old) (S.tale shelf.new)) }
     ensures cause { HasCause (S.faults shelf.old (OnDrive at.drive.0)) (S.faults shelf.new (OnDrive at.drive.0)) result }
     ensures counted { OnOk result (Took S.calls S.written shelf.old shelf.new 2 1) }
     ensures counted_at_most { TookAtMost S.calls S.written shelf.old shelf.new 2 1 }
@@ -115,8 +114,8 @@ pub fn write_slot<S: Shelf>(
     requires mark { IsMark mark }
     requires some { 0 < length body.now }
     requires room { length body.now ≤ slot_blocks at.place.blocks }
-    ensures moments { Moments (SlotWriting at.drive.0 (gate_at at slot) (body_at at slot) (block_of (gate_text Gate.Closed)) (block_of (gate_text (Gate.Open mark bytes))) body.now) (S.tale shelf.old) (S.tale shelf.new) }
-    ensures settled { OnOk result (Ends (λ _ u. IsSlotWritten at.drive.0 (gate_at at slot) (body_at at slot) (block_of (gate_text (Gate.Open mark bytes))) body.now u) (S.tale shelf.old) (S.tale shelf.new)) }
+    ensures moments { Moments (SlotWriting at slot mark bytes body.now) (S.tale shelf.old) (S.tale shelf.new) }
+    ensures settled { OnOk result (Ends (λ _ u. IsSlotWritten at slot mark bytes body.now u) (S.tale shelf.old) (S.tale shelf.new)) }
     ensures cause { HasCause (S.faults shelf.old (OnDrive at.drive.0)) (S.faults shelf.new (OnDrive at.drive.0)) result }
     ensures counted { OnOk result (Took S.calls S.written shelf.old shelf.new 6 (2 + length body.now)) }
     ensures counted_at_most { TookAtMost S.calls S.written shelf.old shelf.new 6 (2 + length body.now) }
@@ -147,8 +146,8 @@ pub fn format<S: Shelf>(
 ) -> Result<(), Failed>
     requires placed { IsPlaced (S.sizes shelf.old) at }
     requires number { claim < 2 ^ 63 }
-    ensures moments { Moments (Formatting at (block_of []) (block_of (master_text (master_of at key.now identity))) (formatted_rest claim)) (S.tale shelf.old) (S.tale shelf.new) }
-    ensures settled { OnOk result (Ends (λ _ u. IsSettled at.drive.0 at.first (block_of (master_text (master_of at key.now identity)) ∷ formatted_rest claim) u) (S.tale shelf.old) (S.tale shelf.new)) }
+    ensures moments { Moments (Formatting at (master_of at key.now identity) claim) (S.tale shelf.old) (S.tale shelf.new) }
+    ensures settled { OnOk result (Ends (λ _ u. IsFormatted at (master_of at key.now identity) claim u) (S.tale shelf.old) (S.tale shelf.new)) }
     ensures master { IsMaster (master_of at key.now identity) }
     ensures cause { HasCause (S.faults shelf.old (OnDrive at.drive.0)) (S.faults shelf.new (OnDrive at.drive.0)) result }
     ensures counted { OnOk result (Took S.calls S.written shelf.old shelf.new 6 5) }
@@ -172,8 +171,8 @@ pub fn format<S: Shelf>(
 /// Blanks the master, so that no replica is readable there.
 pub fn wipe<S: Shelf>(shelf: &mut S, at: PlaceAt) -> Result<(), Failed>
     requires { IsPlaced (S.sizes shelf.old) at }
-    ensures moments { Moments (Settling at.drive.0 at.first (block_of [] ∷ [])) (S.tale shelf.old) (S.tale shelf.new) }
-    ensures settled { OnOk result (Ends (λ _ u. IsSettled at.drive.0 at.first (block_of [] ∷ []) u) (S.tale shelf.old) (S.tale shelf.new)) }
+    ensures moments { Moments (Wiping at) (S.tale shelf.old) (S.tale shelf.new) }
+    ensures settled { OnOk result (Ends (λ _ u. IsWiped at u) (S.tale shelf.old) (S.tale shelf.new)) }
     ensures cause { HasCause (S.faults shelf.old (OnDrive at.drive.0)) (S.faults shelf.new (OnDrive at.drive.0)) result }
     ensures counted { OnOk result (Took S.calls S.written shelf.old shelf.new 2 1) }
     ensures counted_at_most { TookAtMost S.calls S.written shelf.old shelf.new 2 1 }

@@ -18,11 +18,11 @@ use Rattle.mdv_replica.specs.declared.replica.PlaceAt.{PlaceAt}
 use Rattle.mdv_replica.specs.declared.replica.Head.{Head}
 use Rattle.mdv_replica.specs.declared.replica.Slot.{Slot}
 use Rattle.mdv_replica.specs.declared.replica.Slot.TheVariants.{First, Second}
-use Rattle.mdv_replica.specs.Forms.{IsMark, claim_text, block_of}
+use Rattle.mdv_replica.specs.Forms.{IsMark}
 use Rattle.mdv_store.specs.Log.{Version, Log, Event, Writing, Written, log_after_all, is_firm, IsAbove, IsParent, IsCourse, Adds, NoCreation}
 use Rattle.mdv_replica.specs.Replica.{with_blocks}
 use Rattle.mdv_replica.specs.Form.{greatest, IsSpareSlot, with_slot, with_claim}
-use Rattle.mdv_replica.specs.Images.{Image, Leaves, Claims, MayOverwrite, untouched, closed, filled}
+use Rattle.mdv_replica.specs.Images.{Image, Leaves, Claims, MayClaim, untouched, closed, filled}
 use Rattle.mdv_replica.proofs.Leaving.{image_synced}
 use Rattle.mdv_store.specs.Database.{IsReplica, IsFound, MayTakeTable, Rewritten, Rewrites}
 use Rattle.mdv_store.specs.declared.database.BootEnd.TheVariants.{Adopted, Empty}
@@ -140,7 +140,7 @@ module _ (key : Key) (at : PlaceAt) (size : ℕ) where
       from_parent : IsParent log.family (Some parent)
       from_parent = parent_of key at size log (last t at.drive.0) head agrees slot spare
 
-      in_claim : (m : Tale) → Leaves (MayOverwrite at.drive.0 (at.first + 1) (block_of (claim_text number))) t m → IsSynced at.drive.0 t → Covers key at size log m
+      in_claim : (m : Tale) → Leaves (MayClaim at number) t m → IsSynced at.drive.0 t → Covers key at size log m
       in_claim m leaves synced image is =
           let from = leaves image is in
           let before = replica_in from.0 from.1 synced in

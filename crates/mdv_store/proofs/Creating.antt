@@ -7,16 +7,15 @@ use Rattle.mdv_base.specs.declared.mark.Mark.{Mark}
 use Rattle.mdv_base.specs.declared.mark.Identity.{Identity}
 use Rattle.mdv_base.specs.declared.name.Key.{Key}
 use Rattle.mdv_shelf.specs.Tale.{Tale, IsImage}
-use Rattle.mdv_shelf.specs.Settle.{IsSettled}
 use Rattle.mdv_replica.specs.declared.forms.Gate.TheVariants.{Closed, Open}
 use Rattle.mdv_replica.specs.declared.forms.Master.{Master}
 use Rattle.mdv_replica.specs.declared.replica.PlaceAt.{PlaceAt}
 use Rattle.mdv_replica.specs.declared.replica.Head.{Head}
 use Rattle.mdv_replica.specs.declared.replica.Slot.TheVariants.{First}
-use Rattle.mdv_replica.specs.Forms.{master_text, gate_text, block_of, IsMaster, IsMark}
-use Rattle.mdv_replica.specs.Replica.{LiesAt, Formatting, formatted_rest, master_of}
+use Rattle.mdv_replica.specs.Forms.{gate_text, block_of, IsMaster, IsMark}
+use Rattle.mdv_replica.specs.Replica.{LiesAt, Formatting, IsFormatted, formatted_blocks, slot_area, master_of}
 use Rattle.mdv_replica.specs.Form.{greatest, boot_of, formatted_head, with_slot}
-use Rattle.mdv_replica.specs.Images.{Image, SameOutside, Leaves, Formats, MayFormat, untouched, blanked, formatted, slot_area, closed, filled}
+use Rattle.mdv_replica.specs.Images.{Image, SameOutside, Leaves, Formats, MayFormat, untouched, blanked, formatted, closed, filled}
 use Rattle.mdv_replica.proofs.Leaving.{leaves_formatting, settled_here}
 use Rattle.mdv_replica.proofs.Showing.{head_formatted}
 use Rattle.mdv_store.specs.Log.{IsThis, Version, Log, Issued, Writing, Written, log_after, is_firm}
@@ -40,22 +39,22 @@ module _ (key : Key) (at : PlaceAt) (size : ℕ) where
   nothing_in master claim old new (blanked others blank) none = found_none_blank key at size (new at.drive.0) blank
   nothing_in master claim old new (formatted formats) none = found_none_closed key at size (new at.drive.0) (formats.here 2 (omega arith)) (formats.here 3 (omega arith))
 
-  pub format_nothing : (master : Master) (claim : ℕ) (t m : Tale) → Formatting at (block_of []) (block_of (master_text master)) (formatted_rest claim) t m → ShowsNothing key at size t → ShowsNothing key at size m
+  pub format_nothing : (master : Master) (claim : ℕ) (t m : Tale) → Formatting at master claim t m → ShowsNothing key at size t → ShowsNothing key at size m
   format_nothing master claim t m formatting none image is =
       let from = leaves_formatting at master claim t m formatting image is in nothing_in master claim from.0 image from.2 (none from.0 from.1)
 
-  pub format_goes_on : (master : Master) (claim : ℕ) (identity : Identity) (t m : Tale) → Formatting at (block_of []) (block_of (master_text master)) (formatted_rest claim) t m → ShowsNothing key at size t → GoesOn key at size (IsThis identity) t m
+  pub format_goes_on : (master : Master) (claim : ℕ) (identity : Identity) (t m : Tale) → Formatting at master claim t m → ShowsNothing key at size t → GoesOn key at size (IsThis identity) t m
   format_goes_on master claim identity t m formatting none log covers =
       ([], tt, record { tells = refl; issues = tt }, nothing_covers key at size log m (not_firm key at size log t covers none) (format_nothing master claim t m formatting none), tt)
 
   -- a format that failed began a creation of which nothing is left
-  pub format_ends_on : (master : Master) (claim : ℕ) (identity : Identity) (t m : Tale) → Formatting at (block_of []) (block_of (master_text master)) (formatted_rest claim) t m → ShowsNothing key at size t → GoesOnTo key at size (IsThis identity) (λ log. is_firm log ≡ false) t m
+  pub format_ends_on : (master : Master) (claim : ℕ) (identity : Identity) (t m : Tale) → Formatting at master claim t m → ShowsNothing key at size t → GoesOnTo key at size (IsThis identity) (λ log. is_firm log ≡ false) t m
   format_ends_on master claim identity t m formatting none log covers =
       (Issued identity ∷ [], (not_firm key at size log t covers none, tt), record { tells = refl; issues = (refl, tt) }, nothing_covers key at size (log_after log (Issued identity)) m refl (format_nothing master claim t m formatting none), refl)
 
   -- once the place is formatted
   module _ (identity : Identity) (form : IsMaster (master_of at key identity)) (lies : LiesAt at size (master_of at key identity)) (u : Tale)
-      (formatted : IsSettled at.drive.0 at.first (block_of (master_text (master_of at key identity)) ∷ formatted_rest 1) u) where
+      (formatted : IsFormatted at (master_of at key identity) 1 u) where
     abbrev pub blank_head : Head
     blank_head = formatted_head at key identity 1
 
@@ -64,7 +63,7 @@ module _ (key : Key) (at : PlaceAt) (size : ℕ) where
 
     -- whatever a crash leaves then is the formatted replica
     formats : (image : Image) → IsImage u image → Formats at (master_of at key identity) 1 image image
-    formats image is = record { elsewhere = λ drive block out. refl; here = settled_here at.drive.0 at.first (block_of (master_text (master_of at key identity)) ∷ formatted_rest 1) u formatted image is }
+    formats image is = record { elsewhere = λ drive block out. refl; here = settled_here at.drive.0 at.first (formatted_blocks (master_of at key identity) 1) u formatted image is }
 
     blank_replica : (image : Image) → IsImage u image → IsReplica key at size (image at.drive.0) blank_head
     blank_replica image is = record {

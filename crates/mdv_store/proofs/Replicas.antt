@@ -12,9 +12,9 @@ use Rattle.mdv_replica.specs.declared.replica.Head.{Head}
 use Rattle.mdv_replica.specs.declared.replica.Slot.{Slot}
 use Rattle.mdv_replica.specs.declared.replica.Slot.TheVariants.{First, Second}
 use Rattle.mdv_replica.specs.Forms.{gate_text, block_of, IsMark}
-use Rattle.mdv_replica.specs.Replica.{slot_blocks, gate_at, body_at, with_blocks}
+use Rattle.mdv_replica.specs.Replica.{slot_blocks, gate_at, body_at, slot_area, with_blocks}
 use Rattle.mdv_replica.specs.Form.{IsReadable, IsTable, is_open, shows, bytes_of, text_of, room_of, with_slot, with_claim}
-use Rattle.mdv_replica.specs.Images.{Image, IsSame, SameOutside, Leaves, Claims, slot_area}
+use Rattle.mdv_replica.specs.Images.{Image, IsSame, SameOutside, Leaves, Claims}
 use Rattle.mdv_replica.proofs.Bodies.{bytes_of_more}
 use Rattle.mdv_replica.proofs.Heads.{closed_only}
 use Rattle.mdv_replica.proofs.Leaving.{leaves_more}

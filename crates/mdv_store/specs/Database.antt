@@ -10,12 +10,12 @@ use Rattle.mdv_replica.specs.declared.replica.PlaceAt.{PlaceAt}
 use Rattle.mdv_replica.specs.declared.replica.Head.{Head}
 use Rattle.mdv_replica.specs.declared.replica.Slot.{Slot}
 use Rattle.mdv_replica.specs.declared.replica.Slot.TheVariants.{First, Second}
-use Rattle.mdv_replica.specs.Forms.{claim_text, block_of}
+use Rattle.mdv_replica.specs.Forms.{block_of}
 pub use Rattle.mdv_replica.specs.Replica.{master_of}
 use Rattle.mdv_replica.specs.Replica.{IsHead, with_blocks}
 pub use Rattle.mdv_replica.specs.Form.{shows, greatest, IsSpareSlot}
 use Rattle.mdv_replica.specs.Form.{SlotFits}
-use Rattle.mdv_replica.specs.Images.{Image, Leaves, Claims, MayOverwrite, Fills, MayFill}
+use Rattle.mdv_replica.specs.Images.{Image, Leaves, Claims, MayClaim, Fills, MayFill}
 use Rattle.mdv_store.specs.declared.database.BootEnd.{BootEnd}
 use Rattle.mdv_store.specs.declared.database.BootEnd.TheVariants.{Adopted, Empty, Down, Lost, Spent}
 use Rattle.mdv_store.specs.Record.{empty_record, IsRecord}
@@ -58,7 +58,7 @@ pub record Rewriting (at : PlaceAt) (slot : Slot) (mark : Mark) (old new : Image
 
 -- while a claim and then a table are written: the claim, or else the slot under the new claim
 abbrev pub Rewrites : PlaceAt → Slot → Mark → Tale → Tale → Type 0
-Rewrites at slot mark t m = Leaves (MayOverwrite at.drive.0 (at.first + 1) (block_of (claim_text mark.boot))) t m ⊎ Leaves (Rewriting at slot mark) t m
+Rewrites at slot mark t m = Leaves (MayClaim at mark.boot) t m ⊎ Leaves (Rewriting at slot mark) t m
 
 -- the blocks show a replica of this identity whose table, under this mark, is the only one
 pub record ShowsAlone (key : Key) (at : PlaceAt) (size : ℕ) (identity : Identity) (mark : Mark) (content : ℕ → List ℕ) : Type 0 where

@@ -1,44 +1,36 @@
-use Rattle.std.proofs.Common.{◌+◌, ◌<◌, length, arith}
+use Rattle.std.proofs.Common.{◌+◌, length, arith}
 use Rattle.mdv_shelf.proofs.Counts.{took_more, at_most_then}
-use Rattle.mdv_replica.specs.Replica.{gate_at, body_at}
-use Rattle.mdv_replica.specs.declared.replica.PlaceAt.{PlaceAt}
-use Rattle.mdv_replica.specs.declared.replica.Slot.{Slot}
-use Rattle.mdv_replica.specs.declared.replica.Slot.TheVariants.{First, Second}
 use Rattle.mdv_replica.proofs.Counted.{took_wider}
 use Rattle.mdv_replica.proofs.Writing.{slot_closes, slot_fills, slot_opens, slot_ends}
 use Rattle.mdv_replica.proofs.replica.write_slot.Goals as goal
 
-apart : (at : PlaceAt) (slot : Slot) → gate_at at slot < body_at at slot
-apart at First = omega arith
-apart at Second = omega arith
-
 pub returns-in_err-settle-clause-moments : goal.returns-in_err-settle-clause-moments
 returns-in_err-settle-clause-moments g c =
-    slot_closes _ _ _ _ _ _ (apart c.args.at c.args.slot) _ _ (rw (c.gate_block_of-gate.ensures, c.gate_block.ensures) at c.settle.ensures.moments)
+    slot_closes c.args.at c.args.slot _ _ _ _ _ (rw (c.gate_block_of-gate.ensures, c.gate_block.ensures) at c.settle.ensures.moments)
 
 pub returns-in_err-settle-2-clause-moments : goal.returns-in_err-settle-2-clause-moments
 returns-in_err-settle-2-clause-moments g c =
-    slot_fills _ _ _ _ _ _ (apart c.args.at c.args.slot) _ _ _
+    slot_fills c.args.at c.args.slot _ _ _ _ _ _
     (rw (c.gate_block_of-gate.ensures, c.gate_block.ensures) at c.settle.ensures.moments) (rw (c.gate_block_of-gate.ensures, c.gate_block.ensures) at c.in_ok-settle.ensures.settled)
     (rw c.body_block_of-first.ensures at c.settle-2.ensures.moments)
 
 pub returns-in_err-settle-3-clause-moments : goal.returns-in_err-settle-3-clause-moments
 returns-in_err-settle-3-clause-moments g c =
-    slot_opens _ _ _ _ _ _ (apart c.args.at c.args.slot) _ _ _ _
+    slot_opens c.args.at c.args.slot _ _ _ _ _ _ _
     (rw (c.gate_block_of-gate.ensures, c.gate_block.ensures) at c.settle.ensures.moments) (rw (c.gate_block_of-gate.ensures, c.gate_block.ensures) at c.in_ok-settle.ensures.settled)
     (rw c.body_block_of-first.ensures at c.settle-2.ensures.moments) (rw c.body_block_of-first.ensures at c.in_ok-settle-2.ensures.settled)
     (rw (c.gate_block_of-gate.ensures, c.gate_block-2.ensures) at c.settle-3.ensures.moments)
 
 pub returns-clause-moments : goal.returns-clause-moments
 returns-clause-moments g c =
-    slot_opens _ _ _ _ _ _ (apart c.args.at c.args.slot) _ _ _ _
+    slot_opens c.args.at c.args.slot _ _ _ _ _ _ _
     (rw (c.gate_block_of-gate.ensures, c.gate_block.ensures) at c.settle.ensures.moments) (rw (c.gate_block_of-gate.ensures, c.gate_block.ensures) at c.in_ok-settle.ensures.settled)
     (rw c.body_block_of-first.ensures at c.settle-2.ensures.moments) (rw c.body_block_of-first.ensures at c.in_ok-settle-2.ensures.settled)
     (rw (c.gate_block_of-gate.ensures, c.gate_block-2.ensures) at c.settle-3.ensures.moments)
 
 pub returns-clause-settled : goal.returns-clause-settled
 returns-clause-settled g c =
-    slot_ends _ _ _ _ _ _ (apart c.args.at c.args.slot) _ _ _ _
+    slot_ends c.args.at c.args.slot _ _ _ _ _ _ _
     (rw (c.gate_block_of-gate.ensures, c.gate_block.ensures) at c.in_ok-settle.ensures.settled) (rw c.body_block_of-first.ensures at c.in_ok-settle-2.ensures.settled)
     (rw (c.gate_block_of-gate.ensures, c.gate_block-2.ensures) at c.settle-3.ensures.moments) (rw (c.gate_block_of-gate.ensures, c.gate_block-2.ensures) at c.in_ok-settle-3.ensures.settled)
 

@@ -1,22 +1,16 @@
 use Rattle.std.proofs.Common.{[], ◌∷◌}
 use Rattle.mdv_shelf.proofs.Moments.{moments_weaker, moments_end, ends_both}
-use Rattle.mdv_replica.specs.declared.forms.Gate.TheVariants.{Closed, Open}
-use Rattle.mdv_replica.specs.Forms.{gate_text, block_of}
-use Rattle.mdv_replica.specs.Replica.{gate_at, body_at}
+use Rattle.mdv_replica.specs.Forms.{block_of}
 use Rattle.mdv_replica.specs.Images.{Leaves}
 use Rattle.mdv_replica.proofs.Leaving.{leaves_slotting, leaves_slotted}
 use Rattle.mdv_store.specs.Record.{empty_record}
 use Rattle.mdv_store.specs.Database.{IsQuiet, MayTakeTable}
-use Rattle.mdv_store.proofs.Quiet.{quiet_slot, slot_within}
+use Rattle.mdv_store.proofs.Quiet.{quiet_slot}
 use Rattle.mdv_store.proofs.database.write_table.Goals as goal
 
 pub returns-in_err-write_slot-clause-moments : goal.returns-in_err-write_slot-clause-moments
 returns-in_err-write_slot-clause-moments g c =
-    let within = slot_within c.args.at c.args.slot c.requires.placed.least c.requires.length in
-    let moments = rw c.record_block.ensures at c.write_slot.ensures.moments in
-    moments_weaker _ (IsQuiet c.args.at) _ _
-    (λ t m. quiet_slot c.args.at (gate_at c.args.at c.args.slot) (body_at c.args.at c.args.slot) (block_of (gate_text Closed)) (block_of (gate_text (Open c.args.mark 36))) (block_of (empty_record c.args.at.place) ∷ []) t m within.gate_low within.gate_high within.body_low within.body_high)
-    moments
+    moments_weaker _ (IsQuiet c.args.at) _ _ (λ t m. quiet_slot c.args.at c.args.slot c.args.mark 36 (block_of (empty_record c.args.at.place)) t m c.requires.placed.least c.requires.length) (rw c.record_block.ensures at c.write_slot.ensures.moments)
 
 pub returns-in_err-write_slot-clause-leaves : goal.returns-in_err-write_slot-clause-leaves
 returns-in_err-write_slot-clause-leaves g c =
@@ -24,11 +18,7 @@ returns-in_err-write_slot-clause-leaves g c =
 
 pub returns-clause-moments : goal.returns-clause-moments
 returns-clause-moments g c =
-    let within = slot_within c.args.at c.args.slot c.requires.placed.least c.requires.length in
-    let moments = rw c.record_block.ensures at c.write_slot.ensures.moments in
-    moments_weaker _ (IsQuiet c.args.at) _ _
-    (λ t m. quiet_slot c.args.at (gate_at c.args.at c.args.slot) (body_at c.args.at c.args.slot) (block_of (gate_text Closed)) (block_of (gate_text (Open c.args.mark 36))) (block_of (empty_record c.args.at.place) ∷ []) t m within.gate_low within.gate_high within.body_low within.body_high)
-    moments
+    moments_weaker _ (IsQuiet c.args.at) _ _ (λ t m. quiet_slot c.args.at c.args.slot c.args.mark 36 (block_of (empty_record c.args.at.place)) t m c.requires.placed.least c.requires.length) (rw c.record_block.ensures at c.write_slot.ensures.moments)
 
 pub returns-clause-leaves : goal.returns-clause-leaves
 returns-clause-leaves g c =
