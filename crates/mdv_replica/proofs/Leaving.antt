@@ -3,7 +3,7 @@ use Rattle.std.proofs.Common.{◌≡◌, ◌⊎◌, inl, inr, ⊎_elim, ℕ, zer
 use Rattle.std.proofs.lemmas.Bool.Decides.{nat_tests}
 use Rattle.mdv_base.specs.declared.mark.Mark.{Mark}
 use Rattle.mdv_shelf.specs.Tale.{Tale, last, MayLeave, IsImage}
-use Rattle.mdv_shelf.specs.Area.{Area, KeptOutside, range, nowhere}
+use Rattle.mdv_shelf.specs.Area.{Area, KeptOutside, range}
 use Rattle.mdv_shelf.specs.Calls.{Shows}
 use Rattle.mdv_shelf.specs.Settle.{Settling, IsSettled, IsSynced, IsFixed}
 use Rattle.mdv_shelf.proofs.Blocks.{both_ways, last_may_be_left}
@@ -57,9 +57,6 @@ pub leaves_more : (First Second : Image → Image → Type 0) (t u m : Tale) →
 leaves_more First Second t u m first second image is =
     let from = second image is in
     let before = first from.0 from.1 in (before.0, before.1, (from.0, before.2, from.2))
-
-pub leaves_same : (t m : Tale) → KeptOutside nowhere t m → Leaves IsSame t m
-leaves_same t m kept image is = (image, record { each = λ drive block. (kept drive block refl).left (image drive block) (is.each drive block) }, λ drive block. refl)
 
 -- a synced drive has what a read gives
 pub image_synced : (drive : ℕ) (t : Tale) → IsSynced drive t → (image : Image) → IsImage t image → image drive ≡ last t drive

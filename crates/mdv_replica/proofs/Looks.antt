@@ -1,5 +1,5 @@
 -- What a look makes of the master, the claim and the gates that it read.
-use Rattle.std.proofs.Common.{◌≡◌, ◌↔◌, inl, inr, ℕ, ◌+◌, ◌<◌, ◌≤◌, ◌-◌, min, Bool, true, false, List, [], length, slice_index_or, Option, Some, None, IfSome, MatchOption, is_some, is_none, refl, sym, ◌∙◌, ap, subst, arith}
+use Rattle.std.proofs.Common.{◌≡◌, ◌↔◌, ℕ, ◌+◌, ◌<◌, ◌≤◌, ◌-◌, min, Bool, true, false, List, [], length, slice_index_or, Option, Some, None, IfSome, MatchOption, is_some, is_none, refl, sym, ◌∙◌, ap, subst, arith}
 use Rattle.mdv_base.specs.declared.flags.Flags.{Flags}
 use Rattle.mdv_base.specs.declared.place.Place.{Place}
 use Rattle.mdv_replica.specs.declared.forms.Master.{Master}
@@ -8,8 +8,8 @@ use Rattle.mdv_replica.specs.declared.looking.ClaimAndGates.{ClaimAndGates}
 use Rattle.mdv_replica.specs.declared.looking.Seen.{Seen}
 use Rattle.mdv_replica.specs.declared.replica.Head.{Head}
 use Rattle.mdv_replica.specs.declared.replica.PlaceAt.{PlaceAt}
-use Rattle.mdv_replica.specs.Replica.{IsHead, IsFormed, with_blocks}
-use Rattle.mdv_replica.specs.Seen.{IsMasterAt, AreClaimAndGates, HasClaimAndGates, IsLook, IsSeen, head_flags}
+use Rattle.mdv_replica.specs.Replica.{IsHead, with_blocks}
+use Rattle.mdv_replica.specs.Seen.{IsMasterAt, AreClaimAndGates, HasClaimAndGates, IsLook, head_flags}
 
 abbrev pub head_with : Master → ClaimAndGates → Head
 head_with master rest = record { master = master; claim = rest.claim; first = rest.first; second = rest.second }
@@ -163,15 +163,3 @@ contents_are first blocks k lt = ap (λ (i : ℕ). slice_index_or blocks i []) (
 -- a look whose read didn't fail tells of no failed read
 pub look_was_read : (at : PlaceAt) (size : ℕ) (content : ℕ → List ℕ) (seen : Seen) → IsLook at size content seen → seen.flags.read_error ≡ true → ⊥
 look_was_read at size content seen look failed = absurd (cc (sym failed ∙ ap (λ (f : Flags). f.read_error) look.letters))
-
--- what a look says of the head
-pub seen_head : (at : PlaceAt) (size : ℕ) (content : ℕ → List ℕ) (seen : Seen) → IsSeen at size content seen → (head : Head) → seen.head ≡ Some head → IsHead at size content head
-seen_head at size content seen (inl unread) head is = absurd (cc (sym is ∙ ap (λ (s : Seen). s.head) unread))
-seen_head at size content seen (inr look) head is = (look.head head).0 is
-
-pub head_seen : (at : PlaceAt) (size : ℕ) (content : ℕ → List ℕ) (seen : Seen) → IsSeen at size content seen → seen.flags.read_error ≡ false → (head : Head) → IsHead at size content head → seen.head ≡ Some head
-head_seen at size content seen (inl unread) read head is = absurd (cc (sym read ∙ ap (λ (s : Seen). s.flags.read_error) unread))
-head_seen at size content seen (inr look) read head is = (look.head head).1 is
-
-pub head_formed : (at : PlaceAt) (size : ℕ) (content : ℕ → List ℕ) (head : Head) → IsHead at size content head → IsFormed at size head
-head_formed at size content head is = record { of_master = is.master; of_place = is.lies; of_claim = is.claim; of_first = is.first; of_second = is.second }

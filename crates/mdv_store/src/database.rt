@@ -294,7 +294,7 @@ fn boot_number(gate: &Gate) -> u64
 }
 
 /// Makes the database: a replica is formatted with claim 1, and the empty table written under the mark
-/// (1, 0). The place has 8192 blocks.
+/// (1, 0).
 pub fn create<S: Shelf>(
     shelf: &mut S,
     at: PlaceAt,
