@@ -11,16 +11,20 @@ use Rattle.mdv_replica.specs.declared.replica.Head.{Head}
 use Rattle.mdv_replica.specs.declared.replica.Slot.{Slot}
 use Rattle.mdv_replica.specs.declared.replica.Slot.TheVariants.{First, Second}
 use Rattle.mdv_store.specs.Log.{Log, is_firm, log_after_all, NoCreation}
-use Rattle.mdv_store.specs.Database.{IsBooted, IsQuiet, IsReplica, IsSame, is_open, shows, greatest}
+use Rattle.mdv_replica.specs.Form.{is_open, shows, greatest}
+use Rattle.mdv_store.specs.Database.{IsBooted, IsQuiet, IsReplica}
 use Rattle.mdv_store.specs.declared.database.BootEnd.{BootEnd}
 use Rattle.mdv_store.specs.Standing.{ShowsNothing, GoesOn, GoesOnTo, IsAdopted, IsBootedTo, rewritten}
 use Rattle.mdv_store.proofs.Covering.{last_image}
 use Rattle.mdv_engine.specs.declared.engine.Host.{Host}
 use Rattle.mdv_engine.specs.declared.engine.State.{State}
 use Rattle.mdv_engine.specs.Home.{AtHome, place_of}
-use Rattle.mdv_engine.specs.Line.{IsRewritten}
+use Rattle.mdv_engine.specs.Line.{IsSame, IsRewritten}
 use Rattle.mdv_engine.specs.Standing.{BootMoment, BootedTo, Knows}
 use Rattle.mdv_engine.proofs.Homes.{at_home}
+
+pub same_is : (old new : ℕ → List ℕ) → IsSame old new → new ≡ old
+same_is old new same = λ i block. same block i
 
 or_true : (b : Bool) → b || true ≡ true
 or_true true = refl

@@ -21,7 +21,7 @@ pub record IsSmall (g : SmallGeometry) : Type 0 where
 
 -- the replica of a creation: 8192 blocks from block 16 of the slice on
 abbrev pub place_of : SmallGeometry → PlaceAt
-place_of g = record { place = record { slice = g.slice; start = 16; blocks = 8192 }; drive = record { 0 = 0 }; first = g.start + 16 }
+place_of g = record { place = record { slice = g.slice; start = 16; blocks = 8192 }; drive = record { 0 = 0 }; first = g.start + 16; index = 0; count = 1 }
 
 -- a fact of a database, by its key, its place and the size of its drive, for the database of this host
 abbrev pub AtHome : Host → (Key → PlaceAt → ℕ → Type 0) → Type 0

@@ -12,7 +12,7 @@ use Rattle.mdv_replica.specs.declared.replica.Head.{Head}
 use Rattle.mdv_replica.specs.declared.replica.Slot.{Slot}
 use Rattle.mdv_store.specs.declared.database.BootEnd.{BootEnd}
 use Rattle.mdv_store.specs.declared.database.BootEnd.TheVariants as boot
-use Rattle.mdv_store.specs.Database.{IsReplica, IsFound, IsBooted, IsSame, IsSpareSlot, ShowsAlone, shows, greatest}
+use Rattle.mdv_store.specs.Database.{IsReplica, IsFound, IsBooted, IsSpareSlot, ShowsAlone, shows, greatest}
 use Rattle.mdv_store.specs.Standing.{rewritten}
 use Rattle.mdv_engine.specs.declared.geometry.SmallGeometry.{SmallGeometry}
 use Rattle.mdv_engine.specs.declared.command.Command.{Command}
@@ -41,6 +41,10 @@ kept_at state t = record { state = state; content = drive_content t }
 -- before a boot there is nothing in memory but how many creations were begun
 abbrev pub unbooted : ℕ → State
 unbooted begun = record { database = false; down = false; begun = begun }
+
+-- each block is as it was
+abbrev pub IsSame : (ℕ → List ℕ) → (ℕ → List ℕ) → Type 0
+IsSame old new = (block : ℕ) → new block ≡ old block
 
 -- all is as it was
 pub record Stays (kept next : Kept) : Type 0 where

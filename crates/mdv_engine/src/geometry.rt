@@ -31,5 +31,7 @@ pub fn place_at(geometry: &SmallGeometry) -> PlaceAt
         },
         drive: DriveNo(0),
         first: geometry.start + u64::from(FIRST_BLOCK),
+        index: 0,
+        count: 1,
     }
 }

@@ -1,4 +1,11 @@
+pub mod Bodies
+pub mod Counted
 pub mod Heads
+pub mod Leaving
+pub mod Looks
+pub mod Newest
 pub mod Pages
 pub mod Parts
+pub mod Readable
+pub mod Showing
 pub mod Writing

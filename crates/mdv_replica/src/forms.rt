@@ -10,7 +10,8 @@
 ghost use Rattle.std.specs.Prelude.{◌≡◌, ◌<◌, ◌≤◌, ◌+◌, ◌^◌, ℕ, List, [], ◌∷◌, ◌++◌, length, Some, IfSome, codes};
 ghost use Rattle.byteorder.specs.Endian.{big_bytes};
 ghost use Rattle.mdv_base.specs.Bytes.{padded_to};
-ghost use Rattle.mdv_replica.specs.Forms.{master_text, key_text, slice_bytes, claim_text, gate_text, block_of, IsMaster, IsGate};
+ghost use Rattle.mdv_base.specs.Name.{IsName};
+ghost use Rattle.mdv_replica.specs.Forms.{master_text, key_text, name_of_key, slice_bytes, claim_text, gate_text, block_of, IsMaster, IsGate};
 
 use crate::cursor::Cursor;
 use crate::page::Page;
@@ -45,7 +46,8 @@ pub enum Gate {
 
 #[tactic(auto, unfolding(crate::specs::Forms::master_text))]
 pub fn master_block(master: &Master) -> Block
-    ensures { result ≡ block_of (master_text master.now) }
+    ensures spelled { result ≡ block_of (master_text master.now) }
+    ensures form { IsMaster master.now }
 {
     let mut page = Page::new();
     page.bytes(MASTER_TEXT);
@@ -55,7 +57,8 @@ pub fn master_block(master: &Master) -> Block
     spell_slice(&mut page, master.slice);
     page.number32(master.start);
     page.number32(master.blocks);
-    page.bytes(&[master.index, master.count]);
+    page.byte(master.index);
+    page.byte(master.count);
     page.into_block()
 }
 
@@ -63,6 +66,7 @@ fn spell_key(page: &mut Page, key: &Key)
     requires { length page.old + 34 ≤ 512 }
     ensures spelled { page.new ≡ page.old ++ key_text key.now }
     ensures size { length page.new ≡ length page.old + 34 }
+    ensures form { IsName (name_of_key key.now) }
 {
     match key {
         Key::Local(name) => spell_name(page, 0, name),
@@ -74,6 +78,7 @@ fn spell_name(page: &mut Page, kind: u8, name: &Name)
     requires { length page.old + 34 ≤ 512 }
     ensures spelled { page.new ≡ page.old ++ kind ∷ length name.now ∷ padded_to 32 name.now }
     ensures size { length page.new ≡ length page.old + 34 }
+    ensures form { IsName name.now }
 {
     let text = name.as_bytes();
     let mut field = [0; 32];
@@ -84,7 +89,11 @@ fn spell_name(page: &mut Page, kind: u8, name: &Name)
 
 fn spell_slice(page: &mut Page, slice: SliceName)
     requires { length page.old + 4 ≤ 512 }
-    ensures { page.new ≡ page.old ++ slice_bytes slice }
+    ensures spelled { page.new ≡ page.old ++ slice_bytes slice }
+    ensures controller { slice.drive.controller < 256 }
+    ensures target { slice.drive.target < 256 }
+    ensures disk { slice.drive.disk < 256 }
+    ensures slice { slice.slice < 256 }
 {
     let drive = slice.drive;
     page.bytes(&[drive.controller, drive.target, drive.disk, slice.slice]);

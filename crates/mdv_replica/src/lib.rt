@@ -5,6 +5,7 @@
 mod cursor;
 mod forms;
 mod law;
+mod looking;
 mod page;
 mod reading;
 mod replica;
@@ -12,10 +13,10 @@ mod replica;
 mod tests;
 
 pub use forms::{Gate, Master};
-pub use law::one_head;
+pub use law::{claims_show, formats_show, newest_stays, one_head, slots_show, wipes_show};
+pub use looking::{Seen, inspect};
 pub use page::Page;
 pub use reading::{read_claim, read_gate, read_master};
 pub use replica::{
-    Head, MAX_BLOCKS, MIN_BLOCKS, PlaceAt, Slot, format, inspect, read_body, write_claim,
-    write_slot,
+    Head, MAX_BLOCKS, MIN_BLOCKS, PlaceAt, Slot, format, read_body, wipe, write_claim, write_slot,
 };

@@ -1,7 +1,10 @@
 use crate::forms::{claim_block, gate_block, master_block};
-use crate::{Gate, Head, Master, PlaceAt, Slot, format, inspect, write_slot};
+use crate::{
+    Gate, Head, Master, PlaceAt, Seen, Slot, format, inspect, read_body, wipe, write_claim,
+    write_slot,
+};
 use mdv_base::{
-    Block, DriveName, DriveNo, Identity, Key, Mark, Name, Place, SliceName, ZERO_BLOCK,
+    Block, DriveName, DriveNo, Flags, Identity, Key, Mark, Name, Place, SliceName, ZERO_BLOCK,
 };
 use mdv_shelf::{MemShelf, Shelf};
 use std::test::Fail;
@@ -73,44 +76,80 @@ fn spells_the_blocks_of_a_head(rt: HostRuntime) -> Result<(), Fail> {
     Ok(())
 }
 
+const PLACE: Place = Place {
+    slice: SLICE,
+    start: 16,
+    blocks: 16,
+};
+
+// A look that found no head there, with these letters.
+fn without_head(flags: Flags) -> Seen {
+    Seen {
+        place: PLACE,
+        flags,
+        head: None,
+    }
+}
+
 #[test]
-fn shows_what_was_formatted_and_written(rt: HostRuntime) -> Result<(), Fail> {
-    let name = Name::new(b"blue").ok_or("blue")?;
+fn tells_what_was_done_to_a_place(rt: HostRuntime) -> Result<(), Fail> {
     let master = Master {
         blocks: 16,
-        ..master(name)
+        ..master(Name::new(b"blue").ok_or("blue")?)
     };
     let at = PlaceAt {
-        place: Place {
-            slice: SLICE,
-            start: 16,
-            blocks: 16,
-        },
+        place: PLACE,
         drive: DriveNo(0),
         first: 20,
+        index: 1,
+        count: 2,
     };
     let mut shelf = MemShelf::new(rt.alloc(), &[36])?;
     assert_eq!(rt; shelf.drives(), 1);
     assert_eq!(rt; shelf.blocks(at.drive), 36);
-    assert_eq!(rt; inspect(&mut shelf, at)?, None);
-    format(&mut shelf, at, &master, 258)?;
-    write_slot(
-        &mut shelf,
-        at,
-        Slot::Second,
-        Mark { boot: 5, count: 9 },
-        700,
-        &[[1; 512]; 2],
-    )?;
-    let want = Head {
-        master,
-        claim: 258,
-        first: Gate::Closed,
-        second: Gate::Open {
-            mark: Mark { boot: 5, count: 9 },
-            bytes: 700,
-        },
+    let blank = Flags {
+        form_fault: true,
+        master_fault: true,
+        ..Flags::default()
     };
-    assert_eq!(rt; inspect(&mut shelf, at)?, Some(want));
+    assert_eq!(rt; inspect(&mut shelf, at), without_head(blank));
+    format(&mut shelf, at, &master.key, master.identity, 258)?;
+    write_claim(&mut shelf, at, 259)?;
+    let mark = Mark { boot: 5, count: 9 };
+    write_slot(&mut shelf, at, Slot::Second, mark, 700, &[[1; 512]; 2])?;
+    let mut body = [ZERO_BLOCK];
+    read_body(&mut shelf, at, Slot::Second, &mut body)?;
+    assert_eq!(rt; body.as_slice(), [[1; 512]].as_slice());
+    let head = Head {
+        master,
+        claim: 259,
+        first: Gate::Closed,
+        second: Gate::Open { mark, bytes: 700 },
+    };
+    let located = Flags {
+        located: true,
+        ..Flags::default()
+    };
+    let want = Seen {
+        place: PLACE,
+        flags: located,
+        head: Some(head),
+    };
+    assert_eq!(rt; inspect(&mut shelf, at), want);
+    wipe(&mut shelf, at)?;
+    let wiped = Flags {
+        master_fault: true,
+        ..Flags::default()
+    };
+    assert_eq!(rt; inspect(&mut shelf, at), without_head(wiped));
+    // The drive's last two blocks are no replica.
+    let end = PlaceAt { first: 34, ..at };
+    assert_eq!(rt; inspect(&mut shelf, end), without_head(blank));
+    shelf.lose(at.drive);
+    let lost = Flags {
+        read_error: true,
+        ..Flags::default()
+    };
+    assert_eq!(rt; inspect(&mut shelf, at), without_head(lost));
     Ok(())
 }

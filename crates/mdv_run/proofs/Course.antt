@@ -19,9 +19,9 @@ use Rattle.mdv_base.specs.declared.mark.Identity.{Identity}
 use Rattle.mdv_replica.proofs.Heads.{one_head}
 use Rattle.mdv_store.specs.declared.database.BootEnd.{BootEnd}
 use Rattle.mdv_store.specs.declared.database.BootEnd.TheVariants.{Adopted, Empty, Down, Lost, Spent}
-use Rattle.mdv_store.specs.Database.{IsReplica, IsBooted, IsSame, ShowsAlone, shows, greatest, boot_of}
+use Rattle.mdv_replica.specs.Form.{shows, greatest, boot_of}
+use Rattle.mdv_store.specs.Database.{IsReplica, IsBooted, ShowsAlone}
 use Rattle.mdv_store.specs.Standing.{rewritten}
-use Rattle.mdv_store.proofs.Images.{same_is}
 use Rattle.mdv_engine.specs.declared.geometry.SmallGeometry.{SmallGeometry}
 use Rattle.mdv_engine.specs.declared.command.Command.{Command}
 use Rattle.mdv_engine.specs.declared.command.Command.TheVariants.{Create, Boot}
@@ -31,7 +31,8 @@ use Rattle.mdv_engine.specs.declared.engine.Host.{Host}
 use Rattle.mdv_engine.specs.declared.engine.State.{State}
 use Rattle.mdv_engine.specs.Home.{AtHome, place_of, identity_of}
 use Rattle.mdv_engine.specs.Replies.{ok_line, refusal_line}
-use Rattle.mdv_engine.specs.Line.{Kept, Stays, IsRefused, IsDownWord, MayCreate, IsMade, IsCreation, IsRewritten, BootsTo, IsRebooted, opened}
+use Rattle.mdv_engine.specs.Line.{Kept, IsSame, Stays, IsRefused, IsDownWord, MayCreate, IsMade, IsCreation, IsRewritten, BootsTo, IsRebooted, opened}
+use Rattle.mdv_engine.proofs.Booting.{same_is}
 use Rattle.mdv_run.specs.declared.status.RunStatus.{RunStatus}
 use Rattle.mdv_run.specs.declared.status.RunStatus.TheVariants.{Panic, ScriptTooLong, NumbersSpent}
 use Rattle.mdv_run.specs.Grammar.{IsOfGrammar, IsCommand, command_text}

@@ -1,5 +1,5 @@
 -- Replicas that agree with a log, and how they go on agreeing.
-use Rattle.std.proofs.Common.{◌≡◌, ◌⊎◌, inl, inr, ⊎_elim, ℕ, suc, zero, ◌≤◌, ◌<◌, max, Bool, true, false, ◌||◌, List, [], ◌∷◌, refl, sym, ◌∙◌, ap, subst, slice_index_or, Option, Some, All, arith}
+use Rattle.std.proofs.Common.{◌≡◌, ◌⊎◌, inl, inr, ⊎_elim, ℕ, suc, zero, ◌≤◌, ◌<◌, max, Bool, true, false, List, [], ◌∷◌, refl, sym, ◌∙◌, ap, subst, slice_index_or, Option, Some, All, arith}
 use Rattle.std.proofs.lemmas.List.Elements.{All-weaker}
 use Rattle.std.proofs.Math.Nat.{le-max_left}
 use Rattle.mdv_base.specs.Mark.{IsBelow}
@@ -12,9 +12,10 @@ use Rattle.mdv_replica.specs.declared.replica.Head.{Head}
 use Rattle.mdv_replica.specs.declared.replica.Slot.{Slot}
 use Rattle.mdv_replica.specs.declared.replica.Slot.TheVariants.{First, Second}
 use Rattle.mdv_store.specs.Log.{Version, Log, IsParent}
-use Rattle.mdv_store.specs.Database.{IsReplica, is_open, shows, greatest, boot_of, IsSpare, IsSpareSlot}
+use Rattle.mdv_replica.specs.Form.{shows, greatest, boot_of, IsNewestGate, IsSpareSlot, gate_of, other_slot, with_slot, with_claim}
+use Rattle.mdv_replica.proofs.Newest.{newest_stays}
+use Rattle.mdv_store.specs.Database.{IsReplica}
 use Rattle.mdv_store.specs.Standing.{IsOfFamily, IsAtLeast, ShowsAtLeast, Agrees}
-use Rattle.mdv_store.proofs.Replicas.{with_slot, with_claim}
 
 pub all_more : (P : Version → Type 0) (v : Version) (older : List Version) → P v → All P older → All P (v ∷ older)
 all_more P v older here behind zero d lt = here
@@ -27,45 +28,26 @@ all_none P k d lt = absurd (omega arith)
 below_more : (a b c : Mark) → (IsBelow b c → ⊥) → IsBelow a c → IsBelow a b
 below_more a b c not below = grind arith
 
--- the slot that isn't spare is open, and no table that the replica shows is above its one
-spare_kept : (spare kept : Gate) → IsSpare spare kept → is_open spare || is_open kept ≡ true
-    → (mark : Mark) × (bytes : ℕ) × (kept ≡ Open mark bytes) × ((other : Mark) → IsAtLeast other spare ⊎ IsAtLeast other kept → IsBelow mark other → ⊥)
-spare_kept Closed Closed fit shown = absurd (cc (shown))
-spare_kept Closed (Open mark bytes) fit shown = (mark, bytes, refl, λ other at_least below. ⊎_elim (λ (none : ⊥). none) (λ known. known below) at_least)
-spare_kept (Open mark bytes) Closed fit shown = absurd fit
-spare_kept (Open mark bytes) (Open newer more) fit shown =
-    (newer, more, refl, λ other at_least below. ⊎_elim (λ known. fit (below_more newer mark other known below)) (λ known. known below) at_least)
-
-abbrev pub kept_gate : Head → Slot → Gate
-kept_gate head First = head.second
-kept_gate head Second = head.first
-
-either_way : (a b : Bool) → a || b ≡ true → b || a ≡ true
-either_way true true is = refl
-either_way true false is = refl
-either_way false true is = refl
-either_way false false is = is
+-- the newest table's slot is open, and no table that the replica shows is above its one
+newest_kept : (kept spare : Gate) → IsNewestGate kept spare → (mark : Mark) × (bytes : ℕ) × (kept ≡ Open mark bytes) × ((other : Mark) → IsAtLeast other kept ⊎ IsAtLeast other spare → IsBelow mark other → ⊥)
+newest_kept Closed spare newest = absurd newest
+newest_kept (Open mark bytes) Closed newest = (mark, bytes, refl, λ other at_least below. ⊎_elim (λ known. known below) (λ (none : ⊥). none) at_least)
+newest_kept (Open mark bytes) (Open older more) newest =
+    (mark, bytes, refl, λ other at_least below. ⊎_elim (λ known. known below) (λ known. newest (below_more mark older other known below)) at_least)
 
 other_side : {A B : Type 0} → A ⊎ B → B ⊎ A
 other_side (inl a) = inr a
 other_side (inr b) = inl b
 
+-- beside a spare slot
 pub kept_open : (head : Head) (slot : Slot) → IsSpareSlot head slot → shows head ≡ true
-    → (mark : Mark) × (bytes : ℕ) × (kept_gate head slot ≡ Open mark bytes) × ((other : Mark) → ShowsAtLeast head other → IsBelow mark other → ⊥)
-kept_open head First spare shown = spare_kept head.first head.second spare shown
-kept_open head Second spare shown =
-    let found = spare_kept head.second head.first spare (either_way (is_open head.first) (is_open head.second) shown) in
-    (found.0, found.1, found.2, λ other at_least. found.3 other (other_side at_least))
+    → (mark : Mark) × (bytes : ℕ) × (gate_of head (other_slot slot) ≡ Open mark bytes) × ((other : Mark) → ShowsAtLeast head other → IsBelow mark other → ⊥)
+kept_open head First spare shown =
+    let kept = newest_kept head.second head.first (newest_stays.beside head First spare shown) in
+    (kept.0, kept.1, kept.2, λ other at_least. kept.3 other (other_side at_least))
+kept_open head Second spare shown = newest_kept head.first head.second (newest_stays.beside head Second spare shown)
 
 -- a new gate in the spare slot hides no table that counts
-pub still_shown : (head : Head) (slot : Slot) (gate : Gate) → IsSpareSlot head slot → shows head ≡ true → shows (with_slot head slot gate) ≡ true
-still_shown head First gate spare shown =
-    let kept = kept_open head First spare shown in
-    either_way (is_open head.second) (is_open gate) (ap (λ (g : Gate). is_open g || is_open gate) kept.2)
-still_shown head Second gate spare shown =
-    let kept = kept_open head Second spare shown in
-    ap (λ (g : Gate). is_open g || is_open gate) kept.2
-
 pub still_at_least : (head : Head) (slot : Slot) (gate : Gate) → IsSpareSlot head slot → shows head ≡ true → (other : Mark) → ShowsAtLeast head other → ShowsAtLeast (with_slot head slot gate) other
 still_at_least head First gate spare shown other at_least =
     let kept = kept_open head First spare shown in
@@ -133,10 +115,10 @@ module _ (key : Key) (at : PlaceAt) (size : ℕ) (log : Log) (old : ℕ → List
     pub slot_agrees : (new : ℕ → List ℕ) (slot : Slot) (gate : Gate) → IsSpareSlot head slot → IsReplica key at size new (with_slot head slot gate) → IsOfFamily next_log.family gate
         → (is_written ≡ true → IsAtLeast mark gate) → Agrees key at size next_log new (with_slot head slot gate)
     slot_agrees new First gate spare is of_gate here =
-        next_agrees new (with_slot head First gate) is refl refl (still_shown head First gate spare agrees.shown) of_gate (of_longer log.family version head.second agrees.of_second)
+        next_agrees new (with_slot head First gate) is refl refl (newest_stays.shown head First gate spare agrees.shown) of_gate (of_longer log.family version head.second agrees.of_second)
         (still_at_least head First gate spare agrees.shown) (λ written. inl (here written))
     slot_agrees new Second gate spare is of_gate here =
-        next_agrees new (with_slot head Second gate) is refl refl (still_shown head Second gate spare agrees.shown) (of_longer log.family version head.first agrees.of_first) of_gate
+        next_agrees new (with_slot head Second gate) is refl refl (newest_stays.shown head Second gate spare agrees.shown) (of_longer log.family version head.first agrees.of_first) of_gate
         (still_at_least head Second gate spare agrees.shown) (λ written. inr (here written))
 
     -- nothing changed but the log

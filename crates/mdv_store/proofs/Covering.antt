@@ -1,5 +1,5 @@
 -- What boots and creations leave of a log.
-use Rattle.std.proofs.Common.{◌≡◌, inl, ⊎_elim, ℕ, ◌+◌, ◌≤◌, ◌<◌, ◌^◌, true, false, List, [], ◌∷◌, refl, sym, ◌∙◌, subst, Option, Some, None, IfSome, All, arith, lit<}
+use Rattle.std.proofs.Common.{◌≡◌, inl, ⊎_elim, ℕ, ◌+◌, ◌≤◌, ◌<◌, ◌^◌, Bool, true, false, List, [], ◌∷◌, refl, sym, ◌∙◌, subst, Option, Some, None, IfSome, All, arith, lit<}
 use Rattle.std.proofs.lemmas.List.Elements.{All-weaker}
 use Rattle.mdv_base.specs.Mark.{IsBelow}
 use Rattle.mdv_base.specs.declared.mark.Mark.{Mark}
@@ -12,18 +12,22 @@ use Rattle.mdv_shelf.specs.Moments.{Moments, Ends}
 use Rattle.mdv_shelf.proofs.Blocks.{last_may_be_left}
 use Rattle.mdv_shelf.proofs.Moments.{moments_end, some_is}
 use Rattle.mdv_store.proofs.Quiet.{if_some_weaker}
+use Rattle.mdv_replica.specs.declared.forms.Gate.{Gate}
 use Rattle.mdv_replica.specs.declared.forms.Gate.TheVariants.{Closed, Open}
 use Rattle.mdv_replica.specs.declared.replica.PlaceAt.{PlaceAt}
 use Rattle.mdv_replica.specs.declared.replica.Head.{Head}
 use Rattle.mdv_replica.specs.declared.replica.Slot.{Slot}
 use Rattle.mdv_replica.specs.declared.replica.Slot.TheVariants.{First, Second}
 use Rattle.mdv_replica.specs.Forms.{IsMark}
-use Rattle.mdv_store.specs.Log.{Version, Log, Event, Writing, Written, log_after, log_after_all, is_firm, IsAbove, IsParent, IsCourse, Adds, NoCreation}
-use Rattle.mdv_store.specs.Database.{IsReplica, IsFound, with_blocks, greatest, IsSpareSlot, IsSame, before, in_work, done, TableImage, ClaimImage, Rewrites, Leaves, claimed, slotted}
+use Rattle.mdv_store.specs.Log.{Version, Log, Event, Writing, Written, log_after_all, is_firm, IsAbove, IsParent, IsCourse, Adds, NoCreation}
+use Rattle.mdv_replica.specs.Replica.{with_blocks}
+use Rattle.mdv_replica.specs.Form.{greatest, IsSpareSlot, with_slot, with_claim}
+use Rattle.mdv_replica.specs.Images.{Image, Leaves, Claims, MayClaim, untouched, closed, filled}
+use Rattle.mdv_replica.proofs.Leaving.{image_synced}
+use Rattle.mdv_store.specs.Database.{IsReplica, IsFound, MayTakeTable, Rewritten, Rewrites}
 use Rattle.mdv_store.specs.declared.database.BootEnd.TheVariants.{Adopted, Empty}
-use Rattle.mdv_store.specs.Standing.{Agrees, Holds, nothing, replica, Covers, ShowsNothing, GoesOnTo, GoesOn, Anything, IsTheReplica, IsAdopted, IsBootedTo, rewritten}
-use Rattle.mdv_store.proofs.Images.{same_is}
-use Rattle.mdv_store.proofs.Replicas.{with_slot, with_claim, claimed_replica, slot_replica, slotted_replica, same_replica}
+use Rattle.mdv_store.specs.Standing.{IsOfFamily, IsAtLeast, Agrees, Holds, nothing, replica, Covers, ShowsNothing, GoesOnTo, GoesOn, Anything, IsTheReplica, IsAdopted, IsBootedTo, rewritten}
+use Rattle.mdv_store.proofs.Replicas.{same_replica, claimed_replica, closed_replica, filled_replica}
 use Rattle.mdv_store.proofs.Agreeing.{kept_open, claim_agrees, all_below, parent_of, slot_agrees, longer_agrees}
 
 -- what a read gives is an image
@@ -72,94 +76,121 @@ module _ (key : Key) (at : PlaceAt) (size : ℕ) where
     abbrev pub sized : PlaceAt
     sized = with_blocks at head.master.blocks
 
-    abbrev pub old : ℕ → List ℕ
-    old = last t at.drive.0
-
     abbrev pub on_claim : Head
     on_claim = with_claim head number
-
-    claim_replica : IsReplica key at size (claimed at number old) on_claim
-    claim_replica = claimed_replica key at size old head number fits the.replica
 
     pub spare_on_claim : IsSpareSlot on_claim slot
     spare_on_claim = spare_claimed head slot number spare
 
-    -- the replica in the end
-    final_replica : IsReplica key at size (slotted sized slot mark (claimed at number old)) (with_slot on_claim slot (Open mark 36))
-    final_replica = slotted_replica key at size (claimed at number old) on_claim slot mark marked claim_replica
+    -- what a crash might have left at the start is what was read
+    replica_in : (old : Image) → IsImage t old → IsSynced at.drive.0 t → IsReplica key at size (old at.drive.0) head
+    replica_in old is synced = subst (λ (c : ℕ → List ℕ). IsReplica key at size c head) (sym (image_synced at.drive.0 t synced old is)) the.replica
 
-    pub adopted : (u : Tale) → Leaves at.drive.0 (λ before after. IsSame (slotted sized slot mark (claimed at number before)) after) t u → IsSynced at.drive.0 t → IsAdopted key at size old u
+    on_claim_replica : (old new : Image) → IsImage t old → IsSynced at.drive.0 t → Claims at number old new → IsReplica key at size (new at.drive.0) on_claim
+    on_claim_replica old new is synced claims = claimed_replica key at size old new head (replica_in old is synced) number fits claims
+
+    -- the replica in the end
+    final_replica : (old new : Image) → IsImage t old → IsSynced at.drive.0 t → Rewritten sized slot mark old new → IsReplica key at size (new at.drive.0) (with_slot on_claim slot (Open mark 36))
+    final_replica old new is synced rewritten = filled_replica key at size rewritten.between new on_claim (on_claim_replica old rewritten.between is synced rewritten.claims) slot mark marked rewritten.takes
+
+    pub adopted : (u : Tale) → Leaves (Rewritten sized slot mark) t u → IsSynced at.drive.0 t → IsAdopted key at size (last t at.drive.0) u
     adopted u leaves synced = record {
       head = head;
       slot = slot;
       replica = the.replica;
       shown = the.shown;
       spare = spare;
-      each = λ image is. subst (λ (h : Head). IsReplica key at size (image at.drive.0) h) (rewritten_is head slot number)
-          (same_replica key at size (slotted sized slot mark (claimed at number old)) (image at.drive.0) (with_slot on_claim slot (Open mark 36)) (leaves synced image is) final_replica);
+      each = λ image is. (let from = leaves image is in
+          subst (λ (h : Head). IsReplica key at size (image at.drive.0) h) (rewritten_is head slot number) (final_replica from.0 image from.1 synced from.2));
     }
 
     module _ (log : Log) (covers : Covers key at size log t) where
-      agrees : Agrees key at size log old head
+      pub agrees : Agrees key at size log (last t at.drive.0) head
       agrees = elim (covers (last t) (last_image t)) [
         | nothing not_so found ↦ absurd (found head the.replica the.shown)
-        | replica other so ↦ subst (λ (h : Head). Agrees key at size log old h) (the.only other so.replica) so
+        | replica other so ↦ subst (λ (h : Head). Agrees key at size log (last t at.drive.0) h) (the.only other so.replica) so
       ]
 
-      claim_agreed : (new : ℕ → List ℕ) → IsReplica key at size new on_claim → Agrees key at size log new on_claim
-      claim_agreed new is = claim_agrees key at size log old head agrees new number (omega arith) is
+      -- it agrees wherever it is
+      agrees_at : (new : ℕ → List ℕ) → IsReplica key at size new head → Agrees key at size log new head
+      agrees_at new is = record {
+        replica = is;
+        shown = agrees.shown;
+        as_issued = agrees.as_issued;
+        of_first = agrees.of_first;
+        of_second = agrees.of_second;
+        covered = agrees.covered;
+        numbered = agrees.numbered;
+      }
 
-      pub on_claim_agrees : Agrees key at size log (claimed at number old) on_claim
-      on_claim_agrees = claim_agreed (claimed at number old) claim_replica
+      claim_agreed : (new : ℕ → List ℕ) → IsReplica key at size new on_claim → Agrees key at size log new on_claim
+      claim_agreed new is = claim_agrees key at size log (last t at.drive.0) head agrees new number (omega arith) is
 
       claim_greatest : All (λ v. v.mark.boot ≤ number) log.family
       claim_greatest = All-weaker (λ (v : Version). v.mark.boot < number) (λ (v : Version). v.mark.boot ≤ number) (λ v small. omega arith) log.family
-          (all_below key at size log old head agrees number (omega arith))
+          (all_below key at size log (last t at.drive.0) head agrees number (omega arith))
 
       abbrev pub parent : Mark
-      parent = (kept_open on_claim slot spare_on_claim on_claim_agrees.shown).0
+      parent = (kept_open head slot spare agrees.shown).0
 
       above : IsAbove mark log.family
       above = All-weaker (λ (v : Version). v.mark.boot < number) (λ (v : Version). IsBelow v.mark mark) (λ v small. inl small) log.family
-          (all_below key at size log old head agrees number (omega arith))
+          (all_below key at size log (last t at.drive.0) head agrees number (omega arith))
 
       from_parent : IsParent log.family (Some parent)
-      from_parent = parent_of key at size log (claimed at number old) on_claim on_claim_agrees slot spare_on_claim
+      from_parent = parent_of key at size log (last t at.drive.0) head agrees slot spare
 
-      in_claim : (m : Tale) → Leaves at.drive.0 (ClaimImage at number) t m → IsSynced at.drive.0 t → Covers key at size log m
-      in_claim m leaves synced image is = ⊎_elim
-          (λ same. replica head (subst (λ (c : ℕ → List ℕ). Agrees key at size log c head) (sym (same_is old (image at.drive.0) same)) agrees))
-          (λ same. replica on_claim (claim_agreed (image at.drive.0) (same_replica key at size (claimed at number old) (image at.drive.0) on_claim same claim_replica)))
-          (leaves synced image is)
+      in_claim : (m : Tale) → Leaves (MayClaim at number) t m → IsSynced at.drive.0 t → Covers key at size log m
+      in_claim m leaves synced image is =
+          let from = leaves image is in
+          let before = replica_in from.0 from.1 synced in
+          ⊎_elim
+          (λ same. replica head (agrees_at (image at.drive.0) (same_replica key at size from.0 image head before same)))
+          (λ claims. replica on_claim (claim_agreed (image at.drive.0) (claimed_replica key at size from.0 image head before number fits claims)))
+          from.2
 
-      in_table_image : (new : ℕ → List ℕ) → TableImage sized slot mark (claimed at number old) new → Holds key at size (log_after log (Writing mark (Some parent))) new
-      in_table_image new (before same) = replica on_claim
-          (subst (λ (c : ℕ → List ℕ). Agrees key at size (log_after log (Writing mark (Some parent))) c on_claim) (sym (same_is (claimed at number old) new same))
-          (longer_agrees key at size log (claimed at number old) on_claim on_claim_agrees mark (Some parent) false (omega arith) claim_greatest refl))
-      in_table_image new (in_work shut others) = replica (with_slot on_claim slot Closed)
-          (slot_agrees key at size log (claimed at number old) on_claim on_claim_agrees mark (Some parent) false (omega arith) claim_greatest new slot Closed spare_on_claim
-          (slot_replica key at size (claimed at number old) new on_claim slot Closed claim_replica tt shut tt others) tt (λ written. absurd (cc (written))))
-      in_table_image new (done same) = replica (with_slot on_claim slot (Open mark 36))
-          (slot_agrees key at size log (claimed at number old) on_claim on_claim_agrees mark (Some parent) false (omega arith) claim_greatest new slot (Open mark 36) spare_on_claim
-          (same_replica key at size (slotted sized slot mark (claimed at number old)) new (with_slot on_claim slot (Open mark 36)) same final_replica) (inl refl) (λ written. absurd (cc (written))))
+      -- the new table in its slot, whether its write was answered or not
+      abbrev pub next_log : Bool → Log
+      next_log is_written = record log { family = record { mark = mark; parent = Some parent; is_written = is_written } ∷ log.family }
+
+      in_slot : (is_written : Bool) (gate : Gate) (between new : ℕ → List ℕ) → IsReplica key at size between on_claim → IsReplica key at size new (with_slot on_claim slot gate) → IsOfFamily (next_log is_written).family gate
+          → (is_written ≡ true → IsAtLeast mark gate) → Holds key at size (next_log is_written) new
+      in_slot is_written gate between new before is of_gate here = replica (with_slot on_claim slot gate)
+          (slot_agrees key at size log between on_claim (claim_agreed between before) mark (Some parent) is_written (omega arith) claim_greatest new slot gate spare_on_claim is of_gate here)
+
+      in_table : (between new : Image) → IsReplica key at size (between at.drive.0) on_claim → MayTakeTable sized slot mark between new → Holds key at size (next_log false) (new at.drive.0)
+      in_table between new before (untouched same) =
+          let now = same_replica key at size between new on_claim before same in
+          replica on_claim (longer_agrees key at size log (new at.drive.0) on_claim (claim_agreed (new at.drive.0) now) mark (Some parent) false (omega arith) claim_greatest refl)
+      in_table between new before (closed others shut) =
+          in_slot false Closed (between at.drive.0) (new at.drive.0) before (closed_replica key at size between new on_claim before slot others shut) tt (λ written. absurd (cc (written)))
+      in_table between new before (filled takes) =
+          in_slot false (Open mark 36) (between at.drive.0) (new at.drive.0) before (filled_replica key at size between new on_claim before slot mark marked takes) (inl refl) (λ written. absurd (cc (written)))
 
       pub goes_on : (m : Tale) → Rewrites sized slot mark t m → IsSynced at.drive.0 t
           → (es : List Event) × IsCourse log es × Adds NoCreation 0 es × Covers key at size (log_after_all log es) m × Anything (log_after_all log es)
       goes_on m rewrites synced = ⊎_elim
           (λ claim. ([], tt, record { tells = refl; issues = tt }, in_claim m claim synced, tt))
-          (λ table. (Writing mark (Some parent) ∷ [], ((above, from_parent), tt), record { tells = refl; issues = tt }, (λ image is. in_table_image (image at.drive.0) (table synced image is)), tt))
+          (λ table. (
+            Writing mark (Some parent) ∷ [],
+            ((above, from_parent), tt),
+            record { tells = refl; issues = tt },
+            (λ image is. (let from = table image is in in_table from.2.between image (on_claim_replica from.0 from.2.between from.1 synced from.2.claims) from.2.takes)),
+            tt,
+          ))
           rewrites
 
-      in_end : (new : ℕ → List ℕ) → IsSame (slotted sized slot mark (claimed at number old)) new → Holds key at size (log_after_all log (Writing mark (Some parent) ∷ Written ∷ [])) new
-      in_end new same = replica (with_slot on_claim slot (Open mark 36))
-          (slot_agrees key at size log (claimed at number old) on_claim on_claim_agrees mark (Some parent) true (omega arith) claim_greatest new slot (Open mark 36) spare_on_claim
-          (same_replica key at size (slotted sized slot mark (claimed at number old)) new (with_slot on_claim slot (Open mark 36)) same final_replica) (inl refl)
-          (λ written below. grind arith))
-
-      pub ends_on : (u : Tale) → Leaves at.drive.0 (λ before after. IsSame (slotted sized slot mark (claimed at number before)) after) t u → IsSynced at.drive.0 t
+      pub ends_on : (u : Tale) → Leaves (Rewritten sized slot mark) t u → IsSynced at.drive.0 t
           → (es : List Event) × IsCourse log es × Adds NoCreation 0 es × Covers key at size (log_after_all log es) u × (is_firm (log_after_all log es) ≡ true)
-      ends_on u leaves synced =
-          (Writing mark (Some parent) ∷ Written ∷ [], ((above, from_parent), (tt, tt)), record { tells = refl; issues = tt }, (λ image is. in_end (image at.drive.0) (leaves synced image is)), refl)
+      ends_on u leaves synced = (
+        Writing mark (Some parent) ∷ Written ∷ [],
+        ((above, from_parent), (tt, tt)),
+        record { tells = refl; issues = tt },
+        (λ image is. (let from = leaves image is in
+            in_slot true (Open mark 36) (from.2.between at.drive.0) (image at.drive.0) (on_claim_replica from.0 from.2.between from.1 synced from.2.claims) (final_replica from.0 image from.1 synced from.2) (inl refl)
+            (λ written below. grind arith))),
+        refl,
+      )
 
   -- the same, where the code names the place, the slot's mark and the slot
   module _ (head : Head) (slot : Slot) (place : PlaceAt) (drawn : Mark) (place_is : place ≡ with_blocks at head.master.blocks) (drawn_is : drawn ≡ record { boot = greatest head + 1; count = 0 }) (fits : greatest head + 1 < 2 ^ 63) (spare : IsSpareSlot head slot) where
@@ -168,22 +199,15 @@ module _ (key : Key) (at : PlaceAt) (size : ℕ) where
         goes_on head slot fits spare t the log covers m
         (subst (λ (p : PlaceAt). Rewrites p slot (record { boot = greatest head + 1; count = 0 }) t m) place_is (subst (λ (k : Mark). Rewrites place slot k t m) drawn_is rewrites)) synced
 
-    pub rewritten_goes_on : (t u : Tale) → Leaves place.drive.0 (λ before after. IsSame (slotted place slot drawn (claimed place drawn.boot before)) after) t u → IsSynced at.drive.0 t
-        → IsTheReplica key at size (last t at.drive.0) head → GoesOnTo key at size NoCreation (IsBootedTo Adopted) t u
-    rewritten_goes_on t u leaves synced the log covers = ends_on head slot fits spare t the log covers u (written_here t u leaves) synced where
-      written_here : (t u : Tale) → Leaves place.drive.0 (λ before after. IsSame (slotted place slot drawn (claimed place drawn.boot before)) after) t u
-          → Leaves at.drive.0 (λ before after. IsSame (slotted (with_blocks at head.master.blocks) slot (record { boot = greatest head + 1; count = 0 }) (claimed at (greatest head + 1) before)) after) t u
-      written_here t u leaves =
-          subst (λ (p : PlaceAt). Leaves p.drive.0 (λ before after. IsSame (slotted p slot (record { boot = greatest head + 1; count = 0 }) (claimed p (greatest head + 1) before)) after) t u) place_is
-          (subst (λ (k : Mark). Leaves place.drive.0 (λ before after. IsSame (slotted place slot k (claimed place k.boot before)) after) t u) drawn_is leaves)
+    written_here : (t u : Tale) → Leaves (Rewritten place slot drawn) t u → Leaves (Rewritten (with_blocks at head.master.blocks) slot (record { boot = greatest head + 1; count = 0 })) t u
+    written_here t u leaves =
+        subst (λ (p : PlaceAt). Leaves (Rewritten p slot (record { boot = greatest head + 1; count = 0 })) t u) place_is (subst (λ (k : Mark). Leaves (Rewritten place slot k) t u) drawn_is leaves)
 
-    pub rewritten_adopted : (t u : Tale) → Leaves place.drive.0 (λ before after. IsSame (slotted place slot drawn (claimed place drawn.boot before)) after) t u → IsSynced at.drive.0 t
-        → IsTheReplica key at size (last t at.drive.0) head → IsAdopted key at size (last t at.drive.0) u
-    rewritten_adopted t u leaves synced the = adopted head slot fits spare t the u written_here synced where
-      written_here : Leaves at.drive.0 (λ before after. IsSame (slotted (with_blocks at head.master.blocks) slot (record { boot = greatest head + 1; count = 0 }) (claimed at (greatest head + 1) before)) after) t u
-      written_here =
-          subst (λ (p : PlaceAt). Leaves p.drive.0 (λ before after. IsSame (slotted p slot (record { boot = greatest head + 1; count = 0 }) (claimed p (greatest head + 1) before)) after) t u) place_is
-          (subst (λ (k : Mark). Leaves place.drive.0 (λ before after. IsSame (slotted place slot k (claimed place k.boot before)) after) t u) drawn_is leaves)
+    pub rewritten_goes_on : (t u : Tale) → Leaves (Rewritten place slot drawn) t u → IsSynced at.drive.0 t → IsTheReplica key at size (last t at.drive.0) head → GoesOnTo key at size NoCreation (IsBootedTo Adopted) t u
+    rewritten_goes_on t u leaves synced the log covers = ends_on head slot fits spare t the log covers u (written_here t u leaves) synced
+
+    pub rewritten_adopted : (t u : Tale) → Leaves (Rewritten place slot drawn) t u → IsSynced at.drive.0 t → IsTheReplica key at size (last t at.drive.0) head → IsAdopted key at size (last t at.drive.0) u
+    rewritten_adopted t u leaves synced the = adopted head slot fits spare t the u (written_here t u leaves) synced
 
   -- what a boot's look leaves: the drive is synced, and no block was written
   pub record HasLooked (found : Option Head) (t u : Tale) : Type 0 where
@@ -211,7 +235,7 @@ module _ (key : Key) (at : PlaceAt) (size : ℕ) where
       )
 
   same_contents : (t u : Tale) → KeptOutside nowhere t u → last u at.drive.0 ≡ last t at.drive.0
-  same_contents t u kept = same_is (last t at.drive.0) (last u at.drive.0) (λ block. (kept at.drive.0 block refl).last)
+  same_contents t u kept = λ i block. (kept at.drive.0 block refl).last i
 
   pub the_replica : (head : Head) (t u : Tale) → HasLooked (Some head) t u → IsTheReplica key at size (last u at.drive.0) head
   the_replica head t u looked =
@@ -220,7 +244,7 @@ module _ (key : Key) (at : PlaceAt) (size : ℕ) where
 
   pub nothing_found : (t u : Tale) → HasLooked None t u → ShowsNothing key at size u
   nothing_found t u looked image is =
-      subst (λ (c : ℕ → List ℕ). IsFound key at size c None) (sym (same_is (last t at.drive.0) (image at.drive.0) (λ block. looked.synced block (image at.drive.0 block) (is.each at.drive.0 block) ∙ (looked.kept at.drive.0 block refl).last))) looked.is_found
+      subst (λ (c : ℕ → List ℕ). IsFound key at size c None) (sym (image_synced at.drive.0 u looked.synced image is ∙ same_contents t u looked.kept)) looked.is_found
 
   pub empty_goes_on : (t u : Tale) → HasLooked None t u → GoesOnTo key at size NoCreation (IsBootedTo Empty) t u
   empty_goes_on t u looked log covers =

@@ -13,7 +13,8 @@ use Rattle.mdv_replica.proofs.Heads.{no_blank_master}
 use Rattle.mdv_replica.proofs.Parts.{master_parts}
 use Rattle.mdv_base.specs.Causes.{Rose}
 use Rattle.mdv_store.specs.Log.{Version, Log, is_firm}
-use Rattle.mdv_store.specs.Database.{IsReplica, IsFound, IsBooted, shows, greatest}
+use Rattle.mdv_replica.specs.Form.{shows, greatest}
+use Rattle.mdv_store.specs.Database.{IsReplica, IsFound, IsBooted}
 use Rattle.mdv_store.specs.Standing.{Agrees, Holds, nothing, replica, Stands}
 use Rattle.mdv_store.specs.Laws.{CrashesStand, NewDrivesStand, BootHolds, BootsHold}
 use Rattle.mdv_store.specs.declared.database.BootEnd.{BootEnd}

@@ -1,9 +1,7 @@
 pub mod Agreeing
 pub mod Covering
 pub mod Creating
-pub mod Images
 pub mod Lawful
 pub mod Logs
 pub mod Quiet
 pub mod Replicas
-pub mod Rewriting

@@ -1,7 +1,8 @@
 -- Calls that tell nothing and touch nothing outside a replica's place.
-use Rattle.std.proofs.Common.{◌≡◌, ℕ, ◌+◌, ◌≤◌, subst, slice_index_or, false, List, length, Option, Some, None, IfSome, refl, sym, ◌∙◌, ap, arith}
+use Rattle.std.proofs.Common.{◌≡◌, ℕ, ◌+◌, ◌≤◌, subst, slice_index_or, false, List, [], ◌∷◌, length, Option, Some, None, IfSome, refl, sym, ◌∙◌, ap, arith}
+use Rattle.mdv_base.specs.declared.mark.Mark.{Mark}
 use Rattle.mdv_shelf.specs.Tale.{Tale, Then, Synced}
-use Rattle.mdv_shelf.specs.Area.{KeptOutside, range, joined, nowhere}
+use Rattle.mdv_shelf.specs.Area.{KeptOutside, range, nowhere}
 use Rattle.mdv_shelf.specs.Calls.{and_then}
 use Rattle.mdv_shelf.specs.Moments.{Moments, Ends}
 use Rattle.mdv_shelf.specs.Settle.{Settling, IsSynced}
@@ -12,9 +13,10 @@ use Rattle.mdv_shelf.proofs.Settled.{told_synced, synced_drive}
 use Rattle.mdv_replica.specs.declared.replica.PlaceAt.{PlaceAt}
 use Rattle.mdv_replica.specs.declared.replica.Slot.{Slot}
 use Rattle.mdv_replica.specs.declared.replica.Slot.TheVariants.{First, Second}
-use Rattle.mdv_replica.specs.Replica.{SlotWriting, Formatting, gate_at, body_at, IsOnDrive, IsPlaced, IsFormed}
+use Rattle.mdv_replica.specs.declared.forms.Master.{Master}
+use Rattle.mdv_replica.specs.Replica.{SlotWriting, Formatting, head_area, slot_area, slot_blocks, IsPlaced, IsFormed, with_blocks}
 use Rattle.mdv_replica.specs.declared.replica.Head.{Head}
-use Rattle.mdv_store.specs.Database.{IsQuiet, with_blocks}
+use Rattle.mdv_store.specs.Database.{IsOnDrive, IsQuiet}
 
 pub quiet_same : (at : PlaceAt) (t : Tale) → IsQuiet at t t
 quiet_same at t = record { outside = kept_outside_same (range at.drive.0 at.first 8192) t; quiet = refl }
@@ -59,34 +61,26 @@ quiet_settling at from blocks t m low high settling = record {
   quiet = settling.quiet;
 }
 
-joined_within : (at : PlaceAt) (gate body count drive block : ℕ) → at.first ≤ gate → gate + 1 ≤ at.first + 8192 → at.first ≤ body → body + count ≤ at.first + 8192 → range at.drive.0 at.first 8192 drive block ≡ false → joined (range at.drive.0 gate 1) (range at.drive.0 body count) drive block ≡ false
-joined_within at gate body count drive block gate_low gate_high body_low body_high out =
-    rw (within_range at.drive.0 gate 1 at.first 8192 drive block gate_low gate_high out) (within_range at.drive.0 body count at.first 8192 drive block body_low body_high out)
+-- a slot's writing
+slot_within : (at : PlaceAt) (slot : Slot) (drive block : ℕ) → 16 ≤ at.place.blocks → at.place.blocks ≤ 8192 → range at.drive.0 at.first 8192 drive block ≡ false → slot_area at slot 1 drive block ≡ false
+slot_within at First drive block least most out =
+    rw (within_range at.drive.0 (at.first + 2) 1 at.first 8192 drive block (omega arith) (omega arith) out) (within_range at.drive.0 (at.first + 4) 1 at.first 8192 drive block (omega arith) (omega arith) out)
+slot_within at Second drive block least most out =
+    rw (within_range at.drive.0 (at.first + 3) 1 at.first 8192 drive block (omega arith) (omega arith) out)
+    (within_range at.drive.0 (at.first + 4 + slot_blocks at.place.blocks) 1 at.first 8192 drive block (omega arith) (omega arith) out)
 
-pub quiet_slot : (at : PlaceAt) (gate body : ℕ) (closed opened : List ℕ) (blocks : List (List ℕ)) (t m : Tale) → at.first ≤ gate → gate + 1 ≤ at.first + 8192 → at.first ≤ body → body + length blocks ≤ at.first + 8192 → SlotWriting at.drive.0 gate body closed opened blocks t m → IsQuiet at t m
-quiet_slot at gate body closed opened blocks t m gate_low gate_high body_low body_high writing = record {
-  outside = kept_outside_wider (joined (range at.drive.0 gate 1) (range at.drive.0 body (length blocks))) (range at.drive.0 at.first 8192) t m
-      (λ drive block. joined_within at gate body (length blocks) drive block gate_low gate_high body_low body_high) writing.outside;
+pub quiet_slot : (at : PlaceAt) (slot : Slot) (mark : Mark) (bytes : ℕ) (block : List ℕ) (t m : Tale) → 16 ≤ at.place.blocks → at.place.blocks ≤ 8192 → SlotWriting at slot mark bytes (block ∷ []) t m → IsQuiet at t m
+quiet_slot at slot mark bytes block t m least most writing = record {
+  outside = kept_outside_wider (slot_area at slot 1) (range at.drive.0 at.first 8192) t m (λ drive other. slot_within at slot drive other least most) writing.outside;
   quiet = writing.quiet;
 }
 
-pub quiet_format : (at : PlaceAt) (blank master : List ℕ) (rest : List (List ℕ)) (t m : Tale) → Formatting at blank master rest t m → IsQuiet at t m
-quiet_format at blank master rest t m formatting = record {
-  outside = kept_outside_wider (range at.drive.0 at.first 4) (range at.drive.0 at.first 8192) t m
+pub quiet_format : (at : PlaceAt) (master : Master) (claim : ℕ) (t m : Tale) → Formatting at master claim t m → IsQuiet at t m
+quiet_format at master claim t m formatting = record {
+  outside = kept_outside_wider (head_area at) (range at.drive.0 at.first 8192) t m
       (λ drive block. within_range at.drive.0 at.first 4 at.first 8192 drive block (omega arith) (omega arith)) formatting.outside;
   quiet = formatting.quiet;
 }
-
--- where gate and body of a slot lie
-pub record IsWithin (at : PlaceAt) (slot : Slot) : Type 0 where
-  pub gate_low : at.first ≤ gate_at at slot
-  pub gate_high : gate_at at slot + 1 ≤ at.first + 8192
-  pub body_low : at.first ≤ body_at at slot
-  pub body_high : body_at at slot + 1 ≤ at.first + 8192
-
-pub slot_within : (at : PlaceAt) (slot : Slot) → 16 ≤ at.place.blocks → at.place.blocks ≤ 8192 → IsWithin at slot
-slot_within at First least most = record { gate_low = omega arith; gate_high = omega arith; body_low = omega arith; body_high = omega arith }
-slot_within at Second least most = record { gate_low = omega arith; gate_high = omega arith; body_low = omega arith; body_high = omega arith }
 
 -- a place with the length that its master names
 pub placed_again : (sizes now : List ℕ) (at sized : PlaceAt) (head : Head) → now ≡ sizes → sized ≡ with_blocks at head.master.blocks → IsOnDrive sizes at → IsFormed at (slice_index_or sizes at.drive.0 0) head → IsPlaced now sized

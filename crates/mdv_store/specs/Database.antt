@@ -1,106 +1,64 @@
 -- What a drive's blocks say of a database with one place, and what a boot and a creation leave.
-use Rattle.std.specs.Prelude.{◌≡◌, ◌≢◌, ◌⊎◌, ◌==◌, ℕ, ◌+◌, ◌≤◌, ◌<◌, ◌^◌, max, Bool, true, false, ◌||◌, List, Option, Some, None, if◌then◌else◌}
+use Rattle.std.specs.Prelude.{◌≡◌, ◌⊎◌, ℕ, ◌+◌, ◌≤◌, ◌<◌, ◌^◌, true, List, [], ◌∷◌, length, slice_index_or, Option, Some, None}
 use Rattle.mdv_base.specs.declared.mark.Mark.{Mark}
 use Rattle.mdv_base.specs.declared.mark.Identity.{Identity}
 use Rattle.mdv_base.specs.declared.name.Key.{Key}
-use Rattle.mdv_base.specs.Mark.{IsBelow}
-use Rattle.mdv_shelf.specs.Tale.{Tale, IsImage, told, last}
+use Rattle.mdv_shelf.specs.Tale.{Tale, IsImage, told}
 use Rattle.mdv_shelf.specs.Area.{range, KeptOutside}
-use Rattle.mdv_shelf.specs.Settle.{IsSynced}
-use Rattle.mdv_replica.specs.declared.forms.Master.{Master}
-use Rattle.mdv_replica.specs.declared.forms.Gate.{Gate}
 use Rattle.mdv_replica.specs.declared.forms.Gate.TheVariants.{Closed, Open}
 use Rattle.mdv_replica.specs.declared.replica.PlaceAt.{PlaceAt}
 use Rattle.mdv_replica.specs.declared.replica.Head.{Head}
 use Rattle.mdv_replica.specs.declared.replica.Slot.{Slot}
 use Rattle.mdv_replica.specs.declared.replica.Slot.TheVariants.{First, Second}
-use Rattle.mdv_replica.specs.Forms.{claim_text, gate_text, block_of}
-use Rattle.mdv_replica.specs.Replica.{IsHead, gate_at, body_at}
+use Rattle.mdv_replica.specs.Forms.{block_of}
+pub use Rattle.mdv_replica.specs.Replica.{master_of}
+use Rattle.mdv_replica.specs.Replica.{IsHead, with_blocks}
+pub use Rattle.mdv_replica.specs.Form.{shows, greatest, IsSpareSlot}
+use Rattle.mdv_replica.specs.Form.{SlotFits}
+use Rattle.mdv_replica.specs.Images.{Image, Leaves, Claims, MayClaim, Fills, MayFill}
 use Rattle.mdv_store.specs.declared.database.BootEnd.{BootEnd}
 use Rattle.mdv_store.specs.declared.database.BootEnd.TheVariants.{Adopted, Empty, Down, Lost, Spent}
-use Rattle.mdv_store.specs.Record.{empty_record, IsEmptyRecord}
+use Rattle.mdv_store.specs.Record.{empty_record, IsRecord}
 
--- the same place with this length
-abbrev pub with_blocks : PlaceAt → ℕ → PlaceAt
-with_blocks at blocks = record at { place = record at.place { blocks = blocks } }
-
--- the body of a slot is a record, where its gate is open
-abbrev pub SlotFits : PlaceAt → Slot → Gate → (ℕ → List ℕ) → Type 0
-SlotFits at slot Closed content = Unit {0}
-SlotFits at slot (Open mark bytes) content = IsEmptyRecord at.place bytes (content (body_at at slot))
+-- its drive is one of the shelf's, and has a block
+pub record IsOnDrive (sizes : List ℕ) (at : PlaceAt) : Type 0 where
+  pub drive : at.drive.0 < length sizes
+  pub some : 0 < slice_index_or sizes at.drive.0 0
+  pub size : slice_index_or sizes at.drive.0 0 < 2 ^ 64
 
 -- a replica of this database is readable there
 pub record IsReplica (key : Key) (at : PlaceAt) (size : ℕ) (content : ℕ → List ℕ) (head : Head) : Type 0 where
   pub of_head : IsHead at size content head
   pub of_key : head.master.key ≡ key
-  pub of_first : SlotFits (with_blocks at head.master.blocks) First head.first content
-  pub of_second : SlotFits (with_blocks at head.master.blocks) Second head.second content
-
-abbrev pub is_open : Gate → Bool
-is_open Closed = false
-is_open (Open mark bytes) = true
-
--- it shows a table
-abbrev pub shows : Head → Bool
-shows head = is_open head.first || is_open head.second
+  pub of_first : SlotFits IsRecord (with_blocks at head.master.blocks) First head.first content
+  pub of_second : SlotFits IsRecord (with_blocks at head.master.blocks) Second head.second content
 
 -- what a boot looks for: a readable replica that shows a table, or none
 abbrev pub IsFound : Key → PlaceAt → ℕ → (ℕ → List ℕ) → Option Head → Type 0
 IsFound key at size content (Some head) = IsReplica key at size content head × (shows head ≡ true)
 IsFound key at size content None = (head : Head) → IsReplica key at size content head → shows head ≡ true → ⊥
 
-abbrev pub boot_of : Gate → ℕ
-boot_of Closed = 0
-boot_of (Open mark bytes) = mark.boot
+-- a slot takes the empty table under this mark; and while it is written
+abbrev pub TakesTable : PlaceAt → Slot → Mark → Image → Image → Type 0
+TakesTable at slot mark = Fills at slot mark 36 (block_of (empty_record at.place) ∷ [])
 
--- the greatest claim or boot number that the replica has
-abbrev pub greatest : Head → ℕ
-greatest head = max head.claim (max (boot_of head.first) (boot_of head.second))
+abbrev pub MayTakeTable : PlaceAt → Slot → Mark → Image → Image → Type 0
+MayTakeTable at slot mark = MayFill at slot mark 36 (block_of (empty_record at.place) ∷ [])
 
--- the master of the one replica of a database
-abbrev pub master_of : PlaceAt → Key → Identity → Master
-master_of at key identity = record { identity = identity; key = key; slice = at.place.slice; start = at.place.start; blocks = at.place.blocks; index = 0; count = 1 }
+-- a claim, and then a table under it; and while the table is written
+pub record Rewritten (at : PlaceAt) (slot : Slot) (mark : Mark) (old new : Image) : Type 0 where
+  pub between : Image
+  pub claims : Claims at mark.boot old between
+  pub takes : TakesTable at slot mark between new
 
--- the same contents with one block changed
-abbrev pub with_block : (ℕ → List ℕ) → ℕ → List ℕ → ℕ → List ℕ
-with_block content at text block = if block == at then text else content block
+pub record Rewriting (at : PlaceAt) (slot : Slot) (mark : Mark) (old new : Image) : Type 0 where
+  pub between : Image
+  pub claims : Claims at mark.boot old between
+  pub takes : MayTakeTable at slot mark between new
 
-abbrev pub IsSame : (ℕ → List ℕ) → (ℕ → List ℕ) → Type 0
-IsSame old new = (block : ℕ) → new block ≡ old block
-
--- What a crash in the writing of a slot leaves: all as before; or a closed gate, and a body of any kind; or
--- the gate open over its body.
-pub data SlotImage (gate body : ℕ) (closed opened text : List ℕ) (old new : ℕ → List ℕ) : Type 0 where
-  before : IsSame old new → SlotImage gate body closed opened text old new
-  in_work : new gate ≡ closed → ((block : ℕ) → block ≢ gate → block ≢ body → new block ≡ old block) → SlotImage gate body closed opened text old new
-  done : IsSame (with_block (with_block old gate opened) body text) new → SlotImage gate body closed opened text old new
-
--- a slot that takes the table under this mark
-abbrev pub TableImage : PlaceAt → Slot → Mark → (ℕ → List ℕ) → (ℕ → List ℕ) → Type 0
-TableImage at slot mark old new =
-    SlotImage (gate_at at slot) (body_at at slot) (block_of (gate_text Closed)) (block_of (gate_text (Open mark 36))) (block_of (empty_record at.place)) old new
-
--- a replica with this claim
-abbrev pub claimed : PlaceAt → ℕ → (ℕ → List ℕ) → ℕ → List ℕ
-claimed at number content = with_block content (at.first + 1) (block_of (claim_text number))
-
--- a replica with the table under this mark in that slot
-abbrev pub slotted : PlaceAt → Slot → Mark → (ℕ → List ℕ) → ℕ → List ℕ
-slotted at slot mark content =
-    with_block (with_block content (gate_at at slot) (block_of (gate_text (Open mark 36)))) (body_at at slot) (block_of (empty_record at.place))
-
--- from a drive on which nothing is unsynced: whatever a crash leaves
-abbrev pub Leaves : ℕ → ((ℕ → List ℕ) → (ℕ → List ℕ) → Type 0) → Tale → Tale → Type 0
-Leaves drive Left t m = IsSynced drive t → (image : ℕ → ℕ → List ℕ) → IsImage m image → Left (last t drive) (image drive)
-
--- a claim that is being written is old or new
-abbrev pub ClaimImage : PlaceAt → ℕ → (ℕ → List ℕ) → (ℕ → List ℕ) → Type 0
-ClaimImage at number old new = IsSame old new ⊎ IsSame (claimed at number old) new
-
--- a claim and then a table are being written: the claim, or else the slot under the new claim
+-- while a claim and then a table are written: the claim, or else the slot under the new claim
 abbrev pub Rewrites : PlaceAt → Slot → Mark → Tale → Tale → Type 0
-Rewrites at slot mark t m =
-    Leaves at.drive.0 (ClaimImage at mark.boot) t m ⊎ Leaves at.drive.0 (λ old new. TableImage at slot mark (claimed at mark.boot old) new) t m
+Rewrites at slot mark t m = Leaves (MayClaim at mark.boot) t m ⊎ Leaves (Rewriting at slot mark) t m
 
 -- the blocks show the replica that a creation of this identity makes, whose table, under this mark, is the only one
 pub record ShowsAlone (key : Key) (at : PlaceAt) (size : ℕ) (identity : Identity) (mark : Mark) (content : ℕ → List ℕ) : Type 0 where
@@ -127,13 +85,3 @@ IsBooted failed key at size content Spent = (head : Head) × IsReplica key at si
 IsBooted failed key at size content Empty = IsFound key at size content None
 IsBooted failed key at size content Down = failed
 IsBooted failed key at size content Lost = failed
-
--- a slot that doesn't hold the newest table: closed, or beside an open one that isn't older
-abbrev pub IsSpare : Gate → Gate → Type 0
-IsSpare Closed other = Unit {0}
-IsSpare (Open mark bytes) Closed = ⊥
-IsSpare (Open mark bytes) (Open other more) = IsBelow other mark → ⊥
-
-abbrev pub IsSpareSlot : Head → Slot → Type 0
-IsSpareSlot head First = IsSpare head.first head.second
-IsSpareSlot head Second = IsSpare head.second head.first

@@ -7,7 +7,8 @@ use Rattle.mdv_shelf.specs.MemHistory.{blank}
 use Rattle.mdv_replica.specs.declared.replica.PlaceAt.{PlaceAt}
 use Rattle.mdv_replica.specs.declared.replica.Head.{Head}
 use Rattle.mdv_store.specs.Log.{Log, empty_log}
-use Rattle.mdv_store.specs.Database.{IsBooted, greatest}
+use Rattle.mdv_replica.specs.Form.{greatest}
+use Rattle.mdv_store.specs.Database.{IsBooted}
 use Rattle.mdv_store.specs.Standing.{Agrees, Stands}
 use Rattle.mdv_store.specs.declared.database.BootEnd.{BootEnd}
 use Rattle.mdv_store.specs.declared.database.BootEnd.TheVariants.{Adopted, Empty, Down, Lost, Spent}

@@ -13,3 +13,7 @@ empty_record place =
 pub record IsEmptyRecord (place : Place) (bytes : ℕ) (body : List ℕ) : Type 0 where
   pub counted : bytes ≡ 36
   pub spelled : take 36 body ≡ empty_record place
+
+-- the one text that counts in a slot: the record of the empty table that names the place
+abbrev pub IsRecord : Place → List ℕ → Type 0
+IsRecord place text = text ≡ empty_record place

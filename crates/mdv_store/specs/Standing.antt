@@ -12,7 +12,8 @@ use Rattle.mdv_replica.specs.declared.replica.Head.{Head}
 use Rattle.mdv_replica.specs.declared.replica.Slot.{Slot}
 use Rattle.mdv_replica.specs.declared.replica.Slot.TheVariants.{First, Second}
 use Rattle.mdv_store.specs.Log.{Version, Log, Event, log_after_all, is_firm, HasMark, IsCourse, Adds, IsLog}
-use Rattle.mdv_store.specs.Database.{IsReplica, IsFound, shows, greatest, IsSpareSlot}
+use Rattle.mdv_replica.specs.Form.{shows, greatest, IsSpareSlot}
+use Rattle.mdv_store.specs.Database.{IsReplica, IsFound}
 use Rattle.mdv_store.specs.declared.database.BootEnd.{BootEnd}
 use Rattle.mdv_store.specs.declared.database.BootEnd.TheVariants.{Adopted, Empty, Down, Lost, Spent}
 use Rattle.mdv_store.specs.declared.database.CreateFault.{CreateFault}

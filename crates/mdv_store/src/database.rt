@@ -5,18 +5,18 @@ ghost use Rattle.mdv_shelf.specs.Area.{KeptOutside, nowhere};
 ghost use Rattle.mdv_shelf.specs.Calls.{OnDrive, Keeps, Took};
 ghost use Rattle.mdv_shelf.specs.Moments.{Moments, Ends};
 ghost use Rattle.mdv_shelf.specs.Settle.{IsSynced};
-ghost use Rattle.mdv_replica.specs.Replica.{IsOnDrive, IsPlaced, IsFormed, IsSlotWritten, gate_at, body_at};
-ghost use Rattle.mdv_replica.specs.Forms.{IsMark, IsMaster, block_of, gate_text};
-ghost use Rattle.mdv_store.specs.Record.{IsEmptyRecord, empty_record};
-ghost use Rattle.mdv_store.specs.Database.{master_of, IsReplica, IsFound, IsBooted, IsSafe, IsQuiet, IsSpareSlot, SlotFits, greatest, with_blocks, is_open, shows, boot_of, IsSame, TableImage, Rewrites, Leaves, claimed, slotted};
+ghost use Rattle.mdv_replica.specs.Replica.{IsPlaced, IsFormed, IsHead, with_blocks};
+ghost use Rattle.mdv_replica.specs.Forms.{IsMark};
+ghost use Rattle.mdv_replica.specs.Form.{SlotFits, IsSpareSlot, room_of, text_of, is_open, shows, boot_of, greatest};
+ghost use Rattle.mdv_replica.specs.Images.{Leaves};
+ghost use Rattle.mdv_store.specs.Record.{IsRecord};
+ghost use Rattle.mdv_store.specs.Database.{IsOnDrive, IsReplica, IsFound, IsBooted, IsSafe, IsQuiet, TakesTable, MayTakeTable, Rewritten, Rewrites};
 ghost use Rattle.mdv_store.specs.Log.{NoCreation, IsThis};
 ghost use Rattle.mdv_store.specs.Standing.{IsTheReplica, IsAdopted, IsBootedTo, IsCreatedTo, IsRefusal, ShowsNothing, GoesOn, GoesOnTo};
 
 use crate::empty_record::{RECORD_BYTES, is_record, record_block};
 use mdv_base::{Failed, Identity, Key, Mark, NUMBER_LIMIT, Place, ZERO_BLOCK};
-use mdv_replica::{
-    Gate, Head, Master, PlaceAt, Slot, format, inspect, read_body, write_claim, write_slot,
-};
+use mdv_replica::{Gate, Head, PlaceAt, Slot, format, inspect, read_body, write_claim, write_slot};
 use mdv_shelf::Shelf;
 
 /// What a boot came to.
@@ -97,7 +97,7 @@ fn find<S: Shelf>(shelf: &mut S, at: PlaceAt, key: &Key) -> Result<Option<Head>,
     ensures cause { HasCause (S.faults shelf.old (OnDrive at.drive.0)) (S.faults shelf.new (OnDrive at.drive.0)) result }
     ensures keeps { Keeps S.sizes S.faults S.rest S.held shelf.old shelf.new }
 {
-    let Some(head) = inspect(shelf, at)? else {
+    let Some(head) = head_at(shelf, at)? else {
         return Ok(None);
     };
     if !is_of_database(&head, key) {
@@ -109,6 +109,26 @@ fn find<S: Shelf>(shelf: &mut S, at: PlaceAt, key: &Key) -> Result<Option<Head>,
         return Ok(None);
     }
     Ok(Some(head))
+}
+
+// What the head of the place says. A place of which the drive has no block is empty.
+fn head_at<S: Shelf>(shelf: &mut S, at: PlaceAt) -> Result<Option<Head>, Failed>
+    requires { IsOnDrive (S.sizes shelf.old) at }
+    ensures form { IfOk result (λ seen. IfSome seen (IsFormed at (slice_index_or (S.sizes shelf.old) at.drive.0 0))) }
+    ensures value { IfOk result (λ seen. (t : Tale) → S.tale shelf.old ≡ Some t → IfSome seen (IsHead at (slice_index_or (S.sizes shelf.old) at.drive.0 0) (last t at.drive.0))) }
+    ensures spelled { IfOk result (λ seen. (t : Tale) → S.tale shelf.old ≡ Some t → (head : Head) → IsHead at (slice_index_or (S.sizes shelf.old) at.drive.0 0) (last t at.drive.0) head → seen ≡ Some head) }
+    ensures same { S.tale shelf.new ≡ S.tale shelf.old }
+    ensures cause { HasCause (S.faults shelf.old (OnDrive at.drive.0)) (S.faults shelf.new (OnDrive at.drive.0)) result }
+    ensures keeps { Keeps S.sizes S.faults S.rest S.held shelf.old shelf.new }
+{
+    if shelf.blocks(at.drive) <= at.first {
+        return Ok(None);
+    }
+    let seen = inspect(shelf, at);
+    if seen.flags.read_error {
+        return Err(Failed);
+    }
+    Ok(seen.head)
 }
 
 // Its key is the database's, and it shows a table.
@@ -132,17 +152,13 @@ fn at_length(at: PlaceAt, blocks: u32) -> PlaceAt
         start: at.place.start,
         blocks,
     };
-    PlaceAt {
-        place,
-        drive: at.drive,
-        first: at.first,
-    }
+    PlaceAt { place, ..at }
 }
 
 // The body of each open slot is a record.
 fn fits_both<S: Shelf>(shelf: &mut S, at: PlaceAt, head: &Head) -> Result<bool, Failed>
     requires { IsPlaced (S.sizes shelf.old) at }
-    ensures fits { IfOk result (λ fits. (t : Tale) → S.tale shelf.old ≡ Some t → IsTrue fits ↔ (SlotFits at Slot.First head.now.first (last t at.drive.0) × SlotFits at Slot.Second head.now.second (last t at.drive.0))) }
+    ensures fits { IfOk result (λ fits. (t : Tale) → S.tale shelf.old ≡ Some t → IsTrue fits ↔ (SlotFits IsRecord at Slot.First head.now.first (last t at.drive.0) × SlotFits IsRecord at Slot.Second head.now.second (last t at.drive.0))) }
     ensures same { S.tale shelf.new ≡ S.tale shelf.old }
     ensures cause { HasCause (S.faults shelf.old (OnDrive at.drive.0)) (S.faults shelf.new (OnDrive at.drive.0)) result }
     ensures keeps { Keeps S.sizes S.faults S.rest S.held shelf.old shelf.new }
@@ -154,7 +170,7 @@ fn fits_both<S: Shelf>(shelf: &mut S, at: PlaceAt, head: &Head) -> Result<bool, 
 
 fn fits<S: Shelf>(shelf: &mut S, at: PlaceAt, slot: Slot, gate: Gate) -> Result<bool, Failed>
     requires { IsPlaced (S.sizes shelf.old) at }
-    ensures fits { IfOk result (λ fits. (t : Tale) → S.tale shelf.old ≡ Some t → IsTrue fits ↔ SlotFits at slot gate (last t at.drive.0)) }
+    ensures fits { IfOk result (λ fits. (t : Tale) → S.tale shelf.old ≡ Some t → IsTrue fits ↔ SlotFits IsRecord at slot gate (last t at.drive.0)) }
     ensures same { S.tale shelf.new ≡ S.tale shelf.old }
     ensures cause { HasCause (S.faults shelf.old (OnDrive at.drive.0)) (S.faults shelf.new (OnDrive at.drive.0)) result }
     ensures keeps { Keeps S.sizes S.faults S.rest S.held shelf.old shelf.new }
@@ -170,7 +186,7 @@ fn fits<S: Shelf>(shelf: &mut S, at: PlaceAt, slot: Slot, gate: Gate) -> Result<
 
 fn has_record<S: Shelf>(shelf: &mut S, at: PlaceAt, slot: Slot, bytes: u32) -> Result<bool, Failed>
     requires { IsPlaced (S.sizes shelf.old) at }
-    ensures fits { IfOk result (λ fits. (t : Tale) → S.tale shelf.old ≡ Some t → IsTrue fits ↔ IsEmptyRecord at.place bytes (last t at.drive.0 (body_at at slot))) }
+    ensures fits { IfOk result (λ fits. (t : Tale) → S.tale shelf.old ≡ Some t → IsTrue fits ↔ ((bytes ≤ room_of at.place.blocks) × IsRecord at.place (text_of at slot bytes (last t at.drive.0)))) }
     ensures same { S.tale shelf.new ≡ S.tale shelf.old }
     ensures cause { HasCause (S.faults shelf.old (OnDrive at.drive.0)) (S.faults shelf.new (OnDrive at.drive.0)) result }
     ensures keeps { Keeps S.sizes S.faults S.rest S.held shelf.old shelf.new }
@@ -217,7 +233,7 @@ fn rewrite<S: Shelf>(shelf: &mut S, at: PlaceAt, slot: Slot, mark: Mark) -> Resu
     requires count { mark.count < 2 ^ 63 }
     requires length { at.place.blocks ≤ 8192 }
     ensures leaves { Moments (Rewrites at slot mark) (S.tale shelf.old) (S.tale shelf.new) }
-    ensures written { OnOk result (Ends (Leaves at.drive.0 (λ old new. IsSame (slotted at slot mark (claimed at mark.boot old)) new)) (S.tale shelf.old) (S.tale shelf.new)) }
+    ensures written { OnOk result (Ends (Leaves (Rewritten at slot mark)) (S.tale shelf.old) (S.tale shelf.new)) }
     ensures moments { Moments (IsQuiet at) (S.tale shelf.old) (S.tale shelf.new) }
     ensures cause { HasCause (S.faults shelf.old (OnDrive at.drive.0)) (S.faults shelf.new (OnDrive at.drive.0)) result }
     ensures keeps { Keeps S.sizes S.faults S.rest S.held shelf.old shelf.new }
@@ -231,9 +247,8 @@ fn write_table<S: Shelf>(shelf: &mut S, at: PlaceAt, slot: Slot, mark: Mark) -> 
     requires placed { IsPlaced (S.sizes shelf.old) at }
     requires mark { IsMark mark }
     requires length { at.place.blocks ≤ 8192 }
-    ensures leaves { Moments (Leaves at.drive.0 (TableImage at slot mark)) (S.tale shelf.old) (S.tale shelf.new) }
-    ensures written { OnOk result (Ends (Leaves at.drive.0 (λ old new. IsSame (slotted at slot mark old) new)) (S.tale shelf.old) (S.tale shelf.new)) }
-    ensures synced { OnOk result (Ends (λ _ u. IsSynced at.drive.0 u) (S.tale shelf.old) (S.tale shelf.new)) }
+    ensures leaves { Moments (Leaves (MayTakeTable at slot mark)) (S.tale shelf.old) (S.tale shelf.new) }
+    ensures written { OnOk result (Ends (Leaves (TakesTable at slot mark)) (S.tale shelf.old) (S.tale shelf.new)) }
     ensures moments { Moments (IsQuiet at) (S.tale shelf.old) (S.tale shelf.new) }
     ensures cause { HasCause (S.faults shelf.old (OnDrive at.drive.0)) (S.faults shelf.new (OnDrive at.drive.0)) result }
     ensures counted { OnOk result (Took S.calls S.written shelf.old shelf.new 6 3) }
@@ -279,7 +294,7 @@ fn boot_number(gate: &Gate) -> u64
 }
 
 /// Makes the database: a replica is formatted with claim 1, and the empty table written under the mark
-/// (1, 0). The place has 8192 blocks.
+/// (1, 0).
 pub fn create<S: Shelf>(
     shelf: &mut S,
     at: PlaceAt,
@@ -288,7 +303,6 @@ pub fn create<S: Shelf>(
 ) -> Result<(), CreateFault>
     requires placed { IsPlaced (S.sizes shelf.old) at }
     requires length { at.place.blocks ≤ 8192 }
-    requires master { IsMaster (master_of at key.now identity) }
     ensures safe { OnOk result (Ends (λ _ u. IsSafe key.now at (slice_index_or (S.sizes shelf.old) at.drive.0 0) identity (record { boot = 1; count = 0 }) u) (S.tale shelf.old) (S.tale shelf.new)) }
     ensures moments { Moments (IsQuiet at) (S.tale shelf.old) (S.tale shelf.new) }
 
@@ -300,17 +314,8 @@ pub fn create<S: Shelf>(
     ensures counted { OnOk result (Took S.calls S.written shelf.old shelf.new 12 8) }
     ensures keeps { Keeps S.sizes S.faults S.rest S.held shelf.old shelf.new }
 {
-    let master = Master {
-        identity,
-        key: *key,
-        slice: at.place.slice,
-        start: at.place.start,
-        blocks: at.place.blocks,
-        index: 0,
-        count: 1,
-    };
     let mark = Mark { boot: 1, count: 0 };
-    match format(shelf, at, &master, 1) {
+    match format(shelf, at, key, identity, 1) {
         Ok(()) => {}
         Err(Failed) => return Err(CreateFault::Failed),
     }

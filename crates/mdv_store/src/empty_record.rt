@@ -23,7 +23,8 @@ pub fn record_block(place: &Place) -> Block
 
 /// Whether a body of which so many bytes count has that record.
 pub fn is_record(place: &Place, bytes: u32, body: &Block) -> bool
-    ensures { IsTrue result ↔ IsEmptyRecord place.now bytes body.now }
+    ensures is { IsTrue result ↔ IsEmptyRecord place.now bytes body.now }
+    ensures size { length body.now ≡ 512 }
 {
     bytes == RECORD_BYTES && begins_with(body, record_page(place).as_slice())
 }

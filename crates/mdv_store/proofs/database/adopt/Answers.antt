@@ -6,7 +6,9 @@ use Rattle.mdv_base.specs.declared.mark.Mark.{Mark}
 use Rattle.mdv_base.specs.declared.name.Key.{Key}
 use Rattle.mdv_shelf.specs.Tale.{last}
 use Rattle.mdv_shelf.specs.Settle.{IsSynced}
-use Rattle.mdv_store.specs.Database.{IsQuiet, with_blocks, greatest}
+use Rattle.mdv_replica.specs.Replica.{with_blocks}
+use Rattle.mdv_replica.specs.Form.{greatest}
+use Rattle.mdv_store.specs.Database.{IsQuiet}
 use Rattle.mdv_store.specs.Log.{NoCreation}
 use Rattle.mdv_store.specs.Standing.{IsTheReplica, GoesOn}
 use Rattle.mdv_store.proofs.Covering.{rewriting_goes_on, rewritten_goes_on, rewritten_adopted}

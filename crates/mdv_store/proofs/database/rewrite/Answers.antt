@@ -1,48 +1,51 @@
-use Rattle.std.proofs.Common.{◌+◌, [], ◌∷◌, arith}
+use Rattle.std.proofs.Common.{inl, inr, ◌+◌, arith}
 use Rattle.mdv_shelf.specs.Moments.{Moments, Ends}
 use Rattle.mdv_shelf.proofs.Moments.{moments_weaker, moments_more, moments_after, moments_end, ends_both, ends_more}
 use Rattle.mdv_replica.specs.Forms.{claim_text, block_of}
+use Rattle.mdv_replica.specs.Replica.{claim_blocks}
+use Rattle.mdv_replica.specs.Images.{Leaves, Claims}
+use Rattle.mdv_replica.proofs.Leaving.{leaves_settling, leaves_settled}
 use Rattle.mdv_store.specs.Database.{IsQuiet, Rewrites}
 use Rattle.mdv_store.proofs.Quiet.{quiet_settling, quiet_more}
-use Rattle.mdv_store.proofs.Rewriting.{IsClaimed, claiming, slotting, slotted_last}
+use Rattle.mdv_store.proofs.Replicas.{rewriting, rewritten}
 use Rattle.mdv_store.proofs.database.rewrite.Goals as goal
 
 pub returns-in_err-write_claim-clause-moments : goal.returns-in_err-write_claim-clause-moments
 returns-in_err-write_claim-clause-moments g c =
-    moments_weaker _ (IsQuiet c.args.at) _ _ (λ t m. quiet_settling c.args.at (c.args.at.first + 1) (block_of (claim_text c.args.mark.boot) ∷ []) t m (omega arith) (omega arith)) c.write_claim.ensures.moments
+    moments_weaker _ (IsQuiet c.args.at) _ _ (λ t m. quiet_settling c.args.at (c.args.at.first + 1) (claim_blocks c.args.mark.boot) t m (omega arith) (omega arith)) c.write_claim.ensures.moments
 
 pub returns-in_err-write_claim-clause-leaves : goal.returns-in_err-write_claim-clause-leaves
 returns-in_err-write_claim-clause-leaves g c =
-    moments_weaker _ (Rewrites c.args.at c.args.slot c.args.mark) _ _ (λ t m. claiming c.args.at c.args.slot c.args.mark t m) c.write_claim.ensures.moments
+    moments_weaker _ (Rewrites c.args.at c.args.slot c.args.mark) _ _ (λ t m settling. inl (leaves_settling c.args.at.drive.0 (c.args.at.first + 1) (block_of (claim_text c.args.mark.boot)) t m settling)) c.write_claim.ensures.moments
 
 pub returns-in_err-write_table-clause-moments : goal.returns-in_err-write_table-clause-moments
 returns-in_err-write_table-clause-moments g c =
     let first : Moments (IsQuiet c.args.at) (g.S.Shelf.tale c.args.shelf.now) (g.S.Shelf.tale c.write_claim.new.shelf) =
-    moments_weaker _ (IsQuiet c.args.at) _ _ (λ t m. quiet_settling c.args.at (c.args.at.first + 1) (block_of (claim_text c.args.mark.boot) ∷ []) t m (omega arith) (omega arith)) c.write_claim.ensures.moments in
+    moments_weaker _ (IsQuiet c.args.at) _ _ (λ t m. quiet_settling c.args.at (c.args.at.first + 1) (claim_blocks c.args.mark.boot) t m (omega arith) (omega arith)) c.write_claim.ensures.moments in
     moments_more (IsQuiet c.args.at) (IsQuiet c.args.at) (IsQuiet c.args.at) _ _ _ (λ t m q. q) (λ t u m. quiet_more c.args.at t u m) first c.write_table.ensures.moments
 
 pub returns-in_err-write_table-clause-leaves : goal.returns-in_err-write_table-clause-leaves
 returns-in_err-write_table-clause-leaves g c =
-    let claims : Ends (IsClaimed c.args.at c.args.slot c.args.mark) (g.S.Shelf.tale c.args.shelf.now) (g.S.Shelf.tale c.write_claim.new.shelf) =
-    ends_both _ _ _ _ _ (λ t u way end. record { settling = way; settled = end }) (moments_end _ _ _ c.write_claim.ensures.moments) c.in_ok-write_claim.ensures.settled in
-    moments_after _ (IsClaimed c.args.at c.args.slot c.args.mark) _ (Rewrites c.args.at c.args.slot c.args.mark) _ _ _ (λ t m. claiming c.args.at c.args.slot c.args.mark t m)
-    (λ t u m. slotting c.args.at c.args.slot c.args.mark t u m) c.write_claim.ensures.moments claims c.write_table.ensures.leaves
+    let claims : Ends (Leaves (Claims c.args.at c.args.mark.boot)) (g.S.Shelf.tale c.args.shelf.now) (g.S.Shelf.tale c.write_claim.new.shelf) =
+    ends_both _ _ _ _ _ (λ t u way end. leaves_settled c.args.at.drive.0 (c.args.at.first + 1) (claim_blocks c.args.mark.boot) t u way.outside end) (moments_end _ _ _ c.write_claim.ensures.moments) c.in_ok-write_claim.ensures.settled in
+    moments_after _ (Leaves (Claims c.args.at c.args.mark.boot)) _ (Rewrites c.args.at c.args.slot c.args.mark) _ _ _ (λ t m settling. inl (leaves_settling c.args.at.drive.0 (c.args.at.first + 1) (block_of (claim_text c.args.mark.boot)) t m settling))
+    (λ t u m first second. inr (rewriting c.args.at c.args.slot c.args.mark t u m first second)) c.write_claim.ensures.moments claims c.write_table.ensures.leaves
 
 pub returns-clause-moments : goal.returns-clause-moments
 returns-clause-moments g c =
     let first : Moments (IsQuiet c.args.at) (g.S.Shelf.tale c.args.shelf.now) (g.S.Shelf.tale c.write_claim.new.shelf) =
-    moments_weaker _ (IsQuiet c.args.at) _ _ (λ t m. quiet_settling c.args.at (c.args.at.first + 1) (block_of (claim_text c.args.mark.boot) ∷ []) t m (omega arith) (omega arith)) c.write_claim.ensures.moments in
+    moments_weaker _ (IsQuiet c.args.at) _ _ (λ t m. quiet_settling c.args.at (c.args.at.first + 1) (claim_blocks c.args.mark.boot) t m (omega arith) (omega arith)) c.write_claim.ensures.moments in
     moments_more (IsQuiet c.args.at) (IsQuiet c.args.at) (IsQuiet c.args.at) _ _ _ (λ t m q. q) (λ t u m. quiet_more c.args.at t u m) first c.write_table.ensures.moments
 
 pub returns-clause-leaves : goal.returns-clause-leaves
 returns-clause-leaves g c =
-    let claims : Ends (IsClaimed c.args.at c.args.slot c.args.mark) (g.S.Shelf.tale c.args.shelf.now) (g.S.Shelf.tale c.write_claim.new.shelf) =
-    ends_both _ _ _ _ _ (λ t u way end. record { settling = way; settled = end }) (moments_end _ _ _ c.write_claim.ensures.moments) c.in_ok-write_claim.ensures.settled in
-    moments_after _ (IsClaimed c.args.at c.args.slot c.args.mark) _ (Rewrites c.args.at c.args.slot c.args.mark) _ _ _ (λ t m. claiming c.args.at c.args.slot c.args.mark t m)
-    (λ t u m. slotting c.args.at c.args.slot c.args.mark t u m) c.write_claim.ensures.moments claims c.write_table.ensures.leaves
+    let claims : Ends (Leaves (Claims c.args.at c.args.mark.boot)) (g.S.Shelf.tale c.args.shelf.now) (g.S.Shelf.tale c.write_claim.new.shelf) =
+    ends_both _ _ _ _ _ (λ t u way end. leaves_settled c.args.at.drive.0 (c.args.at.first + 1) (claim_blocks c.args.mark.boot) t u way.outside end) (moments_end _ _ _ c.write_claim.ensures.moments) c.in_ok-write_claim.ensures.settled in
+    moments_after _ (Leaves (Claims c.args.at c.args.mark.boot)) _ (Rewrites c.args.at c.args.slot c.args.mark) _ _ _ (λ t m settling. inl (leaves_settling c.args.at.drive.0 (c.args.at.first + 1) (block_of (claim_text c.args.mark.boot)) t m settling))
+    (λ t u m first second. inr (rewriting c.args.at c.args.slot c.args.mark t u m first second)) c.write_claim.ensures.moments claims c.write_table.ensures.leaves
 
 pub returns-clause-written : goal.returns-clause-written
 returns-clause-written g c =
-    let claims : Ends (IsClaimed c.args.at c.args.slot c.args.mark) (g.S.Shelf.tale c.args.shelf.now) (g.S.Shelf.tale c.write_claim.new.shelf) =
-    ends_both _ _ _ _ _ (λ t u way end. record { settling = way; settled = end }) (moments_end _ _ _ c.write_claim.ensures.moments) c.in_ok-write_claim.ensures.settled in
-    ends_more (IsClaimed c.args.at c.args.slot c.args.mark) _ _ _ _ _ (λ t u v. slotted_last c.args.at c.args.slot c.args.mark t u v) claims c.in_ok-write_table.ensures.written
+    let claims : Ends (Leaves (Claims c.args.at c.args.mark.boot)) (g.S.Shelf.tale c.args.shelf.now) (g.S.Shelf.tale c.write_claim.new.shelf) =
+    ends_both _ _ _ _ _ (λ t u way end. leaves_settled c.args.at.drive.0 (c.args.at.first + 1) (claim_blocks c.args.mark.boot) t u way.outside end) (moments_end _ _ _ c.write_claim.ensures.moments) c.in_ok-write_claim.ensures.settled in
+    ends_more (Leaves (Claims c.args.at c.args.mark.boot)) _ _ _ _ _ (λ t u v. rewritten c.args.at c.args.slot c.args.mark t u v) claims c.in_ok-write_table.ensures.written
