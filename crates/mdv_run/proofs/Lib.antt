@@ -1,6 +1,4 @@
-pub mod GeometryCuts
-pub mod GeometryLines
-pub mod GeometryTables
+pub mod Tables
 pub mod Reading
 pub mod Rebooting
 pub mod Pieces

@@ -101,3 +101,12 @@ module _ (host : Host) (script : Script) where
           record { is_log = is_log_after_all log (went.0 ++ then.0) stands.is_log course; covers = subst (λ (l : Log). CoversAt host l m) (sym (log_after_more log went.0 then.0)) then.3 },
         );
   }
+
+-- a moment before anything was done
+pub nothing_run : (host : Host) (script : Script) (t : Tale) → RunMoment host script t t
+nothing_run host script t = record {
+  bytes = [];
+  is_told = sym (append-nil (told t));
+  made = λ some. absurd (let none = acknowledged_none script in omega arith);
+  stands = λ log stands. ([], tt, subst (λ (n : ℕ). Adds (IsOfRun host) n []) (sym (acknowledged_none script)) (record { tells = refl; issues = tt }), stands);
+}

@@ -1,6 +1,5 @@
 pub use Rattle.mdv_base.specs.Causes
 pub mod Geometry
-pub mod GeometryParts
 pub mod Grammar
 pub mod Run
 pub mod Turns

@@ -1,10 +1,9 @@
-ghost use Rattle.std.specs.Prelude.{◌≡◌, IfSome, IfNone};
+ghost use Rattle.std.specs.Prelude.{◌≡◌, ◌++◌, ℕ, List, IfSome, IfNone};
 ghost use Rattle.mdv_engine.specs.declared.command.Command.{Command};
 ghost use Rattle.mdv_base.specs.declared.drive.SliceName.{SliceName};
 ghost use Rattle.mdv_name.specs.Drive.{IsSliceName, slice_text};
 ghost use Rattle.mdv_run.specs.Grammar.{IsOfGrammar, command_text};
 
-use crate::geometry::strip;
 use mdv_base::SliceName;
 use mdv_engine::Command;
 use mdv_name::parse_plain_slice;
@@ -28,6 +27,13 @@ pub fn read_line(text: &[u8]) -> Option<Command>
         Some(slice) => creation(slice, true),
         None => creation(rest, false),
     }
+}
+
+fn strip<'a>(word: &[u8], text: &'a [u8]) -> Option<&'a [u8]>
+    ensures value { IfSome result (λ rest. text.now ≡ word.now ++ rest.now) }
+    ensures none { IfNone result ((rest : List ℕ) → text.now ≡ word.now ++ rest → ⊥) }
+{
+    text.strip_prefix(word)
 }
 
 // A creation on the slice that the text names.

@@ -3,9 +3,7 @@
 #![tactic(auto)]
 
 mod command;
-pub mod geometry;
-#[cfg(test)]
-mod geometry_tests;
+mod geometry;
 mod law;
 mod session;
 #[cfg(test)]

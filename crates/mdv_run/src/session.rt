@@ -1,4 +1,4 @@
-ghost use Rattle.std.specs.Prelude.{◌≡◌, ◌<◌, ◌≤◌, ◌+◌, ◌^◌, ◌↔◌, ℕ, List, [], ◌∷◌, map, string_bytes, Some, IfSome, IfNone, IsTrue, false};
+ghost use Rattle.std.specs.Prelude.{◌≡◌, ◌≢◌, ◌⊎◌, Err, IfOk, ◌<◌, ◌≤◌, ◌+◌, ◌^◌, ◌↔◌, ℕ, List, [], ◌∷◌, map, string_bytes, Some, IfSome, IfNone, IsTrue, false};
 ghost use Rattle.mdv_shelf.specs.Tale.{Tale};
 ghost use Rattle.mdv_shelf.specs.Calls.{OnDrive, OnReplies, Keeps};
 ghost use Rattle.mdv_shelf.specs.Moments.{Moments, Ends};
@@ -11,21 +11,26 @@ ghost use Rattle.mdv_engine.specs.Replies.{IsReplied, IsLost, HasReplyCause};
 ghost use Rattle.mdv_engine.specs.Line.{IsSound};
 ghost use Rattle.mdv_engine.specs.Standing.{Executed, Knows, TurnMoment, Turned};
 ghost use Rattle.mdv_run.specs.Grammar.{makes};
-ghost use Rattle.mdv_run.specs.Run.{IsUsed, failures, HasStatusCause, status_of, IsWholeRun};
+ghost use Rattle.mdv_name.specs.declared.geometry.Geometry.{Geometry};
+ghost use Rattle.mdv_name.specs.Geometry.{IsGeometry as IsTable};
+ghost use Rattle.mdv_run.specs.Run.{IsUsed, IsUnbegun, failures, HasStatusCause, status_of, IsWholeRun};
 ghost use Rattle.mdv_run.specs.Turns.{over_status, LineAnswered, Turns, turn_of as spec_turn_of, IsOn, IsLostTurn, HasTurnCause, LinesRun};
 ghost use Rattle.mdv_run.specs.Standing.{RunMoment, LinesMoment, RanTo};
 
 use crate::command::read_line;
-use crate::geometry::read;
+use crate::geometry::home_in;
 use crate::status::RunStatus;
 use mdv_base::{DriveNo, Failed, Refusal};
 use mdv_engine::{BootRefusal, Command, Engine, Host, Reply, SmallGeometry};
+use mdv_name::{Geometry, GeometryFault};
 use mdv_port::{LineEnd, LineReader, Source};
 use mdv_shelf::Bench;
+use std::alloc::Global;
 
 /// Runs one host: it boots from the drive, then answers the lines of the script one by one. The words
-/// are the host's name alone; the table of drives is the small one, with one drive and one slice.
-/// `fresh` has to differ between runs: it is part of the identity of each database that the run makes.
+/// are the host's name alone. The table of drives has that host, one drive, which is its own, and one
+/// slice marked `db`, which no other slice overlaps. `fresh` has to differ between runs: it is part of
+/// the identity of each database that the run makes. Memory is taken for the table alone, before the boot.
 pub fn run<B: Bench, I: Source>(
     words: &[String],
     geometry: &[u8],
@@ -33,25 +38,38 @@ pub fn run<B: Bench, I: Source>(
     script: &mut I,
     fresh: u64,
 ) -> RunStatus
-    // A faulty use is told exactly where the words, the table and the drives are none of a host's.
-    ensures usage { (result ≡ RunStatus.Usage) ↔ ((g : SmallGeometry) → IsUsed (map string_bytes words.now) geometry.now (B.sizes bench.old) g → ⊥) }
+    // A faulty use is told exactly where the words, the table and the drives are none of a host's, but for
+    // want of memory.
+    ensures usage { result ≢ RunStatus.NoMemory → (result ≡ RunStatus.Usage) ↔ ((g : SmallGeometry) → IsUsed (map string_bytes words.now) geometry.now (B.sizes bench.old) g → ⊥) }
 
     // Else the boot answers from what the drive's blocks held, and the bytes told and the status are
     // those of the script; where a database is open at the end, every crash leaves it.
-    ensures runs { (g : SmallGeometry) → IsUsed (map string_bytes words.now) geometry.now (B.sizes bench.old) g → (t : Tale) → B.tale bench.old ≡ Some t → (input : List ℕ) → I.left script.old ≡ Some input → IsWholeRun (failures (B.faults bench.old) (B.faults bench.new) (I.faults script.old) (I.faults script.new)) (record { geometry = g; fresh = fresh }) t (script_of input) (B.tale bench.new) result }
+    ensures runs { (g : SmallGeometry) → IsUsed (map string_bytes words.now) geometry.now (B.sizes bench.old) g → (t : Tale) → B.tale bench.old ≡ Some t → (input : List ℕ) → I.left script.old ≡ Some input → IsUnbegun t (B.tale bench.new) result ⊎ IsWholeRun (failures (B.faults bench.old) (B.faults bench.new) (I.faults script.old) (I.faults script.new)) (record { geometry = g; fresh = fresh }) t (script_of input) (B.tale bench.new) result }
 
     // At each moment the drive stands with the log so far, in which a creation is acknowledged once the
     // newline of its `ok` was told.
     ensures stands { (g : SmallGeometry) → IsUsed (map string_bytes words.now) geometry.now (B.sizes bench.old) g → (input : List ℕ) → I.left script.old ≡ Some input → Moments (RunMoment (record { geometry = g; fresh = fresh }) (script_of input)) (B.tale bench.old) (B.tale bench.new) }
 
     // A status that tells of a failure comes only where one came, whatever the bench and the source tell.
-    ensures causes { (g : SmallGeometry) → IsUsed (map string_bytes words.now) geometry.now (B.sizes bench.old) g → HasStatusCause (failures (B.faults bench.old) (B.faults bench.new) (I.faults script.old) (I.faults script.new)) result }
+    ensures causes { (g : SmallGeometry) → IsUsed (map string_bytes words.now) geometry.now (B.sizes bench.old) g → (result ≡ RunStatus.NoMemory) ⊎ HasStatusCause (failures (B.faults bench.old) (B.faults bench.new) (I.faults script.old) (I.faults script.new)) result }
     ensures keeps { Keeps B.sizes B.faults B.rest B.held bench.old bench.new }
 {
-    let Some(geometry) = usable(words, geometry, bench) else {
-        return RunStatus::Usage;
-    };
-    match Engine::boot(bench, Host { geometry, fresh }) {
+    match usable(words, geometry, bench) {
+        Ok(geometry) => run_host(Host { geometry, fresh }, bench, script),
+        Err(Unusable::Usage) => RunStatus::Usage,
+        Err(Unusable::Memory) => RunStatus::NoMemory,
+    }
+}
+
+// The run of this host on its drive.
+fn run_host<B: Bench, I: Source>(host: Host, bench: &mut B, script: &mut I) -> RunStatus
+    requires { IsReady host (B.sizes bench.old) }
+    ensures runs { (t : Tale) → B.tale bench.old ≡ Some t → (input : List ℕ) → I.left script.old ≡ Some input → IsWholeRun (failures (B.faults bench.old) (B.faults bench.new) (I.faults script.old) (I.faults script.new)) host t (script_of input) (B.tale bench.new) result }
+    ensures stands { (input : List ℕ) → I.left script.old ≡ Some input → Moments (RunMoment host (script_of input)) (B.tale bench.old) (B.tale bench.new) }
+    ensures causes { HasStatusCause (failures (B.faults bench.old) (B.faults bench.new) (I.faults script.old) (I.faults script.new)) result }
+    ensures keeps { Keeps B.sizes B.faults B.rest B.held bench.old bench.new }
+{
+    match Engine::boot(bench, host) {
         Ok(mut engine) => run_lines(&mut engine, bench, script),
         Err(refusal) => over(refusal),
     }
@@ -67,32 +85,41 @@ fn over(refusal: BootRefusal) -> RunStatus
     }
 }
 
-// The table of drives, where it and the words are of their form and fit each other and the drives.
-fn usable<B: Bench>(words: &[String], table: &[u8], bench: &B) -> Option<SmallGeometry>
-    ensures value { IfSome result (λ g. IsUsed (map string_bytes words.now) table.now (B.sizes bench.now) g) }
-    ensures none { IfNone result ((g : SmallGeometry) → IsUsed (map string_bytes words.now) table.now (B.sizes bench.now) g → ⊥) }
+// Why no run begins.
+enum Unusable {
+    Usage,
+    Memory,
+}
+
+// The host's home, where the words and the table of drives are of their form and fit each other and the
+// drives.
+fn usable<B: Bench>(words: &[String], table: &[u8], bench: &B) -> Result<SmallGeometry, Unusable>
+    ensures value { IfOk result (λ g. IsUsed (map string_bytes words.now) table.now (B.sizes bench.now) g) }
+    ensures none { result ≡ Err Unusable.Usage → (g : SmallGeometry) → IsUsed (map string_bytes words.now) table.now (B.sizes bench.now) g → ⊥ }
 {
-    let geometry = read(table)?;
-    if is_host(words, geometry.host.as_bytes()) && has_drive(bench, geometry.drive_blocks) {
-        Some(geometry)
+    let [host] = words else {
+        return Err(Unusable::Usage);
+    };
+    let table = read_table(*host.allocator(), table)?;
+    let Some(home) = home_in(&table, host.as_bytes()) else {
+        return Err(Unusable::Usage);
+    };
+    if has_drive(bench, home.drive_blocks) {
+        Ok(home)
     } else {
-        None
+        Err(Unusable::Usage)
     }
 }
 
-fn is_host(words: &[String], host: &[u8]) -> bool
-    ensures { IsTrue result ↔ (map string_bytes words.now ≡ host.now ∷ []) }
+fn read_table(alloc: Global, text: &[u8]) -> Result<Geometry, Unusable>
+    ensures value { IfOk result (IsTable text.now) }
+    ensures none { result ≡ Err Unusable.Usage → (table : Geometry) → IsTable text.now table → ⊥ }
 {
-    match words {
-        [word] => is_same(word.as_bytes(), host),
-        _ => false,
+    match Geometry::read(alloc, text) {
+        Ok(table) => Ok(table),
+        Err(GeometryFault::BadLine(_)) => Err(Unusable::Usage),
+        Err(GeometryFault::Memory) => Err(Unusable::Memory),
     }
-}
-
-fn is_same(one: &[u8], other: &[u8]) -> bool
-    ensures { IsTrue result ↔ (one.now ≡ other.now) }
-{
-    one == other
 }
 
 fn has_drive<B: Bench>(bench: &B, blocks: u64) -> bool

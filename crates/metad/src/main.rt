@@ -2,7 +2,7 @@
 //! tells a reply to each line.
 #![tactic(auto)]
 
-ghost use Rattle.std.specs.Prelude.{◌≤◌, IfOk, vec_len};
+ghost use Rattle.std.specs.Prelude.{◌≤◌, ◌^◌, All, IfOk, vec_len};
 
 mod bench;
 mod help;
@@ -14,7 +14,7 @@ mod tests;
 
 use bench::FileBench;
 use image::Image;
-use mdv_run::geometry::{image_of, read};
+use mdv_name::{Geometry, GeometryFault};
 use mdv_run::{RunStatus, run};
 use source::FileSource;
 use std::alloc::AllocError;
@@ -96,25 +96,33 @@ fn serve(rt: &HostRuntime, words: &[String]) -> Result<RunStatus, RunStatus> {
 
 // The run over that table of drives.
 fn run_with(rt: &HostRuntime, words: &[String], table: &[u8]) -> Result<RunStatus, RunStatus> {
-    let Ok(images) = open_images(rt, table) else {
-        return Err(RunStatus::NoMemory);
-    };
+    let images = open_images(rt, table)?;
     let mut bench = FileBench::new(images, rt.stdout());
     let mut script = FileSource::new(rt.stdin());
     let fresh = nanoseconds(rt)?;
     Ok(run(words, table, &mut bench, &mut script, fresh))
 }
 
-// The drive of the table; none where the text isn't a table.
-fn open_images(rt: &HostRuntime, table: &[u8]) -> Result<Vec<Image>, AllocError>
-    ensures few { IfOk result (λ images. vec_len images ≤ 1) }
+// The drives of the table, in its order; none where the text isn't a table.
+fn open_images(rt: &HostRuntime, table: &[u8]) -> Result<Vec<Image>, RunStatus>
+    ensures few { IfOk result (λ images. vec_len images ≤ 256) }
 {
-    let Some(geometry) = read(table) else {
-        return Ok(Vec::new(rt.alloc()));
-    };
-    let path = image_of(table).and_then(|file| str::from_utf8(file).ok());
-    let image = Image::open(rt, path, geometry.drive_blocks);
-    let images = vec![in rt.alloc(); image]?;
+    match Geometry::read(rt.alloc(), table) {
+        Ok(geometry) => open_drives(rt, &geometry).map_err(as_no_memory),
+        Err(GeometryFault::BadLine(_)) => Ok(Vec::new(rt.alloc())),
+        Err(GeometryFault::Memory) => Err(RunStatus::NoMemory),
+    }
+}
+
+fn open_drives(rt: &HostRuntime, geometry: &Geometry) -> Result<Vec<Image>, AllocError>
+    requires { All (λ drive. drive.blocks ≤ 2 ^ 40) geometry.now.drives }
+    ensures few { IfOk result (λ images. vec_len images ≤ 256) }
+{
+    let mut images = Vec::new(rt.alloc());
+    for drive in geometry.drives.as_slice() {
+        let image = Image::open(rt, Some(drive.file.as_str()), drive.blocks);
+        images.push(image)?;
+    }
     Ok(images)
 }
 

@@ -1,20 +1,33 @@
-use Rattle.std.proofs.Common.{◌≡◌, [], ◌∷◌, map, string_bytes, subst, sym, IfNone}
-use Rattle.mdv_engine.specs.declared.geometry.SmallGeometry.{SmallGeometry}
+use Rattle.std.proofs.Common.{rules, ◌≡◌, sym, ◌∙◌, ap, subst, [], ◌∷◌, map, string_bytes, ℕ, List}
 use Rattle.std.specs.Bool.{IsTrue}
-use Rattle.mdv_run.specs.Run.{IsUsed}
-use Rattle.mdv_run.proofs.GeometryTables.{one_geometry}
+use Rattle.mdv_name.specs.declared.geometry.Geometry.{Geometry}
+use Rattle.mdv_name.proofs.OneTable.{one_table}
+use Rattle.mdv_engine.specs.declared.geometry.SmallGeometry.{SmallGeometry}
+use Rattle.mdv_run.specs.Geometry.{IsHome}
+use Rattle.mdv_run.proofs.Words.{one_item}
+use Rattle.mdv_run.proofs.Tables.{one_geometry}
 use Rattle.mdv_run.proofs.session.usable.Goals as goal
-use Rattle.mdv_run.proofs.session.usable.Goals.{else-is_host-via-then-is_host+else-has_drive, else-is_host-via-else-is_host}
 
--- src/session.rt:79:20
-pub returns-in_err-geometry-clause-none : goal.returns-in_err-geometry-clause-none
-returns-in_err-geometry-clause-none g c = subst (λ r. IfNone r ((x : SmallGeometry) → IsUsed (map string_bytes c.args.words.now) c.args.table.now (g.B.Shelf.sizes c.args.bench.now) x → ⊥)) (sym c.from_residual.ensures) (λ x used. c.in_err-geometry.ensures.none x used.table)
+pub returns-then-has_drive-clause-value : goal.returns-then-has_drive-clause-value
+returns-then-has_drive-clause-value g c =
+    let words = ap (map string_bytes) (one_item c.args.words.now c.host-item.result c.in-len1.len_at_least c.in-len1.len_below c.host-item.is) in
+    let host : c.in-Some.home.host ≡ string_bytes c.host-item.result = c.in-Some.ensures.value.1 ∙ c.as_bytes.ensures.value in
+    record {
+      host = words ∙ ap (λ (w : List ℕ). w ∷ []) (sym host);
+      table = record { table = c.in_ok-table.table; read = c.in_ok-table.ensures.value; home = c.in-Some.ensures.value.0 };
+      drive = c.has_drive.ensures.0 (search rules);
+    }
 
--- src/session.rt:75:1
-pub returns-else-is_host-clause-none : goal.returns-else-is_host-clause-none
-returns-else-is_host-clause-none g c = λ x used. (
-    let same = one_geometry c.args.table.now x c.in_ok-geometry.geometry used.table c.in_ok-geometry.ensures.value in
-    elim c.else-is_host.branch [
-      | else-is_host-via-then-is_host+else-has_drive w ↦ absurd (cc (subst IsTrue w.if-has_drive.false (w.has_drive.ensures.1 (subst (λ (y : SmallGeometry). g.B.Shelf.sizes c.args.bench.now ≡ y.drive_blocks ∷ []) same used.drive))))
-      | else-is_host-via-else-is_host w ↦ absurd (cc (subst IsTrue w.if-is_host.false (c.is_host.ensures.1 (cc (subst (λ (y : SmallGeometry). map string_bytes c.args.words.now ≡ y.host ∷ []) same used.host, c.as_bytes.ensures.value)))))
-    ])
+pub returns-clause-none : goal.returns-clause-none
+returns-clause-none g c = λ is x used.
+    let same = one_geometry c.args.table.now x c.in-Some.home used.table (record { table = c.in_ok-table.table; read = c.in_ok-table.ensures.value; home = c.in-Some.ensures.value.0 }) in
+    let drive = c.has_drive.ensures.1 (subst (λ (y : SmallGeometry). g.B.Shelf.sizes c.args.bench.now ≡ y.drive_blocks ∷ []) same used.drive) in
+    absurd (cc (subst IsTrue c.if-has_drive.false drive))
+
+pub returns-in_default-home_in-clause-none : goal.returns-in_default-home_in-clause-none
+returns-in_default-home_in-clause-none g c = λ is x used.
+    let words = ap (map string_bytes) (one_item c.args.words.now c.host-item.result c.in-len1.len_at_least c.in-len1.len_below c.host-item.is) in
+    let hosts : x.host ∷ [] ≡ string_bytes c.host-item.result ∷ [] = sym used.host ∙ words in
+    let host : x.host ≡ c.as_bytes.result.now = cc (hosts, c.as_bytes.ensures.value) in
+    let tables = one_table c.args.table.now used.table.table c.in_ok-table.table used.table.read c.in_ok-table.ensures.value in
+    c.in_default-home_in.ensures.none x (subst (λ (t : Geometry). IsHome t x) tables used.table.home) host

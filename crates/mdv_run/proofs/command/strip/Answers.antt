@@ -2,7 +2,7 @@ use Rattle.std.proofs.Common.{◌≡◌, ◌≢◌, ◌++◌, List, ℕ, Option,
 use Rattle.std.proofs.lemmas.Bool.Decides.{Decides-eqb}
 use Rattle.std.proofs.lemmas.Slice.Eq.{strip_prefix_is}
 use Rattle.std.specs.Option.{MatchOption}
-use Rattle.mdv_run.proofs.geometry.strip.Goals as goal
+use Rattle.mdv_run.proofs.command.strip.Goals as goal
 
 abbrev Strips : List ℕ → List ℕ → Option (Bor (List ℕ)) → Type 0
 Strips text word r = MatchOption r ((rest : List ℕ) → text ≢ word ++ rest) (λ x. text ≡ word ++ x.now)
