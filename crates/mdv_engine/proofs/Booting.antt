@@ -1,8 +1,8 @@
 -- What a boot leaves of the drive and of its log, and what is known then.
-use Rattle.std.proofs.Common.{◌≡◌, ℕ, ◌+◌, Bool, true, false, ◌||◌, List, [], ◌∷◌, slice_index_or, Option, Some, refl, sym, ◌∙◌, ap, subst}
+use Rattle.std.proofs.Common.{◌≡◌, ℕ, ◌+◌, Bool, true, false, ◌||◌, List, [], ◌∷◌, slice_index_or, Option, refl, sym, ◌∙◌, subst}
 use Rattle.mdv_base.specs.declared.name.Key.{Key}
 use Rattle.mdv_base.specs.declared.name.Key.TheVariants.{Local}
-use Rattle.mdv_shelf.specs.Tale.{Tale, last, told}
+use Rattle.mdv_shelf.specs.Tale.{Tale, last}
 use Rattle.mdv_shelf.specs.Area.{KeptOutside, nowhere}
 use Rattle.mdv_shelf.specs.Moments.{Moments, Ends}
 use Rattle.mdv_shelf.proofs.Moments.{moments_both, moments_weaker, moments_end, some_is}
@@ -13,14 +13,13 @@ use Rattle.mdv_replica.specs.declared.replica.Slot.TheVariants.{First, Second}
 use Rattle.mdv_store.specs.Log.{Log, is_firm, log_after_all, NoCreation}
 use Rattle.mdv_store.specs.Database.{IsBooted, IsQuiet, IsReplica, IsSame, is_open, shows, greatest}
 use Rattle.mdv_store.specs.declared.database.BootEnd.{BootEnd}
-use Rattle.mdv_store.specs.declared.database.BootEnd.TheVariants.{Adopted, Empty, Down, Lost, Spent}
-use Rattle.mdv_store.specs.Standing.{Covers, ShowsNothing, GoesOn, GoesOnTo, IsAdopted, IsBootedTo, IsRefusal, rewritten}
+use Rattle.mdv_store.specs.Standing.{ShowsNothing, GoesOn, GoesOnTo, IsAdopted, IsBootedTo, rewritten}
 use Rattle.mdv_store.proofs.Covering.{last_image}
 use Rattle.mdv_engine.specs.declared.engine.Host.{Host}
 use Rattle.mdv_engine.specs.declared.engine.State.{State}
 use Rattle.mdv_engine.specs.Home.{AtHome, place_of}
 use Rattle.mdv_engine.specs.Line.{IsRewritten}
-use Rattle.mdv_engine.specs.Standing.{BootMoment, BootedTo, HasReplica, Knows}
+use Rattle.mdv_engine.specs.Standing.{BootMoment, BootedTo, Knows}
 use Rattle.mdv_engine.proofs.Homes.{at_home}
 
 or_true : (b : Bool) → b || true ≡ true
@@ -63,10 +62,13 @@ module _ (host : Host) (place : PlaceAt) (sizes : List ℕ) (place_is : place �
   pub knows_adopted : (state : State) (t u : Tale) → state.database ≡ true → IsAdopted key place size (last t place.drive.0) u → Knows host state u
   knows_adopted state t u there is = record {
     nothing = λ not. absurd (cc (sym there ∙ not));
-    fixed = λ held. (rewritten is.head is.slot (greatest is.head + 1), record {
-      shown = shown_again is.head is.slot (greatest is.head + 1);
-      each = λ image of_image. at_home host place sizes place_is sizes_are (λ k p s. IsReplica k p s (image p.drive.0) (rewritten is.head is.slot (greatest is.head + 1))) (is.each image of_image);
-    });
+    fixed = λ held. (
+      rewritten is.head is.slot (greatest is.head + 1),
+      record {
+        shown = shown_again is.head is.slot (greatest is.head + 1);
+        each = λ image of_image. at_home host place sizes place_is sizes_are (λ k p s. IsReplica k p s (image p.drive.0) (rewritten is.head is.slot (greatest is.head + 1))) (is.each image of_image);
+      },
+    );
   }
 
   pub knows_empty : (state : State) (u : Tale) → state.database ≡ false → ShowsNothing key place size u → Knows host state u

@@ -1,7 +1,6 @@
 -- What a command came to, told of the longer stretch that its reply ends.
-use Rattle.std.proofs.Common.{◌≡◌, inl, inr, ℕ, ◌+◌, ◌-◌, ◌^◌, ◌≤◌, min, List, [], ◌++◌, refl, sym, ◌∙◌, ap, subst, arith}
+use Rattle.std.proofs.Common.{◌≡◌, inl, inr, ℕ, ◌+◌, ◌-◌, ◌^◌, ◌≤◌, min, List, ◌++◌, refl, sym, ◌∙◌, ap, subst, arith}
 use Rattle.mdv_base.specs.Causes.{Rose}
-use Rattle.mdv_base.specs.declared.refusal.Refusal.{Refusal}
 use Rattle.mdv_shelf.specs.Tale.{Tale, told}
 use Rattle.mdv_shelf.specs.Area.{KeptOutside, nowhere}
 use Rattle.mdv_store.specs.declared.database.BootEnd.TheVariants.{Adopted, Empty, Down, Lost, Spent}
@@ -15,7 +14,7 @@ use Rattle.mdv_engine.specs.declared.engine.Host.{Host}
 use Rattle.mdv_engine.specs.declared.engine.State.{State}
 use Rattle.mdv_engine.specs.Replies.{IsTold, HasAnswerCause, HasReplyCause}
 use Rattle.mdv_engine.specs.Line.{Kept, kept_at, drive_content, IsCarriedOut, IsRebooted}
-use Rattle.mdv_engine.specs.Standing.{OnlyReplied, Replied, Executed}
+use Rattle.mdv_engine.specs.Standing.{OnlyReplied, Executed}
 
 -- a count that rose within a stretch rose over the longer one
 pub rose_within : (before from to after : ℕ) → before ≤ from → to ≤ after → Rose from to → Rose before after

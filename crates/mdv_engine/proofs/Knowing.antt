@@ -1,5 +1,4 @@
 -- What is known between lines stays where no block changes.
-use Rattle.std.proofs.Common.{◌≡◌, ℕ, List}
 use Rattle.mdv_base.specs.declared.name.Key.TheVariants.{Local}
 use Rattle.mdv_shelf.specs.Tale.{Tale}
 use Rattle.mdv_shelf.specs.Area.{KeptOutside, nowhere}

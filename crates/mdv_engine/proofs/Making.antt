@@ -1,26 +1,25 @@
 -- What a creation leaves of the drive and of its log.
-use Rattle.std.proofs.Common.{◌≡◌, ℕ, Bool, true, false, List, [], ◌∷◌, slice_index_or, Option, None, refl, sym, ◌∙◌, ap, subst}
+use Rattle.std.proofs.Common.{◌≡◌, ℕ, true, false, List, [], ◌∷◌, slice_index_or, Option, refl, sym, ◌∙◌, ap, subst}
 use Rattle.mdv_base.specs.declared.mark.Identity.{Identity}
 use Rattle.mdv_base.specs.declared.mark.Mark.{Mark}
 use Rattle.mdv_base.specs.declared.name.Key.{Key}
 use Rattle.mdv_base.specs.declared.name.Key.TheVariants.{Local}
 use Rattle.mdv_base.specs.declared.refusal.Refusal.TheVariants.{IoFault}
-use Rattle.mdv_shelf.specs.Tale.{Tale, last, IsImage}
-use Rattle.mdv_shelf.specs.Moments.{Moments, Ends}
-use Rattle.mdv_shelf.proofs.Moments.{moments_both, moments_weaker, some_is}
+use Rattle.mdv_shelf.specs.Tale.{Tale, last}
+use Rattle.mdv_shelf.specs.Moments.{Moments}
+use Rattle.mdv_shelf.proofs.Moments.{moments_both, moments_weaker}
 use Rattle.mdv_replica.specs.declared.forms.Gate.TheVariants.{Closed, Open}
 use Rattle.mdv_replica.specs.declared.replica.PlaceAt.{PlaceAt}
 use Rattle.mdv_replica.specs.declared.replica.Head.{Head}
 use Rattle.mdv_store.specs.Log.{Log, Event, is_firm, log_after_all, Adds, IsThis}
-use Rattle.mdv_store.specs.Database.{IsReplica, IsFound, IsQuiet, IsSafe, ShowsAlone, master_of}
+use Rattle.mdv_store.specs.Database.{IsReplica, IsQuiet, IsSafe, ShowsAlone, master_of}
 use Rattle.mdv_store.specs.Standing.{ShowsNothing, GoesOn, GoesOnTo, created_log}
 use Rattle.mdv_store.proofs.Covering.{last_image}
 use Rattle.mdv_store.proofs.Logs.{adds_weaker}
-use Rattle.mdv_engine.specs.declared.answer.Answer.{Answer}
 use Rattle.mdv_engine.specs.declared.answer.Answer.TheVariants as outcome
 use Rattle.mdv_engine.specs.declared.engine.Host.{Host}
 use Rattle.mdv_engine.specs.declared.engine.State.{State}
-use Rattle.mdv_engine.specs.Home.{AtHome, place_of, identity_of}
+use Rattle.mdv_engine.specs.Home.{place_of, identity_of}
 use Rattle.mdv_engine.specs.Line.{IsMade, IsUnmade, kept_at, opened, begun}
 use Rattle.mdv_engine.specs.Standing.{IsOfRun, HasReplica, Knows, CarryMoment, CarriedTo}
 use Rattle.mdv_engine.proofs.Homes.{at_home}
@@ -35,7 +34,7 @@ made_head at key identity = record { master = master_of at key identity; claim =
 made_replica : (key : Key) (at : PlaceAt) (size : ℕ) (identity : Identity) (content : ℕ → List ℕ) → ShowsAlone key at size identity first_mark content → IsReplica key at size content (made_head at key identity)
 made_replica key at size identity content alone =
     let is : alone.head ≡ record { master = master_of at key identity; claim = 1; first = Open first_mark 36; second = Closed } =
-        λ i. record { master = alone.as_master i; claim = alone.as_claim i; first = alone.as_first i; second = alone.as_second i } in
+    λ i. record { master = alone.as_master i; claim = alone.as_claim i; first = alone.as_first i; second = alone.as_second i } in
     subst (λ (h : Head). IsReplica key at size content h) is alone.replica
 
 -- a creation, told at the place that the geometry gives
@@ -65,10 +64,13 @@ module _ (host : Host) (state : State) (place : PlaceAt) (sizes : List ℕ) (pla
 
   -- it was made
   has_replica : (u : Tale) → IsSafe key place size identity first_mark u → (head : Head) × HasReplica host u head
-  has_replica u safe = (made_head place key identity, record {
-    shown = refl;
-    each = λ image is. at_home host place sizes place_is sizes_are (λ k p s. IsReplica k p s (image p.drive.0) (made_head place key identity)) (made_replica key place size identity (image place.drive.0) (safe image is));
-  })
+  has_replica u safe = (
+    made_head place key identity,
+    record {
+      shown = refl;
+      each = λ image is. at_home host place sizes place_is sizes_are (λ k p s. IsReplica k p s (image p.drive.0) (made_head place key identity)) (made_replica key place size identity (image place.drive.0) (safe image is));
+    },
+  )
 
   pub made : (next : State) (t u : Tale) → next ≡ opened state → IsSafe key place size identity first_mark u → IsMade host (kept_at state t) (kept_at next u)
   made next t u is safe = record { state = is; content = at_home host place sizes place_is sizes_are (λ k p s. ShowsAlone k p s identity first_mark (last u p.drive.0)) (safe (last u) (last_image u)) }

@@ -1,5 +1,5 @@
 -- The texts of replies are lines.
-use Rattle.std.proofs.Common.{◌≡◌, ℕ, zero, suc, Bool, true, false, List, [], ◌∷◌, ◌++◌, take, codes, refl, sym, ◌∙◌, ap}
+use Rattle.std.proofs.Common.{◌≡◌, ℕ, zero, suc, Bool, [], take, codes, refl}
 use Rattle.std.specs.Fmt.{digits}
 use Rattle.mdv_base.specs.Refusal.{refusal_text}
 use Rattle.mdv_base.specs.declared.drive.SliceName.{SliceName}

@@ -1,5 +1,5 @@
 -- What the moments of a line and of its reply leave of the log.
-use Rattle.std.proofs.Common.{◌≡◌, ◌⊎◌, ⊎_elim, inl, inr, ℕ, zero, suc, ◌<◌, Bool, true, false, ◌&&◌, List, [], ◌∷◌, ◌++◌, length, take, cond, codes, get_or, Option, Some, refl, sym, ◌∙◌, ap, subst, arith}
+use Rattle.std.proofs.Common.{◌≡◌, ◌⊎◌, inl, inr, ℕ, zero, suc, ◌<◌, Bool, true, false, ◌&&◌, List, [], ◌∷◌, ◌++◌, length, take, cond, codes, get_or, Option, refl, sym, ◌∙◌, ap, subst, arith}
 use Rattle.std.proofs.lemmas.List.{append-nil, take_all}
 use Rattle.std.proofs.lemmas.Slice.Eq.{bytes_eq-Decides}
 use Rattle.std.specs.Str.{bytes_eq}
@@ -20,8 +20,8 @@ use Rattle.mdv_engine.specs.declared.answer.Reply.TheVariants as reply
 use Rattle.mdv_engine.specs.declared.engine.Host.{Host}
 use Rattle.mdv_engine.specs.declared.engine.State.{State}
 use Rattle.mdv_engine.specs.Home.{place_of}
-use Rattle.mdv_engine.specs.Replies.{IsLine, IsPlainAnswer, IsReplied, IsLost, IsTold, acked, ok_line, refusal_line, text_of}
-use Rattle.mdv_engine.specs.Standing.{IsOfRun, CoversAt, Knows, IsKnown, CarryMoment, CarriedTo, IsKnownAfter, KnowsAfter, IsUntold, IsFree, TellMoment, TurnMoment, Turned, Replied, OnlyReplied}
+use Rattle.mdv_engine.specs.Replies.{IsPlainAnswer, IsReplied, IsLost, acked, ok_line, refusal_line, text_of}
+use Rattle.mdv_engine.specs.Standing.{IsOfRun, CoversAt, Knows, IsKnown, CarryMoment, CarriedTo, IsKnownAfter, IsUntold, IsFree, TellMoment, TurnMoment, Turned, OnlyReplied}
 use Rattle.mdv_engine.proofs.Knowing.{covers_kept, knows_kept, known_kept, known_told}
 use Rattle.mdv_engine.proofs.Plain.{front_of}
 

@@ -1,5 +1,5 @@
 -- How the drive stands with the log at each moment of a line.
-use Rattle.std.specs.Prelude.{◌≡◌, ℕ, ◌<◌, Bool, true, false, List, [], ◌++◌, take, Some}
+use Rattle.std.specs.Prelude.{◌≡◌, ℕ, ◌<◌, Bool, true, false, List, ◌++◌, take}
 use Rattle.mdv_base.specs.declared.mark.Identity.{Identity}
 use Rattle.mdv_shelf.specs.Tale.{Tale, told, IsImage}
 use Rattle.mdv_shelf.specs.Area.{KeptOutside, nowhere}

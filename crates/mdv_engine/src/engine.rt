@@ -148,7 +148,6 @@ impl Engine {
     // The first cause that a creation is refused for before anything is done.
     fn refusal_of(&self, slice: SliceName, force: bool) -> Option<Refusal>
         ensures refused { IfSome result (IsRefused self.now.host.geometry self.now.state slice force) }
-        ensures plain { IfSome result IsPlain }
         ensures free { IfNone result (MayCreate self.now.host.geometry self.now.state slice force) }
     {
         let geometry = &self.host.geometry;

@@ -1,5 +1,5 @@
 -- How many creations the replies to a script acknowledge.
-use Rattle.std.proofs.Common.{◌≡◌, ◌⊎◌, ⊎_elim, ℕ, ◌+◌, Bool, true, false, List, [], ◌∷◌, ◌++◌, refl, sym, ◌∙◌, ap, arith}
+use Rattle.std.proofs.Common.{◌≡◌, ⊎_elim, ℕ, ◌+◌, Bool, true, false, List, [], ◌∷◌, ◌++◌, refl, sym, ◌∙◌, ap, arith}
 use Rattle.mdv_port.specs.Script.{Script, at_end, spent, too_long, line, pieces}
 use Rattle.mdv_engine.specs.Replies.{IsLine, IsFront, acked}
 use Rattle.mdv_run.specs.Grammar.{makes}

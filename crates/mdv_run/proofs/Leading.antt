@@ -1,6 +1,5 @@
 -- How one turn of a run goes on from the script that is before it.
-use Rattle.std.proofs.Common.{◌≡◌, inl, inr, ℕ, ◌≤◌, Bool, true, false, List, [], ◌++◌, Option, Some, None, refl, sym, ◌∙◌, ap, subst}
-use Rattle.mdv_base.specs.Causes.{Rose}
+use Rattle.std.proofs.Common.{◌≡◌, inl, inr, ℕ, Bool, true, false, List, [], ◌++◌, Option, Some, None, refl, sym, ap, subst}
 use Rattle.mdv_base.specs.declared.refusal.Refusal.TheVariants.{LineTooLong}
 use Rattle.mdv_port.specs.Reader.{Reader}
 use Rattle.mdv_port.specs.Script.{Script, at_end, spent, too_long, line, script_before, IsTurn}
@@ -62,37 +61,37 @@ answered_more failed more host kept next text answer cause answered = (answered.
 module _ (here : Failures) (replies : Type 0) (cause : replies → replies_failed here) (host : Host) (kept next : Kept) (any : Bool) (script more : Script) (before : Option Script) (before_is : before ≡ Some more)
     (Comes : Failures → Answer → Type 0)
     (runs : (f : Failures) (answer : Answer) (told : List ℕ) (status : RunStatus) (last : Option Kept) → Comes f answer → Follows f answer next any (λ k r rest s l. Runs f host k r more rest s l) told status last → Runs f host kept any script told status last)
-    where
-  replies_rose : (f : Failures) → IsWithin f here → replies → replies_failed f
-  replies_rose f within so = rose_within _ _ _ _ within.replies_from within.replies_to (cause so)
+  where
+    replies_rose : (f : Failures) → IsWithin f here → replies → replies_failed f
+    replies_rose f within so = rose_within _ _ _ _ within.replies_from within.replies_to (cause so)
 
-  pub leads : (answer : Answer) (r : Reply) (piece : List ℕ) → ((f : Failures) → IsWithin f here → Comes f answer) → IsTold replies answer r piece → Leads here host kept any script piece next before (turn_of r any)
-  leads outcome.Ok reply.Ok piece comes is =
-      (more, before_is, λ f within rest status last goes. runs f outcome.Ok (piece ++ rest) status last (comes f within) (inr (rest, ap (λ (p : List ℕ). p ++ rest) is, goes)))
-  leads (outcome.Refused refusal) (reply.Refused again) piece comes is =
-      (more, before_is, λ f within rest status last goes. runs f (outcome.Refused refusal) (piece ++ rest) status last (comes f within) (inr (rest, ap (λ (p : List ℕ). p ++ rest) is.1, goes)))
-  leads outcome.Ok reply.Told piece comes is =
-      (Some next, (refl, λ lost. lost), λ f within. runs f outcome.Ok piece WriteFault (Some next) (comes f within) (inl (replies_rose f within is.0, (is.1.0, is.1.1, refl, refl))))
-  leads (outcome.Refused refusal) reply.Told piece comes is =
-      (Some next, (refl, λ lost. lost), λ f within. runs f (outcome.Refused refusal) piece WriteFault (Some next) (comes f within) (inl (replies_rose f within is.0, (is.1.0, is.1.1, refl, refl))))
-  leads outcome.Panic (reply.Panic active listed) piece comes is =
-      (None, tt, λ f within. runs f outcome.Panic piece (Panic active listed) None (comes f within) (record { silent = is.2; ended = λ i. Panic (is.0 i) (is.1 i); keeps = refl }))
-  leads outcome.Spent reply.Spent piece comes is =
-      (None, tt, λ f within. runs f outcome.Spent piece NumbersSpent None (comes f within) (record { silent = is; ended = refl; keeps = refl }))
-  leads outcome.Ok (reply.Refused again) piece comes is = absurd is
-  leads outcome.Ok (reply.Panic active listed) piece comes is = absurd is
-  leads outcome.Ok reply.Spent piece comes is = absurd is
-  leads (outcome.Refused refusal) reply.Ok piece comes is = absurd is
-  leads (outcome.Refused refusal) (reply.Panic active listed) piece comes is = absurd is
-  leads (outcome.Refused refusal) reply.Spent piece comes is = absurd is
-  leads outcome.Panic reply.Ok piece comes is = absurd is
-  leads outcome.Panic (reply.Refused again) piece comes is = absurd is
-  leads outcome.Panic reply.Spent piece comes is = absurd is
-  leads outcome.Panic reply.Told piece comes is = absurd is
-  leads outcome.Spent reply.Ok piece comes is = absurd is
-  leads outcome.Spent (reply.Refused again) piece comes is = absurd is
-  leads outcome.Spent (reply.Panic active listed) piece comes is = absurd is
-  leads outcome.Spent reply.Told piece comes is = absurd is
+    pub leads : (answer : Answer) (r : Reply) (piece : List ℕ) → ((f : Failures) → IsWithin f here → Comes f answer) → IsTold replies answer r piece → Leads here host kept any script piece next before (turn_of r any)
+    leads outcome.Ok reply.Ok piece comes is =
+        (more, before_is, λ f within rest status last goes. runs f outcome.Ok (piece ++ rest) status last (comes f within) (inr (rest, ap (λ (p : List ℕ). p ++ rest) is, goes)))
+    leads (outcome.Refused refusal) (reply.Refused again) piece comes is =
+        (more, before_is, λ f within rest status last goes. runs f (outcome.Refused refusal) (piece ++ rest) status last (comes f within) (inr (rest, ap (λ (p : List ℕ). p ++ rest) is.1, goes)))
+    leads outcome.Ok reply.Told piece comes is =
+        (Some next, (refl, λ lost. lost), λ f within. runs f outcome.Ok piece WriteFault (Some next) (comes f within) (inl (replies_rose f within is.0, (is.1.0, is.1.1, refl, refl))))
+    leads (outcome.Refused refusal) reply.Told piece comes is =
+        (Some next, (refl, λ lost. lost), λ f within. runs f (outcome.Refused refusal) piece WriteFault (Some next) (comes f within) (inl (replies_rose f within is.0, (is.1.0, is.1.1, refl, refl))))
+    leads outcome.Panic (reply.Panic active listed) piece comes is =
+        (None, tt, λ f within. runs f outcome.Panic piece (Panic active listed) None (comes f within) (record { silent = is.2; ended = λ i. Panic (is.0 i) (is.1 i); keeps = refl }))
+    leads outcome.Spent reply.Spent piece comes is =
+        (None, tt, λ f within. runs f outcome.Spent piece NumbersSpent None (comes f within) (record { silent = is; ended = refl; keeps = refl }))
+    leads outcome.Ok (reply.Refused again) piece comes is = absurd is
+    leads outcome.Ok (reply.Panic active listed) piece comes is = absurd is
+    leads outcome.Ok reply.Spent piece comes is = absurd is
+    leads (outcome.Refused refusal) reply.Ok piece comes is = absurd is
+    leads (outcome.Refused refusal) (reply.Panic active listed) piece comes is = absurd is
+    leads (outcome.Refused refusal) reply.Spent piece comes is = absurd is
+    leads outcome.Panic reply.Ok piece comes is = absurd is
+    leads outcome.Panic (reply.Refused again) piece comes is = absurd is
+    leads outcome.Panic reply.Spent piece comes is = absurd is
+    leads outcome.Panic reply.Told piece comes is = absurd is
+    leads outcome.Spent reply.Ok piece comes is = absurd is
+    leads outcome.Spent (reply.Refused again) piece comes is = absurd is
+    leads outcome.Spent (reply.Panic active listed) piece comes is = absurd is
+    leads outcome.Spent reply.Told piece comes is = absurd is
 
 -- a line
 pub leads_line : (here : Failures) (drive replies : Type 0) (host : Host) (old new : State) (any : Bool) (s more : Script) (text : List ℕ) (r : Reply) (before : Option Script) (t u : Tale)

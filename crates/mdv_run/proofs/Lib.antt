@@ -10,3 +10,6 @@ pub mod Lining
 pub mod Leading
 mod Words
 pub mod Went
+pub mod Whole
+pub mod Course
+pub mod Living

@@ -1,5 +1,5 @@
 -- How the moments of the lines add up.
-use Rattle.std.proofs.Common.{◌≡◌, ◌⊎◌, ⊎_elim, ℕ, ◌+◌, ◌<◌, Bool, true, false, List, [], ◌++◌, refl, sym, ◌∙◌, ap, subst, append_assoc, arith}
+use Rattle.std.proofs.Common.{◌≡◌, ◌⊎◌, ⊎_elim, ℕ, ◌+◌, ◌<◌, Bool, false, List, [], ◌++◌, sym, ◌∙◌, ap, subst, append_assoc, arith}
 use Rattle.std.proofs.lemmas.List.{append-nil}
 use Rattle.mdv_port.specs.Script.{Script, too_long, line, pieces}
 use Rattle.mdv_shelf.specs.Tale.{Tale, told}
@@ -7,10 +7,10 @@ use Rattle.mdv_store.specs.Log.{Log, Event, log_after_all, IsCourse, Adds}
 use Rattle.mdv_store.proofs.Logs.{log_after_more, course_more, adds_more, adds_weaker}
 use Rattle.mdv_engine.specs.declared.engine.Host.{Host}
 use Rattle.mdv_engine.specs.declared.engine.State.{State}
-use Rattle.mdv_engine.specs.Replies.{IsFront, acked}
-use Rattle.mdv_engine.specs.Standing.{CoversAt, IsOfRun, Knows, IsKnown, TurnMoment, Turned}
+use Rattle.mdv_engine.specs.Replies.{acked}
+use Rattle.mdv_engine.specs.Standing.{CoversAt, IsOfRun, IsKnown, TurnMoment, Turned}
 use Rattle.mdv_run.specs.Grammar.{makes}
-use Rattle.mdv_run.specs.Standing.{acknowledged, behind, LinesMoment, HasMade, RanTo}
+use Rattle.mdv_run.specs.Standing.{acknowledged, behind, LinesMoment, RanTo}
 use Rattle.mdv_run.proofs.Pieces.{line_lines, lines_none, lines_more}
 use Rattle.mdv_run.proofs.Acking.{acknowledged_none, acknowledged_more, behind_nothing, behind_lines, front_acks, front_acks_nothing, line_acks, line_acks_nothing, line_behind, long_behind}
 use Rattle.mdv_run.proofs.Made.{shows_made, ours_stays, made_first}

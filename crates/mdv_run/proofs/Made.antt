@@ -1,8 +1,7 @@
 -- What a run made, told by a log.
-use Rattle.std.proofs.Common.{◌≡◌, ℕ, ◌<◌, true, false, List, [], ◌∷◌, Option, Some, None, IfSome, refl, sym, ◌∙◌, ap, arith, ◌||◌}
+use Rattle.std.proofs.Common.{◌≡◌, ℕ, ◌<◌, true, List, [], ◌∷◌, Option, Some, None, IfSome, refl, sym, ◌∙◌, ap, arith}
 use Rattle.std.specs.List.{list_any}
 use Rattle.mdv_base.specs.declared.mark.Identity.{Identity}
-use Rattle.mdv_base.specs.declared.mark.Mark.{Mark}
 use Rattle.mdv_base.specs.declared.name.Key.TheVariants.{Local}
 use Rattle.mdv_shelf.specs.Tale.{Tale, last}
 use Rattle.mdv_store.specs.Log.{Version, Log, Event, Issued, Writing, Written, Told, empty_log, answered, log_after, log_after_all, is_firm, IsCourse, IssuesOnly, Adds, IsLog}
@@ -72,8 +71,11 @@ made_first host state t m count Known knows free some covers goes =
     let began : IsLog empty_log = record { rising = tt; descended = tt; firm = λ told. absurd (cc (told)) } in
     let told = told_acknowledges empty_log went.0 began went.1 (let tells = went.2.tells in omega arith) in
     let firm = (is_log_after_all empty_log went.0 began went.1).firm told in
-    let only = issued_of_run host empty_log went.0 tt went.2.issues in
-    (log_after_all empty_log went.0, went.3, elim (covers (log_after_all empty_log went.0) went.3 (last m) (last_image m)) [
-      | nothing not_firm none ↦ absurd (cc (firm, not_firm))
-      | replica head agrees ↦ (head.master.identity.number, record { issued = ours_by host (log_after_all empty_log went.0).issued head.master.identity agrees.as_issued only; firm = firm })
-    ])
+    let only = issued_of_run host empty_log went.0 tt went.2.issues in (
+      log_after_all empty_log went.0,
+      went.3,
+      elim (covers (log_after_all empty_log went.0) went.3 (last m) (last_image m)) [
+        | nothing not_firm none ↦ absurd (cc (firm, not_firm))
+        | replica head agrees ↦ (head.master.identity.number, record { issued = ours_by host (log_after_all empty_log went.0).issued head.master.identity agrees.as_issued only; firm = firm })
+      ],
+    )

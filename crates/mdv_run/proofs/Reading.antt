@@ -6,7 +6,7 @@ use Rattle.mdv_base.specs.declared.drive.SliceName.{SliceName}
 use Rattle.mdv_name.specs.Drive.{IsSliceName, slice_text}
 use Rattle.mdv_shelf.proofs.Blocks.{both_ways}
 use Rattle.mdv_engine.specs.declared.command.Command.{Command}
-use Rattle.mdv_engine.specs.declared.command.Command.TheVariants.{Create, Boot}
+use Rattle.mdv_engine.specs.declared.command.Command.TheVariants.{Create}
 use Rattle.mdv_run.specs.Grammar.{IsOfGrammar, command_text, makes}
 
 -- a creation that a part of the line spells

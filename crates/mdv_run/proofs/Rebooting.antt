@@ -1,11 +1,7 @@
 -- What a line `boot` and its reply leave of the log.
-use Rattle.std.proofs.Common.{◌≡◌, ℕ, ◌<◌, Bool, true, false, List, [], ◌++◌, Option, Some, refl, sym, ◌∙◌, ap, subst, arith}
+use Rattle.std.proofs.Common.{◌≡◌, ℕ, false, List, [], ◌++◌, refl, sym, ◌∙◌, ap, subst, arith}
 use Rattle.std.proofs.lemmas.List.{append-nil}
-use Rattle.mdv_base.specs.declared.mark.Identity.{Identity}
-use Rattle.mdv_base.specs.declared.name.Key.TheVariants.{Local}
 use Rattle.mdv_shelf.specs.Tale.{Tale, told}
-use Rattle.mdv_shelf.specs.Moments.{Moments, Ends}
-use Rattle.mdv_shelf.proofs.Moments.{moments_end}
 use Rattle.mdv_store.specs.Log.{Log, Event, log_after_all, IsCourse, Adds, NoCreation}
 use Rattle.mdv_store.proofs.Logs.{log_after_more, course_more, adds_more, adds_weaker}
 use Rattle.mdv_engine.specs.declared.engine.Host.{Host}

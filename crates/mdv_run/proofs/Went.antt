@@ -59,8 +59,8 @@ module _ (host : Host) (first : State) (input : List ℕ) where
               subst (λ (l : List ℕ). Runs f host (kept_at first t) false (script_of input) l status last) (sym (append_assoc went.so_far turns.piece rest))
               (went.goes f parts.0 (turns.piece ++ rest) status last (turns.leads.2 f parts.1 rest status last (subst (λ (s : Script). Runs f host (kept_at new v) r s rest status last) (sym same) runs)));
         } where
-      some_script : {x y : Script} → Some x ≡ Some y → x ≡ y
-      some_script is = cc
+          some_script : {x y : Script} → Some x ≡ Some y → x ≡ y
+          some_script is = cc
 
     -- one turn more
     pub so_far_more : (r : Bool) → ((lines : Script) → before ≡ Some lines → Ends (λ t u. Knows host now t → Turns turn host now new any lines then (On r) t u) b c)

@@ -1,10 +1,9 @@
 -- The small table of drives: a host, its drive, and the drive's slice for replicas.
-use Rattle.std.specs.Prelude.{◌≡◌, ◌≢◌, ◌⊎◌, ◌<◌, ◌≤◌, ◌+◌, ◌^◌, ◌==◌, ◌&&◌, ℕ, Bool, List, [], ◌∷◌, ◌++◌, length, nat_lt, not, IsTrue, codes, decimal}
+use Rattle.std.specs.Prelude.{◌≡◌, ◌⊎◌, ◌<◌, ◌≤◌, ◌==◌, ◌&&◌, ℕ, Bool, List, [], ◌∷◌, ◌++◌, length, nat_lt, not, IsTrue, codes, decimal}
 use Rattle.std.specs.List.{list_all}
-use Rattle.mdv_base.specs.Name.{IsName}
 use Rattle.mdv_base.specs.declared.drive.DriveName.{DriveName}
 use Rattle.mdv_base.specs.declared.drive.SliceName.{SliceName}
-use Rattle.mdv_name.specs.Drive.{IsSliceName, drive_text, slice_text}
+use Rattle.mdv_name.specs.Drive.{drive_text, slice_text}
 use Rattle.mdv_engine.specs.declared.geometry.SmallGeometry.{SmallGeometry}
 use Rattle.mdv_engine.specs.Home.{IsSmall}
 

@@ -1,5 +1,5 @@
 -- The run of one host, told by what its script asks.
-use Rattle.std.specs.Prelude.{◌≡◌, ◌⊎◌, ◌||◌, ℕ, Bool, true, false, List, [], ◌∷◌, ◌++◌, take, Option, Some, None, IfSome, if◌then◌else◌}
+use Rattle.std.specs.Prelude.{◌≡◌, ◌⊎◌, ℕ, Bool, true, false, List, [], ◌∷◌, ◌++◌, take, Option, Some, None, IfSome, if◌then◌else◌}
 use Rattle.mdv_base.specs.Causes.{Rose}
 use Rattle.mdv_base.specs.declared.refusal.Refusal.TheVariants.{BadLine, LineTooLong}
 use Rattle.mdv_shelf.specs.Tale.{Tale, told, IsImage}

@@ -1,5 +1,5 @@
 -- How the lines of a run follow one another.
-use Rattle.std.specs.Prelude.{◌≡◌, ◌≤◌, ◌||◌, ℕ, Bool, true, List, [], ◌++◌, Option, Some, None, IfSome}
+use Rattle.std.specs.Prelude.{◌≡◌, ◌≤◌, ℕ, Bool, true, List, ◌++◌, Option, Some, IfSome}
 use Rattle.mdv_port.specs.Script.{Script}
 use Rattle.mdv_shelf.specs.Tale.{Tale, told}
 use Rattle.mdv_engine.specs.declared.answer.Answer.{Answer}
@@ -14,7 +14,7 @@ use Rattle.mdv_engine.specs.Standing.{Replied}
 use Rattle.mdv_run.specs.declared.session.Turn.{Turn}
 use Rattle.mdv_run.specs.declared.session.Turn.TheVariants.{On, Over}
 use Rattle.mdv_run.specs.declared.status.RunStatus.{RunStatus}
-use Rattle.mdv_run.specs.declared.status.RunStatus.TheVariants.{Done, SomeRefused, Usage, NoQuorum, Panic, ReadFault, WriteFault, NoMemory, TwoDatabases, ScriptTooLong, NumbersSpent}
+use Rattle.mdv_run.specs.declared.status.RunStatus.TheVariants.{Panic, WriteFault, NumbersSpent}
 use Rattle.mdv_run.specs.Run.{Failures, Runs, IsAnswered, IsLeft, HasStatusCause}
 
 -- what counts of a longer stretch counts of this one

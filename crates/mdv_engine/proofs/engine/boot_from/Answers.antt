@@ -1,8 +1,6 @@
-use Rattle.std.proofs.Common.{◌≡◌, ℕ, true, false, refl, sym, ◌∙◌, ap, subst}
+use Rattle.std.proofs.Common.{◌≡◌, ℕ, true, false, refl, sym, ◌∙◌, ap}
 use Rattle.mdv_base.specs.Causes.{Rose}
 use Rattle.mdv_shelf.specs.Calls.{OnDrive}
-use Rattle.mdv_shelf.proofs.Moments.{some_is}
-use Rattle.mdv_shelf.specs.Tale.{Tale}
 use Rattle.mdv_store.specs.declared.database.BootEnd.TheVariants.{Adopted, Empty, Down}
 use Rattle.mdv_engine.specs.declared.engine.State.{State}
 use Rattle.mdv_engine.proofs.Booting.{boot_moments, booted_here, rewritten_here, knows_adopted, knows_empty, knows_down, booted_to}

@@ -1,9 +1,8 @@
-use Rattle.std.proofs.Common.{◌≡◌, ℕ, List, ◌∙◌, sym, subst, refl, take, length, ap, [], inl, inr}
+use Rattle.std.proofs.Common.{◌≡◌, ◌∙◌, sym, subst, refl, take, length, ap, []}
 use Rattle.mdv_base.specs.Causes.{Rose}
 use Rattle.mdv_shelf.specs.Calls.{OnReplies}
 use Rattle.mdv_engine.specs.Replies.{IsTold, ok_line, refusal_line, text_of}
 use Rattle.mdv_engine.specs.declared.answer.Answer.{Answer}
-use Rattle.mdv_engine.specs.declared.answer.Answer.TheVariants as outcome
 use Rattle.mdv_engine.specs.declared.answer.Reply.TheVariants as reply
 use Rattle.mdv_engine.proofs.Giving.{tells_whole, tells_some, telling_grew, telling_some}
 use Rattle.mdv_engine.proofs.telling.tell.Goals as goal

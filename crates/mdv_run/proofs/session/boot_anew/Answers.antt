@@ -1,6 +1,6 @@
-use Rattle.std.proofs.Common.{◌≡◌, false, [], refl, sym, ◌∙◌, ap, subst, arith}
+use Rattle.std.proofs.Common.{false, [], refl, sym, ◌∙◌, ap, subst, arith}
 use Rattle.std.proofs.lemmas.List.{append-nil}
-use Rattle.mdv_shelf.specs.Tale.{Tale, told}
+use Rattle.mdv_shelf.specs.Tale.{told}
 use Rattle.mdv_shelf.specs.Calls.{OnDrive, OnReplies}
 use Rattle.mdv_shelf.proofs.Moments.{moments_after, moments_weaker, moments_end, ends_more, some_is}
 use Rattle.mdv_base.specs.Causes.{Rose}
@@ -44,10 +44,10 @@ returns-in-Ok-clause-answered g c = λ t is.
       end.0,
       end.1,
       subst (λ (e : Engine). Executed (Rose (g.B.Shelf.faults c.args.bench.now (OnDrive 0)) (g.B.Shelf.faults c.accept.new.bench (OnDrive 0))) (Rose (g.B.Shelf.faults c.args.bench.now OnReplies) (g.B.Shelf.faults c.accept.new.bench OnReplies)) host Boot old e.state c.accept.result t end.0) (sym c.accept.ensures.same)
-      (executed _ _ _ _ host Boot old new outcome.Ok c.accept.result t done.0 end.0
-      (λ rose. rose_within _ _ _ _ (omega arith) (c.accept.ensures.keeps.no_fewer_faults (OnDrive 0)) rose)
-      (λ rose. rose_within _ _ _ _ (c.reboot.ensures.keeps.no_fewer_faults OnReplies) (omega arith) rose)
-      (ap told (some_is _ done.0 quiet.0 done.1 quiet.1) ∙ quiet.2.quiet.quiet) done.2 end.2),
+          (executed _ _ _ _ host Boot old new outcome.Ok c.accept.result t done.0 end.0
+          (λ rose. rose_within _ _ _ _ (omega arith) (c.accept.ensures.keeps.no_fewer_faults (OnDrive 0)) rose)
+          (λ rose. rose_within _ _ _ _ (c.reboot.ensures.keeps.no_fewer_faults OnReplies) (omega arith) rose)
+          (ap told (some_is _ done.0 quiet.0 done.1 quiet.1) ∙ quiet.2.quiet.quiet) done.2 end.2),
     )
 
 pub returns-in-Err-Lost-clause-moments : goal.returns-in-Err-Lost-clause-moments

@@ -1,7 +1,6 @@
-use Rattle.std.proofs.Common.{◌≡◌, ◌≤◌, ℕ, List, Some, false, refl, sym, ◌∙◌, subst, arith}
+use Rattle.std.proofs.Common.{◌≤◌, false, refl, sym, ◌∙◌, subst, arith}
 use Rattle.mdv_port.specs.Reader.{Reader}
 use Rattle.mdv_port.specs.Script.{script_of, script_before}
-use Rattle.mdv_shelf.specs.Tale.{Tale}
 use Rattle.mdv_shelf.specs.Calls.{OnDrive, OnReplies}
 use Rattle.mdv_shelf.specs.Moments.{Moments, Ends}
 use Rattle.mdv_engine.specs.declared.engine.Host.{Host}
@@ -10,7 +9,7 @@ use Rattle.mdv_engine.specs.Standing.{Knows}
 use Rattle.mdv_run.specs.Run.{failures}
 use Rattle.mdv_run.specs.Turns.{LinesRun}
 use Rattle.mdv_run.specs.Standing.{LinesMoment}
-use Rattle.mdv_run.proofs.Went.{SoFar, so_far_start, so_far_more, moments_over, over_ends, cause_within, both_within, script_at_start, keeps_more}
+use Rattle.mdv_run.proofs.Went.{SoFar, so_far_start, so_far_more, moments_over, over_ends, both_within, script_at_start, keeps_more}
 use Rattle.mdv_run.proofs.session.run_lines.Goals as goal
 
 pub loop-refused-init : goal.loop-refused-init

@@ -1,14 +1,11 @@
-use Rattle.std.proofs.Common.{◌≡◌, ℕ, inl, inr, false, List, [], Option, Some, refl, sym, ◌∙◌, ap, subst, arith}
+use Rattle.std.proofs.Common.{◌≡◌, ℕ, inr, false, List, [], Some, refl, sym, ◌∙◌, ap, subst}
 use Rattle.mdv_port.specs.Script.{Script, line, too_long, script_before, IsTurn}
 use Rattle.mdv_port.specs.declared.reader.LineEnd.TheVariants.{Line, TooLong, End, Spent}
-use Rattle.mdv_shelf.specs.Tale.{Tale}
-use Rattle.mdv_shelf.specs.Calls.{OnDrive, OnReplies}
-use Rattle.mdv_shelf.specs.Moments.{Ends}
-use Rattle.mdv_shelf.proofs.Moments.{moments_none, moments_weaker, ends_both}
+use Rattle.mdv_shelf.proofs.Moments.{moments_none, moments_weaker}
 use Rattle.mdv_engine.specs.Line.{kept_at}
-use Rattle.mdv_engine.specs.Standing.{Knows, TurnMoment, Turned}
+use Rattle.mdv_engine.specs.Standing.{TurnMoment}
 use Rattle.mdv_engine.specs.declared.engine.Engine.{Engine}
-use Rattle.mdv_engine.proofs.Executing.{rose_within, content_kept}
+use Rattle.mdv_engine.proofs.Executing.{rose_within}
 use Rattle.mdv_engine.proofs.Plain.{too_long_plain}
 use Rattle.mdv_run.specs.declared.session.Turn.{Turn}
 use Rattle.mdv_run.specs.declared.status.RunStatus.TheVariants.{ScriptTooLong, ReadFault}
@@ -45,8 +42,8 @@ returns-in-Ok-Line-clause-ran g c = λ on lines before.
       script.0,
       script.2,
       λ t told. (
-      let end = c.answer.ensures.turned (on_replied c.answer.result c.args.any_refused c.turn_of.result c.turn_of.ensures on) t told in
-      (end.0, end.1, subst (λ (s : Script). RanTo host s old new script.0 t end.0) (sym is) (line_ran host old new c.line.result.now script.0 t end.0 end.2))),
+          let end = c.answer.ensures.turned (on_replied c.answer.result c.args.any_refused c.turn_of.result c.turn_of.ensures on) t told in
+          (end.0, end.1, subst (λ (s : Script). RanTo host s old new script.0 t end.0) (sym is) (line_ran host old new c.line.result.now script.0 t end.0 end.2))),
     )
 
 pub returns-in-Ok-Line-clause-turns : goal.returns-in-Ok-Line-clause-turns
@@ -84,9 +81,12 @@ returns-in-Ok-TooLong-clause-ran g c = λ on lines before.
       script.0,
       script.2,
       λ t told. (
-      let end = c.refuse.ensures.turned false (on_replied c.refuse.result c.args.any_refused c.turn_of-in-Ok-TooLong.result c.turn_of-in-Ok-TooLong.ensures on) t told in
-      (end.0, end.1, subst (λ (s : Script). RanTo host s old c.refuse.new.self.state script.0 t end.0) (sym script.1)
-      (subst (λ (e : Engine). RanTo host (too_long script.0) old e.state script.0 t end.0) (sym c.refuse.ensures.same) (long_ran host old old script.0 t end.0 end.2)))),
+          let end = c.refuse.ensures.turned false (on_replied c.refuse.result c.args.any_refused c.turn_of-in-Ok-TooLong.result c.turn_of-in-Ok-TooLong.ensures on) t told in (
+            end.0,
+            end.1,
+            subst (λ (s : Script). RanTo host s old c.refuse.new.self.state script.0 t end.0) (sym script.1)
+                (subst (λ (e : Engine). RanTo host (too_long script.0) old e.state script.0 t end.0) (sym c.refuse.ensures.same) (long_ran host old old script.0 t end.0 end.2)),
+          )),
     )
 
 pub returns-in-Ok-TooLong-clause-turns : goal.returns-in-Ok-TooLong-clause-turns

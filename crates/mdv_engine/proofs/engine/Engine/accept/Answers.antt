@@ -1,4 +1,4 @@
-use Rattle.std.proofs.Common.{true, false, refl}
+use Rattle.std.proofs.Common.{false, refl}
 use Rattle.mdv_shelf.proofs.Moments.{moments_weaker}
 use Rattle.mdv_engine.specs.Replies.{text_of}
 use Rattle.mdv_engine.specs.Standing.{TellMoment, TurnMoment}

@@ -10,7 +10,7 @@ use Rattle.mdv_engine.specs.Home.{identity_of}
 use Rattle.mdv_shelf.specs.Tale.{Tale}
 use Rattle.mdv_shelf.proofs.Moments.{some_is}
 use Rattle.mdv_store.specs.Standing.{ShowsNothing}
-use Rattle.mdv_engine.specs.Line.{opened, begun}
+use Rattle.mdv_engine.specs.Line.{opened}
 use Rattle.mdv_engine.proofs.Making.{making_moments, made, made_carried, unmade, failed_carried, lost_carried}
 use Rattle.mdv_engine.proofs.engine.Engine.make.Goals as goal
 
@@ -45,9 +45,12 @@ pub returns-in-Err-Failed-clause-carried : goal.returns-in-Err-Failed-clause-car
 returns-in-Err-Failed-clause-carried g c = λ t told.
     let end = (rw c.in-Err-Failed.field-0-is at c.in-Err-Failed.ensures.ends) t told in
     let empty = c.create.ensures.failed (c.in-Err-Failed.is ∙ ap Err c.in-Err-Failed.field-0-is) t told in
-    let same : empty.0 ≡ end.0 = some_is _ empty.0 end.0 empty.1 end.1 in
-    (end.0, end.1, failed_carried c.args.self.now.host c.args.self.now.state c.place_at.result (g.S.Shelf.sizes c.args.shelf.now) c.place_at.ensures c.requires.ready.drive c.requires.none c.requires.up _ t end.0 c.requires.none end.2
-    (subst (λ (u : Tale). ShowsNothing (Local c.args.self.now.host.geometry.host) c.place_at.result (slice_index_or (g.S.Shelf.sizes c.args.shelf.now) c.place_at.result.drive.0 0) t → ShowsNothing (Local c.args.self.now.host.geometry.host) c.place_at.result (slice_index_or (g.S.Shelf.sizes c.args.shelf.now) c.place_at.result.drive.0 0) u) same empty.2))
+    let same : empty.0 ≡ end.0 = some_is _ empty.0 end.0 empty.1 end.1 in (
+      end.0,
+      end.1,
+      failed_carried c.args.self.now.host c.args.self.now.state c.place_at.result (g.S.Shelf.sizes c.args.shelf.now) c.place_at.ensures c.requires.ready.drive c.requires.none c.requires.up _ t end.0 c.requires.none end.2
+          (subst (λ (u : Tale). ShowsNothing (Local c.args.self.now.host.geometry.host) c.place_at.result (slice_index_or (g.S.Shelf.sizes c.args.shelf.now) c.place_at.result.drive.0 0) t → ShowsNothing (Local c.args.self.now.host.geometry.host) c.place_at.result (slice_index_or (g.S.Shelf.sizes c.args.shelf.now) c.place_at.result.drive.0 0) u) same empty.2),
+    )
 
 pub returns-in-Err-Lost-clause-carried : goal.returns-in-Err-Lost-clause-carried
 returns-in-Err-Lost-clause-carried g c = λ t told.
