@@ -42,6 +42,8 @@ pub enum Trouble {
     Nothing,
     /// That call fails.
     Fail(u64),
+    /// These two calls fail, of which the first comes before the second.
+    FailBoth(u64, u64),
     /// The drive is lost from that call on.
     Lose(u64),
     /// So many calls pass, and no later one.
@@ -104,6 +106,9 @@ impl Trouble {
         match self {
             Trouble::Nothing => Trouble::Nothing,
             Trouble::Fail(call) => Trouble::Fail(call.saturating_add(calls)),
+            Trouble::FailBoth(call, other) => {
+                Trouble::FailBoth(call.saturating_add(calls), other.saturating_add(calls))
+            }
             Trouble::Lose(call) => Trouble::Lose(call.saturating_add(calls)),
             Trouble::Stop(call) => Trouble::Stop(call.saturating_add(calls)),
         }
@@ -113,12 +118,13 @@ impl Trouble {
     fn failing(self, from: u64, count: u64) -> Option<u64> {
         let call = match self {
             Trouble::Nothing => return None,
-            Trouble::Fail(call) if call < from => return None,
             Trouble::Fail(call) => call,
+            Trouble::FailBoth(call, other) if call < from => other,
+            Trouble::FailBoth(call, _) => call,
             Trouble::Lose(call) => call.max(from),
             Trouble::Stop(call) => call.max(from),
         };
-        if call < from.saturating_add(count) {
+        if call >= from && call < from.saturating_add(count) {
             Some(call)
         } else {
             None

@@ -84,6 +84,10 @@ impl Life {
         match trouble {
             Trouble::Nothing => {}
             Trouble::Fail(call) => self.shelf.fail_call(self.calls.saturating_add(call))?,
+            Trouble::FailBoth(call, other) => {
+                self.shelf.fail_call(self.calls.saturating_add(call))?;
+                self.shelf.fail_call(self.calls.saturating_add(other))?;
+            }
             Trouble::Lose(call) => self
                 .shelf
                 .lose_at(DriveNo(0), self.calls.saturating_add(call))?,

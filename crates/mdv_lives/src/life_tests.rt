@@ -22,6 +22,14 @@ const BOOT_FIRST: [Line; 2] = [Line::Boot, Line::Forced];
 
 const BOOT_BETWEEN: [Line; 3] = [Line::Forced, Line::Boot, Line::Forced];
 
+const BOOT_TWICE: [Line; 5] = [
+    Line::Forced,
+    Line::Boot,
+    Line::Forced,
+    Line::Boot,
+    Line::Forced,
+];
+
 const OF_ALL_KINDS: [Line; 7] = [
     Line::Unforced,
     Line::Other,
@@ -103,7 +111,7 @@ fn a_failed_format_is_done_again(rt: HostRuntime) -> Result<(), Fail> {
 #[test]
 fn the_count_of_creations_goes_on_over_a_boot(rt: HostRuntime) -> Result<(), Fail> {
     // The lines, their trouble, the status and bytes told, and the number of the creation that is made.
-    let cases: [(&[Line], Trouble, RunStatus, &'static str, u32); 2] = [
+    let cases: [(&[Line], Trouble, RunStatus, &'static str, u32); 3] = [
         (&BOOT_FIRST, CALM, DONE, OK_TWICE, 0),
         (
             &BOOT_BETWEEN,
@@ -111,6 +119,14 @@ fn the_count_of_creations_goes_on_over_a_boot(rt: HostRuntime) -> Result<(), Fai
             REFUSED,
             FAULT_THEN_OK_TWICE,
             1,
+        ),
+        // The first format begins with call 3, and the second one with call 11.
+        (
+            &BOOT_TWICE,
+            Trouble::FailBoth(5, 12),
+            REFUSED,
+            "refused E23 IoFault\nok\nrefused E23 IoFault\nok\nok\n",
+            2,
         ),
     ];
     for (lines, trouble, status, told, number) in cases {
@@ -195,10 +211,11 @@ fn drawn_lines(alloc: Global, state: u64) -> Result<Vec<Line>, AllocError> {
 // A step of these lines by a drawn number.
 fn step_of(lines: &[Line], state: u64) -> Step<'_> {
     let call = (state >> 20) % 40;
-    let trouble = match (state >> 30) % 5 {
+    let trouble = match (state >> 30) % 6 {
         0 => Trouble::Nothing,
         1 => Trouble::Fail(call),
-        2 => Trouble::Lose(call),
+        2 => Trouble::FailBoth(call, call.saturating_add(1 + (state >> 16) % 16)),
+        3 => Trouble::Lose(call),
         _ => Trouble::Stop(call),
     };
     let end = match (state >> 40) % 4 {
@@ -216,7 +233,7 @@ fn step_of(lines: &[Line], state: u64) -> Step<'_> {
 
 #[test]
 fn drawn_lives(rt: HostRuntime) -> Result<(), Fail> {
-    for seed in 0..100 {
+    for seed in 0..400 {
         let mut life = Life::new(rt.alloc())?;
         let mut state = next(seed);
         for _ in 0..10 {

@@ -17,9 +17,10 @@ HOST is that H. FILE is an image of BLOCKS * 512 bytes; make one, say, with
 truncate -s 8388608 disk0.img for 16384 blocks. The slice is where a state database may lie,
 from block START of the drive on; it needs 8208 blocks.
 
-SCRIPT, on standard input, has a command on each line. This one makes a state database:
+The host boots. Then SCRIPT is read, on standard input, with a command on each line:
 
-    metadb -a -f c0t0d0s7
+    metadb -a -f c0t0d0s7    makes a state database; its first replica needs the -f
+    boot                     boots the host anew, as at the start
 
 Each line is answered by one line on standard output: ok, or refused with a number and
 a name, as refused E7 SliceInUse.

@@ -1,0 +1,28 @@
+#!/usr/bin/env bash
+# Makes a blank drive image, builds metad, and runs one script with a line `boot`. Ends with status 0 where
+# the run told what it must, and the boot wrote its number on the drive.
+set -eu
+here=$(cd "$(dirname "$0")" && pwd)
+top=$(cd "$here/../.." && pwd)
+
+(cd "$top/crates/metad" && rt run -- --version)
+metad=$top/crates/metad/out/metad
+
+work=$(mktemp -d)
+trap 'rm -rf "$work"' EXIT
+cp "$here/drives.tab" "$work"
+truncate -s $((40000 * 512)) "$work/d0.img"
+cd "$work"
+
+status=0
+"$metad" hostA < "$here/script" > told || status=$?
+while IFS= read -r line <&3 && IFS= read -r reply <&4; do
+  printf '%-22s %s\n' "$line" "$reply"
+done 3< "$here/script" 4< told
+echo "status $status"
+cmp told "$here/replies"
+
+# The replica begins at block 16 of the slice. Block 1 of it is the claim, which ends in its number.
+claim=$(od -A n -t u1 -j $(((12000 + 16 + 1) * 512 + 15)) -N 1 d0.img | tr -d ' ')
+echo "claim $claim"
+test "$claim" -eq 2
