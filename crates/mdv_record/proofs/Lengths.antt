@@ -66,6 +66,9 @@ length-volumes_text vs = omega arith
 
 pub ruleset lengths = (length-slice_text, length-place_text, length-base_text, length-component_text, length-stripe_text, length-kind_text, length-volume_text, length-places_text, length-lists_text, length-volumes_text)
 
+pub length-parts : (vs : List Volume) → length (flat_map volume_text vs) ≡ 50 * length vs
+length-parts vs = length-flat_map_of volume_text 50 length-volume_text vs
+
 -- a part more of those that there are
 pub parts-more : {A : Type 0} (text : A → List ℕ) (xs : List A) (i : ℕ) (d : A) → i < length xs → flat_map text (take (i + 1) xs) ≡ flat_map text (take i xs) ++ text (get_or xs i d)
 parts-more text xs i d within =

@@ -38,8 +38,11 @@ fn read_record(alloc: Global, bytes: &[u8]) -> Result<Table, RecordError>
 {
     let mut rest = Reader::new(bytes);
     let Front { bytes: size, lists } = read_front(&mut rest).ok_or(RecordError::NotARecord)?;
+    if size as usize != bytes.len() {
+        return Err(RecordError::NotARecord);
+    }
     let volumes = read_volumes(alloc, &mut rest)?;
-    if size as usize != bytes.len() || !rest.is_empty() {
+    if !rest.is_empty() {
         return Err(RecordError::NotARecord);
     }
     let plan = Plan { lists, volumes };

@@ -56,27 +56,55 @@ impl<'a> Reader<'a> {
         ensures { Reads (λ b. b < 256) byte_text self.old result self.new }
     {
         let field = self.bytes(1)?;
-        Some(field[0])
+        Some(byte_of(field))
     }
 
     pub(crate) fn number16(&mut self) -> Option<u16>
         ensures { Reads (λ n. n < 2 ^ 16) (big_bytes 2) self.old result self.new }
     {
         let field = self.bytes(2)?;
-        Some(BigEndian::read_u16(field))
+        Some(number16_of(field))
     }
 
     pub(crate) fn number32(&mut self) -> Option<u32>
         ensures { Reads (λ n. n < 2 ^ 32) (big_bytes 4) self.old result self.new }
     {
         let field = self.bytes(4)?;
-        Some(BigEndian::read_u32(field))
+        Some(number32_of(field))
     }
 
     pub(crate) fn number64(&mut self) -> Option<u64>
         ensures { Reads (λ n. n < 2 ^ 64) (big_bytes 8) self.old result self.new }
     {
         let field = self.bytes(8)?;
-        Some(BigEndian::read_u64(field))
+        Some(number64_of(field))
     }
+}
+
+fn byte_of(field: &[u8]) -> u8
+    requires { length field.now ≡ 1 }
+    ensures { byte_text result ≡ field.now }
+{
+    field[0]
+}
+
+fn number16_of(field: &[u8]) -> u16
+    requires { length field.now ≡ 2 }
+    ensures { big_bytes 2 result ≡ field.now }
+{
+    BigEndian::read_u16(field)
+}
+
+fn number32_of(field: &[u8]) -> u32
+    requires { length field.now ≡ 4 }
+    ensures { big_bytes 4 result ≡ field.now }
+{
+    BigEndian::read_u32(field)
+}
+
+fn number64_of(field: &[u8]) -> u64
+    requires { length field.now ≡ 8 }
+    ensures { big_bytes 8 result ≡ field.now }
+{
+    BigEndian::read_u64(field)
 }

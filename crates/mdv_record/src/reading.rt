@@ -1,6 +1,6 @@
 // Each part of a table's text, read from the front of the bytes that are left. Each function is the inverse of its
 // spelling: it answers what is spelled there, and None where nothing of the form is.
-ghost use Rattle.std.specs.Prelude.{◌≡◌};
+ghost use Rattle.std.specs.Prelude.{◌≡◌, ◌<◌, ◌↔◌, length, All, IsTrue};
 ghost use Rattle.mdv_record.specs.Fits.{FitsSlice, FitsPlace, FitsPlaces, FitsLists, FitsBase, FitsComponent, FitsStripe};
 ghost use Rattle.mdv_record.specs.Fits.{FitsKind, FitsVolume, FitsVolumes};
 ghost use Rattle.mdv_record.specs.Reading.{Reads, ReadsInMemory};
@@ -19,15 +19,23 @@ fn read_slice(rest: &mut Reader) -> Option<SliceName>
     ensures { Reads FitsSlice slice_text rest.old result rest.new }
 {
     let field = rest.bytes(4)?;
+    Some(slice_of(field))
+}
+
+fn slice_of(field: &[u8]) -> SliceName
+    requires { length field.now ≡ 4 }
+    ensures fits { FitsSlice result }
+    ensures spelled { slice_text result ≡ field.now }
+{
     let drive = DriveName {
         controller: field[0],
         target: field[1],
         disk: field[2],
     };
-    Some(SliceName {
+    SliceName {
         drive,
         slice: field[3],
-    })
+    }
 }
 
 fn read_place(rest: &mut Reader) -> Option<Place>
@@ -121,10 +129,17 @@ pub(crate) fn read_volumes(alloc: Global, rest: &mut Reader) -> Result<Volumes, 
     let mut volumes = Volumes::new(alloc);
     for _ in 0..count {
         let volume = read_volume(rest).ok_or(RecordError::NotARecord)?;
-        if u64::from(volume.number.0) >= VOLUME_LIMIT || !volumes.is_behind(volume.number) {
+        if !may_follow(&volumes, volume.number) {
             return Err(RecordError::NotARecord);
         }
         volumes.push(volume)?;
     }
     Ok(volumes)
+}
+
+// Whether the number is below the limit and greater than those before.
+fn may_follow(volumes: &Volumes, number: VolId) -> bool
+    ensures { IsTrue result ↔ ((number.0 < 8192) × All (λ v. v.number.0 < number.0) volumes.now) }
+{
+    u64::from(number.0) < VOLUME_LIMIT && volumes.is_behind(number)
 }

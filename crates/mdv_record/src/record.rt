@@ -10,6 +10,8 @@
 //     stripe    (kind 0) pool (3 zeros), stripes u16 1, width u16 1, interlace u32, component
 //     component kind u8 0, slice (4 bytes), start u64, blocks u64, state, resync and spare (15 zeros)
 
+ghost use Rattle.std.specs.Prelude.{◌≡◌};
+
 use std::alloc::AllocError;
 
 /// A text has so many bytes, and there is room for so many.
