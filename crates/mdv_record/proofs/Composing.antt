@@ -1,5 +1,5 @@
 -- Readers one behind another, and a whole that is made of its parts.
-use Rattle.std.proofs.Common.{◌≡◌, ◌<◌, ℕ, refl, sym, ◌∙◌, ap, subst, List, ◌++◌, append_assoc, length, Option, None, Some}
+use Rattle.std.proofs.Common.{◌≡◌, ℕ, sym, ◌∙◌, ap, List, ◌++◌, append_assoc, None, Some}
 use Rattle.mdv_record.specs.Reading.{Reads}
 
 pub record PairFits {A B : Type 0} (F : A → Type 0) (G : B → Type 0) (p : A × B) : Type 0 where

@@ -1,13 +1,13 @@
 -- Lists behind the count of their parts.
-use Rattle.std.proofs.Common.{◌≡◌, ◌<◌, ◌≤◌, ◌+◌, ◌^◌, ℕ, refl, sym, ◌∙◌, ap, subst, List, [], ◌∷◌, ◌++◌, append_assoc, length, Option, None, Some, arith}
-use Rattle.std.specs.Prelude.{All, flat_map}
+use Rattle.std.proofs.Common.{◌≡◌, ℕ, refl, sym, ◌∙◌, ap, List, ◌++◌, append_assoc, length, None, Some, arith}
+use Rattle.std.specs.Prelude.{flat_map}
 use Rattle.byteorder.specs.Endian.{big_bytes}
 use Rattle.mdv_base.specs.declared.place.Place.{Place}
 use Rattle.mdv_table.specs.declared.volume.Volume.{Volume}
 use Rattle.mdv_record.specs.Reading.{Reads, byte_text}
 use Rattle.mdv_record.specs.Text.{place_text, places_text, volume_text, volumes_text}
 use Rattle.mdv_record.proofs.Composing.{some_is}
-use Rattle.mdv_record.proofs.Lists.{IsSoFar, so_far_all}
+use Rattle.mdv_record.proofs.Lists.{IsSoFar}
 
 -- the count, and each part
 abbrev pub counted : {A : Type 0} → (ℕ → List ℕ) → (A → List ℕ) → List A → List ℕ

@@ -1,5 +1,5 @@
 -- What a table of a geometry says fits the fields of a record.
-use Rattle.std.proofs.Common.{◌≡◌, ◌<◌, ◌≤◌, ◌^◌, List, length, get_or, Contains, All, arith}
+use Rattle.std.proofs.Common.{◌<◌, ◌^◌, get_or, arith}
 use Rattle.std.proofs.lemmas.List.Elements.{All-weaker}
 use Rattle.mdv_base.specs.declared.drive.SliceName.{SliceName}
 use Rattle.mdv_base.specs.declared.place.Place.{Place}
@@ -12,12 +12,11 @@ use Rattle.mdv_table.specs.declared.plan.Plan.{Plan}
 use Rattle.mdv_table.specs.declared.volume.Base.{Base}
 use Rattle.mdv_table.specs.declared.volume.Base.TheVariants.{Slice}
 use Rattle.mdv_table.specs.declared.volume.Component.{Component}
-use Rattle.mdv_table.specs.declared.volume.Volume.{Volume}
 use Rattle.mdv_table.specs.declared.volume.VolumeKind.{VolumeKind}
 use Rattle.mdv_table.specs.declared.volume.VolumeKind.TheVariants.{Stripe}
 use Rattle.mdv_table.specs.Slices.{IsSound}
 use Rattle.mdv_table.specs.Table.{IsPlanOf, IsListsOf, IsPlaceOf, IsKindOf, IsComponentOn}
-use Rattle.mdv_record.specs.Fits.{FitsSlice, FitsPlace, FitsLists, FitsBase, FitsComponent, FitsKind, FitsVolume, FitsPlan}
+use Rattle.mdv_record.specs.Fits.{FitsSlice, FitsPlace, FitsLists, FitsBase, FitsKind, FitsPlan}
 
 module _ (g : Geometry) (sound : IsSound g) where
   slice_fits : (s : SliceName) (at : SliceAt) → HasSlice g.slices s at → FitsSlice s

@@ -1,5 +1,5 @@
 -- Texts laid one behind another.
-use Rattle.std.proofs.Common.{◌≡◌, ◌<◌, ◌≤◌, ◌+◌, ◌-◌, ℕ, refl, sym, ◌∙◌, ap, subst, List, [], ◌∷◌, ◌++◌, append_assoc, length, get_or, take, drop, arith}
+use Rattle.std.proofs.Common.{◌≡◌, ◌<◌, ◌≤◌, ◌+◌, ◌-◌, ℕ, refl, sym, ◌∙◌, ap, subst, List, [], ◌++◌, append_assoc, length, get_or, take, drop, arith}
 use Rattle.std.proofs.lemmas.List.{append-nil, length-append, drop-drop}
 use Rattle.std.proofs.lemmas.Slice.{take-put_mid, drop-put_mid}
 use Rattle.std.specs.Prelude.{flat_map}

@@ -1,5 +1,5 @@
 -- The whole of a record: what stands in front of the volumes, and the volumes.
-use Rattle.std.proofs.Common.{◌≡◌, ◌<◌, ◌≤◌, ◌+◌, ◌*◌, ◌^◌, ℕ, refl, sym, ◌∙◌, ap, subst, List, [], ◌∷◌, ◌++◌, append_assoc, length, Option, None, Some, Result, Ok, Err, MatchResult, IsErr, arith, codes}
+use Rattle.std.proofs.Common.{◌≡◌, ◌<◌, ◌≤◌, ◌+◌, ◌^◌, ℕ, refl, sym, ◌∙◌, ap, List, [], ◌++◌, append_assoc, length, None, Some, Result, Ok, Err, MatchResult, IsErr, arith, codes}
 use Rattle.std.proofs.lemmas.List.{append-nil, length-append}
 use Rattle.byteorder.specs.Endian.{big_bytes}
 use Rattle.mdv_table.specs.declared.plan.Lists.{Lists}
@@ -13,10 +13,10 @@ use Rattle.mdv_record.specs.declared.record.RecordError.{RecordError}
 use Rattle.mdv_record.specs.declared.record.RecordError.TheVariants.{Memory}
 use Rattle.mdv_record.specs.Fits.{FitsLists, FitsVolumes, FitsPlan}
 use Rattle.mdv_record.specs.Reading.{Reads, ReadsInMemory}
-use Rattle.mdv_record.specs.Text.{lists_text, empty_parts, volumes_text, volume_text, record_text}
+use Rattle.mdv_record.specs.Text.{lists_text, empty_parts, volumes_text, record_text}
 use Rattle.mdv_record.specs.Whole.{FitsFront, front_text, ReadsWhole}
 use Rattle.mdv_record.proofs.Composing.{some_is}
-use Rattle.mdv_record.proofs.Lengths.{length-lists_text, length-volumes_text, length-record_text, record_text-parts, length-volume_text, length-parts}
+use Rattle.mdv_record.proofs.Lengths.{length-lists_text, length-volumes_text, length-record_text, record_text-parts, length-parts}
 
 -- what stands in front of a table's volumes
 abbrev pub front_of : Table → Front

@@ -1,4 +1,4 @@
-use Rattle.std.proofs.Common.{◌≡◌, ◌∙◌, refl, ap, Err, arith}
+use Rattle.std.proofs.Common.{◌∙◌, refl, ap, Err}
 use Rattle.std.proofs.lemmas.Result.{err_from_is_err_and}
 use Rattle.mdv_record.proofs.Records.{no_front, only_memory, size_is, nothing_left, whole, not_whole, want_of_memory}
 use Rattle.mdv_record.proofs.decoding.read_record.Goals as goal

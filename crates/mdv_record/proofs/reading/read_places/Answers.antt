@@ -1,4 +1,4 @@
-use Rattle.std.proofs.Common.{◌≡◌, ◌++◌, ◌∙◌, ℕ, List, Some, length, sym, ap, arith}
+use Rattle.std.proofs.Common.{◌≡◌, ◌++◌, ◌∙◌, ℕ, List, Some, sym, ap, arith}
 use Rattle.mdv_base.specs.declared.place.Place.{Place}
 use Rattle.mdv_record.specs.Text.{place_text, places_text}
 use Rattle.mdv_record.proofs.Counted.{counted, places_text-counted, count_is, no_count, counted_read}

@@ -1,11 +1,9 @@
-use Rattle.std.proofs.Common.{◌≡◌, ◌∙◌, ◌<◌, ◌^◌, ◌++◌, ℕ, List, Some, Ok, length, refl, sym, ap, subst, arith}
+use Rattle.std.proofs.Common.{◌∙◌, ◌<◌, ◌^◌, ◌++◌, ℕ, List, length, refl, sym, ap, subst, arith}
 use Rattle.std.specs.Prelude.{All}
-use Rattle.byteorder.specs.Endian.{big_bytes}
 use Rattle.mdv_table.specs.declared.volume.Volume.{Volume}
 use Rattle.mdv_table.proofs.Ascending.{few, pushed}
-use Rattle.mdv_record.specs.Fits.{FitsVolume, FitsVolumes}
-use Rattle.mdv_record.specs.Reading.{Reads}
-use Rattle.mdv_record.specs.Text.{volume_text, volumes_text}
+use Rattle.mdv_record.specs.Fits.{FitsVolumes}
+use Rattle.mdv_record.specs.Text.{volume_text}
 use Rattle.mdv_record.proofs.Counted.{volumes_text-counted, count_is, no_count, counted_read}
 use Rattle.mdv_record.proofs.Lists.{so_far_none, so_far_more, never_more, next_read, so_far_all}
 use Rattle.mdv_record.proofs.Volumes.{nothing_read, no_volumes, front_below, number_below, behind_count}

@@ -1,4 +1,5 @@
 use Rattle.std.proofs.Common.{[], refl, subst, sym}
+use Rattle.std.proofs.lemmas.Bool.{false≢true}
 use Rattle.std.proofs.lemmas.List.{append-nil}
 use Rattle.mdv_table.specs.Marks.{IsMarked}
 use Rattle.mdv_table.proofs.Apart.{apart_none, apart_more, never_apart, marked_volume}
@@ -26,5 +27,5 @@ loop-volume-preserved c =
     let answer = (c.if-has_volume.ensures _ c.loop-volume.invariant.marked).1 in
     record {
       marked = marked_volume c.args.geometry.now.slices c.mark_volume.new.self c.args.places.now vs i _ c.loop-volume-test.true (c.mark_volume.ensures _ c.loop-volume.invariant.marked);
-      apart = apart_more c.args.geometry.now c.args.places.now vs i _ c.loop-volume-test.true c.loop-volume.invariant.apart (λ used. cc (answer used));
+      apart = apart_more c.args.geometry.now c.args.places.now vs i _ c.loop-volume-test.true c.loop-volume.invariant.apart (λ used. absurd (false≢true (answer used)));
     }

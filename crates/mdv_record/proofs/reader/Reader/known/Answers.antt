@@ -1,4 +1,3 @@
-use Rattle.std.proofs.Common.{Decides, ◌≡◌}
 use Rattle.std.proofs.lemmas.Bool.Decides.{Decides-eqb, not_from_Decides}
 use Rattle.std.proofs.lemmas.Slice.Eq.{slice_eq-Decides}
 use Rattle.mdv_record.proofs.Fields.{known_field, other_field, short_field}
