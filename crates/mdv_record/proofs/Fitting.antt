@@ -1,0 +1,53 @@
+-- What a table of a geometry says fits the fields of a record.
+use Rattle.std.proofs.Common.{◌<◌, ◌^◌, get_or, arith}
+use Rattle.std.proofs.lemmas.List.Elements.{All-weaker}
+use Rattle.mdv_base.specs.declared.drive.SliceName.{SliceName}
+use Rattle.mdv_base.specs.declared.place.Place.{Place}
+use Rattle.mdv_name.specs.declared.geometry.Geometry.{Geometry}
+use Rattle.mdv_name.specs.declared.slice_lines.SliceAt.{SliceAt}
+use Rattle.mdv_name.specs.SliceIndex.{HasSlice}
+use Rattle.mdv_table.specs.declared.plan.Lists.{Lists}
+use Rattle.mdv_table.specs.declared.plan.Lists.TheVariants.{One}
+use Rattle.mdv_table.specs.declared.plan.Plan.{Plan}
+use Rattle.mdv_table.specs.declared.volume.Base.{Base}
+use Rattle.mdv_table.specs.declared.volume.Base.TheVariants.{Slice}
+use Rattle.mdv_table.specs.declared.volume.Component.{Component}
+use Rattle.mdv_table.specs.declared.volume.VolumeKind.{VolumeKind}
+use Rattle.mdv_table.specs.declared.volume.VolumeKind.TheVariants.{Stripe}
+use Rattle.mdv_table.specs.Slices.{IsSound}
+use Rattle.mdv_table.specs.Table.{IsPlanOf, IsListsOf, IsPlaceOf, IsKindOf, IsComponentOn}
+use Rattle.mdv_record.specs.Fits.{FitsSlice, FitsPlace, FitsLists, FitsBase, FitsKind, FitsPlan}
+
+module _ (g : Geometry) (sound : IsSound g) where
+  slice_fits : (s : SliceName) (at : SliceAt) → HasSlice g.slices s at → FitsSlice s
+  slice_fits s at has =
+      let name = (sound.each s at has).named in
+      record { controller = name.drive.controller; target = name.drive.target; disk = name.drive.disk; slice = omega (arith, name.slice) }
+
+  place_fits : (p : Place) → IsPlaceOf g p → FitsPlace p
+  place_fits p is = record { slice = slice_fits p.slice is.at is.has; start = omega (arith, is.lies.start); blocks = omega (arith, is.lies.most) }
+
+  lists_fit : (l : Lists) → IsListsOf g l → FitsLists l
+  lists_fit (One places) is = record { few = omega (arith, is.0); each = All-weaker (IsPlaceOf g) FitsPlace place_fits places is.1 }
+
+  base_fits : (c : Component) (b : Base) → IsComponentOn g c b → FitsBase b
+  base_fits c (Slice s) is = slice_fits s is.at is.has
+
+  start_fits : (c : Component) (b : Base) → IsComponentOn g c b → (c.start < 2 ^ 64) × (c.blocks < 2 ^ 64)
+  start_fits c (Slice s) is = (omega (arith, is.whole.start), omega (arith, is.whole.blocks, (sound.each s is.at is.has).within))
+
+  kind_fits : (k : VolumeKind) → IsKindOf g k → FitsKind k
+  kind_fits (Stripe s) is =
+      let c = s.component in
+      let range = start_fits c c.on is.component in
+      record { interlace = omega (arith, is.most); component = record { on = base_fits c c.on is.component; start = range.0; blocks = range.1 } }
+
+  -- each number fits its field
+  pub plan_fits : (p : Plan) → IsPlanOf g p → FitsPlan p
+  plan_fits p is = record {
+    lists = lists_fit p.lists is.lists;
+    volumes = record {
+      numbers = is.numbers;
+      each = λ k d within. record { number = omega (arith, is.numbers.numbers k d within); kind = kind_fits (get_or p.volumes k d).kind (is.kinds k d within) };
+    };
+  }

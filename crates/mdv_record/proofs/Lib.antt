@@ -1,0 +1,11 @@
+pub mod Codes
+pub mod Composing
+pub mod Counted
+pub mod Fields
+pub mod Fitting
+pub mod Laying
+pub mod Lengths
+pub mod Lists
+pub mod Parts
+pub mod Records
+pub mod Volumes

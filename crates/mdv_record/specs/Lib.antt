@@ -1,0 +1,9 @@
+pub use Rattle.byteorder.specs.Endian
+pub use Rattle.mdv_table.specs.Slices
+pub use Rattle.mdv_table.specs.Table
+pub mod Fits
+pub mod Reading
+pub mod Record
+pub mod Spelling
+pub mod Text
+pub mod Whole

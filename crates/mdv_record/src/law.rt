@@ -1,0 +1,21 @@
+ghost use Rattle.std.specs.Prelude.{◌≡◌, ◌⊎◌, Result};
+ghost use Rattle.mdv_name.specs.declared.geometry.Geometry.{Geometry};
+ghost use Rattle.mdv_record.specs.declared.record.RecordError.{RecordError};
+ghost use Rattle.mdv_record.specs.Record.{IsDecoded};
+ghost use Rattle.mdv_record.specs.Text.{record_text};
+ghost use Rattle.mdv_table.specs.declared.table.Table.{Table};
+ghost use Rattle.mdv_table.specs.Slices.{IsSound};
+ghost use Rattle.mdv_table.specs.Table.{IsOfGeometry};
+
+/// One text stands for at most one table of a geometry.
+pub fn spells_one_table()
+    ensures { (g : Geometry) (t u : Table) → IsSound g → IsOfGeometry g t → IsOfGeometry g u →
+        record_text t ≡ record_text u → t ≡ u }
+{}
+
+/// What is decoded of a table's text is that table, unless memory was wanting.
+pub fn reads_what_was_written()
+    ensures { (g : Geometry) (t : Table) (answer : Result Table RecordError) → IsSound g →
+        IsOfGeometry g t → IsDecoded g (record_text t) answer →
+        (answer ≡ Ok t) ⊎ (answer ≡ Err RecordError.Memory) }
+{}

@@ -1,0 +1,17 @@
+//! The text of a table: the bytes by which a replica keeps it.
+#![tactic(auto)]
+
+mod decoding;
+mod encoding;
+mod law;
+mod reader;
+mod reading;
+mod record;
+mod spelling;
+#[cfg(test)]
+mod tests;
+
+pub use decoding::decode;
+pub use encoding::{encode, text_bytes};
+pub use law::{reads_what_was_written, spells_one_table};
+pub use record::{RecordError, TooLong};

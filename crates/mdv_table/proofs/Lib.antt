@@ -1,0 +1,7 @@
+pub mod Apart
+pub mod Ascending
+pub mod Causes
+pub mod Making
+pub mod Marks
+pub mod Pairs
+pub mod Sound

@@ -1,0 +1,21 @@
+//! The table of a database: where its replicas lie and which volumes it has, and how a command
+//! changes it.
+#![tactic(auto)]
+
+mod change;
+mod law;
+mod of_geometry;
+mod plan;
+mod table;
+#[cfg(test)]
+mod tests;
+mod uses;
+mod volume;
+mod volumes;
+
+pub use change::{ApplyFault, Change, Note};
+pub use law::read_geometries_are_sound;
+pub use plan::{Lists, Plan};
+pub use table::{Status, Table};
+pub use volume::{Base, Component, DEFAULT_INTERLACE, Stripe, Volume, VolumeKind};
+pub use volumes::Volumes;

@@ -1,0 +1,158 @@
+// Which slices are in use: eight marks for each of 256 drives. Whether a slice overlaps one in use is
+// decided by the marks of its own drive, so the check of a whole table is linear in its volumes.
+ghost use Rattle.std.specs.Prelude.{◌≡◌, ◌<◌, ◌+◌, ◌*◌, ◌↔◌, ℕ, true, false, IsTrue, Any, List, [], ◌∷◌, ◌++◌, slice_index_or, slice_set};
+ghost use Rattle.mdv_base.specs.declared.drive.SliceName.{SliceName};
+ghost use Rattle.mdv_name.specs.SliceIndex.{HasSlice};
+ghost use Rattle.mdv_table.specs.Marks.{IsMarked, mark_place, mark_at};
+ghost use Rattle.mdv_table.specs.Plan.{IsInUse, place_slices, component_slices, used_slices};
+ghost use Rattle.mdv_table.specs.Slices.{IsSound, Overlap, OverlapsAt};
+ghost use Rattle.mdv_table.specs.Volume.{volume_slices};
+
+use crate::plan::Plan;
+use crate::volume::{Base, Volume, VolumeKind};
+use mdv_base::{Place, SliceName};
+use mdv_name::{Geometry, SliceAt};
+use std::marker::Model;
+
+// How many slices a drive has.
+const DRIVE_SLICES: usize = 8;
+
+// Eight for each drive that a table of drives may have.
+const MARKS: usize = 2048;
+
+#[derive(Drop)]
+pub(crate) struct Uses {
+    marks: [bool; MARKS],
+}
+
+impl Model for Uses {
+    ghost use Rattle.std.specs.Prelude.{List, Bool};
+
+    ghost Value = { List Bool };
+
+    ghost view = { λ u. u.marks };
+}
+
+impl Uses {
+    pub(crate) fn new() -> Uses
+        ensures { (place : ℕ) → slice_index_or result place false ≡ false }
+    {
+        Uses {
+            marks: [false; MARKS],
+        }
+    }
+
+    // All uses of a plan.
+    pub(crate) fn of_plan(geometry: &Geometry, plan: &Plan) -> Uses
+        requires { IsSound geometry.now }
+        ensures { IsMarked geometry.now.slices result (used_slices plan.now) }
+    {
+        let mut uses = Uses::new();
+        uses.mark_places(geometry, plan.lists.places());
+        for volume in plan.volumes.as_slice() {
+            uses.mark_volume(geometry, volume);
+        }
+        uses
+    }
+
+    pub(crate) fn mark_places(&mut self, geometry: &Geometry, places: &[Place])
+        requires { IsSound geometry.now }
+        ensures { (uses : List SliceName) → IsMarked geometry.now.slices self.old uses →
+            IsMarked geometry.now.slices self.new (uses ++ place_slices places.now) }
+    {
+        for place in places {
+            self.mark(geometry, place.slice);
+        }
+    }
+
+    pub(crate) fn mark_volume(&mut self, geometry: &Geometry, volume: &Volume)
+        requires { IsSound geometry.now }
+        ensures { (uses : List SliceName) → IsMarked geometry.now.slices self.old uses →
+            IsMarked geometry.now.slices self.new (uses ++ volume_slices volume.now) }
+    {
+        match volume.kind {
+            VolumeKind::Stripe(stripe) => match stripe.component.on {
+                Base::Slice(slice) => self.mark(geometry, slice),
+            },
+        }
+    }
+
+    fn mark(&mut self, geometry: &Geometry, slice: SliceName)
+        requires { IsSound geometry.now }
+        ensures { (uses : List SliceName) → IsMarked geometry.now.slices self.old uses →
+            IsMarked geometry.now.slices self.new (uses ++ slice ∷ []) }
+    {
+        if let Some(at) = geometry.slices.find(slice) {
+            self.marks[mark_place(at, slice.slice)] = true;
+        }
+    }
+
+    // Whether the slice, or one that overlaps it, is in use.
+    pub(crate) fn has(&self, geometry: &Geometry, slice: SliceName) -> bool
+        requires { IsSound geometry.now }
+        ensures { (uses : List SliceName) → IsMarked geometry.now.slices self.now uses →
+            IsTrue result ↔ IsInUse geometry.now.slices uses slice }
+    {
+        match geometry.slices.find(slice) {
+            Some(at) => self.overlap(geometry, slice, at),
+            None => false,
+        }
+    }
+
+    // Whether a slice of its drive that is in use overlaps the slice, which lies there.
+    fn overlap(&self, geometry: &Geometry, name: SliceName, at: SliceAt) -> bool
+        requires sound { IsSound geometry.now }
+        requires there { HasSlice geometry.now.slices name at }
+        ensures { (uses : List SliceName) → IsMarked geometry.now.slices self.now uses →
+            IsTrue result ↔ IsInUse geometry.now.slices uses name }
+    {
+        for slice in 0..DRIVE_SLICES as u8 {
+            let other = SliceName {
+                drive: name.drive,
+                slice,
+            };
+            if self.marks[mark_place(at, slice)] && overlaps(geometry, other, at) {
+                return true;
+            }
+        }
+        false
+    }
+
+    // Whether a slice of the volume, or one that overlaps it, is in use.
+    pub(crate) fn has_volume(&self, geometry: &Geometry, volume: &Volume) -> bool
+        requires { IsSound geometry.now }
+        ensures { (uses : List SliceName) → IsMarked geometry.now.slices self.now uses →
+            IsTrue result ↔ Any (IsInUse geometry.now.slices uses) (volume_slices volume.now) }
+    {
+        match volume.kind {
+            VolumeKind::Stripe(stripe) => match stripe.component.on {
+                Base::Slice(slice) => self.has(geometry, slice),
+            },
+        }
+    }
+}
+
+// Where the mark of a slice of the drive is.
+fn mark_place(at: SliceAt, slice: u8) -> usize
+    ensures { result ≡ mark_place at slice }
+{
+    at.drive.0 as usize * DRIVE_SLICES + usize::from(slice)
+}
+
+// Whether the slice is in the table of drives and overlaps the other.
+fn overlaps(geometry: &Geometry, slice: SliceName, other: SliceAt) -> bool
+    requires { IsSound geometry.now }
+    ensures { IsTrue result ↔ OverlapsAt geometry.now.slices slice other }
+{
+    match geometry.slices.find(slice) {
+        Some(at) => share_a_block(at, other),
+        None => false,
+    }
+}
+
+fn share_a_block(a: SliceAt, b: SliceAt) -> bool
+    ensures { IsTrue result ↔ Overlap a b }
+{
+    let (first, second) = if a.start <= b.start { (a, b) } else { (b, a) };
+    a.drive == b.drive && second.blocks > 0 && second.start - first.start < first.blocks
+}
