@@ -205,6 +205,34 @@ fn refuses_a_faulty_use(rt: HostRuntime) -> Result<(), Fail> {
     Ok(())
 }
 
+// What stands behind the three lines of the table, and how an empty script ends.
+#[test]
+fn finds_the_home_of_a_host(rt: HostRuntime) -> Result<(), Fail> {
+    let cases = [
+        ("", RunStatus::Done),
+        ("\n# more\nslice c0t0d0s0 0 16\n", RunStatus::Done),
+        ("slice c0t0d0s0 0 17\n", RunStatus::Usage),
+        ("slice c0t0d0s0 8223 1\n", RunStatus::Usage),
+        ("slice c0t0d0s0 0 16 db\n", RunStatus::Usage),
+        ("host beta\n", RunStatus::Usage),
+        ("drive c0t1d0 8224 alpha other.img\n", RunStatus::Usage),
+        ("slice c0t0d0s8 0 16\n", RunStatus::Usage),
+    ];
+    for (more, status) in cases {
+        let table = format!(in rt.alloc(); "{TABLE}{more}")?;
+        let mut shelf = MemShelf::new(rt.alloc(), &[BLOCKS])?;
+        let mut source = MemSource::new(Vec::new(rt.alloc()));
+        let end = run_host(&rt, &["alpha"], &table, &mut shelf, &mut source)?;
+        assert_eq!(rt; end, status, "{table:?}");
+    }
+    let shared = "host alpha\ndrive c0t0d0 8224 shared disk.img\nslice c0t0d0s7 16 8208 db\n";
+    let mut shelf = MemShelf::new(rt.alloc(), &[BLOCKS])?;
+    let mut source = MemSource::new(Vec::new(rt.alloc()));
+    let end = run_host(&rt, &["alpha"], shared, &mut shelf, &mut source)?;
+    assert_eq!(rt; end, RunStatus::Usage);
+    Ok(())
+}
+
 // A script on a blank drive, where the call of that number fails.
 #[test]
 fn tells_of_failed_calls(rt: HostRuntime) -> Result<(), Fail> {

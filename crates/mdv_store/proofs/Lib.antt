@@ -4,4 +4,5 @@ pub mod Creating
 pub mod Lawful
 pub mod Logs
 pub mod Quiet
+mod Records
 pub mod Replicas

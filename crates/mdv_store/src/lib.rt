@@ -8,4 +8,4 @@ mod law;
 
 pub use database::{BootEnd, CreateFault, boot, create};
 pub use empty_record::record_block;
-pub use law::{boots_hold, crashes_stand, new_drives_stand};
+pub use law::{boots_hold, crashes_stand, new_drives_stand, writes_the_empty_table};

@@ -14,8 +14,7 @@ returns-in_err-slice-clause-none c = subst (λ r. IfNone r ((g : SmallGeometry) 
 pub returns-clause-value : goal.returns-clause-value
 returns-clause-value c =
     let kind : c.drive-item.result.kind ≡ Own c.in_ok-slice.slice.name.drive c.in_ok-name.name = c.is_owned.ensures.0 (search rules) in
-    let one = one_item c.as_slice-2.result.now c.drive-item.result c.in-len1.len_at_least c.in-len1.len_below c.drive-item.is in
-    (
+    let one = one_item c.as_slice-2.result.now c.drive-item.result c.in-len1.len_at_least c.in-len1.len_below c.drive-item.is in (
       record {
         hosts = search rules;
         file = c.drive-item.result.file;
