@@ -1,5 +1,3 @@
-ghost use Rattle.std.specs.Prelude.{◌≡◌, ◌++◌, codes, IfOk, MatchResult};
-ghost use Rattle.byteorder.specs.Endian.{big_bytes};
 ghost use Rattle.mdv_record.specs.Reading.{Reads};
 ghost use Rattle.mdv_record.specs.Record.{IsDecoded};
 ghost use Rattle.mdv_record.specs.Whole.{FitsFront, front_text, ReadsWhole};

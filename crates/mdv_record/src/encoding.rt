@@ -1,7 +1,7 @@
-ghost use Rattle.std.specs.Prelude.{◌≡◌, ◌+◌, ◌<◌, ◌≤◌, ◌^◌, ◌↔◌, length, IsErr, IfOk, IfErr, OnErr, flat_map};
+ghost use Rattle.std.specs.Prelude.{◌≡◌, ◌+◌, ◌<◌, ◌≤◌, ◌^◌, ◌↔◌, length, IsErr, IfOk, IfErr, OnErr};
 ghost use Rattle.mdv_record.specs.Record.{IsEncoded};
 ghost use Rattle.mdv_record.specs.Spelling.{IsLaid};
-ghost use Rattle.mdv_record.specs.Text.{record_text, lists_text, volume_text, volumes_text, kind_text};
+ghost use Rattle.mdv_record.specs.Text.{record_text, lists_text, volume_text, volumes_text};
 
 use crate::record::TooLong;
 use crate::spelling::{EMPTY_PARTS, HEAD, lay, lay_lists, lay_number32, lay_volumes};

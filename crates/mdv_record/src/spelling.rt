@@ -1,9 +1,9 @@
 // Each part of a table's text, laid behind the bytes that are used: each function gives where its text ends.
-ghost use Rattle.std.specs.Prelude.{◌≡◌, ◌+◌, ◌*◌, ◌≤◌, ◌++◌, length, codes, flat_map};
+ghost use Rattle.std.specs.Prelude.{◌+◌, ◌≤◌, length};
 ghost use Rattle.byteorder.specs.Endian.{big_bytes};
 ghost use Rattle.mdv_record.specs.Spelling.{IsLaid};
 ghost use Rattle.mdv_record.specs.Text.{slice_text, place_text, places_text, lists_text, base_text, component_text};
-ghost use Rattle.mdv_record.specs.Text.{stripe_text, kind_text, volume_text, volumes_text, empty_parts};
+ghost use Rattle.mdv_record.specs.Text.{stripe_text, kind_text, volume_text, volumes_text};
 
 use byteorder::{BigEndian, ByteOrder};
 use mdv_base::{Place, SliceName};

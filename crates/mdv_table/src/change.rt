@@ -1,4 +1,4 @@
-ghost use Rattle.std.specs.Prelude.{◌≡◌, ◌<◌, OnOk, OnErr, IfErr, IfOk, MatchResult};
+ghost use Rattle.std.specs.Prelude.{◌≡◌, ◌<◌, OnOk, OnErr, IfErr, MatchResult};
 ghost use Rattle.mdv_base.specs.declared.refusal.Refusal.{Refusal};
 ghost use Rattle.mdv_table.specs.declared.change.ApplyFault.TheVariants.{Refused, Memory};
 ghost use Rattle.mdv_table.specs.Change.{IsNumbered, IsAfter, HasFault, IsRefused, AllowsStripe, StripeRefused, MakesStripe};
@@ -33,7 +33,8 @@ pub enum ApplyFault {
 
 impl Table {
     /// Makes the change, or tells why not. A refusal is the first cause in the order no such slice, name
-    /// taken, wrong kind, slice in use. The work is linear in the number of volumes.
+    /// taken, wrong kind, slice in use. The work is linear in the number of volumes. No change has a
+    /// list of its own yet, for which it would need the allocator.
     pub fn apply(
         &mut self,
         _alloc: Global,

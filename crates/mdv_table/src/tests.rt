@@ -1,10 +1,11 @@
-ghost use Rattle.std.specs.Prelude.{IfOk};
+ghost use Rattle.std.specs.Prelude.{◌<◌, IfOk};
 ghost use Rattle.mdv_table.specs.Slices.{IsSound};
 
 use crate::*;
 use mdv_base::{Place, Places, Refusal, SliceName, VolId};
 use mdv_name::{Geometry, parse_slice};
 use std::alloc::Global;
+use std::process::Abort;
 use std::test::Fail;
 
 // Slice 2 is the whole drive, slice 3 the last block of slice 0, slice 4 the block behind it.
@@ -43,50 +44,74 @@ fn one_place(text: &[u8], start: u32, blocks: u32) -> Result<Places, Fail> {
     Ok(places)
 }
 
+// The number of the refusal, or 0 where the stripe was made.
+fn make(
+    alloc: Global,
+    geometry: &Geometry,
+    table: &mut Table,
+    number: u16,
+    text: &[u8],
+) -> Result<u8, Fail>
+    requires sound { IsSound geometry.now }
+    requires number { number < 8192 }
+{
+    let change = Change::MakeStripe {
+        volume: VolId(number),
+        slice: slice(text)?,
+    };
+    Ok(match table.apply(alloc, geometry, &change) {
+        Ok(()) => 0,
+        Err(ApplyFault::Refused(refusal)) => refusal.number(),
+        Err(ApplyFault::Memory) => Refusal::OutOfMemory.number(),
+    })
+}
+
+// No such slice is 6, name taken 5, wrong kind 12, slice in use 7.
 #[test]
 fn refuses_in_one_order(rt: HostRuntime) -> Result<(), Fail> {
     let geometry = drives(rt.alloc())?;
     let mut table = Table::empty(rt.alloc(), one_place(b"c0t0d0s7", 16, 8192)?);
-    let cases: [(u16, &[u8], Option<Refusal>); 12] = [
-        (10, b"c0t0d0s0", None),
-        (10, b"c0t2d0s0", Some(Refusal::NoSuchSlice)),
-        (10, b"c0t0d0s7", Some(Refusal::NameTaken)),
-        (10, b"c0t0d0s0", Some(Refusal::NameTaken)),
-        (11, b"c0t0d0s7", Some(Refusal::WrongKind)),
-        (11, b"c0t1d0s7", Some(Refusal::WrongKind)),
-        (11, b"c0t0d0s0", Some(Refusal::SliceInUse)),
-        (11, b"c0t0d0s2", Some(Refusal::SliceInUse)),
-        (11, b"c0t0d0s3", Some(Refusal::SliceInUse)),
-        (11, b"c0t0d0s4", None),
-        (8191, b"c0t1d0s0", None),
-        (0, b"c0t0d0s1", None),
+    let cases: [(u16, &[u8], u8); 12] = [
+        (10, b"c0t0d0s0", 0),
+        (10, b"c0t2d0s0", 6),
+        (10, b"c0t0d0s7", 5),
+        (10, b"c0t0d0s0", 5),
+        (11, b"c0t0d0s7", 12),
+        (11, b"c0t1d0s7", 12),
+        (11, b"c0t0d0s0", 7),
+        (11, b"c0t0d0s2", 7),
+        (11, b"c0t0d0s3", 7),
+        (11, b"c0t0d0s4", 0),
+        (8191, b"c0t1d0s0", 0),
+        (0, b"c0t0d0s1", 0),
     ];
-    for (number, text, refusal) in cases {
+    for (number, text, expected) in cases {
         assert!(rt; number < 8192);
-        let change = Change::MakeStripe {
-            volume: VolId(number),
-            slice: slice(text)?,
-        };
-        let expected = match refusal {
-            Some(refusal) => Err(ApplyFault::Refused(refusal)),
-            None => Ok(()),
-        };
-        assert_eq!(rt;
-            table.apply(rt.alloc(), &geometry, &change),
-            expected,
-            "d{number} on {text:?}"
-        );
+        let told = make(rt.alloc(), &geometry, &mut table, number, text)?;
+        assert_eq!(rt; told, expected, "d{number} on {text:?}");
     }
-    let copy = table.copy(rt.alloc())?;
-    let numbers: Vec<u16> = (copy.plan.volumes.as_slice().iter())
-        .map(|v| v.number.0)
-        .collect(rt.alloc())?;
-    assert_eq!(rt; numbers.as_slice(), [0, 10, 11, 8191].as_slice());
-    let found = copy.plan.volumes.find(VolId(0)).ok_or("d0")?;
+    Ok(())
+}
+
+#[test]
+fn keeps_volumes_in_order(rt: HostRuntime) -> Result<(), Fail> {
+    let geometry = drives(rt.alloc())?;
+    let mut table = Table::empty(rt.alloc(), one_place(b"c0t0d0s7", 16, 8192)?);
     assert_eq!(rt;
-        *found,
+        make(rt.alloc(), &geometry, &mut table, 8191, b"c0t0d0s0")?,
+        0
+    );
+    assert_eq!(rt; make(rt.alloc(), &geometry, &mut table, 0, b"c0t0d0s1")?, 0);
+    let copy = table.copy(rt.alloc())?;
+    let volumes = copy.plan.volumes.as_slice();
+    assert_eq!(rt; volumes.len(), 2);
+    assert_eq!(rt;
+        volumes[0],
         Volume::stripe_on(VolId(0), slice(b"c0t0d0s1")?, 990)
     );
+    assert_eq!(rt; volumes[1].number, VolId(8191));
+    let found = copy.plan.volumes.find(VolId(8191)).ok_or("d8191")?;
+    assert_eq!(rt; *found, volumes[1]);
     assert!(rt; copy.is_of_geometry(&geometry));
     Ok(())
 }
@@ -126,11 +151,7 @@ fn tells_volumes_of_a_geometry(rt: HostRuntime) -> Result<(), Fail> {
         (b"c0t1d0s7", 28000, false),
     ];
     for (text, blocks, expected) in cases {
-        let mut table = Table::empty(rt.alloc(), one_place(b"c0t0d0s7", 16, 8192)?);
-        let volumes = &mut table.plan.volumes;
-        volumes.push(Volume::stripe_on(VolId(1), slice(b"c0t0d0s0")?, 1000))?;
-        assert!(rt; volumes.is_behind(VolId(2)));
-        volumes.push(Volume::stripe_on(VolId(2), slice(text)?, blocks))?;
+        let table = two_stripes(&rt, rt.alloc(), text, blocks)?;
         assert_eq!(rt;
             table.is_of_geometry(&geometry),
             expected,
@@ -138,4 +159,14 @@ fn tells_volumes_of_a_geometry(rt: HostRuntime) -> Result<(), Fail> {
         );
     }
     Ok(())
+}
+
+// d1 on slice 0 and d2 on so many blocks of another.
+fn two_stripes(rt: &impl Abort, alloc: Global, text: &[u8], blocks: u64) -> Result<Table, Fail> {
+    let mut table = Table::empty(alloc, one_place(b"c0t0d0s7", 16, 8192)?);
+    let volumes = &mut table.plan.volumes;
+    volumes.push(Volume::stripe_on(VolId(1), slice(b"c0t0d0s0")?, 1000))?;
+    assert!(rt; volumes.is_behind(VolId(2)));
+    volumes.push(Volume::stripe_on(VolId(2), slice(text)?, blocks))?;
+    Ok(table)
 }

@@ -1,10 +1,10 @@
 // Which slices are in use: eight marks for each of 256 drives. Whether a slice overlaps one in use is
 // decided by the marks of its own drive, so the check of a whole table is linear in its volumes.
-ghost use Rattle.std.specs.Prelude.{◌≡◌, ◌<◌, ◌+◌, ◌*◌, ◌↔◌, ℕ, true, false, IsTrue, Any, List, [], ◌∷◌, ◌++◌, slice_index_or, slice_set};
+ghost use Rattle.std.specs.Prelude.{◌≡◌, ◌<◌, ◌+◌, ◌*◌, ◌↔◌, ℕ, true, false, IsTrue, Any, List, [], ◌∷◌, ◌++◌, slice_index_or};
 ghost use Rattle.mdv_base.specs.declared.drive.SliceName.{SliceName};
 ghost use Rattle.mdv_name.specs.SliceIndex.{HasSlice};
-ghost use Rattle.mdv_table.specs.Marks.{IsMarked, mark_place, mark_at};
-ghost use Rattle.mdv_table.specs.Plan.{IsInUse, place_slices, component_slices, used_slices};
+ghost use Rattle.mdv_table.specs.Marks.{IsMarked, mark_place};
+ghost use Rattle.mdv_table.specs.Plan.{IsInUse, place_slices, used_slices};
 ghost use Rattle.mdv_table.specs.Slices.{IsSound, Overlap, OverlapsAt};
 ghost use Rattle.mdv_table.specs.Volume.{volume_slices};
 
