@@ -1,8 +1,7 @@
 -- What is read as a table of drives has names, sizes and slices in range, so its home is one.
 use Rattle.std.proofs.Common.{◌≡◌, ◌≢◌, ◌⊎◌, inl, inr, ◌<◌, ◌≤◌, ◌+◌, ◌^◌, ℕ, zero, suc, true, false, refl, sym, ◌∙◌, ap, subst, List, [], ◌∷◌, ◌++◌, length, Some, arith, codes}
-use Rattle.std.proofs.lemmas.Bool.{false≢true}
-use Rattle.std.proofs.lemmas.List.Elements.{All-nil, All-push, All-contains}
-use Rattle.std.specs.Prelude.{All, Contains, slice_get}
+use Rattle.std.proofs.lemmas.List.Elements.{All-nil, All-push}
+use Rattle.std.specs.Prelude.{All, slice_get}
 use Rattle.mdv_base.specs.Name.{IsName}
 use Rattle.mdv_name.specs.declared.drive_line.DriveLine.{DriveLine}
 use Rattle.mdv_name.specs.declared.drive_line.DriveKind.{DriveKind}
@@ -21,7 +20,7 @@ use Rattle.mdv_name.proofs.OneTable.{one_table}
 use Rattle.mdv_base.specs.declared.drive.SliceName.{SliceName}
 use Rattle.mdv_engine.specs.declared.geometry.SmallGeometry.{SmallGeometry}
 use Rattle.mdv_engine.specs.Home.{IsSmall}
-use Rattle.mdv_run.specs.Geometry.{IsSameOrOther, IsDbSlice, IsHome, IsGeometry}
+use Rattle.mdv_run.specs.Geometry.{IsHome, IsGeometry}
 
 -- a slice lies within a drive
 record LiesOn (drives : List DriveLine) (line : SliceLine) : Type 0 where
@@ -92,7 +91,7 @@ small_home text table g is home =
     let read = read_lines empty table (lines text) read_empty is.read in
     let host = only IsHostName table.hosts g.host home.hosts read.hosts in
     let drive = only IsDriveLine table.drives _ home.drives read.drives in
-    let lies = All-contains (LiesOn table.drives) table.slices home.line read.slices home.slices.marked.listed in
+    let lies = only (LiesOn table.drives) table.slices home.line home.slices read.slices in
     record {
       host = host.0;
       not_shared = host.1;
@@ -103,17 +102,12 @@ small_home text table g is home =
       within = subst (λ (n : ℕ). n + g.blocks ≤ g.drive_blocks) home.start (subst (λ (n : ℕ). home.line.at.start + n ≤ g.drive_blocks) home.blocks (drive_in table.drives _ home.line home.drives lies));
     }
 
-one_slice : (lines : List SliceLine) (a b : SliceLine) → IsDbSlice lines a → IsDbSlice lines b → a ≡ b
-one_slice lines a b first second = elim (All-contains (IsSameOrOther b) lines a second.others first.marked.listed) [
-  | inl same ↦ same
-  | inr other ↦ absurd (false≢true (sym other.0 ∙ first.marked.mark))
-]
-
 one_home : (table : Geometry) (g h : SmallGeometry) → IsHome table g → IsHome table h → g ≡ h
 one_home table g h first second =
     let hosts : g.host ∷ [] ≡ h.host ∷ [] = sym first.hosts ∙ second.hosts in
     let host : g.host ≡ h.host = cc (hosts) in
-    let line = one_slice table.slices first.line second.line first.slices second.slices in
+    let lines : first.line ∷ [] ≡ second.line ∷ [] = sym first.slices ∙ second.slices in
+    let line : first.line ≡ second.line = cc (lines) in
     let slice : g.slice ≡ h.slice = sym first.slice ∙ ap (λ (l : SliceLine). l.name) line ∙ second.slice in
     let start : g.start ≡ h.start = sym first.start ∙ ap (λ (l : SliceLine). l.at.start) line ∙ second.start in
     let blocks : g.blocks ≡ h.blocks = sym first.blocks ∙ ap (λ (l : SliceLine). l.at.blocks) line ∙ second.blocks in

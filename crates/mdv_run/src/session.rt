@@ -28,9 +28,9 @@ use mdv_shelf::Bench;
 use std::alloc::Global;
 
 /// Runs one host: it boots from the drive, then answers the lines of the script one by one. The words
-/// are the host's name alone. The table of drives has that host, one drive, which is its own, and one
-/// slice marked `db`, which no other slice overlaps. `fresh` has to differ between runs: it is part of
-/// the identity of each database that the run makes. Memory is taken for the table alone, before the boot.
+/// are the host's name alone. The table of drives has that host alone, one drive, which is its own, and one
+/// slice, which is marked `db`. `fresh` has to differ between runs: it is part of the identity of each
+/// database that the run makes. Memory is taken for the table alone, before the boot.
 pub fn run<B: Bench, I: Source>(
     words: &[String],
     geometry: &[u8],

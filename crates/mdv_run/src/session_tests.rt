@@ -184,13 +184,17 @@ fn writes_the_blocks_of_a_replica(rt: HostRuntime) -> Result<(), Fail> {
 #[test]
 fn refuses_a_faulty_use(rt: HostRuntime) -> Result<(), Fail> {
     let beta = "host beta\ndrive c0t0d0 8224 beta disk.img\nslice c0t0d0s7 16 8208 db\n";
-    // Words, a table and a drive's blocks: another host, too few words and too many, a table of another host
-    // and none, and drives of other sizes.
-    let cases: [(&[&str], &str, u64); 7] = [
+    let shared = "host alpha\ndrive c0t0d0 8224 shared disk.img\nslice c0t0d0s7 16 8208 db\n";
+    let unmarked = "host alpha\ndrive c0t0d0 8224 alpha disk.img\nslice c0t0d0s7 16 8208\n";
+    // Words, a table and a drive's blocks: another host, too few words and too many, tables of another host, of a
+    // shared drive and of no slice for replicas, and none, and drives of other sizes.
+    let cases: [(&[&str], &str, u64); 9] = [
         (&["beta"], TABLE, 8224),
         (&[], TABLE, 8224),
         (&["alpha", "alpha"], TABLE, 8224),
         (&["alpha"], beta, 8224),
+        (&["alpha"], shared, 8224),
+        (&["alpha"], unmarked, 8224),
         (&["alpha"], "", 8224),
         (&["alpha"], TABLE, 8225),
         (&["alpha"], TABLE, 0),
@@ -210,9 +214,8 @@ fn refuses_a_faulty_use(rt: HostRuntime) -> Result<(), Fail> {
 fn finds_the_home_of_a_host(rt: HostRuntime) -> Result<(), Fail> {
     let cases = [
         ("", RunStatus::Done),
-        ("\n# more\nslice c0t0d0s0 0 16\n", RunStatus::Done),
-        ("slice c0t0d0s0 0 17\n", RunStatus::Usage),
-        ("slice c0t0d0s0 8223 1\n", RunStatus::Usage),
+        ("\n# more\n", RunStatus::Done),
+        ("slice c0t0d0s0 0 16\n", RunStatus::Usage),
         ("slice c0t0d0s0 0 16 db\n", RunStatus::Usage),
         ("host beta\n", RunStatus::Usage),
         ("drive c0t1d0 8224 alpha other.img\n", RunStatus::Usage),
@@ -225,11 +228,6 @@ fn finds_the_home_of_a_host(rt: HostRuntime) -> Result<(), Fail> {
         let end = run_host(&rt, &["alpha"], &table, &mut shelf, &mut source)?;
         assert_eq!(rt; end, status, "{table:?}");
     }
-    let shared = "host alpha\ndrive c0t0d0 8224 shared disk.img\nslice c0t0d0s7 16 8208 db\n";
-    let mut shelf = MemShelf::new(rt.alloc(), &[BLOCKS])?;
-    let mut source = MemSource::new(Vec::new(rt.alloc()));
-    let end = run_host(&rt, &["alpha"], shared, &mut shelf, &mut source)?;
-    assert_eq!(rt; end, RunStatus::Usage);
     Ok(())
 }
 

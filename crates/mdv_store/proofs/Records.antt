@@ -1,9 +1,7 @@
 -- The record of the empty table is its text.
-use Rattle.std.proofs.Common.{◌≡◌, refl, sym, ◌∙◌, ap, List, [], ◌∷◌}
+use Rattle.std.proofs.Common.{◌≡◌, refl, ◌∙◌, ap, [], ◌∷◌}
 use Rattle.mdv_base.specs.declared.place.Place.{Place}
-use Rattle.mdv_table.specs.declared.plan.Lists.{Lists}
 use Rattle.mdv_table.specs.declared.plan.Lists.TheVariants.{One}
-use Rattle.mdv_table.specs.declared.plan.Plan.{Plan}
 use Rattle.mdv_table.specs.declared.table.Status.{Status}
 use Rattle.mdv_table.specs.declared.table.Table.{Table}
 use Rattle.mdv_record.specs.Text.{record_text, plan_text, lists_text, places_text, place_text, slice_text, volumes_text}
