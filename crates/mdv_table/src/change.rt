@@ -20,10 +20,6 @@ pub enum Change {
     MakeStripe { volume: VolId, slice: SliceName },
 }
 
-/// What is noted of a status. Nothing has a status yet, so there is no note.
-#[derive(Clone, Copy, Debug, PartialEq, Eq)]
-pub enum Note {}
-
 /// Why a change isn't made.
 #[derive(Clone, Copy, Debug, PartialEq, Eq)]
 pub enum ApplyFault {

@@ -13,7 +13,7 @@ mod uses;
 mod volume;
 mod volumes;
 
-pub use change::{ApplyFault, Change, Note};
+pub use change::{ApplyFault, Change};
 pub use law::read_geometries_are_sound;
 pub use plan::{Lists, Plan};
 pub use table::{Status, Table};
