@@ -1,11 +1,8 @@
 -- What is read as a table of drives has names, sizes and slices in range, so its home is one.
-use Rattle.std.proofs.Common.{◌≡◌, ◌≢◌, ◌⊎◌, inl, inr, ◌<◌, ◌≤◌, ◌+◌, ◌^◌, ℕ, zero, suc, true, false, refl, sym, ◌∙◌, ap, subst, List, [], ◌∷◌, ◌++◌, length, Some, arith, codes}
+use Rattle.std.proofs.Common.{◌≡◌, inl, inr, ◌≤◌, ◌+◌, ◌^◌, ℕ, zero, suc, sym, ◌∙◌, ap, subst, List, [], ◌∷◌, ◌++◌, Some, arith}
 use Rattle.std.proofs.lemmas.List.Elements.{All-nil, All-push}
 use Rattle.std.specs.Prelude.{All, slice_get}
-use Rattle.mdv_base.specs.Name.{IsName}
 use Rattle.mdv_name.specs.declared.drive_line.DriveLine.{DriveLine}
-use Rattle.mdv_name.specs.declared.drive_line.DriveKind.{DriveKind}
-use Rattle.mdv_name.specs.declared.drive_line.DriveKind.TheVariants.{Own}
 use Rattle.mdv_name.specs.declared.entry.Entry.{Entry}
 use Rattle.mdv_name.specs.declared.entry.Entry.TheVariants.{Host, Drive, Slice}
 use Rattle.mdv_name.specs.declared.entry.SliceEntry.{SliceEntry}
@@ -17,7 +14,6 @@ use Rattle.mdv_name.specs.Geometry.{empty, Adds, AddsLine, ReadsLines, IsFreshSl
 use Rattle.mdv_name.specs.Geometry.{IsGeometry as IsTable}
 use Rattle.mdv_name.specs.Lines.{lines}
 use Rattle.mdv_name.proofs.OneTable.{one_table}
-use Rattle.mdv_base.specs.declared.drive.SliceName.{SliceName}
 use Rattle.mdv_engine.specs.declared.geometry.SmallGeometry.{SmallGeometry}
 use Rattle.mdv_engine.specs.Home.{IsSmall}
 use Rattle.mdv_run.specs.Geometry.{IsHome, IsGeometry}

@@ -1,8 +1,13 @@
 -- A list that holds one item.
-use Rattle.std.proofs.Common.{◌≡◌, ◌<◌, ◌≤◌, ℕ, List, [], ◌∷◌, length, ap, sym, arith}
+use Rattle.std.proofs.Common.{◌≡◌, ◌<◌, ◌≤◌, List, [], ◌∷◌, length, refl, ap, sym, arith}
 use Rattle.std.proofs.Math.ListN.{get_or}
 
 pub one_item : {X : Type 0} → (items : List X) (item : X) → 1 ≤ length items → length items < 2 → item ≡ get_or items 0 item → items ≡ item ∷ []
 one_item [] item least below is = absurd (omega arith)
 one_item (x ∷ []) item least below is = ap (λ y. y ∷ []) (sym is)
 one_item (x ∷ y ∷ more) item least below is = absurd (omega arith)
+
+pub one_of : {X : Type 0} → (items : List X) (or : X) → 1 ≤ length items → length items < 2 → items ≡ get_or items 0 or ∷ []
+one_of [] or least below = absurd (omega arith)
+one_of (x ∷ []) or least below = refl
+one_of (x ∷ y ∷ more) or least below = absurd (omega arith)

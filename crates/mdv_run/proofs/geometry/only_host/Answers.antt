@@ -1,4 +1,4 @@
-use Rattle.std.proofs.Common.{rules, sym}
+use Rattle.std.proofs.Common.{rules}
 use Rattle.mdv_run.proofs.Words.{one_item}
 use Rattle.mdv_run.proofs.geometry.only_host.Goals as goal
 

@@ -1,4 +1,4 @@
-use Rattle.std.proofs.Common.{sym, subst}
+use Rattle.std.proofs.Common.{subst}
 use Rattle.mdv_name.specs.Geometry.{IsFaultOf}
 use Rattle.mdv_name.proofs.OneTable.{never_both}
 use Rattle.mdv_run.proofs.session.read_table.Goals as goal

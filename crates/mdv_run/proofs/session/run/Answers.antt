@@ -1,4 +1,4 @@
-use Rattle.std.proofs.Common.{refl, subst, sym, ap, inr, Err}
+use Rattle.std.proofs.Common.{refl, subst, ap, inr, Err}
 use Rattle.mdv_port.specs.Script.{script_of}
 use Rattle.mdv_shelf.specs.Moments.{Moments}
 use Rattle.mdv_shelf.proofs.Moments.{moments_none}

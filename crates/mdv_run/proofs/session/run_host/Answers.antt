@@ -4,7 +4,6 @@ use Rattle.mdv_shelf.specs.Tale.{Tale, told}
 use Rattle.mdv_shelf.specs.Calls.{OnDrive, OnReplies}
 use Rattle.mdv_shelf.specs.Moments.{Moments}
 use Rattle.mdv_shelf.proofs.Moments.{moments_after, moments_weaker, moments_end, some_is}
-use Rattle.mdv_engine.specs.declared.geometry.SmallGeometry.{SmallGeometry}
 use Rattle.mdv_engine.specs.declared.engine.Host.{Host}
 use Rattle.mdv_engine.specs.Line.{kept_at, unbooted}
 use Rattle.mdv_engine.specs.Standing.{BootMoment, BootedTo, Knows}
