@@ -1,18 +1,8 @@
 #!/usr/bin/env bash
 # Makes a blank drive image, builds metad, and runs one script with a line `boot`. Ends with status 0 where
 # the run told what it must, and the boot wrote its number on the drive.
-set -eu
-here=$(cd "$(dirname "$0")" && pwd)
-top=$(cd "$here/../.." && pwd)
-
-(cd "$top/crates/metad" && rt run -- --version)
-metad=$top/crates/metad/out/metad
-
-work=$(mktemp -d)
-trap 'rm -rf "$work"' EXIT
-cp "$here/drives.tab" "$work"
-truncate -s $((40000 * 512)) "$work/d0.img"
-cd "$work"
+. "$(dirname "$0")/../begin.sh"
+begin d0.img 40000
 
 status=0
 "$metad" hostA < "$here/script" > told || status=$?

@@ -90,7 +90,7 @@ fn open_slots(shown: Option<Shown>) -> u64 {
 
 impl Line {
     /// The line with its newline.
-    pub fn text(self) -> &'static str {
+    pub(crate) fn text(self) -> &'static str {
         match self {
             Line::Forced => "metadb -a -f c0t0d0s7\n",
             Line::Unforced => "metadb -a c0t0d0s7\n",
@@ -102,7 +102,7 @@ impl Line {
 
 impl Trouble {
     /// The same trouble so many calls later.
-    pub fn later(self, calls: u64) -> Trouble {
+    pub(crate) fn later(self, calls: u64) -> Trouble {
         match self {
             Trouble::Nothing => Trouble::Nothing,
             Trouble::Fail(call) => Trouble::Fail(call.saturating_add(calls)),
@@ -142,7 +142,7 @@ impl Trouble {
 
 impl Course {
     /// The course of a run of these lines, over a place that shows this. `fresh` is the run's word.
-    pub fn of(
+    pub(crate) fn of(
         alloc: Global,
         fresh: u64,
         shown: Option<Shown>,

@@ -60,7 +60,7 @@ pub struct Life {
 
 impl Life {
     /// A life over a blank drive.
-    pub fn new(alloc: Global) -> Result<Life, AllocError> {
+    pub(crate) fn new(alloc: Global) -> Result<Life, AllocError> {
         Ok(Life {
             shelf: MemShelf::new(alloc, &[BLOCKS])?,
             calls: 0,
@@ -139,7 +139,7 @@ impl Life {
 }
 
 /// A small generator's next number.
-pub fn next(state: u64) -> u64 {
+pub(crate) fn next(state: u64) -> u64 {
     state
         .wrapping_mul(6_364_136_223_846_793_005)
         .wrapping_add(1_442_695_040_888_963_407)
@@ -166,7 +166,11 @@ fn script_of(alloc: Global, lines: &[Line]) -> Result<String, AllocError> {
 
 /// Plays a run and its end: the status and the bytes told are those of its course, the place then shows
 /// what that course may leave, and a database that was promised is there.
-pub fn play<R: Abort + AllocGlobal>(rt: &R, life: &mut Life, step: Step) -> Result<Course, Fail> {
+pub(crate) fn play<R: Abort + AllocGlobal>(
+    rt: &R,
+    life: &mut Life,
+    step: Step,
+) -> Result<Course, Fail> {
     let fresh = life.fresh();
     let course = Course::of(rt.alloc(), fresh, life.shown, step.lines, step.trouble)?;
     life.ask(step.trouble)?;

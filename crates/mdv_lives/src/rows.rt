@@ -18,7 +18,7 @@ pub const UNTOLD: RunStatus = RunStatus::WriteFault;
 pub const CREATION: [Line; 1] = [Line::Forced];
 
 /// A life so far: a creation and so many boots, or a blank drive.
-pub fn begun<R: Abort + AllocGlobal>(rt: &R, boots: Option<usize>) -> Result<Life, Fail> {
+pub(crate) fn begun<R: Abort + AllocGlobal>(rt: &R, boots: Option<usize>) -> Result<Life, Fail> {
     let mut life = Life::new(rt.alloc())?;
     if let Some(boots) = boots {
         play(rt, &mut life, calm(&CREATION))?;
@@ -30,7 +30,7 @@ pub fn begun<R: Abort + AllocGlobal>(rt: &R, boots: Option<usize>) -> Result<Lif
 }
 
 /// A run of these lines with no trouble.
-pub fn calm(lines: &[Line]) -> Step<'_> {
+pub(crate) fn calm(lines: &[Line]) -> Step<'_> {
     Step {
         lines,
         trouble: Trouble::Nothing,
@@ -39,7 +39,7 @@ pub fn calm(lines: &[Line]) -> Step<'_> {
 }
 
 /// Plays the runs of each row, over a blank drive or after a creation and so many boots.
-pub fn expect_rows<R: Abort + AllocGlobal>(
+pub(crate) fn expect_rows<R: Abort + AllocGlobal>(
     rt: &R,
     boots: Option<usize>,
     lines: &[Line],

@@ -12,7 +12,7 @@ pub enum Broken {
 }
 
 /// The first table of a database.
-pub fn made(identity: Identity) -> Shown {
+pub(crate) fn made(identity: Identity) -> Shown {
     Shown {
         identity,
         claim: 1,
@@ -23,7 +23,7 @@ pub fn made(identity: Identity) -> Shown {
 
 /// What a boot leaves: it draws one more than the greatest number, claims it, and writes the table under
 /// it to the slot that doesn't hold the newest one.
-pub fn adopted(before: &Shown) -> Shown {
+pub(crate) fn adopted(before: &Shown) -> Shown {
     let number = before.greatest().saturating_add(1);
     let mark = Some(Mark {
         boot: number,
@@ -44,7 +44,7 @@ pub fn adopted(before: &Shown) -> Shown {
 
 /// Whether the place may show this, where it showed that by the writes that were answered, and one more
 /// failed.
-pub fn may_show(shown: Option<Shown>, broken: Option<Broken>, after: Option<Shown>) -> bool {
+pub(crate) fn may_show(shown: Option<Shown>, broken: Option<Broken>, after: Option<Shown>) -> bool {
     match (broken, shown) {
         (None, _) => after == shown,
         (Some(Broken::Creation(identity)), _) => after.is_none() || after == Some(made(identity)),

@@ -128,10 +128,11 @@ abbrev pub IsWholeRun : Failures → Host → Tale → Script → Option Tale �
 IsWholeRun f host t script tale status =
     (u : Tale) × (tale ≡ Some u) × (more : List ℕ) × (told u ≡ told t ++ more) × (last : Option Kept) × IfSome last (IsLeft host u) × IsRun f host (drive_content t) script more status last
 
--- memory was refused before the run began, and nothing was done
-pub record IsUnbegun (t : Tale) (tale : Option Tale) (status : RunStatus) : Type 0 where
-  pub status_is : status ≡ NoMemory
-  pub untouched : tale ≡ Some t
+-- no run began: it was a faulty use, or memory was refused
+abbrev pub IsUnbegun : RunStatus → Type 0
+IsUnbegun Usage = Unit {0}
+IsUnbegun NoMemory = Unit {0}
+IsUnbegun other = ⊥
 
 -- a status that comes only where something failed, and those that this run never has
 abbrev pub HasStatusCause : Failures → RunStatus → Type 0

@@ -44,7 +44,10 @@ pub fn run<B: Bench, I: Source>(
 
     // Else the boot answers from what the drive's blocks held, and the bytes told and the status are
     // those of the script; where a database is open at the end, every crash leaves it.
-    ensures runs { (g : SmallGeometry) → IsUsed (map string_bytes words.now) geometry.now (B.sizes bench.old) g → (t : Tale) → B.tale bench.old ≡ Some t → (input : List ℕ) → I.left script.old ≡ Some input → IsUnbegun t (B.tale bench.new) result ⊎ IsWholeRun (failures (B.faults bench.old) (B.faults bench.new) (I.faults script.old) (I.faults script.new)) (record { geometry = g; fresh = fresh }) t (script_of input) (B.tale bench.new) result }
+    ensures runs { (g : SmallGeometry) → IsUsed (map string_bytes words.now) geometry.now (B.sizes bench.old) g → (t : Tale) → B.tale bench.old ≡ Some t → (input : List ℕ) → I.left script.old ≡ Some input → (result ≡ RunStatus.NoMemory) ⊎ IsWholeRun (failures (B.faults bench.old) (B.faults bench.new) (I.faults script.old) (I.faults script.new)) (record { geometry = g; fresh = fresh }) t (script_of input) (B.tale bench.new) result }
+
+    // Where no run began, for a faulty use or want of memory, nothing was done.
+    ensures unbegun { IsUnbegun result → (B.tale bench.new ≡ B.tale bench.old) × (I.left script.new ≡ I.left script.old) }
 
     // At each moment the drive stands with the log so far, in which a creation is acknowledged once the
     // newline of its `ok` was told.

@@ -2,7 +2,10 @@
 //! tells a reply to each line.
 #![tactic(auto)]
 
-ghost use Rattle.std.specs.Prelude.{◌≤◌, ◌^◌, All, IfOk, vec_len};
+ghost use Rattle.std.specs.Prelude.{◌≡◌, ◌≤◌, ◌^◌, All, IfOk, vec_len};
+ghost use Rattle.mdv_name.specs.declared.geometry.Geometry.{Geometry};
+ghost use Rattle.mdv_name.specs.Geometry.{IsGeometry as IsTable};
+ghost use Rattle.metad.specs.Bench.{sizes_of, sizes_in};
 
 mod bench;
 mod help;
@@ -106,9 +109,13 @@ fn run_with(rt: &HostRuntime, words: &[String], table: &[u8]) -> Result<RunStatu
 // The drives of the table, in its order; none where the text isn't a table.
 fn open_images(rt: &HostRuntime, table: &[u8]) -> Result<Vec<Image>, RunStatus>
     ensures few { IfOk result (λ images. vec_len images ≤ 256) }
+    ensures drives { IfOk result (λ images. (t : Geometry) → IsTable table.now t → sizes_of images.items ≡ sizes_in t.drives) }
 {
     match Geometry::read(rt.alloc(), table) {
-        Ok(geometry) => open_drives(rt, &geometry).map_err(as_no_memory),
+        Ok(geometry) => match open_drives(rt, &geometry) {
+            Ok(images) => Ok(images),
+            Err(_) => Err(RunStatus::NoMemory),
+        },
         Err(GeometryFault::BadLine(_)) => Ok(Vec::new(rt.alloc())),
         Err(GeometryFault::Memory) => Err(RunStatus::NoMemory),
     }
@@ -117,6 +124,7 @@ fn open_images(rt: &HostRuntime, table: &[u8]) -> Result<Vec<Image>, RunStatus>
 fn open_drives(rt: &HostRuntime, geometry: &Geometry) -> Result<Vec<Image>, AllocError>
     requires { All (λ drive. drive.blocks ≤ 2 ^ 40) geometry.now.drives }
     ensures few { IfOk result (λ images. vec_len images ≤ 256) }
+    ensures drives { IfOk result (λ images. sizes_of images.items ≡ sizes_in geometry.now.drives) }
 {
     let mut images = Vec::new(rt.alloc());
     for drive in geometry.drives.as_slice() {

@@ -1,5 +1,16 @@
+use Rattle.std.proofs.Common.{subst, ap, ◌∙◌}
+use Rattle.mdv_name.specs.declared.geometry.Geometry.{Geometry}
+use Rattle.mdv_name.specs.Geometry.{IsFaultOf}
+use Rattle.mdv_name.proofs.OneTable.{one_table, never_both}
 use Rattle.mdv_run.proofs.Tables.{drives_fit}
+use Rattle.metad.specs.Bench.{sizes_in}
 use Rattle.metad.proofs.open_images.Goals as goal
 
 pub open_drives-requires : goal.open_drives-requires
 open_drives-requires c = drives_fit c.args.table.now c.in-Ok.geometry c.in-Ok.ensures.ok
+
+pub returns-in-Err-BadLine-clause-drives : goal.returns-in-Err-BadLine-clause-drives
+returns-in-Err-BadLine-clause-drives c = λ t is. absurd (never_both c.args.table.now t c.in-Err-BadLine.field-0-0 is (subst (IsFaultOf c.args.table.now) c.in-Err-BadLine.field-0-is c.in-Err-BadLine.ensures.fault))
+
+pub returns-in-Ok-open_drives-clause-drives : goal.returns-in-Ok-open_drives-clause-drives
+returns-in-Ok-open_drives-clause-drives c = λ t is. c.in-Ok-open_drives.ensures.drives ∙ ap (λ (g : Geometry). sizes_in g.drives) (one_table c.args.table.now c.in-Ok.geometry t c.in-Ok.ensures.ok is)
