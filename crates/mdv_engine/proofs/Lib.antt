@@ -6,3 +6,4 @@ pub mod Turning
 pub mod Executing
 pub mod Making
 pub mod Booting
+pub mod Staying

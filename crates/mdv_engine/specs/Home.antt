@@ -5,6 +5,8 @@ use Rattle.mdv_base.specs.declared.name.Key.{Key}
 use Rattle.mdv_base.specs.declared.name.Key.TheVariants.{Local}
 use Rattle.mdv_base.specs.declared.mark.Identity.{Identity}
 use Rattle.mdv_name.specs.Drive.{IsSliceName}
+use Rattle.mdv_shelf.specs.Tale.{Tale}
+use Rattle.mdv_shelf.specs.Area.{range, KeptOutside}
 use Rattle.mdv_replica.specs.declared.replica.PlaceAt.{PlaceAt}
 use Rattle.mdv_engine.specs.declared.geometry.SmallGeometry.{SmallGeometry}
 use Rattle.mdv_engine.specs.declared.engine.Host.{Host}
@@ -22,6 +24,10 @@ pub record IsSmall (g : SmallGeometry) : Type 0 where
 -- the replica of a creation: 8192 blocks from block 16 of the slice on
 abbrev pub place_of : SmallGeometry → PlaceAt
 place_of g = record { place = record { slice = g.slice; start = 16; blocks = 8192 }; drive = record { 0 = 0 }; first = g.start + 16; index = 0; count = 1 }
+
+-- nothing happened outside the most blocks that the host's replica may have
+abbrev pub StaysHome : SmallGeometry → Tale → Tale → Type 0
+StaysHome g t m = KeptOutside (range 0 (g.start + 16) 8192) t m
 
 -- a fact of a database, by its key, its place and the size of its drive, for the database of this host
 abbrev pub AtHome : Host → (Key → PlaceAt → ℕ → Type 0) → Type 0

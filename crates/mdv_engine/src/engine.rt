@@ -3,7 +3,7 @@ ghost use Rattle.mdv_base.specs.Causes.{Rose};
 ghost use Rattle.mdv_shelf.specs.Calls.{OnDrive, OnReplies, Keeps};
 ghost use Rattle.mdv_shelf.specs.Moments.{Moments, Ends};
 ghost use Rattle.mdv_engine.specs.declared.engine.State.{State};
-ghost use Rattle.mdv_engine.specs.Home.{IsReady};
+ghost use Rattle.mdv_engine.specs.Home.{IsReady, StaysHome};
 ghost use Rattle.mdv_engine.specs.Replies.{IsPlain, IsPlainAnswer, IsReplied, IsLost, HasAnswerCause, HasReplyCause};
 ghost use Rattle.mdv_engine.specs.Line.{IsSound, IsRefused, MayCreate, IsCreation, IsCarriedOut, IsRebooted, IsExecuted, boot_answer, boot_state, HasBootCause, kept_at, unbooted};
 ghost use Rattle.mdv_engine.specs.Standing.{OnlyReplied, Executed, Knows, IsFree, BootMoment, BootedTo, CarryMoment, CarriedTo, TurnMoment, Turned};
@@ -80,6 +80,7 @@ impl Engine {
         requires executed { IsExecuted command.now }
         ensures answered { Ends (λ t u. Knows self.old.host self.old.state t → Executed (Rose (B.faults bench.old (OnDrive 0)) (B.faults bench.new (OnDrive 0))) (Rose (B.faults bench.old OnReplies) (B.faults bench.new OnReplies)) self.old.host command.now self.old.state self.new.state result t u) (B.tale bench.old) (B.tale bench.new) }
         ensures moments { Moments (TurnMoment self.old.host true self.old.state) (B.tale bench.old) (B.tale bench.new) }
+        ensures home { Moments (StaysHome self.old.host.geometry) (B.tale bench.old) (B.tale bench.new) }
         ensures turned { IsReplied result → Ends (Turned self.old.host true self.old.state self.new.state) (B.tale bench.old) (B.tale bench.new) }
         ensures knows { (IsLost result → ⊥) → Ends (λ t u. Knows self.old.host self.old.state t → Knows self.old.host self.new.state u) (B.tale bench.old) (B.tale bench.new) }
         ensures cause { HasReplyCause (Rose (B.faults bench.old (OnDrive 0)) (B.faults bench.new (OnDrive 0))) (Rose (B.faults bench.old OnReplies) (B.faults bench.new OnReplies)) result }
@@ -97,6 +98,7 @@ impl Engine {
         requires { IsPlain refusal.now }
         ensures told { Ends (OnlyReplied (Rose (B.faults bench.old OnReplies) (B.faults bench.new OnReplies)) (Answer.Refused refusal.now) result) (B.tale bench.old) (B.tale bench.new) }
         ensures moments { (makes : Bool) → Moments (TurnMoment self.old.host makes self.old.state) (B.tale bench.old) (B.tale bench.new) }
+        ensures home { Moments (StaysHome self.old.host.geometry) (B.tale bench.old) (B.tale bench.new) }
         ensures turned { (makes : Bool) → IsReplied result → Ends (Turned self.old.host makes self.old.state self.old.state) (B.tale bench.old) (B.tale bench.new) }
         ensures knows { Ends (λ t u. Knows self.old.host self.old.state t → Knows self.old.host self.old.state u) (B.tale bench.old) (B.tale bench.new) }
         ensures cause { HasReplyCause (Rose (B.faults bench.old (OnDrive 0)) (B.faults bench.new (OnDrive 0))) (Rose (B.faults bench.old OnReplies) (B.faults bench.new OnReplies)) result }
@@ -110,6 +112,7 @@ impl Engine {
     pub fn accept<B: Bench>(&mut self, bench: &mut B) -> Reply
         ensures told { Ends (OnlyReplied (Rose (B.faults bench.old OnReplies) (B.faults bench.new OnReplies)) Answer.Ok result) (B.tale bench.old) (B.tale bench.new) }
         ensures moments { Moments (TurnMoment self.old.host false self.old.state) (B.tale bench.old) (B.tale bench.new) }
+        ensures home { Moments (StaysHome self.old.host.geometry) (B.tale bench.old) (B.tale bench.new) }
         ensures turned { IsReplied result → Ends (Turned self.old.host false self.old.state self.old.state) (B.tale bench.old) (B.tale bench.new) }
         ensures knows { Ends (λ t u. Knows self.old.host self.old.state t → Knows self.old.host self.old.state u) (B.tale bench.old) (B.tale bench.new) }
         ensures cause { HasReplyCause (Rose (B.faults bench.old (OnDrive 0)) (B.faults bench.new (OnDrive 0))) (Rose (B.faults bench.old OnReplies) (B.faults bench.new OnReplies)) result }

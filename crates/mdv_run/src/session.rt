@@ -6,7 +6,7 @@ ghost use Rattle.mdv_port.specs.Script.{Script, script_before, script_of};
 ghost use Rattle.mdv_base.specs.Causes.{Rose};
 ghost use Rattle.mdv_engine.specs.declared.geometry.SmallGeometry.{SmallGeometry};
 ghost use Rattle.mdv_engine.specs.declared.command.Command.TheVariants.{Boot};
-ghost use Rattle.mdv_engine.specs.Home.{IsReady};
+ghost use Rattle.mdv_engine.specs.Home.{IsReady, StaysHome};
 ghost use Rattle.mdv_engine.specs.Replies.{IsReplied, IsLost, HasReplyCause};
 ghost use Rattle.mdv_engine.specs.Line.{IsSound};
 ghost use Rattle.mdv_engine.specs.Standing.{Executed, Knows, TurnMoment, Turned};
@@ -53,6 +53,9 @@ pub fn run<B: Bench, I: Source>(
     // newline of its `ok` was told.
     ensures stands { (g : SmallGeometry) → IsUsed (map string_bytes words.now) geometry.now (B.sizes bench.old) g → (input : List ℕ) → I.left script.old ≡ Some input → Moments (RunMoment (record { geometry = g; fresh = fresh }) (script_of input)) (B.tale bench.old) (B.tale bench.new) }
 
+    // At each moment nothing was done to a block outside the most that the host's replica may have.
+    ensures home { (g : SmallGeometry) → IsUsed (map string_bytes words.now) geometry.now (B.sizes bench.old) g → Moments (StaysHome g) (B.tale bench.old) (B.tale bench.new) }
+
     // A status that tells of a failure comes only where one came, whatever the bench and the source tell.
     ensures causes { (g : SmallGeometry) → IsUsed (map string_bytes words.now) geometry.now (B.sizes bench.old) g → (result ≡ RunStatus.NoMemory) ⊎ HasStatusCause (failures (B.faults bench.old) (B.faults bench.new) (I.faults script.old) (I.faults script.new)) result }
     ensures keeps { Keeps B.sizes B.faults B.rest B.held bench.old bench.new }
@@ -69,6 +72,7 @@ fn run_host<B: Bench, I: Source>(host: Host, bench: &mut B, script: &mut I) -> R
     requires { IsReady host (B.sizes bench.old) }
     ensures runs { (t : Tale) → B.tale bench.old ≡ Some t → (input : List ℕ) → I.left script.old ≡ Some input → IsWholeRun (failures (B.faults bench.old) (B.faults bench.new) (I.faults script.old) (I.faults script.new)) host t (script_of input) (B.tale bench.new) result }
     ensures stands { (input : List ℕ) → I.left script.old ≡ Some input → Moments (RunMoment host (script_of input)) (B.tale bench.old) (B.tale bench.new) }
+    ensures home { Moments (StaysHome host.geometry) (B.tale bench.old) (B.tale bench.new) }
     ensures causes { HasStatusCause (failures (B.faults bench.old) (B.faults bench.new) (I.faults script.old) (I.faults script.new)) result }
     ensures keeps { Keeps B.sizes B.faults B.rest B.held bench.old bench.new }
 {
@@ -137,6 +141,7 @@ fn run_lines<B: Bench, I: Source>(engine: &mut Engine, bench: &mut B, script: &m
     requires begun { engine.old.state.begun ≡ 0 }
     ensures runs { (input : List ℕ) → I.left script.old ≡ Some input → Ends (λ t u. Knows engine.old.host engine.old.state t → LinesRun (failures (B.faults bench.old) (B.faults bench.new) (I.faults script.old) (I.faults script.new)) engine.old.host engine.old.state false (script_of input) result t u) (B.tale bench.old) (B.tale bench.new) }
     ensures moments { (input : List ℕ) → I.left script.old ≡ Some input → Moments (LinesMoment engine.old.host (script_of input) engine.old.state) (B.tale bench.old) (B.tale bench.new) }
+    ensures home { Moments (StaysHome engine.old.host.geometry) (B.tale bench.old) (B.tale bench.new) }
     ensures causes { HasStatusCause (failures (B.faults bench.old) (B.faults bench.new) (I.faults script.old) (I.faults script.new)) result }
     ensures keeps { Keeps B.sizes B.faults B.rest B.held bench.old bench.new }
 {
@@ -171,6 +176,7 @@ fn take_turn<B: Bench, I: Source>(
     ensures moments { (lines : Script) → script_before reader.old (I.left script.old) ≡ Some lines → Moments (LinesMoment engine.old.host lines engine.old.state) (B.tale bench.old) (B.tale bench.new) }
     ensures ran { IsOn result → (lines : Script) → script_before reader.old (I.left script.old) ≡ Some lines → (left : Script) × (script_before reader.new (I.left script.new) ≡ Some left) × Ends (RanTo engine.old.host lines engine.old.state engine.new.state left) (B.tale bench.old) (B.tale bench.new) }
     ensures knows { (IsLostTurn result → ⊥) → Ends (λ t u. Knows engine.old.host engine.old.state t → Knows engine.old.host engine.new.state u) (B.tale bench.old) (B.tale bench.new) }
+    ensures home { Moments (StaysHome engine.old.host.geometry) (B.tale bench.old) (B.tale bench.new) }
     ensures causes { HasTurnCause (failures (B.faults bench.old) (B.faults bench.new) (I.faults script.old) (I.faults script.new)) result }
     ensures host { engine.new.host ≡ engine.old.host }
     ensures sound { IsSound engine.new.state }
@@ -200,6 +206,7 @@ fn answer<B: Bench>(engine: &mut Engine, bench: &mut B, line: &[u8]) -> Reply
     ensures moments { Moments (TurnMoment engine.old.host (makes line.now) engine.old.state) (B.tale bench.old) (B.tale bench.new) }
     ensures turned { IsReplied result → Ends (Turned engine.old.host (makes line.now) engine.old.state engine.new.state) (B.tale bench.old) (B.tale bench.new) }
     ensures knows { (IsLost result → ⊥) → Ends (λ t u. Knows engine.old.host engine.old.state t → Knows engine.old.host engine.new.state u) (B.tale bench.old) (B.tale bench.new) }
+    ensures home { Moments (StaysHome engine.old.host.geometry) (B.tale bench.old) (B.tale bench.new) }
     ensures cause { HasReplyCause (Rose (B.faults bench.old (OnDrive 0)) (B.faults bench.new (OnDrive 0))) (Rose (B.faults bench.old OnReplies) (B.faults bench.new OnReplies)) result }
     ensures host { engine.new.host ≡ engine.old.host }
     ensures sound { IsSound engine.new.state }
@@ -220,6 +227,7 @@ fn boot_anew<B: Bench>(engine: &mut Engine, bench: &mut B) -> Reply
     ensures moments { Moments (TurnMoment engine.old.host false engine.old.state) (B.tale bench.old) (B.tale bench.new) }
     ensures turned { IsReplied result → Ends (Turned engine.old.host false engine.old.state engine.new.state) (B.tale bench.old) (B.tale bench.new) }
     ensures knows { (IsLost result → ⊥) → Ends (λ t u. Knows engine.old.host engine.old.state t → Knows engine.old.host engine.new.state u) (B.tale bench.old) (B.tale bench.new) }
+    ensures home { Moments (StaysHome engine.old.host.geometry) (B.tale bench.old) (B.tale bench.new) }
     ensures cause { HasReplyCause (Rose (B.faults bench.old (OnDrive 0)) (B.faults bench.new (OnDrive 0))) (Rose (B.faults bench.old OnReplies) (B.faults bench.new OnReplies)) result }
     ensures host { engine.new.host ≡ engine.old.host }
     ensures sound { IsSound engine.new.state }

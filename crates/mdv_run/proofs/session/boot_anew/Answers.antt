@@ -12,6 +12,9 @@ use Rattle.mdv_engine.specs.declared.command.Command.TheVariants.{Boot}
 use Rattle.mdv_engine.specs.Standing.{Executed, BootMoment, BootedTo, TurnMoment, Turned}
 use Rattle.mdv_engine.proofs.Executing.{executed, rose_within}
 use Rattle.mdv_run.proofs.Rebooting.{boot_turn, booted_turn, booted_turned, lost_again, spent_again}
+use Rattle.mdv_engine.proofs.Staying.{both_stay, boot_stays}
+use Rattle.mdv_shelf.specs.Moments.{Moments}
+use Rattle.mdv_engine.specs.Home.{StaysHome}
 use Rattle.mdv_run.proofs.session.boot_anew.Goals as goal
 
 pub returns-in-Ok-clause-moments : goal.returns-in-Ok-clause-moments
@@ -90,3 +93,15 @@ returns-in-Err-Spent-clause-answered g c = λ t is.
         replied = record { piece = []; is_told = quiet.2.quiet.quiet ∙ sym (append-nil (told t)); as_told = refl };
       },
     )
+
+pub returns-in-Ok-clause-home : goal.returns-in-Ok-clause-home
+returns-in-Ok-clause-home g c =
+    let host = c.args.engine.now.host in
+    both_stay host.geometry _ _ _ (boot_stays host _ _ c.reboot.ensures.moments)
+    (subst (λ (h : Host). Moments (StaysHome h.geometry) (g.B.Shelf.tale c.reboot.new.shelf) (g.B.Shelf.tale c.accept.new.bench)) c.in-Ok.ensures.host.0 c.accept.ensures.home)
+
+pub returns-in-Err-Lost-clause-home : goal.returns-in-Err-Lost-clause-home
+returns-in-Err-Lost-clause-home g c = boot_stays c.args.engine.now.host _ _ c.reboot.ensures.moments
+
+pub returns-in-Err-Spent-clause-home : goal.returns-in-Err-Spent-clause-home
+returns-in-Err-Spent-clause-home g c = boot_stays c.args.engine.now.host _ _ c.reboot.ensures.moments

@@ -7,6 +7,8 @@ use Rattle.mdv_run.specs.Run.{failures, IsWholeRun}
 use Rattle.mdv_run.specs.Standing.{RunMoment}
 use Rattle.mdv_run.proofs.Tables.{one_geometry, small_geometry}
 use Rattle.mdv_run.proofs.Whole.{nothing_run}
+use Rattle.mdv_engine.proofs.Staying.{nothing_stays}
+use Rattle.mdv_engine.specs.Home.{StaysHome}
 use Rattle.mdv_run.proofs.session.run.Goals as goal
 
 pub run_host-requires : goal.run_host-requires
@@ -38,3 +40,15 @@ returns-in-Err-Usage-clause-causes g c = λ x used. absurd (c.in-Err-Usage.ensur
 
 pub returns-in-Err-Memory-clause-stands : goal.returns-in-Err-Memory-clause-stands
 returns-in-Err-Memory-clause-stands g c = λ x used input left. moments_none (RunMoment (record { geometry = x; fresh = c.args.fresh }) (script_of input)) _ _ refl (λ t. nothing_run (record { geometry = x; fresh = c.args.fresh }) (script_of input) t)
+
+pub returns-in-Ok-clause-home : goal.returns-in-Ok-clause-home
+returns-in-Ok-clause-home g c = λ x used.
+    subst (λ (y : SmallGeometry). Moments (StaysHome y) (g.B.Shelf.tale c.args.bench.now) (g.B.Shelf.tale c.run_host.new.bench))
+    (one_geometry c.args.geometry.now c.in-Ok.geometry x c.in-Ok.ensures.value.table used.table)
+    c.run_host.ensures.home
+
+pub returns-in-Err-Usage-clause-home : goal.returns-in-Err-Usage-clause-home
+returns-in-Err-Usage-clause-home g c = λ x used. nothing_stays x _ _ refl
+
+pub returns-in-Err-Memory-clause-home : goal.returns-in-Err-Memory-clause-home
+returns-in-Err-Memory-clause-home g c = λ x used. nothing_stays x _ _ refl

@@ -13,6 +13,8 @@ use Rattle.mdv_run.specs.Run.{failures, IsWholeRun}
 use Rattle.mdv_run.specs.Turns.{LinesRun}
 use Rattle.mdv_run.specs.Standing.{RunMoment, LinesMoment}
 use Rattle.mdv_run.proofs.Whole.{whole_over, whole_lines, boot_run, lines_run}
+use Rattle.mdv_engine.proofs.Staying.{both_stay, boot_stays}
+use Rattle.mdv_engine.specs.Home.{StaysHome}
 use Rattle.mdv_run.proofs.session.run_host.Goals as goal
 
 pub returns-in-Ok-clause-runs : goal.returns-in-Ok-clause-runs
@@ -52,3 +54,12 @@ pub returns-in-Err-clause-stands : goal.returns-in-Err-clause-stands
 returns-in-Err-clause-stands g c = λ input left.
     let host = c.args.host in
     (moments_weaker (BootMoment host) (RunMoment host (script_of input)) _ _ (λ t m moment. boot_run host (script_of input) t m moment) c.boot.ensures.moments)
+
+pub returns-in-Ok-clause-home : goal.returns-in-Ok-clause-home
+returns-in-Ok-clause-home g c =
+    let host = c.args.host in
+    both_stay host.geometry _ _ _ (boot_stays host _ _ c.boot.ensures.moments)
+    (subst (λ (h : Host). Moments (StaysHome h.geometry) (g.B.Shelf.tale c.boot.new.shelf) (g.B.Shelf.tale c.run_lines.new.bench)) c.in-Ok.ensures.host.0 c.run_lines.ensures.home)
+
+pub returns-in-Err-clause-home : goal.returns-in-Err-clause-home
+returns-in-Err-clause-home g c = boot_stays c.args.host _ _ c.boot.ensures.moments

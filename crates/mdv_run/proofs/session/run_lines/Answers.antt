@@ -10,6 +10,8 @@ use Rattle.mdv_run.specs.Run.{failures}
 use Rattle.mdv_run.specs.Turns.{LinesRun}
 use Rattle.mdv_run.specs.Standing.{LinesMoment}
 use Rattle.mdv_run.proofs.Went.{SoFar, so_far_start, so_far_more, moments_over, over_ends, both_within, script_at_start, keeps_more}
+use Rattle.mdv_engine.proofs.Staying.{nothing_stays, both_stay}
+use Rattle.mdv_engine.specs.Home.{StaysHome}
 use Rattle.mdv_run.proofs.session.run_lines.Goals as goal
 
 pub loop-refused-init : goal.loop-refused-init
@@ -21,6 +23,7 @@ loop-refused-init g c = record {
   limit = subst (λ (r : Reader). r.lines ≤ 1048576) (sym c.new-reader.ensures) (omega arith);
   keeps = record { same_sizes = refl; same_rest = refl; same_held = refl; no_fewer_faults = λ part. omega arith };
   source = omega arith;
+  home = nothing_stays c.args.engine.now.host.geometry _ _ refl;
   so_far = λ input left. so_far_start c.args.engine.now.host c.args.engine.now.state input _ _ _ (script_at_start _ _ _ c.new-reader.ensures left);
 }
 
@@ -34,6 +37,8 @@ loop-refused-preserved g c = record {
   limit = (c.in-On.ensures.on tt).1;
   keeps = keeps_more _ _ _ _ _ _ _ c.loop-refused.invariant.keeps c.in-On.ensures.keeps;
   source = let first = c.loop-refused.invariant.source in let more = c.in-On.ensures.source in omega arith;
+  home = both_stay c.args.engine.now.host.geometry _ _ _ c.loop-refused.invariant.home
+      (subst (λ (h : Host). Moments (StaysHome h.geometry) (g.B.Shelf.tale c.loop-refused.bench) (g.B.Shelf.tale c.take_turn.new.bench)) c.loop-refused.invariant.host c.in-On.ensures.home);
   so_far = λ input left.
       let here = c.loop-refused.invariant.so_far input left in
       subst (λ (h : Host). SoFar h c.args.engine.now.state c.take_turn.new.engine.state c.in-On.refused input (script_before c.take_turn.new.reader (g.I.Source.left c.take_turn.new.script)) (failures (g.B.Shelf.faults c.args.bench.now) (g.B.Shelf.faults c.take_turn.new.bench) (g.I.Source.faults c.args.script.now) (g.I.Source.faults c.take_turn.new.script)) (g.B.Shelf.tale c.args.bench.now) (g.B.Shelf.tale c.take_turn.new.bench)) (sym c.in-On.ensures.host)
@@ -57,3 +62,8 @@ returns-in-Over-clause-moments g c = λ input left.
     (moments_over c.loop-refused.engine.host c.args.engine.now.state input c.loop-refused.engine.state c.take_turn.new.engine.state c.loop-refused.any_refused _ (script_before c.take_turn.new.reader (g.I.Source.left c.take_turn.new.script)) _ (failures (g.B.Shelf.faults c.loop-refused.bench) (g.B.Shelf.faults c.take_turn.new.bench) (g.I.Source.faults c.loop-refused.script) (g.I.Source.faults c.take_turn.new.script)) (failures (g.B.Shelf.faults c.args.bench.now) (g.B.Shelf.faults c.take_turn.new.bench) (g.I.Source.faults c.args.script.now) (g.I.Source.faults c.take_turn.new.script)) _ _ _ here
     (λ f w. both_within f _ _ _ _ _ _ _ _ _ (c.loop-refused.invariant.keeps.no_fewer_faults (OnDrive 0)) (c.in-Over.ensures.keeps.no_fewer_faults (OnDrive 0)) c.loop-refused.invariant.source c.in-Over.ensures.source (c.loop-refused.invariant.keeps.no_fewer_faults OnReplies) (c.in-Over.ensures.keeps.no_fewer_faults OnReplies) w)
     c.in-Over.ensures.moments)
+
+pub returns-in-Over-clause-home : goal.returns-in-Over-clause-home
+returns-in-Over-clause-home g c =
+    both_stay c.args.engine.now.host.geometry _ _ _ c.loop-refused.invariant.home
+    (subst (λ (h : Host). Moments (StaysHome h.geometry) (g.B.Shelf.tale c.loop-refused.bench) (g.B.Shelf.tale c.take_turn.new.bench)) c.loop-refused.invariant.host c.in-Over.ensures.home)

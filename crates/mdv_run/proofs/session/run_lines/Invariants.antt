@@ -1,7 +1,8 @@
 use Rattle.std.proofs.Common.{◌≡◌, ◌≤◌, ◌-◌, ℕ, List, Some}
 use Rattle.mdv_shelf.specs.Calls.{Keeps}
 use Rattle.mdv_port.specs.Script.{script_before}
-use Rattle.mdv_engine.specs.Home.{IsReady}
+use Rattle.mdv_shelf.specs.Moments.{Moments}
+use Rattle.mdv_engine.specs.Home.{IsReady, StaysHome}
 use Rattle.mdv_engine.specs.Line.{IsSound}
 use Rattle.mdv_run.specs.Run.{failures}
 use Rattle.mdv_run.proofs.Went.{SoFar}
@@ -16,6 +17,7 @@ invariant-loop-refused g l = record {
   limit : l.reader.lines ≤ 1048576;
   keeps : Keeps g.B.Shelf.sizes g.B.Shelf.faults g.B.Shelf.rest g.B.Shelf.held l.fn.bench l.bench;
   source : g.I.Source.faults l.fn.script ≤ g.I.Source.faults l.script;
+  home : Moments (StaysHome l.fn.engine.host.geometry) (g.B.Shelf.tale l.fn.bench) (g.B.Shelf.tale l.bench);
   so_far : (input : List ℕ) → g.I.Source.left l.fn.script ≡ Some input → SoFar l.engine.host l.fn.engine.state l.engine.state l.any_refused input (script_before l.reader (g.I.Source.left l.script)) (failures (g.B.Shelf.faults l.fn.bench) (g.B.Shelf.faults l.bench) (g.I.Source.faults l.fn.script) (g.I.Source.faults l.script)) (g.B.Shelf.tale l.fn.bench) (g.B.Shelf.tale l.bench);
 }
 

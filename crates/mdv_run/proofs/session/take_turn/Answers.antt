@@ -15,6 +15,7 @@ use Rattle.mdv_run.specs.Turns.{Turns, turn_of}
 use Rattle.mdv_run.specs.Standing.{LinesMoment, RanTo}
 use Rattle.mdv_run.proofs.Lining.{line_moment, long_moment, line_ran, long_ran, lines_start}
 use Rattle.mdv_run.proofs.Leading.{end_is, spent_is, long_is, line_is, leads_line, leads_long, read_fault, on_replied, over_turn, ended_known}
+use Rattle.mdv_engine.proofs.Staying.{nothing_stays}
 use Rattle.mdv_run.proofs.session.take_turn.Goals as goal
 
 pub refuse-requires : goal.refuse-requires
@@ -148,3 +149,12 @@ returns-in-Err-clause-turns g c = λ lines before t told.
       λ knows. over_turn _ host state c.args.any_refused lines (script_before c.next.new.self (g.I.Source.left c.next.new.source)) ReadFault t (λ lost. lost)
           (λ f within. read_fault f host (kept_at state t) c.args.any_refused lines (rose_within _ _ _ _ within.source_from within.source_to c.in-Err.ensures.cause.failed)),
     )
+
+pub returns-in-Ok-End-clause-home : goal.returns-in-Ok-End-clause-home
+returns-in-Ok-End-clause-home g c = nothing_stays c.args.engine.now.host.geometry _ _ refl
+
+pub returns-in-Ok-Spent-clause-home : goal.returns-in-Ok-Spent-clause-home
+returns-in-Ok-Spent-clause-home g c = nothing_stays c.args.engine.now.host.geometry _ _ refl
+
+pub returns-in-Err-clause-home : goal.returns-in-Err-clause-home
+returns-in-Err-clause-home g c = nothing_stays c.args.engine.now.host.geometry _ _ refl

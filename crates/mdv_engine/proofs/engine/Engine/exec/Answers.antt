@@ -6,6 +6,7 @@ use Rattle.mdv_engine.specs.Replies.{text_of}
 use Rattle.mdv_engine.specs.Standing.{CarryMoment, OnlyReplied, TellMoment, TurnMoment, Turned, Knows}
 use Rattle.mdv_engine.proofs.Executing.{executed, told_cause, rose_within}
 use Rattle.mdv_engine.proofs.Turning.{Carried, carried_ends, turn_carry, turn_tell, turned, knows_after}
+use Rattle.mdv_engine.proofs.Staying.{both_stay, carry_stays, tell_stays}
 use Rattle.mdv_engine.proofs.engine.Engine.exec.Goals as goal
 
 pub returns-clause-answered : goal.returns-clause-answered
@@ -61,3 +62,8 @@ returns-clause-cause g c =
     (λ rose. rose_within _ _ _ _ (omega arith) (c.tell.ensures.keeps.no_fewer_faults (OnDrive 0)) rose)
     (λ rose. rose_within _ _ _ _ (c.carry_out-answer.ensures.keeps.no_fewer_faults OnReplies) (omega arith) rose)
     c.carry_out-answer.ensures.cause c.tell.ensures.answers.1
+
+pub returns-clause-home : goal.returns-clause-home
+returns-clause-home g c =
+    let host = c.args.self.now.host in
+    both_stay host.geometry _ _ _ (carry_stays host c.args.self.now.state _ _ c.carry_out-answer.ensures.moments) (tell_stays host.geometry (text_of c.carry_out-answer.result) _ _ c.tell.ensures.fronts)

@@ -5,6 +5,7 @@ use Rattle.mdv_engine.specs.Standing.{TellMoment, TurnMoment}
 use Rattle.mdv_engine.specs.declared.answer.Answer.TheVariants as outcome
 use Rattle.mdv_engine.proofs.Turning.{carry_none, refused_none, turn_tell, turned}
 use Rattle.mdv_engine.proofs.Knowing.{knows_kept}
+use Rattle.mdv_engine.proofs.Staying.{tell_stays}
 use Rattle.mdv_engine.proofs.engine.Engine.refuse.Goals as goal
 
 pub returns-clause-moments : goal.returns-clause-moments
@@ -27,3 +28,6 @@ returns-clause-knows g c = λ t is.
     let state = c.args.self.now.state in
     let end = c.tell.ensures.told t is in
     (end.0, end.1, λ knows. knows_kept host state t end.0 end.2.1 knows)
+
+pub returns-clause-home : goal.returns-clause-home
+returns-clause-home g c = tell_stays c.args.self.now.host.geometry (text_of (outcome.Refused c.args.refusal.now)) _ _ c.tell.ensures.fronts
