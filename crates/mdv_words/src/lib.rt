@@ -1,0 +1,12 @@
+//! A line of a script, read as the command that it spells.
+#![tactic(auto)]
+
+mod command;
+mod fields;
+mod hex;
+mod law;
+#[cfg(test)]
+mod tests;
+
+pub use command::{Command, MAX_READ, read_line};
+pub use law::reads_one_command;
