@@ -1,0 +1,3 @@
+pub use Rattle.mdv_port.specs.Script
+pub mod Values
+pub mod Telling
