@@ -1,0 +1,12 @@
+pub mod Adopting
+pub mod Agreeing
+pub mod Committing
+pub mod Covering
+pub mod Creating
+pub mod Families
+pub mod Frame
+pub mod Kept
+pub mod Lawful
+pub mod Logs
+pub mod Replicas
+pub mod Shown

@@ -1,0 +1,195 @@
+-- The log of a host's database: which tables were ever written for it, by which changes, and which were told.
+use Rattle.std.specs.Prelude.{◌≡◌, ◌⊎◌, Bool, true, false, List, [], ◌∷◌, ◌++◌, Option, Some, None, All, Contains}
+use Rattle.std.specs.List.{list_any}
+use Rattle.mdv_base.specs.Mark.{IsBelow}
+use Rattle.mdv_base.specs.declared.mark.Identity.{Identity}
+use Rattle.mdv_base.specs.declared.mark.Mark.{Mark}
+use Rattle.mdv_name.specs.declared.geometry.Geometry.{Geometry}
+use Rattle.mdv_table.specs.Change.{IsAfter}
+use Rattle.mdv_table.specs.declared.change.Change.{Change}
+use Rattle.mdv_table.specs.declared.table.Table.{Table}
+
+-- A table that was written to a slot, or began to be: its mark, the changes that made it from the table without volumes,
+-- the newest first, and whether its write was answered.
+pub record Version : Type 0 where
+  pub mark : Mark
+  pub table : Table
+  pub changes : List Change
+  pub is_written : Bool
+
+-- The creation that was issued and not struck, told by the identity of its database; each table that was ever written
+-- for it, the newest first; and the changes of the newest table that came to an `ok` which was told.
+pub record Log : Type 0 where
+  pub issued : Option Identity
+  pub family : List Version
+  pub acknowledged : Option (List Change)
+
+abbrev pub empty_log : Log
+empty_log = record { issued = None; family = []; acknowledged = None }
+
+pub data Event : Type 0 where
+  -- a creation is issued; what an earlier one began, and nobody was told of, is struck
+  Issued : Identity → Event
+  -- A table begins to be written under this mark. It comes by this change from one with these changes; without a
+  -- change it is that one, or the first.
+  Writing : Mark → Option Change → List Change → Table → Event
+  -- that write was answered
+  Written : Event
+  -- the newline of the `ok` of a change was told, or of the creation
+  Told : Option Change → Event
+
+abbrev pub with_asked : Option Change → List Change → List Change
+with_asked None before = before
+with_asked (Some change) before = change ∷ before
+
+abbrev pub answered : List Version → List Version
+answered [] = []
+answered (v ∷ older) = record v { is_written = true } ∷ older
+
+abbrev pub newest_changes : List Version → Option (List Change)
+newest_changes [] = None
+newest_changes (v ∷ older) = Some v.changes
+
+abbrev pub log_after : Log → Event → Log
+log_after log (Issued identity) = record { issued = Some identity; family = []; acknowledged = None }
+log_after log (Writing mark asked before table) = record log { family = record { mark = mark; table = table; changes = with_asked asked before; is_written = false } ∷ log.family }
+log_after log Written = record log { family = answered log.family }
+log_after log (Told asked) = record log { acknowledged = newest_changes log.family }
+
+abbrev pub log_after_all : Log → List Event → Log
+log_after_all log [] = log
+log_after_all log (e ∷ es) = log_after_all (log_after log e) es
+
+-- a write of a table was answered: the greatest of these tables is firm
+abbrev pub is_firm : Log → Bool
+is_firm log = list_any (λ v. v.is_written) log.family
+
+abbrev pub IsAbove : Mark → List Version → Type 0
+IsAbove mark family = All (λ v. IsBelow v.mark mark) family
+
+-- no table whose write was answered is above the mark
+abbrev pub IsNotOlder : Mark → List Version → Type 0
+IsNotOlder mark family = All (λ v. v.is_written ≡ true → IsBelow mark v.mark → ⊥) family
+
+-- the table that a change makes of another; without a change it is the same
+abbrev pub IsMade : Geometry → Option Change → Table → Table → Type 0
+IsMade g None old new = new ≡ old
+IsMade g (Some change) old new = IsAfter g change old.plan new.plan × (new.status ≡ old.status)
+
+-- the first table of a database: no change made it, and it has no volumes
+pub record IsFirst (family : List Version) (asked : Option Change) (before : List Change) (table : Table) : Type 0 where
+  pub none : family ≡ []
+  pub unasked : asked ≡ None
+  pub unchanged : before ≡ []
+  pub empty : table.plan.volumes ≡ []
+
+-- a table that comes from one of the family, which isn't older than the firm one
+pub record IsNext (g : Geometry) (family : List Version) (asked : Option Change) (before : List Change) (table : Table) : Type 0 where
+  pub parent : Version
+  pub one_of : Contains family parent
+  pub changes : parent.changes ≡ before
+  pub made : IsMade g asked parent.table table
+  pub not_older : IsNotOlder parent.mark family
+
+abbrev pub IsBegun : List Version → Type 0
+IsBegun [] = ⊥
+IsBegun (v ∷ older) = Unit {0}
+
+-- the one list begins with the other's items: it is longer by its newest ones
+pub record Extends (longer shorter : List Change) : Type 0 where
+  pub more : List Change
+  pub is : longer ≡ more ++ shorter
+
+-- nothing was told, or what was told came before
+abbrev pub IsUntold : Option (List Change) → List Change → Type 0
+IsUntold None before = Unit {0}
+IsUntold (Some told) before = Extends before told
+
+-- the newest table's write was answered, and the `ok` that it came to wasn't told
+pub record IsTellable (log : Log) (asked : Option Change) : Type 0 where
+  pub newest : Version
+  pub older : List Version
+  pub family : log.family ≡ newest ∷ older
+  pub written : newest.is_written ≡ true
+  pub before : List Change
+  pub changes : newest.changes ≡ with_asked asked before
+  pub creation : asked ≡ None → (before ≡ []) × (log.acknowledged ≡ None)
+  pub untold : IsUntold log.acknowledged before
+
+-- when each event may happen
+abbrev pub MayHappen : Geometry → Log → Event → Type 0
+MayHappen g log (Issued identity) = is_firm log ≡ false
+MayHappen g log (Writing mark asked before table) = IsAbove mark log.family × (IsFirst log.family asked before table ⊎ IsNext g log.family asked before table)
+MayHappen g log Written = IsBegun log.family
+MayHappen g log (Told asked) = IsTellable log asked
+
+-- each of the events may happen where it happens
+abbrev pub IsCourse : Geometry → Log → List Event → Type 0
+IsCourse g log [] = Unit {0}
+IsCourse g log (e ∷ es) = MayHappen g log e × IsCourse g (log_after log e) es
+
+-- what these events tell: creations, and changes
+abbrev pub told_by : List Event → List (Option Change)
+told_by [] = []
+told_by (Issued identity ∷ es) = told_by es
+told_by (Writing mark asked before table ∷ es) = told_by es
+told_by (Written ∷ es) = told_by es
+told_by (Told asked ∷ es) = asked ∷ told_by es
+
+abbrev pub IsAsked : (Change → Type 0) → Option Change → Type 0
+IsAsked Asks None = Unit {0}
+IsAsked Asks (Some change) = Asks change
+
+-- each creation that these events issue is such a one, and each change that they write
+abbrev pub IssuesOnly : (Identity → Type 0) → (Change → Type 0) → List Event → Type 0
+IssuesOnly Which Asks [] = Unit {0}
+IssuesOnly Which Asks (Issued identity ∷ es) = Which identity × IssuesOnly Which Asks es
+IssuesOnly Which Asks (Writing mark asked before table ∷ es) = IsAsked Asks asked × IssuesOnly Which Asks es
+IssuesOnly Which Asks (Written ∷ es) = IssuesOnly Which Asks es
+IssuesOnly Which Asks (Told asked ∷ es) = IssuesOnly Which Asks es
+
+-- the events tell these, and issue only such ones
+pub record Adds (Which : Identity → Type 0) (Asks : Change → Type 0) (told : List (Option Change)) (es : List Event) : Type 0 where
+  pub tells : told_by es ≡ told
+  pub issues : IssuesOnly Which Asks es
+
+abbrev pub NoCreation : Identity → Type 0
+NoCreation identity = ⊥
+
+abbrev pub NoChange : Change → Type 0
+NoChange change = ⊥
+
+abbrev pub IsThis : Identity → Identity → Type 0
+IsThis identity other = other ≡ identity
+
+abbrev pub IsThisChange : Option Change → Change → Type 0
+IsThisChange asked change = asked ≡ Some change
+
+-- the table after these changes, the newest first, from one without volumes
+abbrev pub AreMade : Geometry → List Change → Table → Type 0
+AreMade g [] table = table.plan.volumes ≡ []
+AreMade g (change ∷ before) table = (old : Table) × AreMade g before old × IsMade g (Some change) old table
+
+-- marks rise, so that a mark names one table
+abbrev pub IsRising : List Version → Type 0
+IsRising [] = Unit {0}
+IsRising (v ∷ older) = IsAbove v.mark older × IsRising older
+
+-- each table has the changes of every older one whose write was answered
+abbrev pub IsDescended : List Version → Type 0
+IsDescended [] = Unit {0}
+IsDescended (v ∷ older) = All (λ w. w.is_written ≡ true → Extends v.changes w.changes) older × IsDescended older
+
+-- a table whose write was answered has all that was told
+pub record IsHeld (family : List Version) (told : List Change) : Type 0 where
+  pub by : Version
+  pub one_of : Contains family by
+  pub written : by.is_written ≡ true
+  pub has : Extends by.changes told
+
+-- the family is one, each table is what its changes made, and what was told is firm
+pub record IsLog (g : Geometry) (log : Log) : Type 0 where
+  pub rising : IsRising log.family
+  pub made : All (λ v. AreMade g v.changes v.table) log.family
+  pub descended : IsDescended log.family
+  pub held : (told : List Change) → log.acknowledged ≡ Some told → IsHeld log.family told
