@@ -1,0 +1,120 @@
+-- Deeds: an `ok` is told, blocks of a volume are written, a boot reads the drive.
+use Rattle.std.proofs.Common.{inl, ℕ, ◌+◌, List, [], ◌∷◌, length, Option, Some, None, refl}
+use Rattle.mdv_shelf.specs.Area.{KeptOutside, nowhere, range}
+use Rattle.mdv_shelf.specs.Settle.{Settling, IsFixed}
+use Rattle.mdv_shelf.specs.Tale.{Tale, last}
+use Rattle.mdv_shelf.proofs.Blocks.{last_may_be_left}
+use Rattle.mdv_shelf.proofs.Frame.{fixed_kept, fixed_settled}
+use Rattle.mdv_table.specs.declared.change.Change.{Change}
+use Rattle.mdv_log.specs.Log as log
+use Rattle.mdv_log.specs.Log.{IsTellable, NoCreation}
+use Rattle.mdv_log.specs.Site.{Site}
+use Rattle.mdv_log.proofs.Frame.{frames}
+use Rattle.mdv_log.proofs.Logs.{courses_are_logs, told_covers}
+use Rattle.mdv_history.specs.History.{History, Created, Changed, Wrote, Saw, Event, Extent, OfDatabase, Issues, Acknowledges, Shows, Woke, HasExtent, history_after}
+use Rattle.mdv_history.specs.Laws.{CanTell, TellsGo, IsDeed, WritesGo, Wakes}
+use Rattle.mdv_history.specs.Standing.{Stands, Goes, Reached}
+use Rattle.mdv_history.proofs.Going.{stays_standing}
+use Rattle.mdv_history.proofs.Values.{values_issued, values_settled, issued_newest}
+
+-- what came to the newest table is told
+told_stands : (site : Site) (history : History) (asked : Option Change) (m : Tale) → Stands site history m → IsTellable history.database asked → Stands site (history_after history (OfDatabase (log.Told asked))) m
+told_stands site history asked m stands can = record {
+  database = record {
+    is_log = courses_are_logs site history.database (log.Told asked ∷ []) stands.database.is_log (can, tt);
+    covers = told_covers site history.database asked m stands.database.covers;
+  };
+  values = stands.values;
+}
+
+-- so is a write of blocks that are on the disk
+wrote_stands : (site : Site) (history : History) (extent : Extent) (blocks : List (List ℕ)) (t m : Tale) → KeptOutside nowhere t m → IsFixed site.at.drive.0 extent.block blocks t → Stands site history t
+    → Stands site (history_after history (Acknowledges extent blocks)) m
+wrote_stands site history extent blocks t m kept fixed stands =
+    let here = stays_standing site history t m kept stands in record {
+      database = here.database;
+      values = values_settled site history.allowed extent.block blocks m (fixed_kept site.at.drive.0 extent.block blocks t m (λ k lt. kept site.at.drive.0 (extent.block + k) refl) fixed) here.values;
+    }
+
+pub tells_go : TellsGo
+tells_go site Created t m kept history stands can = (
+  OfDatabase (log.Told None) ∷ [],
+  (can, tt),
+  record { tells = refl; issues = (tt, tt) },
+  told_stands site history None m (stays_standing site history t m kept stands) can,
+  tt,
+)
+tells_go site (Changed change) t m kept history stands can = (
+  OfDatabase (log.Told (Some change)) ∷ [],
+  (can, tt),
+  record { tells = refl; issues = (tt, tt) },
+  told_stands site history (Some change) m (stays_standing site history t m kept stands) can,
+  tt,
+)
+tells_go site (Wrote volume at blocks) t m kept history stands can =
+    let extent : Extent = record { volume = volume; at = at; block = can.0 } in (
+      Acknowledges extent blocks ∷ [],
+      ((can.1, can.2), tt),
+      record { tells = refl; issues = (tt, tt) },
+      wrote_stands site history extent blocks t m kept can.3 stands,
+      tt,
+    )
+tells_go site (Saw volume at count) t m kept history stands can =
+    let extent : Extent = record { volume = volume; at = at; block = can.0 } in (
+      Shows extent count ∷ [],
+      (can.1, tt),
+      record { tells = refl; issues = (tt, tt) },
+      stays_standing site history t m kept stands,
+      tt,
+    )
+
+module _ (site : Site) (extent : Extent) (blocks : List (List ℕ)) (t m : Tale) (settling : Settling site.at.drive.0 extent.block blocks t m) where
+  issued_stands : (history : History) → Stands site history t → HasExtent site history extent (length blocks) → Stands site (history_after history (Issues extent blocks)) m
+  issued_stands history stands has = record {
+    database = record {
+      is_log = stands.database.is_log;
+      covers = frames.covers site (range site.at.drive.0 extent.block (length blocks)) history.database t m has.is_extent.apart settling.outside stands.database.covers;
+    };
+    values = values_issued site history.allowed extent.block blocks t m settling stands.values;
+  }
+
+  goes_issued : (After : List Event → History → Type 0)
+      → ((history : History) → HasExtent site history extent (length blocks) → After (Issues extent blocks ∷ []) (history_after history (Issues extent blocks)))
+      → Goes site (λ history. HasExtent site history extent (length blocks)) NoCreation (IsDeed (Wrote extent.volume extent.at blocks)) [] After t m
+  goes_issued After then history stands has = (
+    Issues extent blocks ∷ [],
+    (has, tt),
+    record { tells = refl; issues = (refl, tt) },
+    issued_stands history stands has,
+    then history has,
+  )
+
+-- the blocks are a volume's as before
+still_has : (site : Site) (history : History) (extent : Extent) (blocks : List (List ℕ)) → HasExtent site history extent (length blocks) → HasExtent site (history_after history (Issues extent blocks)) extent (length blocks)
+still_has site history extent blocks has = record {
+  newest = has.newest;
+  older = has.older;
+  family = has.family;
+  written = has.written;
+  is_extent = has.is_extent;
+}
+
+pub writes_go : WritesGo
+writes_go = record {
+  goes = λ site extent blocks t m settling. goes_issued site extent blocks t m settling Reached (λ history has. tt);
+  ends = λ site extent blocks t u settling settled. goes_issued site extent blocks t u settling (λ es history. CanTell site (Wrote extent.volume extent.at blocks) history u) (λ history has. (
+    extent.block,
+    still_has site history extent blocks has,
+    issued_newest site history.allowed extent.block blocks,
+    fixed_settled site.at.drive.0 extent.block blocks u settled,
+  ));
+}
+
+pub wakes : Wakes
+wakes site t synced history stands known = (
+  Woke (λ block. last t site.at.drive.0 block) ∷ [],
+  ((λ block out. stands.values block out (last t site.at.drive.0 block) (last_may_be_left t site.at.drive.0 block)), tt),
+  record { tells = refl; issues = (tt, tt) },
+  record { database = stands.database; values = λ block out x left. inl (synced block x left) },
+  (tt, refl),
+)

@@ -1,0 +1,55 @@
+-- The values that blocks may have, while blocks are written and once they are told.
+use Rattle.std.proofs.Common.{◌≡◌, inl, inr, ⊎_elim, ℕ, ◌+◌, ◌-◌, ◌<◌, ◌≤◌, true, false, List, [], ◌∷◌, length, slice_index_or, refl, ◌∙◌, ap, subst, arith, eq-eqb}
+use Rattle.std.proofs.lemmas.Bool.Decides.{nat_tests}
+use Rattle.mdv_shelf.specs.Area.{KeptOutside}
+use Rattle.mdv_shelf.specs.Settle.{Settling, IsFixed}
+use Rattle.mdv_shelf.specs.Tale.{Tale, MayLeave, covers}
+use Rattle.mdv_shelf.proofs.Blocks.{both_ways}
+use Rattle.mdv_shelf.proofs.Settled.{covered}
+use Rattle.mdv_log.specs.Site.{Site, area_of}
+use Rattle.mdv_history.specs.History.{AreNewest, issued, settled}
+use Rattle.mdv_history.specs.Standing.{ValuesHold}
+
+-- whether a range has a block is no matter of the drive
+pub on_drive : (drive at count block : ℕ) → covers drive at count drive block ≡ covers 0 at count 0 block
+on_drive drive at count block = rw (eq-eqb drive drive refl)
+
+from_first : (at count block : ℕ) → covers 0 at count 0 block ≡ true → at ≤ block
+from_first at count block is = grind (arith, nat_tests)
+
+to_last : (at count block : ℕ) → covers 0 at count 0 block ≡ true → block < at + count
+to_last at count block is = grind (arith, nat_tests)
+
+-- the values hold where no block outside the database's place has more
+pub values_kept : (site : Site) (allowed : ℕ → List (List ℕ)) (t m : Tale) → KeptOutside (area_of site) t m → ValuesHold site allowed t → ValuesHold site allowed m
+values_kept site allowed t m kept values block out x left = values block out x ((kept site.at.drive.0 block out).left x left)
+
+module _ (site : Site) (allowed : ℕ → List (List ℕ)) (at : ℕ) (blocks : List (List ℕ)) where
+  -- while they are written each of them has one value more
+  pub values_issued : (t m : Tale) → Settling site.at.drive.0 at blocks t m → ValuesHold site allowed t → ValuesHold site (issued allowed at blocks) m
+  values_issued t m settling values block out x left = elim (both_ways (covers 0 at (length blocks) 0 block)) [
+    | inl does ↦
+        let here : covers site.at.drive.0 at (length blocks) site.at.drive.0 block ≡ true = on_drive site.at.drive.0 at (length blocks) block ∙ does in
+        rw does (⊎_elim (λ old. inr (values block out x old)) (λ new. inl new) ((settling.inside block here).left x left))
+    | inr not ↦
+        let away : covers site.at.drive.0 at (length blocks) site.at.drive.0 block ≡ false = on_drive site.at.drive.0 at (length blocks) block ∙ not in
+        rw not (values block out x ((settling.outside site.at.drive.0 block away).left x left))
+  ]
+
+  -- those are the last that were issued
+  pub issued_newest : AreNewest (issued allowed at blocks) at blocks
+  issued_newest k lt = (
+    allowed (at + k),
+    rw (covered 0 at (length blocks) k lt) (ap (λ (i : ℕ). slice_index_or blocks i [] ∷ allowed (at + k)) (omega arith)),
+  )
+
+  -- once they are on the disk no other value is left of them
+  pub values_settled : (t : Tale) → IsFixed site.at.drive.0 at blocks t → ValuesHold site allowed t → ValuesHold site (settled allowed at blocks) t
+  values_settled t fixed values block out x left = elim (both_ways (covers 0 at (length blocks) 0 block)) [
+    | inl does ↦
+        let from = from_first at (length blocks) block does in
+        let to = to_last at (length blocks) block does in
+        let same : block ≡ at + (block - at) = omega arith in
+        rw does (inl (fixed.fixed_only (block - at) (omega arith) x (subst (λ (b : ℕ). MayLeave t site.at.drive.0 b x) same left)))
+    | inr not ↦ rw not (values block out x left)
+  ]

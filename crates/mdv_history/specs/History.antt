@@ -1,0 +1,179 @@
+-- What a drive has lived through: the log of its database, and the values that its other blocks may have.
+use Rattle.std.specs.Prelude.{◌≡◌, ℕ, ◌+◌, ◌-◌, ◌<◌, ◌≤◌, true, false, List, [], ◌∷◌, length, slice_index_or, if◌then◌else◌, Some, None}
+use Rattle.mdv_base.specs.declared.drive.SliceName.{SliceName}
+use Rattle.mdv_base.specs.declared.mark.Identity.{Identity}
+use Rattle.mdv_base.specs.declared.name.VolId.{VolId}
+use Rattle.mdv_name.specs.declared.slice_lines.SliceAt.{SliceAt}
+use Rattle.mdv_name.specs.SliceIndex.{HasSlice}
+use Rattle.mdv_shelf.specs.Area.{AreApart, range}
+use Rattle.mdv_shelf.specs.Tale.{Among, covers}
+use Rattle.mdv_table.specs.declared.change.Change.{Change}
+use Rattle.mdv_table.specs.declared.table.Table.{Table}
+use Rattle.mdv_table.specs.declared.volume.Base.TheVariants.{Slice}
+use Rattle.mdv_table.specs.declared.volume.Component.{Component}
+use Rattle.mdv_table.specs.declared.volume.Volume.{Volume}
+use Rattle.mdv_table.specs.declared.volume.VolumeKind.TheVariants.{Stripe}
+use Rattle.mdv_table.specs.Volumes.{HasVolume}
+use Rattle.mdv_log.specs.Log as log
+use Rattle.mdv_log.specs.Log.{Version, Log}
+use Rattle.mdv_log.specs.Site.{Site, area_of}
+
+-- blocks of a volume from block `at` of it on, and where they lie: from block `block` of the drive on
+pub record Extent : Type 0 where
+  pub volume : VolId
+  pub at : ℕ
+  pub block : ℕ
+
+-- the volume lies on so many blocks of the site's drive, from the first on
+pub record LiesOn (site : Site) (volumes : List Volume) (volume : VolId) (first count : ℕ) : Type 0 where
+  pub of : Volume
+  pub has : HasVolume volumes volume of
+  pub interlace : ℕ
+  pub component : Component
+  pub kind : of.kind ≡ Stripe (record { interlace = interlace; component = component })
+  pub slice : SliceName
+  pub on : component.on ≡ Slice slice
+  pub at : SliceAt
+  pub has_slice : HasSlice site.drives.slices slice at
+  pub drive : at.drive ≡ site.at.drive
+  pub first_is : first ≡ at.start + component.start
+  pub count_is : count ≡ component.blocks
+
+-- so many blocks of a volume of this table, on the drive, and none of them in the database's place
+pub record IsExtentOf (site : Site) (table : Table) (extent : Extent) (count : ℕ) : Type 0 where
+  pub first : ℕ
+  pub blocks : ℕ
+  pub lies : LiesOn site table.plan.volumes extent.volume first blocks
+  pub some : 0 < count
+  pub within : extent.at + count ≤ blocks
+  pub block : extent.block ≡ first + extent.at
+  pub apart : AreApart (range site.at.drive.0 extent.block count) (area_of site)
+
+-- The log of the database; and of each other block of the drive the values that it may have, the newest first: that of its
+-- last acknowledged write, or the one that a boot found since, and each one that was issued after it.
+pub record History : Type 0 where
+  pub database : Log
+  pub allowed : ℕ → List (List ℕ)
+
+-- the values that a block of a volume may have, which lies on the drive from the first block on
+abbrev pub may : History → ℕ → ℕ → List (List ℕ)
+may history first block = history.allowed (first + block)
+
+-- what commands ask, as far as an `ok` acknowledges it: a database, a change of its table, blocks of a volume written, and read
+pub data Deed : Type 0 where
+  Created : Deed
+  Changed : Change → Deed
+  Wrote : VolId → ℕ → List (List ℕ) → Deed
+  Saw : VolId → ℕ → ℕ → Deed
+
+pub data Event : Type 0 where
+  -- an event of the database
+  OfDatabase : log.Event → Event
+  -- blocks of a volume begin to be written
+  Issues : Extent → List (List ℕ) → Event
+  -- the newline of that write's `ok` was told
+  Acknowledges : Extent → List (List ℕ) → Event
+  -- the newline of a read's `ok` was told, of so many blocks
+  Shows : Extent → ℕ → Event
+  -- a boot has read the drive, and each block has one value since
+  Woke : (ℕ → List ℕ) → Event
+
+-- these blocks from that one on have one value more, or that one alone
+abbrev pub issued : (ℕ → List (List ℕ)) → ℕ → List (List ℕ) → ℕ → List (List ℕ)
+issued allowed from blocks block = if covers 0 from (length blocks) 0 block then slice_index_or blocks (block - from) [] ∷ allowed block else allowed block
+
+abbrev pub settled : (ℕ → List (List ℕ)) → ℕ → List (List ℕ) → ℕ → List (List ℕ)
+settled allowed from blocks block = if covers 0 from (length blocks) 0 block then slice_index_or blocks (block - from) [] ∷ [] else allowed block
+
+abbrev pub history_after : History → Event → History
+history_after history (OfDatabase event) = record history { database = log.log_after history.database event }
+history_after history (Issues extent blocks) = record history { allowed = issued history.allowed extent.block blocks }
+history_after history (Acknowledges extent blocks) = record history { allowed = settled history.allowed extent.block blocks }
+history_after history (Shows extent count) = history
+history_after history (Woke content) = record history { allowed = λ block. content block ∷ [] }
+
+abbrev pub history_after_all : History → List Event → History
+history_after_all history [] = history
+history_after_all history (e ∷ es) = history_after_all (history_after history e) es
+
+-- the newest table of the database was written, and has the volume there
+pub record HasExtent (site : Site) (history : History) (extent : Extent) (count : ℕ) : Type 0 where
+  pub newest : Version
+  pub older : List Version
+  pub family : history.database.family ≡ newest ∷ older
+  pub written : newest.is_written ≡ true
+  pub is_extent : IsExtentOf site newest.table extent count
+
+-- each of these values is the last that was issued for its block
+abbrev pub AreNewest : (ℕ → List (List ℕ)) → ℕ → List (List ℕ) → Type 0
+AreNewest allowed from blocks = (k : ℕ) → k < length blocks → (older : List (List ℕ)) × (allowed (from + k) ≡ slice_index_or blocks k [] ∷ older)
+
+-- when each event may happen
+abbrev pub MayHappen : Site → History → Event → Type 0
+MayHappen site history (OfDatabase event) = log.MayHappen site.drives history.database event
+MayHappen site history (Issues extent blocks) = HasExtent site history extent (length blocks)
+MayHappen site history (Acknowledges extent blocks) = HasExtent site history extent (length blocks) × AreNewest history.allowed extent.block blocks
+MayHappen site history (Shows extent count) = HasExtent site history extent count
+MayHappen site history (Woke content) = (block : ℕ) → area_of site site.at.drive.0 block ≡ false → Among (history.allowed block) (content block)
+
+-- each of the events may happen where it happens
+abbrev pub IsCourse : Site → History → List Event → Type 0
+IsCourse site history [] = Unit {0}
+IsCourse site history (e ∷ es) = MayHappen site history e × IsCourse site (history_after history e) es
+
+abbrev pub told_of : log.Event → List Deed → List Deed
+told_of (log.Issued identity) behind = behind
+told_of (log.Writing mark asked before table) behind = behind
+told_of log.Written behind = behind
+told_of (log.Told None) behind = Created ∷ behind
+told_of (log.Told (Some change)) behind = Changed change ∷ behind
+
+-- what these events tell, in order
+abbrev pub told_by : List Event → List Deed
+told_by [] = []
+told_by (OfDatabase event ∷ es) = told_of event (told_by es)
+told_by (Issues extent blocks ∷ es) = told_by es
+told_by (Acknowledges extent blocks ∷ es) = Wrote extent.volume extent.at blocks ∷ told_by es
+told_by (Shows extent count ∷ es) = Saw extent.volume extent.at count ∷ told_by es
+told_by (Woke content ∷ es) = told_by es
+
+-- an event issues only such a creation, and only what is asked
+abbrev pub IsIssue : (Identity → Type 0) → (Deed → Type 0) → Event → Type 0
+IsIssue Which Asks (OfDatabase (log.Issued identity)) = Which identity
+IsIssue Which Asks (OfDatabase (log.Writing mark None before table)) = Unit {0}
+IsIssue Which Asks (OfDatabase (log.Writing mark (Some change) before table)) = Asks (Changed change)
+IsIssue Which Asks (OfDatabase log.Written) = Unit {0}
+IsIssue Which Asks (OfDatabase (log.Told asked)) = Unit {0}
+IsIssue Which Asks (Issues extent blocks) = Asks (Wrote extent.volume extent.at blocks)
+IsIssue Which Asks (Acknowledges extent blocks) = Unit {0}
+IsIssue Which Asks (Shows extent count) = Unit {0}
+IsIssue Which Asks (Woke content) = Unit {0}
+
+abbrev pub IssuesOnly : (Identity → Type 0) → (Deed → Type 0) → List Event → Type 0
+IssuesOnly Which Asks [] = Unit {0}
+IssuesOnly Which Asks (e ∷ es) = IsIssue Which Asks e × IssuesOnly Which Asks es
+
+-- the events tell these deeds, and issue only such creations and deeds
+pub record Adds (Which : Identity → Type 0) (Asks : Deed → Type 0) (told : List Deed) (es : List Event) : Type 0 where
+  pub tells : told_by es ≡ told
+  pub issues : IssuesOnly Which Asks es
+
+-- nothing is asked
+abbrev pub NoDeed : Deed → Type 0
+NoDeed deed = ⊥
+
+-- one of these changes is asked, and nothing else
+abbrev pub IsChangeOf : (Change → Type 0) → Deed → Type 0
+IsChangeOf Asks Created = ⊥
+IsChangeOf Asks (Changed change) = Asks change
+IsChangeOf Asks (Wrote volume at blocks) = ⊥
+IsChangeOf Asks (Saw volume at count) = ⊥
+
+-- one of them is a boot that has read the drive
+abbrev pub HasWoken : List Event → Type 0
+HasWoken [] = ⊥
+HasWoken (OfDatabase event ∷ es) = HasWoken es
+HasWoken (Issues extent blocks ∷ es) = HasWoken es
+HasWoken (Acknowledges extent blocks ∷ es) = HasWoken es
+HasWoken (Shows extent count ∷ es) = HasWoken es
+HasWoken (Woke content ∷ es) = Unit {0}

@@ -1,0 +1,30 @@
+-- How a drive stands with its history.
+use Rattle.std.specs.Prelude.{◌≡◌, ℕ, false, List}
+use Rattle.mdv_base.specs.declared.mark.Identity.{Identity}
+use Rattle.mdv_shelf.specs.Tale.{Tale, Among, MayLeave}
+use Rattle.mdv_log.specs.Site.{Site, area_of}
+use Rattle.mdv_log.specs.Standing as database
+use Rattle.mdv_history.specs.History.{History, Deed, Event, history_after_all, IsCourse, Adds}
+
+-- whatever a crash leaves in a block outside the database's place is one of its values
+abbrev pub ValuesHold : Site → (ℕ → List (List ℕ)) → Tale → Type 0
+ValuesHold site allowed m = (block : ℕ) → area_of site site.at.drive.0 block ≡ false → (x : List ℕ) → MayLeave m site.at.drive.0 block x → Among (allowed block) x
+
+-- the drive stands with the history
+pub record Stands (site : Site) (history : History) (m : Tale) : Type 0 where
+  pub database : database.Stands site history.database m
+  pub values : ValuesHold site history.allowed m
+
+abbrev pub Anything : History → Type 0
+Anything history = Unit {0}
+
+-- A history that the drive stood with, and of which so much was known, goes on by some events, which tell these deeds and
+-- issue only such creations and deeds, to one that it stands with, of which more is known.
+abbrev pub Goes : Site → (History → Type 0) → (Identity → Type 0) → (Deed → Type 0) → List Deed → (List Event → History → Type 0) → Tale → Tale → Type 0
+Goes site Known Which Asks told After t m =
+    (history : History) → Stands site history t → Known history
+    → (es : List Event) × IsCourse site history es × Adds Which Asks told es × Stands site (history_after_all history es) m × After es (history_after_all history es)
+
+-- of which nothing more is known
+abbrev pub Reached : List Event → History → Type 0
+Reached es history = Unit {0}
