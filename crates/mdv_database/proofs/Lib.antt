@@ -1,0 +1,6 @@
+pub mod Bodies
+pub mod Booting
+pub mod Committing
+pub mod Finding
+pub mod Making
+pub mod Quiet

@@ -1,0 +1,36 @@
+use Rattle.std.proofs.Common.{◌≡◌, ◌∙◌, ℕ, List, Option, ap, subst, refl}
+use Rattle.mdv_shelf.specs.Tale.{Tale, Then, Synced, last}
+use Rattle.mdv_shelf.specs.Calls.{and_then}
+use Rattle.mdv_shelf.proofs.Blocks.{last_unwritten}
+use Rattle.mdv_database.specs.Database.{IsLookedAt, site_of}
+use Rattle.mdv_database.proofs.Quiet.{moments_synced, ends_synced, unwritten_synced}
+use Rattle.mdv_database.proofs.looking.look.Goals as goal
+use Rattle.mdv_database.proofs.looking.look.Goals.{After-find}
+
+-- the reads leave the tale, and the sync is one call more
+synced_tale : (g : _) (c : After-find g) → g.S.Shelf.tale c.sync.new.self ≡ and_then (g.S.Shelf.tale c.args.shelf.now) (Synced c.args.at.drive.0)
+synced_tale g c = c.in-Ok-sync.ensures.syncs ∙ ap (λ (o : Option Tale). and_then o (Synced c.args.at.drive.0)) c.read.ensures.reads.same
+
+pub returns-in_err-found-clause-moments : goal.returns-in_err-found-clause-moments
+returns-in_err-found-clause-moments g c = moments_synced c.args.at _ _ (c.find.ensures.same ∙ synced_tale g (goal.at.returns-in_err-found-clause-moments g c).After-find)
+
+pub returns-in_err-found-clause-unwritten : goal.returns-in_err-found-clause-unwritten
+returns-in_err-found-clause-unwritten g c = unwritten_synced c.args.at.drive.0 _ _ (c.find.ensures.same ∙ synced_tale g (goal.at.returns-in_err-found-clause-unwritten g c).After-find)
+
+pub returns-clause-moments : goal.returns-clause-moments
+returns-clause-moments g c = moments_synced c.args.at _ _ (c.find.ensures.same ∙ synced_tale g (goal.at.returns-clause-moments g c).After-find)
+
+pub returns-clause-unwritten : goal.returns-clause-unwritten
+returns-clause-unwritten g c = unwritten_synced c.args.at.drive.0 _ _ (c.find.ensures.same ∙ synced_tale g (goal.at.returns-clause-unwritten g c).After-find)
+
+pub returns-clause-synced : goal.returns-clause-synced
+returns-clause-synced g c = ends_synced c.args.at.drive.0 _ _ (c.find.ensures.same ∙ synced_tale g (goal.at.returns-clause-synced g c).After-find)
+
+pub returns-clause-found : goal.returns-clause-found
+returns-clause-found g c = λ t is.
+    let step = synced_tale g (goal.at.returns-clause-found g c).After-find in
+    let now = c.in_ok-found.ensures.found (Then t (Synced c.args.at.drive.0)) (step ∙ ap (λ (o : Option Tale). and_then o (Synced c.args.at.drive.0)) is) in
+    let content : last (Then t (Synced c.args.at.drive.0)) c.args.at.drive.0 ≡ last t c.args.at.drive.0 = λ i block. last_unwritten t (Synced c.args.at.drive.0) c.args.at.drive.0 block refl i in
+    let sizes : g.S.Shelf.sizes c.sync.new.self ≡ g.S.Shelf.sizes c.args.shelf.now = c.sync.ensures.keeps.same_sizes ∙ c.read.ensures.keeps.same_sizes in
+    subst (λ (s : List ℕ). IsLookedAt (site_of c.args.drives.now c.args.key.now c.args.at s) (last t c.args.at.drive.0) c.in_ok-found.found) sizes
+    (subst (λ (f : ℕ → List ℕ). IsLookedAt (site_of c.args.drives.now c.args.key.now c.args.at (g.S.Shelf.sizes c.sync.new.self)) f c.in_ok-found.found) content now)

@@ -1,0 +1,176 @@
+-- The database of one place: what a boot finds and leaves, and what a creation and a commit leave.
+use Rattle.std.specs.Prelude.{◌≡◌, ℕ, ◌+◌, ◌≤◌, ◌<◌, ◌^◌, true, false, List, [], ◌∷◌, length, slice_index_or, Option, Some, None, Result, Ok, Err}
+use Rattle.mdv_base.specs.declared.mark.Identity.{Identity}
+use Rattle.mdv_base.specs.declared.name.Key.{Key}
+use Rattle.mdv_base.specs.declared.place.Place.{Place}
+use Rattle.mdv_name.specs.declared.geometry.Geometry.{Geometry}
+use Rattle.mdv_record.specs.Text.{record_text}
+use Rattle.mdv_replica.specs.declared.replica.PlaceAt.{PlaceAt}
+use Rattle.mdv_replica.specs.declared.replica.Head.{Head}
+use Rattle.mdv_replica.specs.declared.replica.Slot.TheVariants.{First, Second}
+use Rattle.mdv_replica.specs.Form.{IsSpareSlot, greatest, other_slot, room_of, shows}
+use Rattle.mdv_replica.specs.Images.{Image}
+use Rattle.mdv_replica.specs.Replica.{IsFormed, slot_blocks, with_blocks}
+use Rattle.mdv_shelf.specs.Area.{range, KeptOutside}
+use Rattle.mdv_shelf.specs.Settle.{IsSynced}
+use Rattle.mdv_shelf.specs.Tale.{Tale, IsImage, last, told}
+use Rattle.mdv_table.specs.declared.change.Change.{Change}
+use Rattle.mdv_table.specs.declared.plan.Lists.TheVariants.{One}
+use Rattle.mdv_table.specs.declared.table.Table.{Table}
+use Rattle.mdv_table.specs.Slices.{IsSound}
+use Rattle.mdv_log.specs.Going.{IsCreated, created_head, first_mark}
+use Rattle.mdv_log.specs.Log.{Log, IsMade, IsTellable, is_firm}
+use Rattle.mdv_log.specs.Site.{Site, IsFound, IsNewestOf, IsReplica, IsTableAt, Newest}
+use Rattle.mdv_log.specs.Standing.{IsNewestIn, IsOpened}
+use Rattle.mdv_log.specs.Steps.{IsTheReplica, adopted_newest, next_newest}
+use Rattle.mdv_database.specs.declared.database.BootEnd.{BootEnd}
+use Rattle.mdv_database.specs.declared.database.BootEnd.TheVariants as end
+use Rattle.mdv_database.specs.declared.database.CommitFault.{CommitFault}
+use Rattle.mdv_database.specs.declared.database.CommitFault.TheVariants as unwritten
+use Rattle.mdv_database.specs.declared.database.CreateFault.{CreateFault}
+use Rattle.mdv_database.specs.declared.database.CreateFault.TheVariants as unmade
+use Rattle.mdv_database.specs.declared.looking.Found.{Found}
+
+-- the site of a database with this table of drives, this key and this place, on drives of these sizes
+abbrev pub site_of : Geometry → Key → PlaceAt → List ℕ → Site
+site_of drives key at sizes = record { drives = drives; key = key; at = at; size = slice_index_or sizes at.drive.0 0 }
+
+-- its drive is one of the shelf's, and has a block
+pub record IsOnDrive (sizes : List ℕ) (at : PlaceAt) : Type 0 where
+  pub drive : at.drive.0 < length sizes
+  pub some : 0 < slice_index_or sizes at.drive.0 0
+  pub size : slice_index_or sizes at.drive.0 0 < 2 ^ 64
+
+-- nothing is told, and nothing happens outside the most blocks that a replica at the place may have
+pub record IsQuiet (at : PlaceAt) (t m : Tale) : Type 0 where
+  pub outside : KeptOutside (range at.drive.0 at.first 8192) t m
+  pub quiet : told m ≡ told t
+
+-- what a boot has in hand of a replica that it found
+pub record IsInHand (at : PlaceAt) (size : ℕ) (found : Found) : Type 0 where
+  pub form : IsFormed at size found.head
+  pub spare : IsSpareSlot found.head found.spare
+  pub tie : found.spare ≡ Second → IsSpareSlot found.head First → ⊥
+  pub in_room : length (record_text found.table) ≤ room_of found.head.master.blocks
+  pub whole : found.body ≡ slot_blocks found.head.master.blocks
+
+-- the one readable replica, which shows a table, with its newest one; or there is none
+abbrev pub IsLookedAt : Site → (ℕ → List ℕ) → Option Found → Type 0
+IsLookedAt site content (Some found) = IsTheReplica site content found.head (other_slot found.spare) found.table
+IsLookedAt site content None = IsFound site content None
+
+-- what an adoption starts from: synced drives, with what was found
+pub record IsFoundIn (site : Site) (found : Found) (t : Tale) : Type 0 where
+  pub sound : IsSound site.drives
+  pub synced : IsSynced site.at.drive.0 t
+  pub the : IsTheReplica site (last t site.at.drive.0) found.head (other_slot found.spare) found.table
+
+-- the database that a boot makes of the one readable replica: its newest table, in the other slot, under one more than
+-- the greatest number there; in the first slot, where both hold the newest table
+pub record IsDrawn (site : Site) (content : ℕ → List ℕ) (newest : Newest) : Type 0 where
+  pub head : Head
+  pub the : IsTheReplica site content head (other_slot newest.slot) newest.table
+  pub spare : IsSpareSlot head newest.slot
+  pub tie : newest.slot ≡ Second → IsSpareSlot head First → ⊥
+  pub fits : greatest head + 1 < 2 ^ 63
+  pub is : newest ≡ adopted_newest head newest.slot newest.table
+
+-- a replica shows a table, and one more than its greatest number is no number
+pub record IsSpent (site : Site) (content : ℕ → List ℕ) : Type 0 where
+  pub head : Head
+  pub replica : IsReplica site content head
+  pub shown : shows head ≡ true
+  pub spent : 2 ^ 63 ≤ greatest head + 1
+
+-- what a boot answers, from what the drive's blocks held; where a call failed it may answer so instead
+abbrev pub IsBooted : Type 0 → Site → (ℕ → List ℕ) → BootEnd → Type 0
+IsBooted failed site content (end.Adopted newest) = IsDrawn site content newest
+IsBooted failed site content end.Empty = IsFound site content None
+IsBooted failed site content end.Down = failed
+IsBooted failed site content end.Lost = failed
+IsBooted failed site content end.Spent = IsSpent site content
+IsBooted failed site content end.Memory = Unit {0}
+
+abbrev pub IfAdopted : BootEnd → (Newest → Type 0) → Type 0
+IfAdopted (end.Adopted newest) P = P newest
+IfAdopted end.Empty P = Unit {0}
+IfAdopted end.Down P = Unit {0}
+IfAdopted end.Lost P = Unit {0}
+IfAdopted end.Spent P = Unit {0}
+IfAdopted end.Memory P = Unit {0}
+
+-- a boot that adopts nothing
+abbrev pub IsRefusal : BootEnd → Type 0
+IsRefusal (end.Adopted newest) = ⊥
+IsRefusal end.Empty = Unit {0}
+IsRefusal end.Down = Unit {0}
+IsRefusal end.Lost = ⊥
+IsRefusal end.Spent = Unit {0}
+IsRefusal end.Memory = Unit {0}
+
+-- a boot that knows what the drive holds
+abbrev pub IsCertain : BootEnd → Type 0
+IsCertain (end.Adopted newest) = Unit {0}
+IsCertain end.Empty = Unit {0}
+IsCertain end.Down = ⊥
+IsCertain end.Lost = ⊥
+IsCertain end.Spent = ⊥
+IsCertain end.Memory = ⊥
+
+-- what is known of the log after a boot
+abbrev pub IsBootedTo : BootEnd → Log → Type 0
+IsBootedTo (end.Adopted newest) log = IsNewestIn newest log
+IsBootedTo end.Empty log = is_firm log ≡ false
+IsBootedTo end.Down log = Unit {0}
+IsBootedTo end.Lost log = Unit {0}
+IsBootedTo end.Spent log = Unit {0}
+IsBootedTo end.Memory log = Unit {0}
+
+-- the table of one place without volumes
+abbrev pub first_table : Place → Table
+first_table place = record { plan = record { lists = One (place ∷ []); volumes = [] }; status = record {} }
+
+-- what a creation of this place begins with
+abbrev pub first_newest : PlaceAt → Newest
+first_newest at = record { blocks = at.place.blocks; slot = First; mark = first_mark; table = first_table at.place }
+
+-- whatever a crash leaves, the place has the replica that a creation of this identity makes, with its one table
+abbrev pub IsSafe : Site → Identity → Tale → Type 0
+IsSafe site identity u = (image : Image) → IsImage u image → IsNewestOf site (image site.at.drive.0) (created_head site identity (first_table site.at.place)) (first_newest site.at)
+
+-- what is known of the log after a creation
+abbrev pub IsCreatedTo : Site → Identity → Result Newest CreateFault → Log → Type 0
+IsCreatedTo site identity (Ok newest) log = IsCreated site identity newest.table log
+IsCreatedTo site identity (Err unmade.Failed) log = is_firm log ≡ false
+IsCreatedTo site identity (Err unmade.Lost) log = Unit {0}
+IsCreatedTo site identity (Err unmade.Memory) log = Unit {0}
+
+-- a creation fails where a call failed, or for want of memory
+abbrev pub HasCreateCause : Type 0 → CreateFault → Type 0
+HasCreateCause failed unmade.Failed = failed
+HasCreateCause failed unmade.Lost = failed
+HasCreateCause failed unmade.Memory = Unit {0}
+
+-- what a commit starts from: an open database, and a table that a change makes of its newest one, or that one again
+pub record MayCommit (site : Site) (newest : Newest) (asked : Option Change) (next : Table) (t : Tale) : Type 0 where
+  pub sound : IsSound site.drives
+  pub is : IsTableAt site.drives (with_blocks site.at newest.blocks).place next
+  pub made : IsMade site.drives asked newest.table next
+  pub opened : IsOpened site newest t
+
+-- what is known of the log after a commit: its newest table is the next one, and the `ok` of its change may be told
+pub record IsCommitted (newest : Newest) (asked : Option Change) (next : Table) (log : Log) : Type 0 where
+  pub is_newest : IsNewestIn (next_newest newest next) log
+  pub tellable : (change : Change) → asked ≡ Some change → IsTellable log asked
+
+-- why a table isn't committed: a call failed, its text is too long for a slot, or else the next count is no number
+abbrev pub HasCommitCause : Type 0 → Newest → Table → CommitFault → Type 0
+HasCommitCause failed newest next unwritten.Lost = failed
+HasCommitCause failed newest next (unwritten.TooLong fault) = room_of newest.blocks < length (record_text next)
+HasCommitCause failed newest next unwritten.Spent = 2 ^ 63 ≤ newest.mark.count + 1
+
+-- a commit that does nothing
+abbrev pub IsCommitRefusal : CommitFault → Type 0
+IsCommitRefusal unwritten.Lost = ⊥
+IsCommitRefusal (unwritten.TooLong fault) = Unit {0}
+IsCommitRefusal unwritten.Spent = Unit {0}

@@ -1,0 +1,233 @@
+// What a boot looks for: a readable replica of the database that shows a table, and its newest table.
+ghost use Rattle.std.specs.Prelude.{◌≡◌, ◌≤◌, true, slice_index_or, IfOk, IfErr, IfSome, OnOk, Some};
+ghost use Rattle.mdv_base.specs.Causes.{HasCause, Rose};
+ghost use Rattle.mdv_shelf.specs.Area.{KeptOutside, nowhere};
+ghost use Rattle.mdv_shelf.specs.Calls.{OnDrive, Keeps};
+ghost use Rattle.mdv_shelf.specs.Moments.{Moments, Ends};
+ghost use Rattle.mdv_shelf.specs.Settle.{IsSynced};
+ghost use Rattle.mdv_shelf.specs.Tale.{Tale, last};
+ghost use Rattle.mdv_replica.specs.Form.{IsSpareSlot, shows};
+ghost use Rattle.mdv_replica.specs.Replica.{IsFormed, IsHead, IsPlaced, slot_blocks, with_blocks};
+ghost use Rattle.mdv_table.specs.Slices.{IsSound};
+ghost use Rattle.mdv_log.specs.Site.{IsTableAt};
+ghost use Rattle.mdv_database.specs.Database.{IsInHand, IsLookedAt, IsOnDrive, IsQuiet, site_of};
+ghost use Rattle.mdv_database.specs.Slots.{AreHeld, HasReadCause, IfKept, IsFitting, IsHeld, IsTableOf};
+
+use crate::body::{Body, ReadFault};
+use crate::head::{at_length, gate_of_slot, is_of_database, other_slot, spare_slot};
+use mdv_base::{Failed, Key, ZERO_BLOCK};
+use mdv_name::Geometry;
+use mdv_replica::{Gate, Head, PlaceAt, Slot, inspect};
+use mdv_shelf::Shelf;
+use mdv_table::Table;
+use std::alloc::Global;
+
+/// A readable replica that shows a table: the newest one, and the slot that doesn't hold it.
+#[derive(Drop)]
+pub(crate) struct Found {
+    pub(crate) head: Head,
+    pub(crate) spare: Slot,
+    pub(crate) table: Table,
+    pub(crate) body: Body,
+}
+
+// What a slot has.
+#[derive(Drop)]
+pub(crate) enum Held {
+    Nothing,
+    Kept(Table),
+    // It is open, and its body isn't the record of a table of this place.
+    Other,
+}
+
+/// Reads the drive's first block and syncs it, so that what is read next no crash takes back, and looks for
+/// a replica that shows a table.
+pub(crate) fn look<S: Shelf>(
+    shelf: &mut S,
+    alloc: Global,
+    drives: &Geometry,
+    at: PlaceAt,
+    key: &Key,
+) -> Result<Option<Found>, ReadFault>
+    requires sound { IsSound drives.now }
+    requires on_drive { IsOnDrive (S.sizes shelf.old) at }
+    ensures in_hand { IfOk result (λ found. IfSome found (IsInHand at (slice_index_or (S.sizes shelf.old) at.drive.0 0))) }
+    ensures table { IfOk result (λ seen. IfSome seen (λ found. IsTableAt drives.now (with_blocks at found.head.master.blocks).place found.table)) }
+    ensures found { (t : Tale) → S.tale shelf.old ≡ Some t → IfOk result (IsLookedAt (site_of drives.now key.now at (S.sizes shelf.old)) (last t at.drive.0)) }
+    ensures synced { OnOk result (Ends (λ _ u. IsSynced at.drive.0 u) (S.tale shelf.old) (S.tale shelf.new)) }
+    ensures unwritten { Moments (KeptOutside nowhere) (S.tale shelf.old) (S.tale shelf.new) }
+    ensures moments { Moments (IsQuiet at) (S.tale shelf.old) (S.tale shelf.new) }
+    ensures cause { IfErr result (HasReadCause (Rose (S.faults shelf.old (OnDrive at.drive.0)) (S.faults shelf.new (OnDrive at.drive.0)))) }
+    ensures keeps { Keeps S.sizes S.faults S.rest S.held shelf.old shelf.new }
+{
+    let mut first = [ZERO_BLOCK];
+    match shelf.read(at.drive, 0, &mut first) {
+        Ok(()) => {}
+        Err(Failed) => return Err(ReadFault::Failed),
+    }
+    match shelf.sync(at.drive) {
+        Ok(()) => {}
+        Err(Failed) => return Err(ReadFault::Failed),
+    }
+    let found = find(shelf, alloc, drives, at, key)?;
+    Ok(found)
+}
+
+fn find<S: Shelf>(
+    shelf: &mut S,
+    alloc: Global,
+    drives: &Geometry,
+    at: PlaceAt,
+    key: &Key,
+) -> Result<Option<Found>, ReadFault>
+    requires sound { IsSound drives.now }
+    requires on_drive { IsOnDrive (S.sizes shelf.old) at }
+    ensures in_hand { IfOk result (λ found. IfSome found (IsInHand at (slice_index_or (S.sizes shelf.old) at.drive.0 0))) }
+    ensures table { IfOk result (λ seen. IfSome seen (λ found. IsTableAt drives.now (with_blocks at found.head.master.blocks).place found.table)) }
+    ensures found { (t : Tale) → S.tale shelf.old ≡ Some t → IfOk result (IsLookedAt (site_of drives.now key.now at (S.sizes shelf.old)) (last t at.drive.0)) }
+    ensures same { S.tale shelf.new ≡ S.tale shelf.old }
+    ensures cause { IfErr result (HasReadCause (Rose (S.faults shelf.old (OnDrive at.drive.0)) (S.faults shelf.new (OnDrive at.drive.0)))) }
+    ensures keeps { Keeps S.sizes S.faults S.rest S.held shelf.old shelf.new }
+{
+    match head_at(shelf, at) {
+        Ok(Some(head)) => {
+            if !is_of_database(&head, key) {
+                return Ok(None);
+            }
+            let found = find_table(shelf, alloc, drives, at, head)?;
+            Ok(found)
+        }
+        Ok(None) => Ok(None),
+        Err(Failed) => Err(ReadFault::Failed),
+    }
+}
+
+// What the head of the place says. A place of which the drive has no block is empty.
+fn head_at<S: Shelf>(shelf: &mut S, at: PlaceAt) -> Result<Option<Head>, Failed>
+    requires { IsOnDrive (S.sizes shelf.old) at }
+    ensures form { IfOk result (λ seen. IfSome seen (IsFormed at (slice_index_or (S.sizes shelf.old) at.drive.0 0))) }
+    ensures value { IfOk result (λ seen. (t : Tale) → S.tale shelf.old ≡ Some t → IfSome seen (IsHead at (slice_index_or (S.sizes shelf.old) at.drive.0 0) (last t at.drive.0))) }
+    ensures spelled { IfOk result (λ seen. (t : Tale) → S.tale shelf.old ≡ Some t → (head : Head) → IsHead at (slice_index_or (S.sizes shelf.old) at.drive.0 0) (last t at.drive.0) head → seen ≡ Some head) }
+    ensures same { S.tale shelf.new ≡ S.tale shelf.old }
+    ensures cause { HasCause (S.faults shelf.old (OnDrive at.drive.0)) (S.faults shelf.new (OnDrive at.drive.0)) result }
+    ensures keeps { Keeps S.sizes S.faults S.rest S.held shelf.old shelf.new }
+{
+    if shelf.blocks(at.drive) <= at.first {
+        return Ok(None);
+    }
+    let seen = inspect(shelf, at);
+    if seen.flags.read_error {
+        return Err(Failed);
+    }
+    Ok(seen.head)
+}
+
+fn find_table<S: Shelf>(
+    shelf: &mut S,
+    alloc: Global,
+    drives: &Geometry,
+    at: PlaceAt,
+    head: Head,
+) -> Result<Option<Found>, ReadFault>
+    requires sound { IsSound drives.now }
+    requires on_drive { IsOnDrive (S.sizes shelf.old) at }
+    requires form { IsFormed at (slice_index_or (S.sizes shelf.old) at.drive.0 0) head }
+    requires shown { shows head ≡ true }
+    ensures in_hand { IfOk result (λ found. IfSome found (IsInHand at (slice_index_or (S.sizes shelf.old) at.drive.0 0))) }
+    ensures table { IfOk result (λ seen. IfSome seen (λ found. IsTableAt drives.now (with_blocks at found.head.master.blocks).place found.table)) }
+    ensures found { (t : Tale) → S.tale shelf.old ≡ Some t → IfOk result (IsTableOf drives.now at head (last t at.drive.0)) }
+    ensures same { S.tale shelf.new ≡ S.tale shelf.old }
+    ensures cause { IfErr result (HasReadCause (Rose (S.faults shelf.old (OnDrive at.drive.0)) (S.faults shelf.new (OnDrive at.drive.0)))) }
+    ensures keeps { Keeps S.sizes S.faults S.rest S.held shelf.old shelf.new }
+{
+    let sized = at_length(at, head.master.blocks);
+    let spare = spare_slot(&head);
+    let mut body = Body::new(alloc, head.master.blocks)?;
+    match newest_table(shelf, alloc, drives, sized, &head, spare, &mut body) {
+        Ok(Some(table)) => Ok(Some(Found {
+            head,
+            spare,
+            table,
+            body,
+        })),
+        Ok(None) => Ok(None),
+        Err(fault) => Err(fault),
+    }
+}
+
+// The table of the slot that isn't spare, where both slots fit.
+fn newest_table<S: Shelf>(
+    shelf: &mut S,
+    alloc: Global,
+    drives: &Geometry,
+    at: PlaceAt,
+    head: &Head,
+    spare: Slot,
+    body: &mut Body,
+) -> Result<Option<Table>, ReadFault>
+    requires sound { IsSound drives.now }
+    requires placed { IsPlaced (S.sizes shelf.old) at }
+    requires whole { body.old ≡ slot_blocks at.place.blocks }
+    requires shown { shows head.now ≡ true }
+    requires spare { IsSpareSlot head.now spare }
+    ensures whole { body.new ≡ body.old }
+    ensures fits { IfOk result (λ found. IfSome found (IsFitting drives.now at)) }
+    ensures found { (t : Tale) → S.tale shelf.old ≡ Some t → IfOk result (AreHeld drives.now at head.now spare (last t at.drive.0)) }
+    ensures same { S.tale shelf.new ≡ S.tale shelf.old }
+    ensures cause { IfErr result (HasReadCause (Rose (S.faults shelf.old (OnDrive at.drive.0)) (S.faults shelf.new (OnDrive at.drive.0)))) }
+    ensures keeps { Keeps S.sizes S.faults S.rest S.held shelf.old shelf.new }
+{
+    let older = read_slot(
+        shelf,
+        alloc,
+        drives,
+        at,
+        spare,
+        gate_of_slot(head, spare),
+        body,
+    )?;
+    if matches!(older, Held::Other) {
+        return Ok(None);
+    }
+    let kept = other_slot(spare);
+    match read_slot(
+        shelf,
+        alloc,
+        drives,
+        at,
+        kept,
+        gate_of_slot(head, kept),
+        body,
+    )? {
+        Held::Kept(table) => Ok(Some(table)),
+        Held::Nothing | Held::Other => Ok(None),
+    }
+}
+
+fn read_slot<S: Shelf>(
+    shelf: &mut S,
+    alloc: Global,
+    drives: &Geometry,
+    at: PlaceAt,
+    slot: Slot,
+    gate: Gate,
+    body: &mut Body,
+) -> Result<Held, ReadFault>
+    requires sound { IsSound drives.now }
+    requires placed { IsPlaced (S.sizes shelf.old) at }
+    requires whole { body.old ≡ slot_blocks at.place.blocks }
+    ensures whole { body.new ≡ body.old }
+    ensures fits { IfOk result (λ held. IfKept held (IsFitting drives.now at)) }
+    ensures held { (t : Tale) → S.tale shelf.old ≡ Some t → IfOk result (IsHeld drives.now at slot gate (last t at.drive.0)) }
+    ensures same { S.tale shelf.new ≡ S.tale shelf.old }
+    ensures cause { IfErr result (HasReadCause (Rose (S.faults shelf.old (OnDrive at.drive.0)) (S.faults shelf.new (OnDrive at.drive.0)))) }
+    ensures keeps { Keeps S.sizes S.faults S.rest S.held shelf.old shelf.new }
+{
+    match gate {
+        Gate::Closed => Ok(Held::Nothing),
+        Gate::Open { mark: _, bytes } => match body.read(shelf, alloc, drives, at, slot, bytes)? {
+            Some(table) => Ok(Held::Kept(table)),
+            None => Ok(Held::Other),
+        },
+    }
+}
