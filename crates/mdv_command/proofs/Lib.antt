@@ -1,0 +1,16 @@
+pub mod Giving
+pub mod Executing
+pub mod Plain
+pub mod Knowing
+pub mod Going
+pub mod Deeds
+pub mod Turning
+pub mod Lifting
+pub mod Refusing
+pub mod Beside
+pub mod Booting
+pub mod Making
+pub mod Changing
+pub mod Transfer
+pub mod Keeping
+pub mod Staying

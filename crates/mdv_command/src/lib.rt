@@ -1,0 +1,11 @@
+//! What the commands of one host come to, how they are replied to, and how its drive stands with its history at each
+//! moment: the definitions and laws that an engine is held to, and the telling of replies.
+#![tactic(auto)]
+
+mod answer;
+mod host;
+mod telling;
+
+pub use answer::{Answer, BootRefusal, Reply};
+pub use host::Host;
+pub use telling::tell;
