@@ -1,0 +1,14 @@
+pub mod Coming
+pub mod Made
+pub mod Turning
+pub mod Lining
+pub mod Booting
+pub mod Waking
+pub mod Living
+pub mod Extents
+pub mod Again
+pub mod Refusing
+pub mod Changing
+pub mod Keeping
+pub mod Carrying
+pub mod Course

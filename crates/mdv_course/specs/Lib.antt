@@ -1,0 +1,5 @@
+pub use Rattle.mdv_base.specs.Causes
+pub mod Usage
+pub mod Run
+pub mod Standing
+pub mod Lives
