@@ -1,109 +1,94 @@
--- What a boot leaves of the drive and of its log, and what is known then.
-use Rattle.std.proofs.Common.{◌≡◌, ℕ, ◌+◌, Bool, true, false, ◌||◌, List, [], ◌∷◌, slice_index_or, Option, refl, sym, ◌∙◌, subst}
-use Rattle.mdv_base.specs.declared.name.Key.{Key}
-use Rattle.mdv_base.specs.declared.name.Key.TheVariants.{Local}
-use Rattle.mdv_shelf.specs.Tale.{Tale, last}
+-- What a boot of the host's database leaves, told of the host.
+use Rattle.std.proofs.Common.{◌≡◌, ℕ, false, List, Option, Some, None, refl, sym, subst, ap, ◌∙◌}
+use Rattle.mdv_home.specs.Home.{place_of}
+use Rattle.mdv_replica.specs.declared.replica.PlaceAt.{PlaceAt}
+use Rattle.mdv_replica.specs.Replica.{with_blocks}
+use Rattle.mdv_replica.specs.Form.{other_slot}
 use Rattle.mdv_shelf.specs.Area.{KeptOutside, nowhere}
 use Rattle.mdv_shelf.specs.Moments.{Moments, Ends}
-use Rattle.mdv_shelf.proofs.Moments.{moments_both, moments_weaker, moments_end, some_is}
-use Rattle.mdv_replica.specs.declared.replica.PlaceAt.{PlaceAt}
-use Rattle.mdv_replica.specs.declared.replica.Head.{Head}
-use Rattle.mdv_replica.specs.declared.replica.Slot.{Slot}
-use Rattle.mdv_replica.specs.declared.replica.Slot.TheVariants.{First, Second}
-use Rattle.mdv_store.specs.Log.{Log, is_firm, log_after_all, NoCreation}
-use Rattle.mdv_replica.specs.Form.{is_open, shows, greatest}
-use Rattle.mdv_store.specs.Database.{IsBooted, IsQuiet, IsReplica}
-use Rattle.mdv_store.specs.declared.database.BootEnd.{BootEnd}
-use Rattle.mdv_store.specs.Standing.{ShowsNothing, GoesOn, GoesOnTo, IsAdopted, IsBootedTo, rewritten}
-use Rattle.mdv_store.proofs.Covering.{last_image}
-use Rattle.mdv_engine.specs.declared.engine.Host.{Host}
-use Rattle.mdv_engine.specs.declared.engine.State.{State}
-use Rattle.mdv_engine.specs.Home.{AtHome, place_of}
-use Rattle.mdv_engine.specs.Line.{IsSame, IsRewritten}
-use Rattle.mdv_engine.specs.Standing.{BootMoment, BootedTo, Knows}
-use Rattle.mdv_engine.proofs.Homes.{at_home}
+use Rattle.mdv_shelf.specs.Settle.{IsSynced}
+use Rattle.mdv_shelf.specs.Tale.{Tale, last}
+use Rattle.mdv_shelf.proofs.Moments.{moments_both, moments_weaker, moments_end, ends_both}
+use Rattle.mdv_log.specs.Log.{NoCreation, is_firm}
+use Rattle.mdv_log.specs.Site.{Site, Newest, IsFound, IsTableAt}
+use Rattle.mdv_log.specs.Standing.{GoesOn, GoesOnTo, IsNewestIn, IsOpened, ShowsNothing}
+use Rattle.mdv_log.specs.Steps.{IsAdopted}
+use Rattle.mdv_database.specs.Database.{IsDrawn, IsQuiet, IsSpent}
+use Rattle.mdv_command.specs.declared.answer.Answer.TheVariants as outcome
+use Rattle.mdv_command.specs.declared.host.Host.{Host}
+use Rattle.mdv_command.specs.Home.{IsReady, site_of}
+use Rattle.mdv_command.specs.Line.{Memory, IsRebooted, IsUsedUp, adopted, empty, down, kept_at, unbooted}
+use Rattle.mdv_command.specs.Standing.{BootMoment, BootedTo}
+use Rattle.mdv_command.proofs.Booting.{boot_moment, booted, booted_adopted, booted_down, booted_empty, unread}
+use Rattle.mdv_command.proofs.Keeping.{rewritten_newest, same_content}
+use Rattle.mdv_engine.specs.Engine.{IsWell}
+use Rattle.mdv_engine.proofs.Sites.{here, told_site, quiet_here}
 
-pub same_is : (old new : ℕ → List ℕ) → IsSame old new → new ≡ old
-same_is old new same = λ i block. same block i
+module _ (host : Host) (sizes : List ℕ) (ready : IsReady host sizes) (at : PlaceAt) (at_is : at ≡ place_of host.home) where
+  abbrev site : Site
+  site = told_site host sizes ready at at_is
 
-or_true : (b : Bool) → b || true ≡ true
-or_true true = refl
-or_true false = refl
+  abbrev to_host : (P : Site → Type 0) → P site → P (site_of host)
+  to_host = here host sizes ready at at_is
 
--- a replica with its table under a new number shows one
-shown_again : (head : Head) (slot : Slot) (number : ℕ) → shows (rewritten head slot number) ≡ true
-shown_again head First number = refl
-shown_again head Second number = or_true (is_open head.first)
-
-module _ (host : Host) (place : PlaceAt) (sizes : List ℕ) (place_is : place ≡ place_of host.geometry) (sizes_are : sizes ≡ host.geometry.drive_blocks ∷ []) where
-  abbrev key : Key
-  key = Local host.geometry.host
-
-  abbrev size : ℕ
-  size = slice_index_or sizes place.drive.0 0
-
-  pub boot_moments : (a b : Option Tale) → Moments (IsQuiet place) a b → Moments (GoesOn key place size NoCreation) a b → Moments (BootMoment host) a b
+  pub boot_moments : (a b : Option Tale) → Moments (IsQuiet at) a b → Moments (GoesOn site NoCreation) a b → Moments (BootMoment host) a b
   boot_moments a b quiet goes = moments_weaker _ (BootMoment host) a b
-      (λ t m both. record {
-        quiet = subst (λ (p : PlaceAt). IsQuiet p t m) place_is both.0;
-        goes = at_home host place sizes place_is sizes_are (λ k p s. GoesOn k p s NoCreation t m) both.1;
-      }) (moments_both (IsQuiet place) (GoesOn key place size NoCreation) a b quiet goes)
+      (λ t m both. boot_moment host t m (quiet_here host sizes ready at at_is t m both.0) both.0.quiet (to_host (λ s. GoesOn s NoCreation t m) both.1))
+      (moments_both (IsQuiet at) (GoesOn site NoCreation) a b quiet goes)
 
-  -- what the boot of the store answered
-  pub booted_here : (failed : Type 0) (t : Tale) (end : BootEnd) → IsBooted failed key place size (last t place.drive.0) end → AtHome host (λ k p s. IsBooted failed k p s (last t 0) end)
-  booted_here failed t end is = at_home host place sizes place_is sizes_are (λ k p s. IsBooted failed k p s (last t p.drive.0) end) is
+  -- a boot that adopted a replica
+  module _ (begun : ℕ) (newest : Newest) (a b : Option Tale) where
+    pub adopted_rebooted : (failed : Type 0) → Moments (IsQuiet at) a b → ((t : Tale) → a ≡ Some t → IsDrawn site (last t at.drive.0) newest) → Ends (λ t u. IsAdopted site (last t at.drive.0) newest u × IsOpened site newest u) a b
+        → Ends (λ t u. (old new : Memory) → old.begun ≡ begun → new ≡ booted (Some newest) begun → IsRebooted failed host (kept_at old t) outcome.Ok (kept_at new u)) a b
+    adopted_rebooted failed quiet drawn is t start =
+        let end = ends_both (λ t u. IsAdopted site (last t at.drive.0) newest u × IsOpened site newest u) (IsQuiet at) (λ t u. IsAdopted site (last t at.drive.0) newest u × IsQuiet at t u) a b (λ t u q s. (q.0, s)) is (moments_end (IsQuiet at) a b quiet) t start in
+        let of = to_host (λ s. IsDrawn s (last t s.at.drive.0) newest) (drawn t start) in
+        let by = to_host (λ s. IsAdopted s (last t s.at.drive.0) newest end.0) end.2.0 in
+        (end.0, end.1, λ old new same now. adopted newest refl (now ∙ ap (λ (n : ℕ). booted (Some newest) n) (sym same)) (rewritten_newest host old new t end.0 newest of.head (other_slot newest.slot) newest.table (quiet_here host sizes ready at at_is t end.0 end.2.1) of.tie of.the of.fits by))
 
-  pub rewritten_here : (t u : Tale) → IsAdopted key place size (last t place.drive.0) u → AtHome host (λ k p s. IsRewritten k p s (last t 0) (last u 0))
-  rewritten_here t u is = at_home host place sizes place_is sizes_are (λ k p s. IsRewritten k p s (last t p.drive.0) (last u p.drive.0)) (record {
-    head = is.head;
-    slot = is.slot;
-    replica = is.replica;
-    shown = is.shown;
-    spare = is.spare;
-    written = is.each (last u) (last_image u);
-  })
+    pub adopted_booted : Moments (IsQuiet at) a b → Ends (λ t u. IsAdopted site (last t at.drive.0) newest u × IsOpened site newest u) a b → Ends (λ t u. IsSynced at.drive.0 u) a b → Ends (GoesOnTo site NoCreation (IsNewestIn newest)) a b
+        → Ends (BootedTo host (booted (Some newest) begun)) a b
+    adopted_booted quiet is synced goes =
+        ends_both _ _ _ a b
+        (λ t u one two. booted_adopted host t u (quiet_here host sizes ready at at_is t u one.0) one.0.quiet (to_host (λ s. IsSynced s.at.drive.0 u) one.1) begun newest (to_host (λ s. IsOpened s newest u) two.0.1) (to_host (λ s. GoesOnTo s NoCreation (IsNewestIn newest) t u) two.1))
+        (ends_both (IsQuiet at) (λ t u. IsSynced at.drive.0 u) (λ t u. IsQuiet at t u × IsSynced at.drive.0 u) a b (λ t u q s. (q, s)) (moments_end (IsQuiet at) a b quiet) synced)
+        (ends_both (λ t u. IsAdopted site (last t at.drive.0) newest u × IsOpened site newest u) (GoesOnTo site NoCreation (IsNewestIn newest)) (λ t u. (IsAdopted site (last t at.drive.0) newest u × IsOpened site newest u) × GoesOnTo site NoCreation (IsNewestIn newest) t u) a b (λ t u q s. (q, s)) is goes)
 
-  pub knows_adopted : (state : State) (t u : Tale) → state.database ≡ true → IsAdopted key place size (last t place.drive.0) u → Knows host state u
-  knows_adopted state t u there is = record {
-    nothing = λ not. absurd (cc (sym there ∙ not));
-    fixed = λ held. (
-      rewritten is.head is.slot (greatest is.head + 1),
-      record {
-        shown = shown_again is.head is.slot (greatest is.head + 1);
-        each = λ image of_image. at_home host place sizes place_is sizes_are (λ k p s. IsReplica k p s (image p.drive.0) (rewritten is.head is.slot (greatest is.head + 1))) (is.each image of_image);
-      },
-    );
-  }
+  -- one that found nothing
+  module _ (begun : ℕ) (a b : Option Tale) where
+    pub empty_rebooted : (failed : Type 0) → ((t : Tale) → a ≡ Some t → IsFound site (last t at.drive.0) None) → Ends (KeptOutside nowhere) a b
+        → Ends (λ t u. (old new : Memory) → old.begun ≡ begun → new ≡ unbooted begun → IsRebooted failed host (kept_at old t) outcome.Ok (kept_at new u)) a b
+    empty_rebooted failed found kept t start =
+        let end = kept t start in
+        (end.0, end.1, λ old new same now. empty refl (now ∙ ap unbooted (sym same)) (to_host (λ s. IsFound s (last t s.at.drive.0) None) (found t start)) (same_content t end.0 end.2))
 
-  pub knows_empty : (state : State) (u : Tale) → state.database ≡ false → ShowsNothing key place size u → Knows host state u
-  knows_empty state u not nothing = record {
-    nothing = λ none up. at_home host place sizes place_is sizes_are (λ k p s. ShowsNothing k p s u) nothing;
-    fixed = λ held. absurd (cc (sym not ∙ held));
-  }
+    pub empty_booted : Moments (IsQuiet at) a b → Ends (λ t u. IsSynced at.drive.0 u) a b → Ends (λ t u. ShowsNothing site u) a b → Ends (GoesOnTo site NoCreation (λ lg. is_firm lg ≡ false)) a b
+        → Ends (BootedTo host (unbooted begun)) a b
+    empty_booted quiet synced nothing goes =
+        ends_both _ _ _ a b
+        (λ t u one two. booted_empty host t u (quiet_here host sizes ready at at_is t u one.0) one.0.quiet (to_host (λ s. IsSynced s.at.drive.0 u) one.1) begun (to_host (λ s. ShowsNothing s u) two.0) (to_host (λ s. GoesOnTo s NoCreation (λ lg. is_firm lg ≡ false) t u) two.1))
+        (ends_both (IsQuiet at) (λ t u. IsSynced at.drive.0 u) (λ t u. IsQuiet at t u × IsSynced at.drive.0 u) a b (λ t u q s. (q, s)) (moments_end (IsQuiet at) a b quiet) synced)
+        (ends_both (λ t u. ShowsNothing site u) (GoesOnTo site NoCreation (λ lg. is_firm lg ≡ false)) (λ t u. ShowsNothing site u × GoesOnTo site NoCreation (λ lg. is_firm lg ≡ false) t u) a b (λ t u q s. (q, s)) nothing goes)
 
-  pub knows_down : (state : State) (u : Tale) → state.database ≡ false → state.down ≡ true → Knows host state u
-  knows_down state u not down = record { nothing = λ none up. absurd (cc (sym down ∙ up)); fixed = λ held. absurd (cc (sym not ∙ held)) }
+    -- one that couldn't read the drive
+    pub down_rebooted : (failed : Type 0) → failed → Ends (KeptOutside nowhere) a b
+        → Ends (λ t u. (old new : Memory) → old.begun ≡ begun → new ≡ unread begun → IsRebooted failed host (kept_at old t) outcome.Ok (kept_at new u)) a b
+    down_rebooted failed so kept t start =
+        let end = kept t start in
+        (end.0, end.1, λ old new same now. down so refl (now ∙ ap unread (sym same)) (same_content t end.0 end.2))
 
-  -- a boot that is answered
-  pub booted_to : (end : BootEnd) (state : State) (a b : Option Tale) → Moments (IsQuiet place) a b → Ends (GoesOnTo key place size NoCreation (IsBootedTo end)) a b
-      → ((log : Log) → IsBootedTo end log → state.database ≡ true → is_firm log ≡ true) → Ends (λ t u. Knows host state u) a b → Ends (BootedTo host state) a b
-  booted_to end state a b quiet goes firm knows t is =
-      let one = moments_end (IsQuiet place) a b quiet t is in
-      let two = goes t is in
-      let three = knows t is in
-      let knows_one : Knows host state one.0 = subst (λ (u : Tale). Knows host state u) (some_is b three.0 one.0 three.1 one.1) three.2 in
-      let goes_one = subst (λ (u : Tale). GoesOnTo key place size NoCreation (IsBootedTo end) t u) (some_is b two.0 one.0 two.1 one.1) two.2 in (
-        one.0,
-        one.1,
-        record {
-          quiet = one.2.quiet;
-          knows = knows_one;
-          goes = λ log covers.
-              let went = at_home host place sizes place_is sizes_are (λ k p s. GoesOnTo k p s NoCreation (IsBootedTo end) t one.0) goes_one log covers in
-              (went.0, went.1, went.2, record { covers = went.3; firm = firm (log_after_all log went.0) went.4; knows = knows_one });
-        },
-      )
+    pub down_booted : Moments (IsQuiet at) a b → Ends (KeptOutside nowhere) a b → Ends (BootedTo host (unread begun)) a b
+    down_booted quiet kept = ends_both (KeptOutside nowhere) (IsQuiet at) (BootedTo host (unread begun)) a b (λ t u k q. booted_down host t u begun k q.quiet) kept (moments_end (IsQuiet at) a b quiet)
 
--- a boot that wrote nothing left what a read gives
-pub same_content : (drive : ℕ) (t u : Tale) → KeptOutside nowhere t u → IsSame (last t drive) (last u drive)
-same_content drive t u kept block = (kept drive block refl).last
+  -- one whose next number would reach the limit
+  pub spent_here : (t : Tale) → IsSpent site (last t at.drive.0) → IsUsedUp (site_of host) (last t 0)
+  spent_here t spent =
+      let of = to_host (λ s. IsSpent s (last t s.at.drive.0)) spent in
+      record { head = of.head; replica = of.replica; shown = of.shown; spent = of.spent }
+
+-- an adopted database is in order
+pub adopted_well : (host : Host) (begun : ℕ) (newest : Newest) (at : PlaceAt) → at ≡ place_of host.home → IsTableAt host.drives (with_blocks at newest.blocks).place newest.table → IsWell host (booted (Some newest) begun) × (begun ≡ begun)
+adopted_well host begun newest at at_is is = (
+  record { sound = λ down. absurd (cc (down)); table = subst (λ (p : PlaceAt). IsTableAt host.drives (with_blocks p newest.blocks).place newest.table) at_is is },
+  refl,
+)

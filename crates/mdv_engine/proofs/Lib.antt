@@ -1,9 +1,7 @@
-pub mod Giving
-pub mod Homes
-pub mod Knowing
-pub mod Plain
-pub mod Turning
-pub mod Executing
-pub mod Making
+pub mod Sites
 pub mod Booting
-pub mod Staying
+pub mod Creating
+pub mod Committing
+pub mod Commits
+pub mod Places
+pub mod Blocks

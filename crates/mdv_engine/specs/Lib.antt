@@ -1,5 +1,2 @@
 pub use Rattle.mdv_base.specs.Causes
-pub mod Home
-pub mod Replies
-pub mod Line
-pub mod Standing
+pub mod Engine

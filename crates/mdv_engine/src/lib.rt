@@ -2,13 +2,11 @@
 //! reply to each.
 #![tactic(auto)]
 
-mod answer;
-mod command;
+mod change;
+mod create;
 mod engine;
-mod geometry;
-mod telling;
+mod state;
+mod transfer;
 
-pub use answer::{Answer, BootRefusal, Reply};
-pub use command::Command;
-pub use engine::{Engine, Host, State};
-pub use geometry::{FIRST_BLOCK, SmallGeometry, place_at};
+pub use engine::Engine;
+pub use state::State;

@@ -1,69 +1,74 @@
-use Rattle.std.proofs.Common.{true, ◌∙◌, ap, arith}
+use Rattle.std.proofs.Common.{◌∙◌, ap, arith}
 use Rattle.mdv_shelf.specs.Tale.{told}
 use Rattle.mdv_shelf.specs.Calls.{OnDrive, OnReplies}
 use Rattle.mdv_shelf.proofs.Moments.{moments_after, moments_end, ends_more, some_is}
-use Rattle.mdv_engine.specs.Replies.{text_of}
-use Rattle.mdv_engine.specs.Standing.{CarryMoment, OnlyReplied, TellMoment, TurnMoment, Turned, Knows}
-use Rattle.mdv_engine.proofs.Executing.{executed, told_cause, rose_within}
-use Rattle.mdv_engine.proofs.Turning.{Carried, carried_ends, turn_carry, turn_tell, turned, knows_after}
-use Rattle.mdv_engine.proofs.Staying.{both_stay, carry_stays, tell_stays}
+use Rattle.mdv_command.specs.Line.{asked_by}
+use Rattle.mdv_command.specs.Replies.{text_of}
+use Rattle.mdv_command.specs.Standing.{CarryMoment, OnlyReplied, TellMoment, TurnMoment, Turned, Knows}
+use Rattle.mdv_command.proofs.Executing.{executed, told_cause, rose_within}
+use Rattle.mdv_command.proofs.Turning.{Carried, carried_ends, turn_carry, turn_tell, turned, knows_after}
+use Rattle.mdv_command.proofs.Staying.{both_stay, tell_stays}
 use Rattle.mdv_engine.proofs.engine.Engine.exec.Goals as goal
 
 pub returns-clause-answered : goal.returns-clause-answered
 returns-clause-answered g c = λ t is.
     let host = c.args.self.now.host in
+    let asked = asked_by c.args.command.now in
     let old = c.args.self.now.state in
     let new = c.carry_out-answer.new.self.state in
-    let carry = moments_end (CarryMoment host old) _ _ c.carry_out-answer.ensures.moments t is in
+    let answer = c.carry_out-answer.result in
+    let carry = moments_end (CarryMoment host asked old) _ _ c.carry_out-answer.ensures.moments t is in
     let done = c.carry_out-answer.ensures.answered t is in
     let end = c.tell.ensures.told done.0 done.1 in (
       end.0,
       end.1,
-      λ known. executed _ _ _ _ host c.args.command.now old new c.carry_out-answer.result c.tell.result t done.0 end.0
+      λ known. executed _ _ _ _ host c.args.command.now old new answer c.tell.result t done.0 end.0
           (λ rose. rose_within _ _ _ _ (omega arith) (c.tell.ensures.keeps.no_fewer_faults (OnDrive 0)) rose)
           (λ rose. rose_within _ _ _ _ (c.carry_out-answer.ensures.keeps.no_fewer_faults OnReplies) (omega arith) rose)
-          (ap told (some_is _ done.0 carry.0 done.1 carry.1) ∙ carry.2.quiet.quiet) (done.2 known) end.2,
+          (ap told (some_is _ done.0 carry.0 done.1 carry.1) ∙ carry.2.quiet) (done.2 known) end.2,
     )
 
 pub returns-clause-moments : goal.returns-clause-moments
 returns-clause-moments g c =
     let host = c.args.self.now.host in
+    let asked = asked_by c.args.command.now in
     let old = c.args.self.now.state in
     let new = c.carry_out-answer.new.self.state in
     let answer = c.carry_out-answer.result in
-    moments_after (CarryMoment host old) (Carried host true old new answer) (TellMoment (text_of answer)) (TurnMoment host true old) _ _ _
-    (λ t m carry. turn_carry host true old t m carry)
-    (λ t u m both tell. turn_tell host true old new answer c.carry_out-answer.ensures.plain (λ ok made. c.carry_out-answer.ensures.free ok) t u both.0 both.1 m tell)
-    c.carry_out-answer.ensures.moments (carried_ends host true old new answer _ _ c.carry_out-answer.ensures.moments c.carry_out-answer.ensures.carried) c.tell.ensures.fronts
+    moments_after (CarryMoment host asked old) (Carried host asked old new answer) (TellMoment (text_of answer)) (TurnMoment host asked old) _ _ _
+    (λ t m carry. turn_carry host asked old t m carry)
+    (λ t u m both tell. turn_tell host asked old new answer c.carry_out-answer.ensures.plain (λ on some. c.carry_out-answer.ensures.awake on) c.carry_out-answer.ensures.free t u both.0 both.1 m tell)
+    c.carry_out-answer.ensures.moments (carried_ends host asked old new answer _ _ c.carry_out-answer.ensures.moments c.carry_out-answer.ensures.carried) c.tell.ensures.fronts
 
 pub returns-clause-turned : goal.returns-clause-turned
 returns-clause-turned g c = λ on.
     let host = c.args.self.now.host in
+    let asked = asked_by c.args.command.now in
     let old = c.args.self.now.state in
     let new = c.carry_out-answer.new.self.state in
     let answer = c.carry_out-answer.result in
-    ends_more (Carried host true old new answer) (OnlyReplied _ answer c.tell.result) (Turned host true old new) _ _ _
-    (λ t u v both given. turned host true old new _ t u v both.0.quiet.quiet answer c.carry_out-answer.ensures.plain (λ ok made. c.carry_out-answer.ensures.free ok) both.1 c.tell.result on given)
-    (carried_ends host true old new answer _ _ c.carry_out-answer.ensures.moments c.carry_out-answer.ensures.carried) c.tell.ensures.told
+    ends_more (Carried host asked old new answer) (OnlyReplied _ answer c.tell.result) (Turned host asked old new) _ _ _
+    (λ t u v both given. turned host asked old new _ t u v both.0.quiet answer c.carry_out-answer.ensures.plain (λ on some. c.carry_out-answer.ensures.awake on) c.carry_out-answer.ensures.free both.1 c.tell.result on given)
+    (carried_ends host asked old new answer _ _ c.carry_out-answer.ensures.moments c.carry_out-answer.ensures.carried) c.tell.ensures.told
 
 pub returns-clause-knows : goal.returns-clause-knows
 returns-clause-knows g c = λ on.
     let host = c.args.self.now.host in
+    let asked = asked_by c.args.command.now in
     let old = c.args.self.now.state in
     let new = c.carry_out-answer.new.self.state in
     let answer = c.carry_out-answer.result in
-    ends_more (Carried host true old new answer) (OnlyReplied _ answer c.tell.result) (λ t u. Knows host old t → Knows host new u) _ _ _
-    (λ t u v both given. knows_after host true old new _ t u v both.0.quiet.quiet answer both.1 c.tell.result on given)
-    (carried_ends host true old new answer _ _ c.carry_out-answer.ensures.moments c.carry_out-answer.ensures.carried) c.tell.ensures.told
+    ends_more (Carried host asked old new answer) (OnlyReplied _ answer c.tell.result) (λ t u. Knows host old t → Knows host new u) _ _ _
+    (λ t u v both given. knows_after host asked old new _ t u v both.0.quiet answer both.1 c.tell.result on given)
+    (carried_ends host asked old new answer _ _ c.carry_out-answer.ensures.moments c.carry_out-answer.ensures.carried) c.tell.ensures.told
 
 pub returns-clause-cause : goal.returns-clause-cause
 returns-clause-cause g c =
-    told_cause _ _ _ _ c.carry_out-answer.result c.tell.result c.tell.ensures.answers.0
+    told_cause _ _ _ _ c.tell.ensures.answers.0
     (λ rose. rose_within _ _ _ _ (omega arith) (c.tell.ensures.keeps.no_fewer_faults (OnDrive 0)) rose)
     (λ rose. rose_within _ _ _ _ (c.carry_out-answer.ensures.keeps.no_fewer_faults OnReplies) (omega arith) rose)
-    c.carry_out-answer.ensures.cause c.tell.ensures.answers.1
+    c.carry_out-answer.result c.tell.result c.carry_out-answer.ensures.cause c.tell.ensures.answers.1
 
 pub returns-clause-home : goal.returns-clause-home
 returns-clause-home g c =
-    let host = c.args.self.now.host in
-    both_stay host.geometry _ _ _ (carry_stays host c.args.self.now.state _ _ c.carry_out-answer.ensures.moments) (tell_stays host.geometry (text_of c.carry_out-answer.result) _ _ c.tell.ensures.fronts)
+    both_stay c.args.self.now.host _ _ _ c.carry_out-answer.ensures.home (tell_stays c.args.self.now.host (text_of c.carry_out-answer.result) _ _ c.tell.ensures.fronts)

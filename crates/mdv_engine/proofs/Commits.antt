@@ -1,0 +1,60 @@
+-- What a commit of the open database answers and leaves, told of the host, by the answer of the database.
+use Rattle.std.proofs.Common.{◌≡◌, ◌≤◌, ◌<◌, ◌⊎◌, ℕ, [], ◌∷◌, Option, Some, Err, Result, refl, sym, subst, ap, ◌∙◌, arith}
+use Rattle.mdv_base.specs.declared.refusal.Refusal.{Refusal}
+use Rattle.mdv_database.specs.declared.database.CommitFault.{CommitFault}
+use Rattle.mdv_database.specs.declared.database.CommitFault.TheVariants as unwritten
+use Rattle.mdv_record.specs.declared.record.TooLong.{TooLong}
+use Rattle.mdv_shelf.specs.Moments.{Ends}
+use Rattle.mdv_shelf.specs.Tale.{Tale}
+use Rattle.mdv_table.specs.declared.change.Change.{Change}
+use Rattle.mdv_log.specs.Site.{Newest}
+use Rattle.mdv_history.specs.History.{Changed}
+use Rattle.mdv_command.specs.declared.answer.Answer.{Answer}
+use Rattle.mdv_command.specs.declared.answer.Answer.TheVariants as outcome
+use Rattle.mdv_command.specs.declared.host.Host.{Host}
+use Rattle.mdv_command.specs.Line.{Memory, kept_at}
+use Rattle.mdv_command.specs.Standing.{CarriedTo, Knows}
+use Rattle.mdv_command.proofs.Refusing.{refused_still, spent_still}
+use Rattle.mdv_engine.specs.Engine.{IsCommit}
+
+-- a text fits the room or it doesn't
+pub fits_or_long : (bytes room : ℕ) → (bytes ≤ room) ⊎ (room < bytes)
+fits_or_long bytes room = grind arith
+
+-- a text that is too long: its length and its room are told
+pub told_numbers : (fault : TooLong) (other : CommitFault) → other ≡ unwritten.TooLong fault → (bytes room : ℕ) → ◌≡◌ {A = Result (Unit {0}) CommitFault} (Err other) (Err (unwritten.TooLong (record { bytes = bytes; room = room }))) → (fault.bytes ≡ bytes) × (fault.room ≡ room)
+told_numbers fault other is bytes room same = (cc (is, same), cc (is, same))
+
+pub lost_is_no_other : (other : CommitFault) → other ≡ unwritten.Lost → (fault : TooLong) → ◌≡◌ {A = Result (Unit {0}) CommitFault} (Err other) (Err (unwritten.TooLong fault)) → ⊥
+lost_is_no_other other is fault same = absurd (cc (is, same))
+
+-- what is in memory, where another database is open
+pub opened_as : (old memory : Memory) → old ≡ memory → (n m : Newest) → n ≡ m → record old { opened = Some n } ≡ record memory { opened = Some m }
+opened_as old memory same n m is = subst (λ (x : Memory). record old { opened = Some n } ≡ record x { opened = Some m }) same (ap (λ (x : Newest). record old { opened = Some x }) is)
+
+-- where the same one is
+pub opened_still : (old memory : Memory) → old ≡ memory → (n m : Newest) → n ≡ m → memory.opened ≡ Some m → record old { opened = Some n } ≡ memory
+opened_still old memory same n m is opened = opened_as old memory same n m is ∙ subst (λ (o : Option Newest). record memory { opened = o } ≡ memory) opened refl
+
+module _ (host : Host) (memory : Memory) (change : Change) where
+  module _ (a b : Option Tale) (answer result : Answer) (result_is : result ≡ answer) (after real : Memory) (real_is : real ≡ after) where
+    abbrev Committed : Type 0 → Answer → Memory → Type 0
+    Committed failed answer after = Ends (λ t u. Knows host memory t → IsCommit failed host (kept_at memory t) change answer (kept_at after u)) a b
+
+    abbrev Carried : Answer → Memory → Type 0
+    Carried answer after = Ends (CarriedTo host (Changed change ∷ []) memory answer after) a b
+
+    -- what the commit answers, and leaves in memory
+    pub commit_as : (failed : Type 0) → Committed failed answer after → Committed failed result real
+    commit_as failed is = subst (λ (x : Answer). Committed failed x real) (sym result_is) (subst (λ (m : Memory). Committed failed answer m) (sym real_is) is)
+
+    pub carried_as : Carried answer after → Carried result real
+    carried_as is = subst (λ (x : Answer). Carried x real) (sym result_is) (subst (λ (m : Memory). Carried answer m) (sym real_is) is)
+
+  -- nothing was done
+  module _ (a b : Option Tale) (same : b ≡ a) where
+    pub refused_carried : (refusal : Refusal) → Ends (CarriedTo host (Changed change ∷ []) memory (outcome.Refused refusal) memory) a b
+    refused_carried refusal t start = (t, same ∙ start, refused_still host (Changed change ∷ []) memory memory t refl refl refusal)
+
+    pub spent_carried : Ends (CarriedTo host (Changed change ∷ []) memory outcome.Spent memory) a b
+    spent_carried t start = (t, same ∙ start, spent_still host (Changed change ∷ []) memory memory t)

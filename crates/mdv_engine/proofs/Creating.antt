@@ -1,0 +1,111 @@
+-- What a creation of the host's database leaves, told of the host.
+use Rattle.std.proofs.Common.{◌≡◌, ◌≤◌, ◌+◌, inl, inr, ℕ, false, List, [], ◌∷◌, Option, Some, None, refl, subst, ap, ◌∙◌}
+use Rattle.mdv_base.specs.declared.mark.Identity.{Identity}
+use Rattle.mdv_base.specs.declared.refusal.Refusal.TheVariants.{IoFault, OutOfMemory}
+use Rattle.mdv_home.specs.Home.{place_of}
+use Rattle.mdv_replica.specs.declared.replica.PlaceAt.{PlaceAt}
+use Rattle.mdv_shelf.specs.Moments.{Moments, Ends}
+use Rattle.mdv_shelf.specs.Tale.{Tale}
+use Rattle.mdv_shelf.proofs.Moments.{moments_both, moments_weaker, moments_end, ends_both}
+use Rattle.mdv_log.specs.Going.{IsCreated}
+use Rattle.mdv_log.specs.Log.{Log, IsThis, is_firm}
+use Rattle.mdv_log.specs.Site.{Site, Newest}
+use Rattle.mdv_log.specs.Standing.{Anything, GoesOnTo, IsOpened, ShowsNothing}
+use Rattle.mdv_history.specs.History.{Created}
+use Rattle.mdv_database.specs.Database.{IsQuiet, IsSafe, first_newest, first_table}
+use Rattle.mdv_command.specs.declared.answer.Answer.TheVariants as outcome
+use Rattle.mdv_command.specs.declared.host.Host.{Host}
+use Rattle.mdv_command.specs.Home.{IsReady, site_of, identity_of}
+use Rattle.mdv_command.specs.Line.{Memory, IsCreation, kept_at}
+use Rattle.mdv_command.specs.Standing.{CarriedTo, CarryMoment, Knows}
+use Rattle.mdv_command.proofs.Keeping.{created, uncreated}
+use Rattle.mdv_command.proofs.Making.{Makes, making_moment, made, unmade, made_or_lost}
+use Rattle.mdv_command.proofs.Refusing.{refused_still}
+use Rattle.mdv_engine.proofs.Sites.{here, told_site, quiet_here}
+
+-- what is in memory once a creation was begun, and once it made a database
+abbrev pub begun : Memory → Memory
+begun memory = record memory { begun = memory.begun + 1 }
+
+abbrev pub with_new : Host → Memory → Memory
+with_new host memory = record { opened = Some (first_newest (site_of host).at); down = false; begun = memory.begun + 1 }
+
+module _ (host : Host) (sizes : List ℕ) (ready : IsReady host sizes) (at : PlaceAt) (at_is : at ≡ place_of host.home) (memory : Memory) (room : 8208 ≤ host.home.blocks) (none : memory.opened ≡ None) (up : memory.down ≡ false) (a b : Option Tale)
+    (quiet : Moments (IsQuiet at) a b) where
+  abbrev site : Site
+  site = told_site host sizes ready at at_is
+
+  abbrev to_host : (P : Site → Type 0) → P site → P (site_of host)
+  to_host = here host sizes ready at at_is
+
+  abbrev identity : Identity
+  identity = identity_of host memory.begun
+
+  abbrev pub Goes : (Log → Type 0) → Tale → Tale → Type 0
+  Goes After t m = ShowsNothing site t → GoesOnTo site (IsThis identity) After t m
+
+  makes : (After : Log → Type 0) (t m : Tale) → Goes After t m → Makes host memory After t m
+  makes After t m goes = to_host (λ s. ShowsNothing s t → GoesOnTo s (IsThis identity) After t m) goes
+
+  pub making_moments : Moments (Goes Anything) a b → Moments (CarryMoment host (Created ∷ []) memory) a b
+  making_moments goes = moments_weaker _ (CarryMoment host (Created ∷ []) memory) a b
+      (λ t m both. making_moment host memory room none up t m (quiet_here host sizes ready at at_is t m both.0) both.0.quiet (makes Anything t m both.1))
+      (moments_both (IsQuiet at) (Goes Anything) a b quiet goes)
+
+  -- it was made
+  module _ (safe : Ends (λ t u. IsSafe site identity u) a b) where
+    pub made_creation : (failed : Type 0) (next : Memory) → next ≡ with_new host memory → Ends (λ t u. Knows host memory t → IsCreation failed host (kept_at memory t) outcome.Ok (kept_at next u)) a b
+    made_creation failed next next_is = ends_both (IsQuiet at) (λ t u. IsSafe site identity u) _ a b
+        (λ t u q s. λ known. inl (
+          refl,
+          created host memory next t u (first_table (site_of host).at.place) (quiet_here host sizes ready at at_is t u q) next_is refl refl (to_host (λ x. IsSafe x identity u) s),
+        ))
+        (moments_end (IsQuiet at) a b quiet) safe
+
+  pub made_carried : (newest : Newest) (next : Memory) → newest ≡ first_newest at → next ≡ with_new host memory → Ends (λ t u. IsOpened site newest u) a b → Ends (Goes (IsCreated site identity newest.table)) a b → Ends (CarriedTo host (Created ∷ []) memory outcome.Ok next) a b
+  made_carried newest next is next_is opened goes =
+      ends_both _ _ _ a b
+      (λ t u q two. made host memory room none up t u (quiet_here host sizes ready at at_is t u q) (first_table (site_of host).at.place) next (ap (λ (m : Memory). m.opened) next_is)
+      (λ nothing. to_host (λ s. IsOpened s (first_newest s.at) u) (subst (λ (n : Newest). IsOpened site n u) is two.0))
+      (to_host (λ s. ShowsNothing s t → GoesOnTo s (IsThis identity) (IsCreated s identity (first_table s.at.place)) t u) (subst (λ (n : Newest). Goes (IsCreated site identity n.table) t u) is two.1)))
+      (moments_end (IsQuiet at) a b quiet)
+      (ends_both (λ t u. IsOpened site newest u) (Goes (IsCreated site identity newest.table)) (λ t u. IsOpened site newest u × Goes (IsCreated site identity newest.table) t u) a b (λ t u o g. (o, g)) opened goes)
+
+  -- what is in memory then
+  pub new_memory : (newest : Newest) → newest ≡ first_newest at → ◌≡◌ {A = Memory} (record { opened = Some newest; down = memory.down; begun = memory.begun + 1 }) (with_new host memory)
+  new_memory newest is = λ i. record { opened = Some ((is ∙ ap first_newest at_is) i); down = up i; begun = memory.begun + 1 }
+
+  -- its format failed
+  module _ (nothing : Ends (λ t u. ShowsNothing site t → ShowsNothing site u) a b) where
+    pub unmade_creation : (failed : Type 0) → failed → Ends (λ t u. Knows host memory t → IsCreation failed host (kept_at memory t) (outcome.Refused IoFault) (kept_at (begun memory) u)) a b
+    unmade_creation failed so = ends_both (IsQuiet at) (λ t u. ShowsNothing site t → ShowsNothing site u) _ a b
+        (λ t u q n. λ known. inr (inr (
+          so,
+          inl (refl, uncreated host memory (begun memory) t u (quiet_here host sizes ready at at_is t u q) refl (to_host (λ s. ShowsNothing s t → ShowsNothing s u) n (known.nothing none up))),
+        )))
+        (moments_end (IsQuiet at) a b quiet) nothing
+
+    pub unmade_carried : Ends (Goes (λ lg. is_firm lg ≡ false)) a b → Ends (CarriedTo host (Created ∷ []) memory (outcome.Refused IoFault) (begun memory)) a b
+    unmade_carried goes =
+        ends_both _ _ _ a b
+        (λ t u q two. unmade host memory room none up t u (quiet_here host sizes ready at at_is t u q) (begun memory) none (to_host (λ s. ShowsNothing s t → ShowsNothing s u) two.0) (makes (λ lg. is_firm lg ≡ false) t u two.1))
+        (moments_end (IsQuiet at) a b quiet)
+        (ends_both (λ t u. ShowsNothing site t → ShowsNothing site u) (Goes (λ lg. is_firm lg ≡ false)) (λ t u. (ShowsNothing site t → ShowsNothing site u) × Goes (λ lg. is_firm lg ≡ false) t u) a b (λ t u o g. (o, g)) nothing goes)
+
+  -- the write of its table failed
+  pub lost_creation : (failed : Type 0) → failed → Ends (λ t u. Knows host memory t → IsCreation failed host (kept_at memory t) outcome.Panic (kept_at (begun memory) u)) a b
+  lost_creation failed so t start = (let end = quiet t start in (end.0, end.1, λ known. inr (inr (so, inr refl))))
+
+  pub lost_carried : (next : Memory) → Moments (Goes Anything) a b → Ends (CarriedTo host (Created ∷ []) memory outcome.Panic next) a b
+  lost_carried next goes =
+      ends_both (IsQuiet at) (Goes Anything) (CarriedTo host (Created ∷ []) memory outcome.Panic next) a b
+      (λ t u q g. made_or_lost host memory room none up t u (quiet_here host sizes ready at at_is t u q) next (makes Anything t u g))
+      (moments_end (IsQuiet at) a b quiet) (moments_end (Goes Anything) a b goes)
+
+-- memory was wanting
+module _ (host : Host) (memory : Memory) (a b : Option Tale) (same : b ≡ a) where
+  pub unbegun_creation : (failed : Type 0) → Ends (λ t u. Knows host memory t → IsCreation failed host (kept_at memory t) (outcome.Refused OutOfMemory) (kept_at (begun memory) u)) a b
+  unbegun_creation failed t start = (t, same ∙ start, λ known. inr (inl (refl, record { memory = refl; content = λ block. refl })))
+
+  pub unbegun_carried : Ends (CarriedTo host (Created ∷ []) memory (outcome.Refused OutOfMemory) (begun memory)) a b
+  unbegun_carried t start = (t, same ∙ start, refused_still host (Created ∷ []) memory (begun memory) t refl refl OutOfMemory)

@@ -1,0 +1,118 @@
+-- Where the blocks of a volume lie.
+use Rattle.std.proofs.Common.{◌≡◌, inl, inr, ◌≤◌, ◌+◌, ◌^◌, ℕ, true, false, List, Option, Some, None, IfSome, IfNone, refl, subst, ap, ◌∙◌, Contains, arith}
+use Rattle.std.proofs.lemmas.List.Elements.{All-contains}
+use Rattle.std.specs.Option.{is_some}
+use Rattle.mdv_base.specs.declared.name.VolId.{VolId}
+use Rattle.mdv_base.specs.declared.drive.SliceName.{SliceName}
+use Rattle.mdv_shelf.proofs.Blocks.{both_ways}
+use Rattle.mdv_home.specs.Placed.{IsHomeTable, IsWithin}
+use Rattle.mdv_home.proofs.Places.{slices_within}
+use Rattle.mdv_name.specs.SliceIndex.{HasSlice, HasNoSlice}
+use Rattle.mdv_name.specs.declared.slice_lines.SliceAt.{SliceAt}
+use Rattle.mdv_table.specs.declared.table.Table.{Table}
+use Rattle.mdv_table.specs.declared.volume.Base.{Base}
+use Rattle.mdv_table.specs.declared.volume.Base.TheVariants.{Slice}
+use Rattle.mdv_table.specs.declared.volume.Stripe.{Stripe as OneStripe}
+use Rattle.mdv_table.specs.declared.volume.Volume.{Volume}
+use Rattle.mdv_table.specs.declared.volume.VolumeKind.{VolumeKind}
+use Rattle.mdv_table.specs.declared.volume.VolumeKind.TheVariants.{Stripe}
+use Rattle.mdv_table.specs.Slices.{IsSound}
+use Rattle.mdv_table.specs.Table.{IsComponentOn, IsKindOf, IsStripeOf, IsWholeSlice}
+use Rattle.mdv_table.specs.Volumes.{HasVolume, HasNoVolume}
+use Rattle.mdv_log.specs.Site.{Newest}
+use Rattle.mdv_history.specs.History.{LiesOn}
+use Rattle.mdv_command.specs.declared.host.Host.{Host}
+use Rattle.mdv_command.specs.Home.{site_of}
+use Rattle.mdv_command.specs.Line.{Memory, HasVolumeOn, IsSound as IsSoundMemory}
+use Rattle.mdv_command.proofs.Refusing.{opened_has}
+use Rattle.mdv_engine.specs.Engine.{HasBlocks, IsTableOf, IsWell}
+
+-- there is one kind of volume, and one of bases
+pub stripe_is : (kind : VolumeKind) → (stripe : OneStripe) × (kind ≡ Stripe stripe)
+stripe_is (Stripe stripe) = (stripe, refl)
+
+pub slice_is : (base : Base) → (slice : SliceName) × (base ≡ Slice slice)
+slice_is (Slice slice) = (slice, refl)
+
+-- a volume on a slice
+module _ (host : Host) (home : IsHomeTable host.drives host.home) (sound : IsSound host.drives) (volume : Volume) (stripe : OneStripe) (slice : SliceName) (kind_is : volume.kind ≡ Stripe stripe) (on_is : stripe.component.on ≡ Slice slice) (kind : IsKindOf host.drives volume.kind) where
+  whole : IsWholeSlice host.drives stripe.component slice
+  whole =
+      let of : IsStripeOf host.drives stripe = subst (IsKindOf host.drives) kind_is kind in
+      subst (λ (b : Base). IsComponentOn host.drives stripe.component b) on_is of.component
+
+  -- the slice is there
+  pub not_none : HasNoSlice host.drives.slices slice → ⊥
+  not_none never = never whole.at whole.has
+
+  module _ (at : SliceAt) (has : HasSlice host.drives.slices slice at) where
+    same : whole.at ≡ at
+    same = sound.once slice whole.at at whole.has has
+
+    counts : stripe.component.blocks ≡ at.blocks
+    counts = whole.whole.blocks ∙ ap (λ (a : SliceAt). a.blocks) same
+
+    within : IsWithin host.home at
+    within = slices_within host.drives host.home slice at home has
+
+    pub starts : stripe.component.start ≡ 0
+    starts = whole.whole.start
+
+    pub lies_on : (volumes : List Volume) → Contains volumes volume → LiesOn (site_of host) volumes volume.number (at.start + stripe.component.start) stripe.component.blocks
+    lies_on volumes has_volume = record {
+      of = volume;
+      has = (has_volume, refl);
+      interlace = stripe.interlace;
+      component = stripe.component;
+      kind = kind_is;
+      slice = slice;
+      on = on_is;
+      at = at;
+      has_slice = has;
+      drive = within.drive;
+      first_is = refl;
+      count_is = refl;
+    }
+
+    pub ends_within : (at.start + stripe.component.start) + stripe.component.blocks ≤ host.home.drive_blocks
+    ends_within = (let zero = starts in let count = counts in let less = within.within in omega arith)
+
+    pub ends_small : (at.start + stripe.component.start) + stripe.component.blocks ≤ 2 ^ 40
+    ends_small = (let zero = starts in let count = counts in let less = (sound.each slice at has).within in omega arith)
+
+-- a volume of the open table
+module _ (host : Host) (memory : Memory) (well : IsWell host memory) (newest : Newest) (opened : memory.opened ≡ Some newest) (table : Table) (table_is : table ≡ newest.table) (number : VolId) where
+  pub no_volume : HasNoVolume table.plan.volumes number → (n : Newest) × (memory.opened ≡ Some n) × HasNoVolume n.table.plan.volumes number
+  no_volume never = (newest, opened, subst (λ (t : Table). HasNoVolume t.plan.volumes number) table_is never)
+
+  module _ (volume : Volume) (has : HasVolume table.plan.volumes number volume) where
+    pub kind_of : IsKindOf host.drives volume.kind
+    kind_of =
+        let is : IsTableOf host newest.blocks newest.table = opened_has memory newest (λ n. IsTableOf host n.blocks n.table) opened well.table in
+        All-contains (λ (v : Volume). IsKindOf host.drives v.kind) newest.table.plan.volumes volume is.of_geometry.kinds (subst (λ (t : Table). Contains t.plan.volumes volume) table_is has.0)
+
+    pub volume_on : (first blocks : ℕ) → ((volumes : List Volume) → Contains volumes volume → LiesOn (site_of host) volumes volume.number first blocks) → HasVolumeOn host memory number first blocks
+    volume_on first blocks lies = (
+      newest,
+      opened,
+      subst (λ (n : VolId). LiesOn (site_of host) newest.table.plan.volumes n first blocks) has.1 (lies newest.table.plan.volumes (subst (λ (t : Table). Contains t.plan.volumes volume) table_is has.0)),
+    )
+
+-- a database is open only where the drive was read
+pub awake_opened : (memory : Memory) (newest : Newest) → IsSoundMemory memory → memory.opened ≡ Some newest → memory.down ≡ false
+awake_opened memory newest sound opened = elim (both_ways memory.down) [
+  | inl down ↦ (let none = sound down in absurd (cc (none, opened)))
+  | inr up ↦ up
+]
+
+pub awake_blocks : (host : Host) (memory : Memory) (volume : VolId) (at count : ℕ) → IsSoundMemory memory → HasBlocks host memory volume at count → memory.down ≡ false
+awake_blocks host memory volume at count sound has = awake_opened memory has.1.lies.0 sound has.1.lies.1
+
+-- what was looked for, where it is known whether it was found
+pub found_none : {A : Type 0} (o : Option A) (P : Type 0) → is_some o ≡ false → IfNone o P → P
+found_none None P not is = is
+found_none (Some x) P not is = absurd (cc (not))
+
+pub found_some : {A : Type 0} (o : Option A) (P : A → Type 0) → is_some o ≡ true → IfSome o P → (x : A) × P x
+found_some None P there is = absurd (cc (there))
+found_some (Some x) P there is = (x, is)

@@ -1,0 +1,83 @@
+-- Where the database of a host's home lies, and what is said there of the place that the code computed.
+use Rattle.std.proofs.Common.{◌≡◌, ◌+◌, ◌≤◌, ℕ, List, [], ◌∷◌, Option, refl, sym, subst, ap, arith}
+use Rattle.std.proofs.lemmas.List.Elements.{All-head}
+use Rattle.mdv_base.specs.declared.name.Key.TheVariants.{Local}
+use Rattle.mdv_base.specs.declared.place.Place.{Place}
+use Rattle.mdv_home.specs.Home.{line_of, place_of}
+use Rattle.mdv_name.specs.declared.slice_lines.SliceAt.{SliceAt}
+use Rattle.mdv_replica.specs.declared.replica.PlaceAt.{PlaceAt}
+use Rattle.mdv_replica.specs.Replica.{IsPlaced, with_blocks}
+use Rattle.mdv_shelf.specs.Area.{KeptOutside}
+use Rattle.mdv_shelf.specs.Moments.{Moments}
+use Rattle.mdv_shelf.specs.Tale.{Tale}
+use Rattle.mdv_shelf.proofs.Moments.{moments_weaker}
+use Rattle.mdv_table.specs.declared.plan.Lists.TheVariants.{One}
+use Rattle.mdv_table.specs.declared.table.Table.{Table}
+use Rattle.mdv_table.specs.Table.{IsListsOf, IsPlaceOf}
+use Rattle.mdv_log.specs.Site.{Site, area_of}
+use Rattle.mdv_database.specs.Database as database
+use Rattle.mdv_database.specs.Database.{IsOnDrive, IsQuiet}
+use Rattle.mdv_command.specs.declared.host.Host.{Host}
+use Rattle.mdv_command.specs.Home.{IsReady, StaysHome, site_of}
+use Rattle.mdv_command.proofs.Lifting.{site_here}
+use Rattle.mdv_command.proofs.Staying.{stays_in_replica}
+use Rattle.mdv_engine.specs.Engine.{IsTableOf}
+
+module _ (host : Host) (sizes : List ℕ) (ready : IsReady host sizes) (at : PlaceAt) (at_is : at ≡ place_of host.home) where
+  -- the site that the database is told
+  abbrev pub told_site : Site
+  told_site = database.site_of host.drives (Local host.home.host) at sizes
+
+  -- what holds there holds of the host's site
+  pub here : (P : Site → Type 0) → P told_site → P (site_of host)
+  here P is = subst P (site_here host sizes ready at at_is) is
+
+  pub there : (P : Site → Type 0) → P (site_of host) → P told_site
+  there P is = subst P (sym (site_here host sizes ready at at_is)) is
+
+  -- the drive has a block
+  pub on_drive : IsOnDrive sizes at
+  on_drive = subst (IsOnDrive sizes) (sym at_is) (subst (λ (s : List ℕ). IsOnDrive s (place_of host.home)) (sym ready.drive) (record {
+    drive = omega arith;
+    some = (let some = ready.small.some_drive_blocks in omega arith);
+    size = (let few = ready.small.few_drive_blocks in omega arith);
+  }))
+
+  -- a replica of so many blocks lies on the drive, where the home's slice has room for it
+  pub placed : (blocks : ℕ) → 16 ≤ blocks → 16 + blocks ≤ host.home.blocks → IsPlaced sizes (with_blocks at blocks)
+  placed blocks least room = subst (λ (p : PlaceAt). IsPlaced sizes (with_blocks p blocks)) (sym at_is) (subst (λ (s : List ℕ). IsPlaced s (with_blocks (place_of host.home) blocks)) (sym ready.drive) (record {
+    drive = omega arith;
+    least = least;
+    within = (let within = ready.small.within in omega arith);
+    size = (let few = ready.small.few_drive_blocks in omega arith);
+  }))
+
+  -- the whole place
+  pub placed_whole : 8208 ≤ host.home.blocks → IsPlaced sizes at
+  placed_whole room = subst (IsPlaced sizes) (sym at_is) (subst (λ (p : PlaceAt). IsPlaced sizes (with_blocks p 8192)) at_is (placed 8192 (omega arith) (omega arith)))
+
+  -- it is one of the table of drives
+  pub place_is : 8208 ≤ host.home.blocks → IsPlaceOf host.drives at.place
+  place_is room = subst (λ (p : PlaceAt). IsPlaceOf host.drives p.place) (sym at_is) (record {
+    at = (line_of host.home).at;
+    has = ready.home.db;
+    lies = record { db = refl; start = refl; least = omega arith; most = omega arith; within = omega arith };
+  })
+
+  -- so does one whose table is one of this place
+  pub placed_open : (blocks : ℕ) (table : Table) → IsTableOf host blocks table → IsPlaced sizes (with_blocks at blocks)
+  placed_open blocks table is =
+      let place : Place = record { slice = host.home.slice; start = 16; blocks = blocks } in
+      let listed : IsListsOf host.drives (One (place ∷ [])) = subst (IsListsOf host.drives) is.lists is.of_geometry.lists in
+      let of : IsPlaceOf host.drives place = All-head (IsPlaceOf host.drives) place [] listed.1 in
+      let same : of.at ≡ (line_of host.home).at = ready.sound.once host.home.slice of.at (line_of host.home).at of.has ready.home.db in
+      let within = of.lies.within in
+      let counted : of.at.blocks ≡ host.home.blocks = ap (λ (a : SliceAt). a.blocks) same in
+      placed blocks of.lies.least (omega arith)
+
+  -- nothing is done outside the replica's blocks
+  pub quiet_here : (t m : Tale) → IsQuiet at t m → KeptOutside (area_of (site_of host)) t m
+  quiet_here t m quiet = (subst (λ (p : PlaceAt). IsQuiet p t m) at_is quiet).outside
+
+  pub quiet_stays : (a b : Option Tale) → Moments (IsQuiet at) a b → Moments (StaysHome host) a b
+  quiet_stays a b quiet = moments_weaker (IsQuiet at) (StaysHome host) a b (λ t m q. stays_in_replica host t m (quiet_here t m q)) quiet

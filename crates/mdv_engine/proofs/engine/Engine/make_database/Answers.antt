@@ -1,0 +1,154 @@
+use Rattle.std.proofs.Common.{◌≡◌, ◌∙◌, ◌+◌, ◌≤◌, ◌∷◌, [], List, ℕ, false, Option, Some, None, Err, sym, ap, subst}
+use Rattle.mdv_base.specs.Causes.{Rose}
+use Rattle.mdv_base.specs.declared.name.Key.TheVariants.{Local}
+use Rattle.mdv_base.specs.declared.refusal.Refusal.TheVariants.{IoFault, OutOfMemory}
+use Rattle.mdv_shelf.specs.Calls.{OnDrive}
+use Rattle.mdv_shelf.specs.Moments.{Ends, Moments}
+use Rattle.mdv_shelf.specs.Tale.{Tale}
+use Rattle.mdv_home.specs.Home.{place_of}
+use Rattle.mdv_replica.specs.declared.replica.PlaceAt.{PlaceAt}
+use Rattle.mdv_table.specs.Table.{IsPlaceOf}
+use Rattle.mdv_name.specs.declared.geometry.Geometry.{Geometry}
+use Rattle.mdv_log.specs.Going.{IsCreated}
+use Rattle.mdv_log.specs.Log.{Log, IsThis, is_firm}
+use Rattle.mdv_log.specs.Site.{Site, Newest}
+use Rattle.mdv_log.specs.Standing.{Anything, GoesOnTo, IsOpened, ShowsNothing}
+use Rattle.mdv_history.specs.History.{Created}
+use Rattle.mdv_database.specs.Database as database
+use Rattle.mdv_database.specs.Database.{IsQuiet, IsSafe, first_newest}
+use Rattle.mdv_command.specs.declared.answer.Answer.{Answer}
+use Rattle.mdv_command.specs.declared.answer.Answer.TheVariants as outcome
+use Rattle.mdv_command.specs.Home.{IsReady, StaysHome, identity_of}
+use Rattle.mdv_command.specs.Line.{Memory, IsCreation, kept_at}
+use Rattle.mdv_command.specs.Standing.{CarriedTo, CarryMoment, Knows}
+use Rattle.mdv_command.proofs.Plain.{fault_plain, memory_plain}
+use Rattle.mdv_engine.specs.declared.engine.Engine.{Engine}
+use Rattle.mdv_engine.proofs.Creating.{begun, lost_carried, made_carried, made_creation, making_moments, new_memory, unbegun_carried, unmade_carried, unmade_creation, with_new}
+use Rattle.mdv_engine.proofs.Sites.{place_is, quiet_stays}
+use Rattle.mdv_engine.proofs.engine.Engine.make_database.Goals as goal
+
+-- what a creation that came to this answer, and left this in memory, is to be
+abbrev Creates : Type 0 → Answer → Memory → Option Tale → Option Tale → Engine → Type 0
+Creates failed answer next a b x = Ends (λ t u. Knows x.host x.state t → IsCreation failed x.host (kept_at x.state t) answer (kept_at next u)) a b
+
+abbrev Carries : Answer → Memory → Option Tale → Option Tale → Engine → Type 0
+Carries answer next a b x = Ends (CarriedTo x.host (Created ∷ []) x.state answer next) a b
+
+-- `e` is what the engine's fields are, `v` the engine
+module _ (sizes : List ℕ) (e v : Engine) (is : e ≡ v) (readied : IsReady v.host sizes) (at : PlaceAt) (at_is : at ≡ place_of e.host.home) (roomy : 8208 ≤ v.host.home.blocks) (closed : v.state.opened ≡ None) (awake : v.state.down ≡ false) (a b : Option Tale)
+    (quiet : Moments (IsQuiet at) a b) where
+  ready : IsReady e.host sizes
+  ready = subst (λ (x : Engine). IsReady x.host sizes) (sym is) readied
+
+  room : 8208 ≤ e.host.home.blocks
+  room = subst (λ (x : Engine). 8208 ≤ x.host.home.blocks) (sym is) roomy
+
+  none : e.state.opened ≡ None
+  none = subst (λ (x : Engine). x.state.opened ≡ None) (sym is) closed
+
+  up : e.state.down ≡ false
+  up = subst (λ (x : Engine). x.state.down ≡ false) (sym is) awake
+
+  abbrev site : Geometry → Site
+  site drives = database.site_of drives (Local e.host.home.host) at sizes
+
+  abbrev Goes : (Site → Log → Type 0) → Geometry → Tale → Tale → Type 0
+  Goes After drives t m = ShowsNothing (site drives) t → GoesOnTo (site drives) (IsThis (identity_of e.host e.state.begun)) (After (site drives)) t m
+
+  -- so on each table of drives that has the place
+  abbrev OnEach : (Geometry → Type 0) → Type 0
+  OnEach P = (drives : Geometry) → IsPlaceOf drives at.place → P drives
+
+  on_ours : (P : Geometry → Type 0) → OnEach P → P e.host.drives
+  on_ours P each = each e.host.drives (place_is e.host sizes ready at at_is room)
+
+  home : Moments (StaysHome v.host) a b
+  home = subst (λ (x : Engine). Moments (StaysHome x.host) a b) is (quiet_stays e.host sizes ready at at_is a b quiet)
+
+  module _ (stays : OnEach (λ drives. Moments (Goes (λ s. Anything) drives) a b)) where
+    moments : Moments (CarryMoment v.host (Created ∷ []) v.state) a b
+    moments = subst (λ (x : Engine). Moments (CarryMoment x.host (Created ∷ []) x.state) a b) is
+        (making_moments e.host sizes ready at at_is e.state room none up a b quiet (on_ours (λ drives. Moments (Goes (λ s. Anything) drives) a b) stays))
+
+    lost : (next : Memory) → Carries outcome.Panic next a b v
+    lost next = subst (Carries outcome.Panic next a b) is
+        (lost_carried e.host sizes ready at at_is e.state room none up a b quiet next (on_ours (λ drives. Moments (Goes (λ s. Anything) drives) a b) stays))
+
+  module _ (newest : Newest) (new : newest ≡ first_newest at) (safe : OnEach (λ drives. Ends (λ t u. IsSafe (site drives) (identity_of e.host e.state.begun) u) a b)) where
+    abbrev next : Memory
+    next = record { opened = Some newest; down = e.state.down; begun = e.state.begun + 1 }
+
+    next_is : next ≡ with_new e.host e.state
+    next_is = new_memory e.host sizes ready at at_is e.state room none up a b quiet newest new
+
+    ours : Ends (λ t u. IsSafe (site e.host.drives) (identity_of e.host e.state.begun) u) a b
+    ours = on_ours (λ drives. Ends (λ t u. IsSafe (site drives) (identity_of e.host e.state.begun) u) a b) safe
+
+    made : (failed : Type 0) → Creates failed outcome.Ok next a b v
+    made failed = subst (Creates failed outcome.Ok next a b) is (made_creation e.host sizes ready at at_is e.state room none up a b quiet ours failed next next_is)
+
+    carried : OnEach (λ drives. Ends (λ t u. IsOpened (site drives) newest u) a b) → OnEach (λ drives. Ends (Goes (λ s. IsCreated s (identity_of e.host e.state.begun) newest.table) drives) a b) → Carries outcome.Ok next a b v
+    carried opened goes = subst (Carries outcome.Ok next a b) is (made_carried e.host sizes ready at at_is e.state room none up a b quiet newest next new next_is
+        (on_ours (λ drives. Ends (λ t u. IsOpened (site drives) newest u) a b) opened)
+        (on_ours (λ drives. Ends (Goes (λ s. IsCreated s (identity_of e.host e.state.begun) newest.table) drives) a b) goes))
+
+  module _ (nothing : (drives : Geometry) → IsPlaceOf drives at.place → Ends (λ t u. ShowsNothing (site drives) t → ShowsNothing (site drives) u) a b) where
+    unmade : (failed : Type 0) → failed → Creates failed (outcome.Refused IoFault) (begun e.state) a b v
+    unmade failed so = subst (Creates failed (outcome.Refused IoFault) (begun e.state) a b) is
+        (unmade_creation e.host sizes ready at at_is e.state room none up a b quiet (on_ours (λ drives. Ends (λ t u. ShowsNothing (site drives) t → ShowsNothing (site drives) u) a b) nothing) failed so)
+
+    unmade_carries : OnEach (λ drives. Ends (Goes (λ s lg. is_firm lg ≡ false) drives) a b) → Carries (outcome.Refused IoFault) (begun e.state) a b v
+    unmade_carries goes = subst (Carries (outcome.Refused IoFault) (begun e.state) a b) is
+        (unmade_carried e.host sizes ready at at_is e.state room none up a b quiet (on_ours (λ drives. Ends (λ t u. ShowsNothing (site drives) t → ShowsNothing (site drives) u) a b) nothing)
+        (on_ours (λ drives. Ends (Goes (λ s lg. is_firm lg ≡ false) drives) a b) goes))
+
+unbegun : (e v : Engine) → e ≡ v → (a b : Option Tale) → b ≡ a → Carries (outcome.Refused OutOfMemory) (begun e.state) a b v
+unbegun e v is a b same = subst (Carries (outcome.Refused OutOfMemory) (begun e.state) a b) is (unbegun_carried e.host e.state a b same)
+
+pub returns-in-Ok-clause-moments : goal.returns-in-Ok-clause-moments
+returns-in-Ok-clause-moments g c = moments _ _ _ c.self.view_is c.requires.ready c.place_at.result c.place_at.ensures c.requires.room c.requires.none c.requires.up _ _ c.create.ensures.moments c.create.ensures.stays
+
+pub returns-in-Err-Failed-clause-moments : goal.returns-in-Err-Failed-clause-moments
+returns-in-Err-Failed-clause-moments g c = moments _ _ _ c.self.view_is c.requires.ready c.place_at.result c.place_at.ensures c.requires.room c.requires.none c.requires.up _ _ c.create.ensures.moments c.create.ensures.stays
+
+pub returns-in-Err-Lost-clause-moments : goal.returns-in-Err-Lost-clause-moments
+returns-in-Err-Lost-clause-moments g c = moments _ _ _ c.self.view_is c.requires.ready c.place_at.result c.place_at.ensures c.requires.room c.requires.none c.requires.up _ _ c.create.ensures.moments c.create.ensures.stays
+
+pub returns-in-Ok-clause-home : goal.returns-in-Ok-clause-home
+returns-in-Ok-clause-home g c = home _ _ _ c.self.view_is c.requires.ready c.place_at.result c.place_at.ensures c.requires.room c.requires.none c.requires.up _ _ c.create.ensures.moments
+
+pub returns-in-Err-Failed-clause-home : goal.returns-in-Err-Failed-clause-home
+returns-in-Err-Failed-clause-home g c = home _ _ _ c.self.view_is c.requires.ready c.place_at.result c.place_at.ensures c.requires.room c.requires.none c.requires.up _ _ c.create.ensures.moments
+
+pub returns-in-Err-Lost-clause-home : goal.returns-in-Err-Lost-clause-home
+returns-in-Err-Lost-clause-home g c = home _ _ _ c.self.view_is c.requires.ready c.place_at.result c.place_at.ensures c.requires.room c.requires.none c.requires.up _ _ c.create.ensures.moments
+
+pub returns-in-Ok-clause-made : goal.returns-in-Ok-clause-made
+returns-in-Ok-clause-made g c = made _ _ _ c.self.view_is c.requires.ready c.place_at.result c.place_at.ensures c.requires.room c.requires.none c.requires.up _ _ c.create.ensures.moments c.in-Ok.database c.in-Ok.ensures.made c.in-Ok.ensures.safe _
+
+pub returns-in-Ok-clause-carried : goal.returns-in-Ok-clause-carried
+returns-in-Ok-clause-carried g c = carried _ _ _ c.self.view_is c.requires.ready c.place_at.result c.place_at.ensures c.requires.room c.requires.none c.requires.up _ _ c.create.ensures.moments c.in-Ok.database c.in-Ok.ensures.made c.in-Ok.ensures.safe c.in-Ok.ensures.opened c.in-Ok.ensures.ends
+
+pub returns-in-Err-Failed-clause-made : goal.returns-in-Err-Failed-clause-made
+returns-in-Err-Failed-clause-made g c =
+    unmade _ _ _ c.self.view_is c.requires.ready c.place_at.result c.place_at.ensures c.requires.room c.requires.none c.requires.up _ _ c.create.ensures.moments
+    (λ drives has. c.create.ensures.failed (c.in-Err-Failed.is ∙ ap Err c.in-Err-Failed.field-0-is) drives) _
+    (subst (λ (n : ℕ). Rose (g.S.Shelf.faults c.args.shelf.now (OnDrive n)) (g.S.Shelf.faults c.create.new.shelf (OnDrive n))) (ap (λ (p : PlaceAt). p.drive.0) c.place_at.ensures) (rw c.in-Err-Failed.field-0-is at c.in-Err-Failed.ensures.cause))
+
+pub returns-in-Err-Failed-clause-carried : goal.returns-in-Err-Failed-clause-carried
+returns-in-Err-Failed-clause-carried g c =
+    unmade_carries _ _ _ c.self.view_is c.requires.ready c.place_at.result c.place_at.ensures c.requires.room c.requires.none c.requires.up _ _ c.create.ensures.moments
+    (λ drives has. c.create.ensures.failed (c.in-Err-Failed.is ∙ ap Err c.in-Err-Failed.field-0-is) drives)
+    (rw c.in-Err-Failed.field-0-is at c.in-Err-Failed.ensures.ends)
+
+pub returns-in-Err-Lost-clause-carried : goal.returns-in-Err-Lost-clause-carried
+returns-in-Err-Lost-clause-carried g c = lost _ _ _ c.self.view_is c.requires.ready c.place_at.result c.place_at.ensures c.requires.room c.requires.none c.requires.up _ _ c.create.ensures.moments c.create.ensures.stays _
+
+pub returns-in-Err-Memory-clause-carried : goal.returns-in-Err-Memory-clause-carried
+returns-in-Err-Memory-clause-carried g c = unbegun _ _ c.self.view_is _ _ (ap g.S.Shelf.tale (c.create.ensures.memory (c.in-Err-Memory.is ∙ ap Err c.in-Err-Memory.field-0-is)))
+
+pub returns-in-Err-Failed-clause-plain : goal.returns-in-Err-Failed-clause-plain
+returns-in-Err-Failed-clause-plain g c = fault_plain
+
+pub returns-in-Err-Memory-clause-plain : goal.returns-in-Err-Memory-clause-plain
+returns-in-Err-Memory-clause-plain g c = memory_plain

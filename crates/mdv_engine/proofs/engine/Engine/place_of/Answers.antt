@@ -1,0 +1,25 @@
+use Rattle.std.proofs.Common.{arith, refl, sym, ap, ◌∙◌}
+use Rattle.mdv_engine.specs.declared.engine.Engine.{Engine}
+use Rattle.mdv_engine.proofs.Places.{no_volume, volume_on}
+use Rattle.mdv_engine.proofs.engine.Engine.place_of.Goals as goal
+use Rattle.mdv_engine.proofs.engine.Engine.place_of.Goals.{then-at-blocks-via-then-at-blocks, then-at-blocks-via-else-at-blocks+then-count-blocks}
+
+pub returns-in_default-find-clause-err : goal.returns-in_default-find-clause-err
+returns-in_default-find-clause-err c = no_volume c.args.self.now.host c.args.self.now.state c.requires.well c.in-Some.database (sym (ap (λ (e : Engine). e.state.opened) c.self.view_is) ∙ c.in-Some.is) c.table.result.now c.table.ensures c.args.volume c.in_default-find.ensures.none
+
+pub returns-then-at-blocks-clause-err : goal.returns-then-at-blocks-clause-err
+returns-then-at-blocks-clause-err c = (
+  c.extent_of-first.result.0,
+  c.extent_of-first.result.1,
+  volume_on c.args.self.now.host c.args.self.now.state c.requires.well c.in-Some.database (sym (ap (λ (e : Engine). e.state.opened) c.self.view_is) ∙ c.in-Some.is) c.table.result.now c.table.ensures c.args.volume c.in-Some-find.volume.now c.in-Some-find.ensures.value c.extent_of-first.result.0 c.extent_of-first.result.1 c.extent_of-first.ensures.lies,
+  elim c.then-at-blocks.branch [ then-at-blocks-via-then-at-blocks w ↦ omega arith | then-at-blocks-via-else-at-blocks+then-count-blocks w ↦ omega arith ],
+)
+
+pub returns-clause-ok : goal.returns-clause-ok
+returns-clause-ok c = record {
+  first = c.extent_of-first.result.0;
+  blocks = c.extent_of-first.result.1;
+  lies = volume_on c.args.self.now.host c.args.self.now.state c.requires.well c.in-Some.database (sym (ap (λ (e : Engine). e.state.opened) c.self.view_is) ∙ c.in-Some.is) c.table.result.now c.table.ensures c.args.volume c.in-Some-find.volume.now c.in-Some-find.ensures.value c.extent_of-first.result.0 c.extent_of-first.result.1 c.extent_of-first.ensures.lies;
+  within = omega arith;
+  block_is = refl;
+}

@@ -1,0 +1,29 @@
+use Rattle.std.proofs.Common.{◌≡◌, ◌∙◌, ℕ, length, take, ◌++◌, drop, sym, subst, ap}
+use Rattle.std.proofs.Math.Seq.{take-append_seam}
+use Rattle.mdv_base.specs.Causes.{Rose}
+use Rattle.mdv_shelf.specs.Calls.{OnDrive}
+use Rattle.mdv_shelf.specs.Tale.{last}
+use Rattle.mdv_status.specs.Values.{values_reply}
+use Rattle.mdv_command.specs.Line.{AreBlocksAt, blocks_of}
+use Rattle.mdv_engine.specs.Engine.{HasBlocksCause}
+use Rattle.mdv_engine.proofs.Blocks.{as_read_cause}
+use Rattle.mdv_engine.proofs.engine.Engine.values.Goals as goal
+
+pub returns-in-Err-clause-err : goal.returns-in-Err-clause-err
+returns-in-Err-clause-err g c =
+    let counted : length c.read_blocks.new.out ≡ c.args.count = c.read_blocks.auto.out ∙ ap length c.as_mut_slice.ensures.value ∙ c.in_ok-blocks.ensures.ok in
+    let failed = Rose (g.S.Shelf.faults c.args.shelf.now (OnDrive 0)) (g.S.Shelf.faults c.read_blocks.new.shelf (OnDrive 0)) in
+    as_read_cause c.args.self.now.host c.args.self.now.state c.args.volume c.args.at c.args.count failed c.in-Err.refusal
+    (subst (λ (n : ℕ). HasBlocksCause failed c.args.self.now.host c.args.self.now.state c.args.volume c.args.at n c.in-Err.refusal) counted c.in-Err.ensures.err)
+
+pub returns-in-Ok-new-clause-ok : goal.returns-in-Ok-new-clause-ok
+returns-in-Ok-new-clause-ok g c =
+    let counted : length c.read_blocks.new.out ≡ c.args.count = c.read_blocks.auto.out ∙ ap length c.as_mut_slice.ensures.value ∙ c.in_ok-blocks.ensures.ok in
+    let whole : c.in_ok-blocks.blocks.len ≡ length c.read_blocks.new.out = sym (c.read_blocks.auto.out ∙ c.as_mut_slice.ensures.len) in
+    let all : c.as_slice.result.now ≡ c.read_blocks.new.out =
+    c.as_slice.ensures.value ∙ ap (λ (n : ℕ). take n (c.read_blocks.new.out ++ drop (length c.read_blocks.new.out) c.in_ok-blocks.blocks.items)) whole ∙ take-append_seam c.read_blocks.new.out _ in
+    let read = c.in-Ok.ensures.ok in (
+      read.0,
+      subst (λ (n : ℕ). AreBlocksAt c.args.self.now.host c.args.self.now.state c.args.volume c.args.at n read.0) counted read.1,
+      λ t start. c.in-Ok-new.ensures ∙ ap (values_reply c.args.at) (all ∙ read.2 t start ∙ ap (blocks_of (last t 0) read.0) counted),
+    )

@@ -1,0 +1,128 @@
+ghost use Rattle.std.specs.Prelude.{◌≡◌, [], ◌∷◌, ◌<◌, Some, IfOk, IfErr, IfSome, OnOk};
+ghost use Rattle.mdv_base.specs.Causes.{Rose};
+ghost use Rattle.mdv_base.specs.declared.refusal.Refusal.{Refusal as AnyRefusal};
+ghost use Rattle.mdv_shelf.specs.Calls.{OnDrive, Keeps};
+ghost use Rattle.mdv_shelf.specs.Moments.{Moments, Ends};
+ghost use Rattle.mdv_table.specs.declared.change.Change.{Change as AnyChange};
+ghost use Rattle.mdv_table.specs.Change.{HasFault, IsNumbered, IsRefused};
+ghost use Rattle.mdv_table.specs.Slices.{IsSound};
+ghost use Rattle.mdv_table.specs.Table.{IsOfGeometry};
+ghost use Rattle.mdv_words.specs.declared.command.Command.TheVariants as command;
+ghost use Rattle.mdv_log.specs.Log.{IsMade};
+ghost use Rattle.mdv_history.specs.History.{Changed};
+ghost use Rattle.mdv_command.specs.Home.{IsReady, StaysHome};
+ghost use Rattle.mdv_command.specs.Line.{IsCarriedOut, kept_at};
+ghost use Rattle.mdv_command.specs.Replies.{HasAnswerCause, IsAccepted, IsPlainAnswer};
+ghost use Rattle.mdv_command.specs.Standing.{CarriedTo, CarryMoment, IsAwake, Knows};
+ghost use Rattle.mdv_engine.specs.Engine.{HasChangeCause, IsCommit, IsNextTable, IsTableOf, IsWell};
+
+use crate::engine::Engine;
+use mdv_base::{Refusal, SliceName, VolId};
+use mdv_command::Answer;
+use mdv_database::CommitFault;
+use mdv_home::place_at;
+use mdv_name::Geometry;
+use mdv_shelf::Shelf;
+use mdv_table::{ApplyFault, Change, Table};
+use std::alloc::Global;
+
+impl Engine {
+    // `metainit dN 1 1 SLICE`.
+    pub(crate) fn make_stripe<S: Shelf>(
+        &mut self,
+        shelf: &mut S,
+        alloc: Global,
+        volume: VolId,
+        slice: SliceName,
+    ) -> Answer
+        requires ready { IsReady self.old.host (S.sizes shelf.old) }
+        requires well { IsWell self.old.host self.old.state }
+        requires numbered { volume.0 < 8192 }
+        ensures answered { Ends (λ t u. Knows self.old.host self.old.state t → IsCarriedOut (Rose (S.faults shelf.old (OnDrive 0)) (S.faults shelf.new (OnDrive 0))) self.old.host (kept_at self.old.state t) (command.MakeStripe volume slice) result (kept_at self.new.state u)) (S.tale shelf.old) (S.tale shelf.new) }
+        ensures moments { Moments (CarryMoment self.old.host (Changed (Change.MakeStripe volume slice) ∷ []) self.old.state) (S.tale shelf.old) (S.tale shelf.new) }
+        ensures carried { Ends (CarriedTo self.old.host (Changed (Change.MakeStripe volume slice) ∷ []) self.old.state result self.new.state) (S.tale shelf.old) (S.tale shelf.new) }
+        ensures home { Moments (StaysHome self.old.host) (S.tale shelf.old) (S.tale shelf.new) }
+        ensures awake { IsAccepted result → IsAwake self.old.state }
+        ensures plain { IsPlainAnswer result }
+        ensures cause { HasAnswerCause (Rose (S.faults shelf.old (OnDrive 0)) (S.faults shelf.new (OnDrive 0))) result }
+        ensures host { self.new.host ≡ self.old.host }
+        ensures well { IsWell self.old.host self.new.state }
+        ensures begun { self.new.state.begun ≡ self.old.state.begun }
+        ensures keeps { Keeps S.sizes S.faults S.rest S.held shelf.old shelf.new }
+    {
+        let change = Change::MakeStripe { volume, slice };
+        match self.next_table(alloc, &change) {
+            Ok(next) => self.commit(shelf, next),
+            Err(refusal) => Answer::Refused(refusal),
+        }
+    }
+
+    // The table that the change makes of the open one.
+    fn next_table(&self, alloc: Global, change: &Change) -> Result<Table, Refusal>
+        requires sound { IsSound self.now.host.drives }
+        requires well { IsWell self.now.host self.now.state }
+        requires numbered { IsNumbered change.now }
+        ensures ok { IfOk result (IsNextTable self.now.host self.now.state change.now) }
+        ensures err { IfErr result (HasChangeCause self.now.host self.now.state change.now) }
+    {
+        let Some(database) = &self.state.database else {
+            return Err(Refusal::NoDatabase);
+        };
+        match changed(alloc, &self.host.drives, database.table(), change) {
+            Ok(next) => Ok(next),
+            Err(ApplyFault::Refused(refusal)) => Err(refusal),
+            Err(ApplyFault::Memory) => Err(Refusal::OutOfMemory),
+        }
+    }
+
+    // Commits the next table. Where writing it failed it is open which table a crash leaves, so the run ends.
+    fn commit<S: Shelf>(&mut self, shelf: &mut S, next: Table) -> Answer
+        requires ready { IsReady self.old.host (S.sizes shelf.old) }
+        requires well { IsWell self.old.host self.old.state }
+        requires placed { IfSome self.old.state.opened (λ newest. IsTableOf self.old.host newest.blocks next) }
+        ensures committed { (change : AnyChange) → IsNextTable self.old.host self.old.state change next → Ends (λ t u. Knows self.old.host self.old.state t → IsCommit (Rose (S.faults shelf.old (OnDrive 0)) (S.faults shelf.new (OnDrive 0))) self.old.host (kept_at self.old.state t) change result (kept_at self.new.state u)) (S.tale shelf.old) (S.tale shelf.new) }
+        ensures moments { (change : AnyChange) → IsNextTable self.old.host self.old.state change next → Moments (CarryMoment self.old.host (Changed change ∷ []) self.old.state) (S.tale shelf.old) (S.tale shelf.new) }
+        ensures carried { (change : AnyChange) → IsNextTable self.old.host self.old.state change next → Ends (CarriedTo self.old.host (Changed change ∷ []) self.old.state result self.new.state) (S.tale shelf.old) (S.tale shelf.new) }
+        ensures home { Moments (StaysHome self.old.host) (S.tale shelf.old) (S.tale shelf.new) }
+        ensures awake { IsAccepted result → IsAwake self.old.state }
+        ensures plain { IsPlainAnswer result }
+        ensures cause { HasAnswerCause (Rose (S.faults shelf.old (OnDrive 0)) (S.faults shelf.new (OnDrive 0))) result }
+        ensures host { self.new.host ≡ self.old.host }
+        ensures well { IsWell self.old.host self.new.state }
+        ensures begun { self.new.state.begun ≡ self.old.state.begun }
+        ensures keeps { Keeps S.sizes S.faults S.rest S.held shelf.old shelf.new }
+    {
+        let at = place_at(&self.host.home);
+        let Some(database) = &mut self.state.database else {
+            return Answer::Refused(Refusal::NoDatabase);
+        };
+        match database.commit(shelf, at, next) {
+            Ok(()) => Answer::Ok,
+            Err(CommitFault::Lost) => Answer::Panic,
+            Err(CommitFault::TooLong(fault)) => Answer::Refused(Refusal::ReplicaFull {
+                bytes: fault.bytes,
+                room: fault.room,
+            }),
+            Err(CommitFault::Spent) => Answer::Spent,
+        }
+    }
+}
+
+// The table after the change.
+fn changed(
+    alloc: Global,
+    drives: &Geometry,
+    table: &Table,
+    change: &Change,
+) -> Result<Table, ApplyFault>
+    requires sound { IsSound drives.now }
+    requires numbered { IsNumbered change.now }
+    ensures made { IfOk result (IsMade drives.now (Some change.now) table.now) }
+    ensures of_geometry { IsOfGeometry drives.now table.now → IfOk result (IsOfGeometry drives.now) }
+    ensures allowed { OnOk result ((r : AnyRefusal) → IsRefused drives.now table.now.plan change.now r → ⊥) }
+    ensures fault { IfErr result (HasFault drives.now table.now.plan change.now) }
+{
+    let mut next = table.copy(alloc)?;
+    next.apply(alloc, drives, change)?;
+    Ok(next)
+}

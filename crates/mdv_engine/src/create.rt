@@ -1,0 +1,117 @@
+ghost use Rattle.std.specs.Prelude.{◌≡◌, ◌<◌, ◌≤◌, ◌+◌, ◌^◌, [], ◌∷◌, false, None, IfSome, IfNone};
+ghost use Rattle.mdv_base.specs.Causes.{Rose};
+ghost use Rattle.mdv_shelf.specs.Calls.{OnDrive, Keeps};
+ghost use Rattle.mdv_shelf.specs.Moments.{Moments, Ends};
+ghost use Rattle.mdv_words.specs.declared.command.Command.TheVariants.{Create};
+ghost use Rattle.mdv_history.specs.History.{Created};
+ghost use Rattle.mdv_command.specs.Home.{IsReady, StaysHome};
+ghost use Rattle.mdv_command.specs.Line.{IsCarriedOut, IsCreateRefused, IsCreation, MayCreate, kept_at};
+ghost use Rattle.mdv_command.specs.Replies.{HasAnswerCause, IsAccepted, IsPlainAnswer};
+ghost use Rattle.mdv_command.specs.Standing.{CarriedTo, CarryMoment, IsAwake, Knows};
+ghost use Rattle.mdv_engine.specs.Engine.{IsWell};
+
+use crate::engine::Engine;
+use mdv_base::{Identity, Key, Refusal, SliceName, StateWord};
+use mdv_command::Answer;
+use mdv_database::{CreateFault, create};
+use mdv_home::place_at;
+use mdv_shelf::Shelf;
+use std::alloc::Global;
+
+// How many blocks a slice has at least that takes a replica of the default length.
+const SLICE_BLOCKS: u64 = 8208;
+
+impl Engine {
+    // `metadb -a SLICE`, or with `-f`.
+    pub(crate) fn make<S: Shelf>(
+        &mut self,
+        shelf: &mut S,
+        alloc: Global,
+        slice: SliceName,
+        force: bool,
+    ) -> Answer
+        requires ready { IsReady self.old.host (S.sizes shelf.old) }
+        requires well { IsWell self.old.host self.old.state }
+        requires begun { self.old.state.begun + 1 < 2 ^ 32 }
+        ensures answered { Ends (λ t u. Knows self.old.host self.old.state t → IsCarriedOut (Rose (S.faults shelf.old (OnDrive 0)) (S.faults shelf.new (OnDrive 0))) self.old.host (kept_at self.old.state t) (Create slice force) result (kept_at self.new.state u)) (S.tale shelf.old) (S.tale shelf.new) }
+        ensures moments { Moments (CarryMoment self.old.host (Created ∷ []) self.old.state) (S.tale shelf.old) (S.tale shelf.new) }
+        ensures carried { Ends (CarriedTo self.old.host (Created ∷ []) self.old.state result self.new.state) (S.tale shelf.old) (S.tale shelf.new) }
+        ensures home { Moments (StaysHome self.old.host) (S.tale shelf.old) (S.tale shelf.new) }
+        ensures awake { IsAccepted result → IsAwake self.old.state }
+        ensures free { IsAccepted result → self.old.state.opened ≡ None }
+        ensures plain { IsPlainAnswer result }
+        ensures cause { HasAnswerCause (Rose (S.faults shelf.old (OnDrive 0)) (S.faults shelf.new (OnDrive 0))) result }
+        ensures host { self.new.host ≡ self.old.host }
+        ensures well { IsWell self.old.host self.new.state }
+        ensures begun { self.new.state.begun ≤ self.old.state.begun + 1 }
+        ensures keeps { Keeps S.sizes S.faults S.rest S.held shelf.old shelf.new }
+    {
+        match self.creation_refusal(slice, force) {
+            Some(refusal) => Answer::Refused(refusal),
+            None => self.make_database(shelf, alloc),
+        }
+    }
+
+    // The first cause that a creation is refused for before anything is done.
+    fn creation_refusal(&self, slice: SliceName, force: bool) -> Option<Refusal>
+        ensures refused { IfSome result (IsCreateRefused self.now.host self.now.state slice force) }
+        ensures free { IfNone result (MayCreate self.now.host self.now.state slice force) }
+    {
+        let home = &self.host.home;
+        if self.host.drives.slices.find(slice).is_none() {
+            return Some(Refusal::NoSuchSlice);
+        }
+        if slice != home.slice {
+            return Some(Refusal::WrongKind);
+        }
+        if self.state.down {
+            return Some(Refusal::WrongState(StateWord::Down));
+        }
+        if self.state.database.is_some() {
+            return Some(Refusal::SliceInUse);
+        }
+        if !force {
+            return Some(Refusal::NeedForce);
+        }
+        if home.blocks < SLICE_BLOCKS {
+            return Some(Refusal::TooSmall);
+        }
+        None
+    }
+
+    // Makes the database. A failed format leaves none; a failed write of its table may leave one that nobody
+    // was told of, so the run ends.
+    fn make_database<S: Shelf>(&mut self, shelf: &mut S, alloc: Global) -> Answer
+        requires ready { IsReady self.old.host (S.sizes shelf.old) }
+        requires begun { self.old.state.begun + 1 < 2 ^ 32 }
+        requires room { 8208 ≤ self.old.host.home.blocks }
+        requires none { self.old.state.opened ≡ None }
+        requires up { self.old.state.down ≡ false }
+        ensures made { Ends (λ t u. Knows self.old.host self.old.state t → IsCreation (Rose (S.faults shelf.old (OnDrive 0)) (S.faults shelf.new (OnDrive 0))) self.old.host (kept_at self.old.state t) result (kept_at self.new.state u)) (S.tale shelf.old) (S.tale shelf.new) }
+        ensures moments { Moments (CarryMoment self.old.host (Created ∷ []) self.old.state) (S.tale shelf.old) (S.tale shelf.new) }
+        ensures carried { Ends (CarriedTo self.old.host (Created ∷ []) self.old.state result self.new.state) (S.tale shelf.old) (S.tale shelf.new) }
+        ensures home { Moments (StaysHome self.old.host) (S.tale shelf.old) (S.tale shelf.new) }
+        ensures plain { IsPlainAnswer result }
+        ensures cause { HasAnswerCause (Rose (S.faults shelf.old (OnDrive 0)) (S.faults shelf.new (OnDrive 0))) result }
+        ensures host { self.new.host ≡ self.old.host }
+        ensures well { IsWell self.old.host self.new.state }
+        ensures begun { self.new.state.begun ≡ self.old.state.begun + 1 }
+        ensures keeps { Keeps S.sizes S.faults S.rest S.held shelf.old shelf.new }
+    {
+        let identity = Identity {
+            fresh: self.host.fresh,
+            number: self.state.begun,
+        };
+        self.state.begun += 1;
+        let key = Key::Local(self.host.home.host);
+        match create(shelf, alloc, place_at(&self.host.home), &key, identity) {
+            Ok(database) => {
+                self.state.database = Some(database);
+                Answer::Ok
+            }
+            Err(CreateFault::Failed) => Answer::Refused(Refusal::IoFault),
+            Err(CreateFault::Lost) => Answer::Panic,
+            Err(CreateFault::Memory) => Answer::Refused(Refusal::OutOfMemory),
+        }
+    }
+}
