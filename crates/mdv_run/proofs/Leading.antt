@@ -1,24 +1,23 @@
 -- How one turn of a run goes on from the script that is before it.
-use Rattle.std.proofs.Common.{◌≡◌, inl, inr, ℕ, Bool, true, false, List, [], ◌++◌, Option, Some, None, refl, sym, ap, subst}
+use Rattle.std.proofs.Common.{◌≡◌, inl, inr, ℕ, Bool, true, false, List, [], ◌++◌, Option, Some, None, refl, sym, ◌∙◌, ap, subst}
 use Rattle.mdv_base.specs.declared.refusal.Refusal.TheVariants.{LineTooLong}
 use Rattle.mdv_port.specs.Reader.{Reader}
 use Rattle.mdv_port.specs.Script.{Script, at_end, spent, too_long, line, script_before, IsTurn}
 use Rattle.mdv_port.specs.declared.reader.LineEnd.TheVariants.{Line, TooLong, End, Spent}
 use Rattle.mdv_shelf.specs.Tale.{Tale, told}
-use Rattle.mdv_engine.specs.declared.answer.Answer.{Answer}
-use Rattle.mdv_engine.specs.declared.answer.Answer.TheVariants as outcome
-use Rattle.mdv_engine.specs.declared.answer.Reply.{Reply}
-use Rattle.mdv_engine.specs.declared.answer.Reply.TheVariants as reply
-use Rattle.mdv_engine.specs.declared.command.Command.{Command}
-use Rattle.mdv_engine.specs.declared.engine.Host.{Host}
-use Rattle.mdv_engine.specs.declared.engine.State.{State}
-use Rattle.mdv_engine.specs.Replies.{IsTold, IsReplied}
-use Rattle.mdv_engine.specs.Line.{Kept, IsTurnedDown, kept_at}
-use Rattle.mdv_engine.specs.Standing.{Replied}
-use Rattle.mdv_engine.proofs.Executing.{rose_within, carried_more}
-use Rattle.mdv_run.specs.declared.status.RunStatus.{RunStatus}
-use Rattle.mdv_run.specs.declared.status.RunStatus.TheVariants.{Panic, ReadFault, WriteFault, NumbersSpent}
-use Rattle.mdv_run.specs.Run.{Failures, Follows, Runs, IsAnswered, IsDone, drive_failed, source_failed, replies_failed, status_of}
+use Rattle.mdv_command.specs.declared.answer.Answer.{Answer}
+use Rattle.mdv_command.specs.declared.answer.Answer.TheVariants as outcome
+use Rattle.mdv_command.specs.declared.answer.Reply.{Reply}
+use Rattle.mdv_command.specs.declared.answer.Reply.TheVariants as reply
+use Rattle.mdv_command.specs.declared.host.Host.{Host}
+use Rattle.mdv_command.specs.Line.{Memory}
+use Rattle.mdv_command.specs.Replies.{IsTold, IsReplied}
+use Rattle.mdv_command.specs.Line.{Kept, IsTurnedDown, kept_at}
+use Rattle.mdv_command.specs.Standing.{Replied}
+use Rattle.mdv_command.proofs.Executing.{rose_within, carried_more}
+use Rattle.mdv_course.specs.declared.status.RunStatus.{RunStatus}
+use Rattle.mdv_course.specs.declared.status.RunStatus.TheVariants.{Panic, ReadFault, WriteFault, NoMemory, NumbersSpent}
+use Rattle.mdv_course.specs.Run.{Failures, Follows, Runs, IsAnswered, drive_failed, source_failed, replies_failed, status_of}
 use Rattle.mdv_run.specs.declared.session.Turn.{Turn}
 use Rattle.mdv_run.specs.declared.session.Turn.TheVariants.{Over}
 use Rattle.mdv_run.specs.Turns.{IsWithin, LineAnswered, Leads, Turns, turn_of, IsOn, IsLostStatus}
@@ -43,19 +42,16 @@ long_is (spent lines bytes) new left is = absurd (cc (is.0))
 long_is (too_long more) new left is = (more, refl, is.1)
 long_is (line text more) new left is = absurd (cc (is.0))
 
-pub line_is : (s : Script) (new : Reader) (left : Option (List ℕ)) → IsTurn s Line new left → (more : Script) × (s ≡ line new.line more) × (script_before new left ≡ Some more)
-line_is at_end new left is = absurd (cc (is.0))
-line_is (spent lines bytes) new left is = absurd (cc (is.0))
-line_is (too_long more) new left is = absurd (cc (is.0))
-line_is (line text more) new left is = (more, ap (λ (l : List ℕ). line l more) (sym is.1), is.2)
+pub line_is : (s : Script) (text : List ℕ) (new : Reader) (left : Option (List ℕ)) → text ≡ new.line → IsTurn s Line new left → (more : Script) × (s ≡ line text more) × (script_before new left ≡ Some more)
+line_is at_end text new left shown is = absurd (cc (is.0))
+line_is (spent lines bytes) text new left shown is = absurd (cc (is.0))
+line_is (too_long more) text new left shown is = absurd (cc (is.0))
+line_is (line other more) text new left shown is = (more, ap (λ (l : List ℕ). line l more) (sym is.1 ∙ sym shown), is.2)
 
 -- what a line came to where something failed may be told of a longer stretch
 pub answered_more : (failed more : Type 0) (host : Host) (kept next : Kept) (text : List ℕ) (answer : Answer) → (failed → more) → IsAnswered failed host kept text answer next → IsAnswered more host kept text answer next
-answered_more failed more host kept next text answer cause answered = (answered.0, answered.1, done answered.0 answered.2)
-  where
-    done : (command : Option Command) → IsDone failed host kept command answer next → IsDone more host kept command answer next
-    done None is = is
-    done (Some command) is = carried_more failed more cause host kept next answer command is
+answered_more failed more host kept next text answer cause (inl none) = inl none
+answered_more failed more host kept next text answer cause (inr (command, is, done)) = inr (command, is, carried_more failed more cause host kept next answer command done)
 
 -- what follows on an answer and its reply
 module _ (here : Failures) (replies : Type 0) (cause : replies → replies_failed here) (host : Host) (kept next : Kept) (any : Bool) (script more : Script) (before : Option Script) (before_is : before ≡ Some more)
@@ -68,33 +64,52 @@ module _ (here : Failures) (replies : Type 0) (cause : replies → replies_faile
     pub leads : (answer : Answer) (r : Reply) (piece : List ℕ) → ((f : Failures) → IsWithin f here → Comes f answer) → IsTold replies answer r piece → Leads here host kept any script piece next before (turn_of r any)
     leads outcome.Ok reply.Ok piece comes is =
         (more, before_is, λ f within rest status last goes. runs f outcome.Ok (piece ++ rest) status last (comes f within) (inr (rest, ap (λ (p : List ℕ). p ++ rest) is, goes)))
+    leads (outcome.Values text) reply.Ok piece comes is =
+        (more, before_is, λ f within rest status last goes. runs f (outcome.Values text) (piece ++ rest) status last (comes f within) (inr (rest, ap (λ (p : List ℕ). p ++ rest) is, goes)))
     leads (outcome.Refused refusal) (reply.Refused again) piece comes is =
         (more, before_is, λ f within rest status last goes. runs f (outcome.Refused refusal) (piece ++ rest) status last (comes f within) (inr (rest, ap (λ (p : List ℕ). p ++ rest) is.1, goes)))
     leads outcome.Ok reply.Told piece comes is =
         (Some next, (refl, λ lost. lost), λ f within. runs f outcome.Ok piece WriteFault (Some next) (comes f within) (inl (replies_rose f within is.0, (is.1.0, is.1.1, refl, refl))))
+    leads (outcome.Values text) reply.Told piece comes is =
+        (Some next, (refl, λ lost. lost), λ f within. runs f (outcome.Values text) piece WriteFault (Some next) (comes f within) (inl (replies_rose f within is.0, (is.1.0, is.1.1, refl, refl))))
     leads (outcome.Refused refusal) reply.Told piece comes is =
         (Some next, (refl, λ lost. lost), λ f within. runs f (outcome.Refused refusal) piece WriteFault (Some next) (comes f within) (inl (replies_rose f within is.0, (is.1.0, is.1.1, refl, refl))))
     leads outcome.Panic (reply.Panic active listed) piece comes is =
         (None, tt, λ f within. runs f outcome.Panic piece (Panic active listed) None (comes f within) (record { silent = is.2; ended = λ i. Panic (is.0 i) (is.1 i); keeps = refl }))
     leads outcome.Spent reply.Spent piece comes is =
         (None, tt, λ f within. runs f outcome.Spent piece NumbersSpent None (comes f within) (record { silent = is; ended = refl; keeps = refl }))
+    leads outcome.NoMemory reply.NoMemory piece comes is =
+        (None, tt, λ f within. runs f outcome.NoMemory piece NoMemory None (comes f within) (record { silent = is; ended = refl; keeps = refl }))
     leads outcome.Ok (reply.Refused again) piece comes is = absurd is
     leads outcome.Ok (reply.Panic active listed) piece comes is = absurd is
     leads outcome.Ok reply.Spent piece comes is = absurd is
+    leads outcome.Ok reply.NoMemory piece comes is = absurd is
+    leads (outcome.Values text) (reply.Refused again) piece comes is = absurd is
+    leads (outcome.Values text) (reply.Panic active listed) piece comes is = absurd is
+    leads (outcome.Values text) reply.Spent piece comes is = absurd is
+    leads (outcome.Values text) reply.NoMemory piece comes is = absurd is
     leads (outcome.Refused refusal) reply.Ok piece comes is = absurd is
     leads (outcome.Refused refusal) (reply.Panic active listed) piece comes is = absurd is
     leads (outcome.Refused refusal) reply.Spent piece comes is = absurd is
+    leads (outcome.Refused refusal) reply.NoMemory piece comes is = absurd is
     leads outcome.Panic reply.Ok piece comes is = absurd is
     leads outcome.Panic (reply.Refused again) piece comes is = absurd is
     leads outcome.Panic reply.Spent piece comes is = absurd is
+    leads outcome.Panic reply.NoMemory piece comes is = absurd is
     leads outcome.Panic reply.Told piece comes is = absurd is
     leads outcome.Spent reply.Ok piece comes is = absurd is
     leads outcome.Spent (reply.Refused again) piece comes is = absurd is
     leads outcome.Spent (reply.Panic active listed) piece comes is = absurd is
+    leads outcome.Spent reply.NoMemory piece comes is = absurd is
     leads outcome.Spent reply.Told piece comes is = absurd is
+    leads outcome.NoMemory reply.Ok piece comes is = absurd is
+    leads outcome.NoMemory (reply.Refused again) piece comes is = absurd is
+    leads outcome.NoMemory (reply.Panic active listed) piece comes is = absurd is
+    leads outcome.NoMemory reply.Spent piece comes is = absurd is
+    leads outcome.NoMemory reply.Told piece comes is = absurd is
 
 -- a line
-pub leads_line : (here : Failures) (drive replies : Type 0) (host : Host) (old new : State) (any : Bool) (s more : Script) (text : List ℕ) (r : Reply) (before : Option Script) (t u : Tale)
+pub leads_line : (here : Failures) (drive replies : Type 0) (host : Host) (old new : Memory) (any : Bool) (s more : Script) (text : List ℕ) (r : Reply) (before : Option Script) (t u : Tale)
     → s ≡ line text more → before ≡ Some more → (drive → drive_failed here) → (replies → replies_failed here) → LineAnswered drive replies host text old new r t u → Turns here host old new any s before (turn_of r any) t u
 leads_line here drive replies host old new any s more text r before t u is next lost cause done = record {
   piece = done.replied.piece;
@@ -107,7 +122,7 @@ leads_line here drive replies host old new any s more text r before t u is next 
 }
 
 -- a line that was too long
-pub leads_long : (here : Failures) (replies : Type 0) (host : Host) (old : State) (any : Bool) (s more : Script) (r : Reply) (before : Option Script) (t u : Tale)
+pub leads_long : (here : Failures) (replies : Type 0) (host : Host) (old : Memory) (any : Bool) (s more : Script) (r : Reply) (before : Option Script) (t u : Tale)
     → s ≡ too_long more → before ≡ Some more → (replies → replies_failed here) → IsTurnedDown LineTooLong (kept_at old t) (outcome.Refused LineTooLong) (kept_at old u) → Replied replies (outcome.Refused LineTooLong) r t u
     → Turns here host old old any s before (turn_of r any) t u
 leads_long here replies host old any s more r before t u is next cause down replied = record {
@@ -133,12 +148,13 @@ on_replied r any turn is on = by r (subst IsOn is on) where
   by (reply.Refused refusal) on = tt
   by (reply.Panic active listed) on = on
   by reply.Spent on = on
+  by reply.NoMemory on = on
   by reply.Told on = on
 
 -- a turn with which the run is over, and nothing is told
-pub over_turn : (here : Failures) (host : Host) (state : State) (any : Bool) (script : Script) (before : Option Script) (status : RunStatus) (t : Tale)
-    → (IsLostStatus status → ⊥) → ((f : Failures) → IsWithin f here → Runs f host (kept_at state t) any script [] status (Some (kept_at state t))) → Turns here host state state any script before (Over status) t t
-over_turn here host state any script before status t known runs = record { piece = []; is_told = sym (append-nil (told t)); leads = (Some (kept_at state t), (refl, known), runs) }
+pub over_turn : (here : Failures) (host : Host) (memory : Memory) (any : Bool) (script : Script) (before : Option Script) (status : RunStatus) (t : Tale)
+    → (IsLostStatus status → ⊥) → ((f : Failures) → IsWithin f here → Runs f host (kept_at memory t) any script [] status (Some (kept_at memory t))) → Turns here host memory memory any script before (Over status) t t
+over_turn here host memory any script before status t known runs = record { piece = []; is_told = sym (append-nil (told t)); leads = (Some (kept_at memory t), (refl, known), runs) }
 
 -- at the script's end what is on the drive is known
 pub ended_known : (any : Bool) (status : RunStatus) → status ≡ status_of any → IsLostStatus status → ⊥

@@ -1,13 +1,5 @@
-pub mod Tables
-pub mod Reading
-pub mod Rebooting
-pub mod Pieces
-pub mod Acking
-pub mod Made
-pub mod Lining
 pub mod Leading
-mod Words
 pub mod Went
 pub mod Whole
-pub mod Course
-pub mod Living
+pub mod Answering
+pub mod Used

@@ -3,39 +3,38 @@ use Rattle.std.proofs.Common.{◌≡◌, ◌≤◌, ℕ, Bool, false, List, [], 
 use Rattle.std.proofs.lemmas.List.{append-nil}
 use Rattle.mdv_port.specs.Reader.{Reader}
 use Rattle.mdv_port.specs.Script.{Script, script_before, script_of}
-use Rattle.mdv_shelf.specs.Tale.{Tale, last, told}
+use Rattle.mdv_shelf.specs.Tale.{Tale, told}
 use Rattle.mdv_shelf.specs.Calls.{Part, Keeps}
 use Rattle.mdv_shelf.specs.Moments.{Moments, Ends}
 use Rattle.mdv_shelf.proofs.Moments.{moments_none, moments_after, ends_more, some_is}
-use Rattle.mdv_store.proofs.Covering.{last_image}
-use Rattle.mdv_engine.specs.declared.engine.Host.{Host}
-use Rattle.mdv_engine.specs.declared.engine.State.{State}
-use Rattle.mdv_engine.specs.Line.{Kept, kept_at}
-use Rattle.mdv_engine.specs.Standing.{Knows}
-use Rattle.mdv_engine.proofs.Executing.{rose_within}
+use Rattle.mdv_command.specs.declared.host.Host.{Host}
+use Rattle.mdv_command.specs.Line.{Memory}
+use Rattle.mdv_command.specs.Line.{Kept, kept_at}
+use Rattle.mdv_command.specs.Standing.{Knows}
+use Rattle.mdv_command.proofs.Executing.{rose_within}
 use Rattle.mdv_run.specs.declared.session.Turn.TheVariants.{On, Over}
-use Rattle.mdv_run.specs.declared.status.RunStatus.{RunStatus}
-use Rattle.mdv_run.specs.declared.status.RunStatus.TheVariants.{Done, SomeRefused, Usage, NoQuorum, Panic, ReadFault, WriteFault, NoMemory, TwoDatabases, ScriptTooLong, NumbersSpent}
-use Rattle.mdv_run.specs.Run.{Failures, Runs, IsLeft, HasStatusCause}
+use Rattle.mdv_course.specs.declared.status.RunStatus.{RunStatus}
+use Rattle.mdv_course.specs.declared.status.RunStatus.TheVariants.{Done, SomeRefused, Usage, NoQuorum, Panic, ReadFault, WriteFault, NoMemory, TwoDatabases, ScriptTooLong, NumbersSpent}
+use Rattle.mdv_course.specs.Run.{Failures, Runs, IsLeft, HasStatusCause}
 use Rattle.mdv_run.specs.Turns.{IsWithin, IsLostStatus, Turns, LinesRun}
-use Rattle.mdv_run.specs.Standing.{LinesMoment, RanTo}
-use Rattle.mdv_run.proofs.Lining.{lines_start, ran_start, lines_more_moment, ran_more}
+use Rattle.mdv_course.specs.Standing.{LinesMoment, RanTo}
+use Rattle.mdv_course.proofs.Lining.{lines_start, ran_start, lines_more_moment, ran_more}
 
 -- the turns so far: what they told, and that what follows now follows there behind it
-pub record Went (host : Host) (first now : State) (any : Bool) (script lines : Script) (here : Failures) (t u : Tale) : Type 0 where
+pub record Went (host : Host) (first now : Memory) (any : Bool) (script lines : Script) (here : Failures) (t u : Tale) : Type 0 where
   pub so_far : List ℕ
   pub is_told : told u ≡ told t ++ so_far
   pub goes : (f : Failures) → IsWithin f here → (rest : List ℕ) (status : RunStatus) (last : Option Kept) → Runs f host (kept_at now u) any lines rest status last → Runs f host (kept_at first t) false script (so_far ++ rest) status last
 
--- the same of a shelf and a source that tell what they hold, with what is known of the log
-pub record SoFar (host : Host) (first now : State) (any : Bool) (input : List ℕ) (before : Option Script) (here : Failures) (a b : Option Tale) : Type 0 where
+-- the same of a shelf and a source that tell what they hold, with what is known of the history
+pub record SoFar (host : Host) (first now : Memory) (any : Bool) (input : List ℕ) (before : Option Script) (here : Failures) (a b : Option Tale) : Type 0 where
   pub lines : Script
   pub comes : before ≡ Some lines
   pub moments : Moments (LinesMoment host (script_of input) first) a b
   pub ran : Ends (RanTo host (script_of input) first now lines) a b
   pub went : Ends (λ t u. Knows host first t → Went host first now any (script_of input) lines here t u) a b
 
-module _ (host : Host) (first : State) (input : List ℕ) where
+module _ (host : Host) (first : Memory) (input : List ℕ) where
   pub so_far_start : (before : Option Script) (here : Failures) (a : Option Tale) → before ≡ Some (script_of input) → SoFar host first first false input before here a a
   so_far_start before here a comes = record {
     lines = script_of input;
@@ -45,7 +44,7 @@ module _ (host : Host) (first : State) (input : List ℕ) where
     went = λ t is. (t, is, λ knows. record { so_far = []; is_told = sym (append-nil (told t)); goes = λ f within rest status last runs. runs });
   }
 
-  module _ (now new : State) (any : Bool) (before then : Option Script) (here turn all : Failures) (a b c : Option Tale) (so_far : SoFar host first now any input before here a b)
+  module _ (now new : Memory) (any : Bool) (before then : Option Script) (here turn all : Failures) (a b c : Option Tale) (so_far : SoFar host first now any input before here a b)
       (within : (f : Failures) → IsWithin f all → IsWithin f here × IsWithin f turn) where
     went_more : (r : Bool) (left : Script) (t u v : Tale) → then ≡ Some left → Went host first now any (script_of input) so_far.lines here t u → Turns turn host now new any so_far.lines then (On r) u v
         → Went host first new r (script_of input) left all t v
@@ -92,8 +91,7 @@ module _ (host : Host) (first : State) (input : List ℕ) where
 
     left_there : (status : RunStatus) (v : Tale) (last : Option Kept) → IfSome last (λ kept. (kept ≡ kept_at new v) × (IsLostStatus status → ⊥)) → ((IsLostStatus status → ⊥) → Knows host new v) → IfSome last (IsLeft host v)
     left_there status v None known knows = tt
-    left_there status v (Some kept) (same, not_lost) knows = subst (λ (k : Kept). IsLeft host v k) (sym same)
-        (λ held. (let fixed = (knows not_lost).fixed held in (fixed.0, fixed.1.shown, fixed.1.each (last v) (last_image v), fixed.1.each)))
+    left_there status v (Some kept) (same, not_lost) knows = subst (λ (k : Kept). IsLeft host v k) (sym same) (record { content = λ block. refl; opened = (knows not_lost).opened })
 
     -- the turn that ends the run
     pub over_ends : (status : RunStatus) → ((lines : Script) → before ≡ Some lines → Ends (λ t u. Knows host now t → Turns turn host now new any lines then (Over status) t u) b c)
@@ -127,7 +125,7 @@ cause_within f here (NoQuorum readable needed) within cause = cause
 cause_within f here (Panic active listed) within cause = (rose_within _ _ _ _ within.drive_from within.drive_to cause.0, cause.1, cause.2)
 cause_within f here ReadFault within cause = rose_within _ _ _ _ within.source_from within.source_to cause
 cause_within f here WriteFault within cause = rose_within _ _ _ _ within.replies_from within.replies_to cause
-cause_within f here NoMemory within cause = cause
+cause_within f here NoMemory within cause = tt
 cause_within f here (TwoDatabases a b) within cause = cause
 cause_within f here (ScriptTooLong lines bytes) within cause = tt
 cause_within f here NumbersSpent within cause = tt

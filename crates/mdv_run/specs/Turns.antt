@@ -2,20 +2,19 @@
 use Rattle.std.specs.Prelude.{◌≡◌, ◌≤◌, ℕ, Bool, true, List, ◌++◌, Option, Some, IfSome}
 use Rattle.mdv_port.specs.Script.{Script}
 use Rattle.mdv_shelf.specs.Tale.{Tale, told}
-use Rattle.mdv_engine.specs.declared.answer.Answer.{Answer}
-use Rattle.mdv_engine.specs.declared.answer.BootRefusal.{BootRefusal}
-use Rattle.mdv_engine.specs.declared.answer.BootRefusal.TheVariants as refusal
-use Rattle.mdv_engine.specs.declared.answer.Reply.{Reply}
-use Rattle.mdv_engine.specs.declared.answer.Reply.TheVariants as reply
-use Rattle.mdv_engine.specs.declared.engine.Host.{Host}
-use Rattle.mdv_engine.specs.declared.engine.State.{State}
-use Rattle.mdv_engine.specs.Line.{Kept, kept_at}
-use Rattle.mdv_engine.specs.Standing.{Replied}
+use Rattle.mdv_command.specs.declared.answer.Answer.{Answer}
+use Rattle.mdv_command.specs.declared.answer.BootRefusal.{BootRefusal}
+use Rattle.mdv_command.specs.declared.answer.BootRefusal.TheVariants as refusal
+use Rattle.mdv_command.specs.declared.answer.Reply.{Reply}
+use Rattle.mdv_command.specs.declared.answer.Reply.TheVariants as reply
+use Rattle.mdv_command.specs.declared.host.Host.{Host}
+use Rattle.mdv_command.specs.Line.{Kept, Memory, kept_at}
+use Rattle.mdv_command.specs.Standing.{Replied}
 use Rattle.mdv_run.specs.declared.session.Turn.{Turn}
 use Rattle.mdv_run.specs.declared.session.Turn.TheVariants.{On, Over}
-use Rattle.mdv_run.specs.declared.status.RunStatus.{RunStatus}
-use Rattle.mdv_run.specs.declared.status.RunStatus.TheVariants.{Panic, WriteFault, NumbersSpent}
-use Rattle.mdv_run.specs.Run.{Failures, Runs, IsAnswered, IsLeft, HasStatusCause}
+use Rattle.mdv_course.specs.declared.status.RunStatus.{RunStatus}
+use Rattle.mdv_course.specs.declared.status.RunStatus.TheVariants.{Panic, WriteFault, NoMemory, NumbersSpent}
+use Rattle.mdv_course.specs.Run.{Failures, Runs, IsAnswered, IsLeft, HasStatusCause}
 
 -- what counts of a longer stretch counts of this one
 pub record IsWithin (f here : Failures) : Type 0 where
@@ -27,7 +26,7 @@ pub record IsWithin (f here : Failures) : Type 0 where
   pub replies_to : here.replies_after ≤ f.replies_after
 
 -- a line that was carried out and replied to, where calls on the drive and the giving of replies may have failed
-pub record LineAnswered (drive replies : Type 0) (host : Host) (text : List ℕ) (old new : State) (reply : Reply) (t u : Tale) : Type 0 where
+pub record LineAnswered (drive replies : Type 0) (host : Host) (text : List ℕ) (old new : Memory) (reply : Reply) (t u : Tale) : Type 0 where
   pub answer : Answer
   pub done : IsAnswered drive host (kept_at old t) text answer (kept_at new u)
   pub replied : Replied replies answer reply t u
@@ -36,6 +35,7 @@ pub record LineAnswered (drive replies : Type 0) (host : Host) (text : List ℕ)
 abbrev pub over_status : BootRefusal → RunStatus
 over_status (refusal.Lost active listed) = Panic active listed
 over_status refusal.Spent = NumbersSpent
+over_status refusal.Memory = NoMemory
 
 -- how a run goes on with a reply
 abbrev pub turn_of : Reply → Bool → Turn
@@ -43,12 +43,14 @@ turn_of reply.Ok any = On any
 turn_of (reply.Refused refusal) any = On true
 turn_of (reply.Panic active listed) any = Over (Panic active listed)
 turn_of reply.Spent any = Over NumbersSpent
+turn_of reply.NoMemory any = Over NoMemory
 turn_of reply.Told any = Over WriteFault
 
 -- the run is over, and what is on the drive then isn't known
 abbrev pub IsLostStatus : RunStatus → Type 0
 IsLostStatus (Panic active listed) = Unit {0}
 IsLostStatus NumbersSpent = Unit {0}
+IsLostStatus NoMemory = Unit {0}
 IsLostStatus other = ⊥
 
 abbrev pub IsLostTurn : Turn → Type 0
@@ -64,7 +66,7 @@ Leads here host old refused script piece new before (Over status) =
     (last : Option Kept) × IfSome last (λ kept. (kept ≡ new) × (IsLostStatus status → ⊥)) × ((f : Failures) → IsWithin f here → Runs f host old refused script piece status last)
 
 -- a turn, told by the script before it
-pub record Turns (here : Failures) (host : Host) (old new : State) (refused : Bool) (script : Script) (before : Option Script) (turn : Turn) (t u : Tale) : Type 0 where
+pub record Turns (here : Failures) (host : Host) (old new : Memory) (refused : Bool) (script : Script) (before : Option Script) (turn : Turn) (t u : Tale) : Type 0 where
   pub piece : List ℕ
   pub is_told : told u ≡ told t ++ piece
   pub leads : Leads here host (kept_at old t) refused script piece (kept_at new u) before turn
@@ -78,7 +80,7 @@ IsOn (On r) = Unit {0}
 IsOn (Over status) = ⊥
 
 -- the lines of a run from that state on
-pub record LinesRun (here : Failures) (host : Host) (old : State) (refused : Bool) (script : Script) (status : RunStatus) (t u : Tale) : Type 0 where
+pub record LinesRun (here : Failures) (host : Host) (old : Memory) (refused : Bool) (script : Script) (status : RunStatus) (t u : Tale) : Type 0 where
   pub more : List ℕ
   pub is_told : told u ≡ told t ++ more
   pub last : Option Kept

@@ -2,14 +2,8 @@
 //! tells a reply to each line.
 #![tactic(auto)]
 
-mod command;
-mod geometry;
-mod law;
 mod session;
 #[cfg(test)]
 mod session_tests;
-mod status;
 
-pub use law::{lives_stand, one_course};
 pub use session::run;
-pub use status::RunStatus;

@@ -1,36 +1,39 @@
-ghost use Rattle.std.specs.Prelude.{◌≡◌, ◌≢◌, ◌⊎◌, Err, IfOk, ◌<◌, ◌≤◌, ◌+◌, ◌^◌, ◌↔◌, ℕ, List, [], ◌∷◌, map, string_bytes, Some, IfSome, IfNone, IsTrue, false};
+ghost use Rattle.std.specs.Prelude.{◌≡◌, ◌≢◌, ◌⊎◌, Err, IfOk, ◌<◌, ◌≤◌, ◌+◌, ◌^◌, ◌↔◌, ℕ, List, [], ◌∷◌, map, string_bytes, Some, IsTrue, false};
 ghost use Rattle.mdv_shelf.specs.Tale.{Tale};
 ghost use Rattle.mdv_shelf.specs.Calls.{OnDrive, OnReplies, Keeps};
 ghost use Rattle.mdv_shelf.specs.Moments.{Moments, Ends};
-ghost use Rattle.mdv_port.specs.Script.{Script, script_before, script_of};
+ghost use Rattle.mdv_port.specs.Script.{Script, line as line_of, script_before, script_of};
 ghost use Rattle.mdv_base.specs.Causes.{Rose};
-ghost use Rattle.mdv_engine.specs.declared.geometry.SmallGeometry.{SmallGeometry};
-ghost use Rattle.mdv_engine.specs.declared.command.Command.TheVariants.{Boot};
-ghost use Rattle.mdv_engine.specs.Home.{IsReady, StaysHome};
-ghost use Rattle.mdv_engine.specs.Replies.{IsReplied, IsLost, HasReplyCause};
-ghost use Rattle.mdv_engine.specs.Line.{IsSound};
-ghost use Rattle.mdv_engine.specs.Standing.{Executed, Knows, TurnMoment, Turned};
-ghost use Rattle.mdv_run.specs.Grammar.{makes};
+ghost use Rattle.mdv_home.specs.declared.geometry.Home.{Home};
+ghost use Rattle.mdv_words.specs.declared.command.Command.TheVariants.{Boot};
+ghost use Rattle.mdv_words.specs.Line.{IsCommand};
+ghost use Rattle.mdv_command.specs.Home.{IsReady, StaysHome};
+ghost use Rattle.mdv_command.specs.Replies.{IsReplied, IsLost, HasReplyCause};
+ghost use Rattle.mdv_command.specs.Standing.{Executed, Knows, TurnMoment};
+ghost use Rattle.mdv_engine.specs.Engine.{IsWell};
 ghost use Rattle.mdv_name.specs.declared.geometry.Geometry.{Geometry};
 ghost use Rattle.mdv_name.specs.Geometry.{IsGeometry as IsTable};
-ghost use Rattle.mdv_run.specs.Run.{IsUsed, IsUnbegun, failures, HasStatusCause, status_of, IsWholeRun};
+ghost use Rattle.mdv_course.specs.Usage.{IsUsed};
+ghost use Rattle.mdv_course.specs.Run.{IsUnbegun, failures, HasStatusCause, status_of, IsWholeRun};
+ghost use Rattle.mdv_course.specs.Standing.{RunMoment, LinesMoment, RanTo};
 ghost use Rattle.mdv_run.specs.Turns.{over_status, LineAnswered, Turns, turn_of as spec_turn_of, IsOn, IsLostTurn, HasTurnCause, LinesRun};
-ghost use Rattle.mdv_run.specs.Standing.{RunMoment, LinesMoment, RanTo};
 
-use crate::command::read_line;
-use crate::geometry::home_in;
-use crate::status::RunStatus;
 use mdv_base::{DriveNo, Failed, Refusal};
-use mdv_engine::{BootRefusal, Command, Engine, Host, Reply, SmallGeometry};
+use mdv_command::{BootRefusal, Host, Reply};
+use mdv_course::RunStatus;
+use mdv_engine::Engine;
+use mdv_home::{Home, home_in};
 use mdv_name::{Geometry, GeometryFault};
 use mdv_port::{LineEnd, LineReader, Source};
 use mdv_shelf::Bench;
+use mdv_words::{Command, read_line};
 use std::alloc::Global;
 
 /// Runs one host: it boots from the drive, then answers the lines of the script one by one. The words
-/// are the host's name alone. The table of drives has that host alone, one drive, which is its own, and one
-/// slice, which is marked `db`. `fresh` has to differ between runs: it is part of the identity of each
-/// database that the run makes. Memory is taken for the table alone, before the boot.
+/// are the host's name alone. The table of drives has that host alone and one drive, which is its own; exactly one
+/// of the slices is marked `db`, and no other overlaps it. `fresh` has to differ between runs: it is part of the
+/// identity of each database that the run makes. Memory is taken for the table of drives and by boots, without which
+/// the run ends, and by commands, which are refused without it.
 pub fn run<B: Bench, I: Source>(
     words: &[String],
     geometry: &[u8],
@@ -40,44 +43,58 @@ pub fn run<B: Bench, I: Source>(
 ) -> RunStatus
     // A faulty use is told exactly where the words, the table and the drives are none of a host's, but for
     // want of memory.
-    ensures usage { result ≢ RunStatus.NoMemory → (result ≡ RunStatus.Usage) ↔ ((g : SmallGeometry) → IsUsed (map string_bytes words.now) geometry.now (B.sizes bench.old) g → ⊥) }
+    ensures usage { result ≢ RunStatus.NoMemory → (result ≡ RunStatus.Usage) ↔ ((drives : Geometry) (home : Home) → IsUsed (map string_bytes words.now) geometry.now (B.sizes bench.old) drives home → ⊥) }
 
     // Else the boot answers from what the drive's blocks held, and the bytes told and the status are
     // those of the script; where a database is open at the end, every crash leaves it.
-    ensures runs { (g : SmallGeometry) → IsUsed (map string_bytes words.now) geometry.now (B.sizes bench.old) g → (t : Tale) → B.tale bench.old ≡ Some t → (input : List ℕ) → I.left script.old ≡ Some input → (result ≡ RunStatus.NoMemory) ⊎ IsWholeRun (failures (B.faults bench.old) (B.faults bench.new) (I.faults script.old) (I.faults script.new)) (record { geometry = g; fresh = fresh }) t (script_of input) (B.tale bench.new) result }
+    ensures runs { (drives : Geometry) (home : Home) → IsUsed (map string_bytes words.now) geometry.now (B.sizes bench.old) drives home → (t : Tale) → B.tale bench.old ≡ Some t → (input : List ℕ) → I.left script.old ≡ Some input → IsUnbegun t (B.tale bench.new) result ⊎ IsWholeRun (failures (B.faults bench.old) (B.faults bench.new) (I.faults script.old) (I.faults script.new)) (record { drives = drives; home = home; fresh = fresh }) t (script_of input) (B.tale bench.new) result }
 
-    // Where no run began, for a faulty use or want of memory, nothing was done.
-    ensures unbegun { IsUnbegun result → (B.tale bench.new ≡ B.tale bench.old) × (I.left script.new ≡ I.left script.old) }
+    // After a faulty use nothing was done.
+    ensures unbegun { result ≡ RunStatus.Usage → (B.tale bench.new ≡ B.tale bench.old) × (I.left script.new ≡ I.left script.old) }
 
-    // At each moment the drive stands with the log so far, in which a creation is acknowledged once the
-    // newline of its `ok` was told.
-    ensures stands { (g : SmallGeometry) → IsUsed (map string_bytes words.now) geometry.now (B.sizes bench.old) g → (input : List ℕ) → I.left script.old ≡ Some input → Moments (RunMoment (record { geometry = g; fresh = fresh }) (script_of input)) (B.tale bench.old) (B.tale bench.new) }
+    // At each moment the drive stands with its history so far: what a line asks is acknowledged once the newline of its
+    // `ok` was told, and each block of a volume has the value of its last acknowledged write or of one that was
+    // issued later.
+    ensures stands { (drives : Geometry) (home : Home) → IsUsed (map string_bytes words.now) geometry.now (B.sizes bench.old) drives home → (input : List ℕ) → I.left script.old ≡ Some input → Moments (RunMoment (record { drives = drives; home = home; fresh = fresh }) (script_of input)) (B.tale bench.old) (B.tale bench.new) }
 
-    // At each moment nothing was done to a block outside the most that the host's replica may have.
-    ensures home { (g : SmallGeometry) → IsUsed (map string_bytes words.now) geometry.now (B.sizes bench.old) g → Moments (StaysHome g) (B.tale bench.old) (B.tale bench.new) }
+    // At each moment nothing was done to a block outside the most that the host's replica may have, and the slices that
+    // aren't marked `db`.
+    ensures home { (drives : Geometry) (home : Home) → IsUsed (map string_bytes words.now) geometry.now (B.sizes bench.old) drives home → Moments (StaysHome (record { drives = drives; home = home; fresh = fresh })) (B.tale bench.old) (B.tale bench.new) }
 
     // A status that tells of a failure comes only where one came, whatever the bench and the source tell.
-    ensures causes { (g : SmallGeometry) → IsUsed (map string_bytes words.now) geometry.now (B.sizes bench.old) g → (result ≡ RunStatus.NoMemory) ⊎ HasStatusCause (failures (B.faults bench.old) (B.faults bench.new) (I.faults script.old) (I.faults script.new)) result }
+    ensures causes { (drives : Geometry) (home : Home) → IsUsed (map string_bytes words.now) geometry.now (B.sizes bench.old) drives home → (result ≡ RunStatus.NoMemory) ⊎ HasStatusCause (failures (B.faults bench.old) (B.faults bench.new) (I.faults script.old) (I.faults script.new)) result }
     ensures keeps { Keeps B.sizes B.faults B.rest B.held bench.old bench.new }
 {
     match usable(words, geometry, bench) {
-        Ok(geometry) => run_host(Host { geometry, fresh }, bench, script),
+        Ok(start) => {
+            let host = Host {
+                drives: start.drives,
+                home: start.home,
+                fresh,
+            };
+            run_host(host, start.alloc, bench, script)
+        }
         Err(Unusable::Usage) => RunStatus::Usage,
         Err(Unusable::Memory) => RunStatus::NoMemory,
     }
 }
 
 // The run of this host on its drive.
-fn run_host<B: Bench, I: Source>(host: Host, bench: &mut B, script: &mut I) -> RunStatus
+fn run_host<B: Bench, I: Source>(
+    host: Host,
+    alloc: Global,
+    bench: &mut B,
+    script: &mut I,
+) -> RunStatus
     requires { IsReady host (B.sizes bench.old) }
     ensures runs { (t : Tale) → B.tale bench.old ≡ Some t → (input : List ℕ) → I.left script.old ≡ Some input → IsWholeRun (failures (B.faults bench.old) (B.faults bench.new) (I.faults script.old) (I.faults script.new)) host t (script_of input) (B.tale bench.new) result }
     ensures stands { (input : List ℕ) → I.left script.old ≡ Some input → Moments (RunMoment host (script_of input)) (B.tale bench.old) (B.tale bench.new) }
-    ensures home { Moments (StaysHome host.geometry) (B.tale bench.old) (B.tale bench.new) }
+    ensures home { Moments (StaysHome host) (B.tale bench.old) (B.tale bench.new) }
     ensures causes { HasStatusCause (failures (B.faults bench.old) (B.faults bench.new) (I.faults script.old) (I.faults script.new)) result }
     ensures keeps { Keeps B.sizes B.faults B.rest B.held bench.old bench.new }
 {
-    match Engine::boot(bench, host) {
-        Ok(mut engine) => run_lines(&mut engine, bench, script),
+    match Engine::boot(bench, alloc, host) {
+        Ok(mut engine) => run_lines(&mut engine, alloc, bench, script),
         Err(refusal) => over(refusal),
     }
 }
@@ -89,7 +106,16 @@ fn over(refusal: BootRefusal) -> RunStatus
     match refusal {
         BootRefusal::Lost { active, listed } => RunStatus::Panic { active, listed },
         BootRefusal::Spent => RunStatus::NumbersSpent,
+        BootRefusal::Memory => RunStatus::NoMemory,
     }
+}
+
+// What a run begins with.
+#[derive(Drop)]
+struct Start {
+    alloc: Global,
+    drives: Geometry,
+    home: Home,
 }
 
 // Why no run begins.
@@ -100,19 +126,24 @@ enum Unusable {
 
 // The host's home, where the words and the table of drives are of their form and fit each other and the
 // drives.
-fn usable<B: Bench>(words: &[String], table: &[u8], bench: &B) -> Result<SmallGeometry, Unusable>
-    ensures value { IfOk result (λ g. IsUsed (map string_bytes words.now) table.now (B.sizes bench.now) g) }
-    ensures none { result ≡ Err Unusable.Usage → (g : SmallGeometry) → IsUsed (map string_bytes words.now) table.now (B.sizes bench.now) g → ⊥ }
+fn usable<B: Bench>(words: &[String], table: &[u8], bench: &B) -> Result<Start, Unusable>
+    ensures value { IfOk result (λ used. IsUsed (map string_bytes words.now) table.now (B.sizes bench.now) used.drives used.home) }
+    ensures none { result ≡ Err Unusable.Usage → (drives : Geometry) (home : Home) → IsUsed (map string_bytes words.now) table.now (B.sizes bench.now) drives home → ⊥ }
 {
     let [host] = words else {
         return Err(Unusable::Usage);
     };
-    let table = read_table(*host.allocator(), table)?;
-    let Some(home) = home_in(&table, host.as_bytes()) else {
+    let alloc = *host.allocator();
+    let drives = read_table(alloc, table)?;
+    let Some(home) = home_in(&drives, host.as_bytes()) else {
         return Err(Unusable::Usage);
     };
     if has_drive(bench, home.drive_blocks) {
-        Ok(home)
+        Ok(Start {
+            alloc,
+            drives,
+            home,
+        })
     } else {
         Err(Unusable::Usage)
     }
@@ -135,20 +166,25 @@ fn has_drive<B: Bench>(bench: &B, blocks: u64) -> bool
     bench.drives() == 1 && bench.blocks(DriveNo(0)) == blocks
 }
 
-fn run_lines<B: Bench, I: Source>(engine: &mut Engine, bench: &mut B, script: &mut I) -> RunStatus
+fn run_lines<B: Bench, I: Source>(
+    engine: &mut Engine,
+    alloc: Global,
+    bench: &mut B,
+    script: &mut I,
+) -> RunStatus
     requires ready { IsReady engine.old.host (B.sizes bench.old) }
-    requires sound { IsSound engine.old.state }
+    requires well { IsWell engine.old.host engine.old.state }
     requires begun { engine.old.state.begun ≡ 0 }
     ensures runs { (input : List ℕ) → I.left script.old ≡ Some input → Ends (λ t u. Knows engine.old.host engine.old.state t → LinesRun (failures (B.faults bench.old) (B.faults bench.new) (I.faults script.old) (I.faults script.new)) engine.old.host engine.old.state false (script_of input) result t u) (B.tale bench.old) (B.tale bench.new) }
     ensures moments { (input : List ℕ) → I.left script.old ≡ Some input → Moments (LinesMoment engine.old.host (script_of input) engine.old.state) (B.tale bench.old) (B.tale bench.new) }
-    ensures home { Moments (StaysHome engine.old.host.geometry) (B.tale bench.old) (B.tale bench.new) }
+    ensures home { Moments (StaysHome engine.old.host) (B.tale bench.old) (B.tale bench.new) }
     ensures causes { HasStatusCause (failures (B.faults bench.old) (B.faults bench.new) (I.faults script.old) (I.faults script.new)) result }
     ensures keeps { Keeps B.sizes B.faults B.rest B.held bench.old bench.new }
 {
     let mut reader = LineReader::new();
     let mut any_refused = false;
     loop {
-        match take_turn(engine, bench, script, &mut reader, any_refused) {
+        match take_turn(engine, alloc, bench, script, &mut reader, any_refused) {
             Turn::On { refused } => any_refused = refused,
             Turn::Over(status) => return status,
         }
@@ -164,29 +200,30 @@ enum Turn {
 // One line: it is taken, carried out and answered.
 fn take_turn<B: Bench, I: Source>(
     engine: &mut Engine,
+    alloc: Global,
     bench: &mut B,
     script: &mut I,
     reader: &mut LineReader,
     any_refused: bool,
 ) -> Turn
     requires ready { IsReady engine.old.host (B.sizes bench.old) }
-    requires sound { IsSound engine.old.state }
+    requires well { IsWell engine.old.host engine.old.state }
     requires begun { engine.old.state.begun ≤ reader.old.lines }
     ensures turns { (lines : Script) → script_before reader.old (I.left script.old) ≡ Some lines → Ends (λ t u. Knows engine.old.host engine.old.state t → Turns (failures (B.faults bench.old) (B.faults bench.new) (I.faults script.old) (I.faults script.new)) engine.old.host engine.old.state engine.new.state any_refused lines (script_before reader.new (I.left script.new)) result t u) (B.tale bench.old) (B.tale bench.new) }
     ensures moments { (lines : Script) → script_before reader.old (I.left script.old) ≡ Some lines → Moments (LinesMoment engine.old.host lines engine.old.state) (B.tale bench.old) (B.tale bench.new) }
     ensures ran { IsOn result → (lines : Script) → script_before reader.old (I.left script.old) ≡ Some lines → (left : Script) × (script_before reader.new (I.left script.new) ≡ Some left) × Ends (RanTo engine.old.host lines engine.old.state engine.new.state left) (B.tale bench.old) (B.tale bench.new) }
     ensures knows { (IsLostTurn result → ⊥) → Ends (λ t u. Knows engine.old.host engine.old.state t → Knows engine.old.host engine.new.state u) (B.tale bench.old) (B.tale bench.new) }
-    ensures home { Moments (StaysHome engine.old.host.geometry) (B.tale bench.old) (B.tale bench.new) }
+    ensures home { Moments (StaysHome engine.old.host) (B.tale bench.old) (B.tale bench.new) }
     ensures causes { HasTurnCause (failures (B.faults bench.old) (B.faults bench.new) (I.faults script.old) (I.faults script.new)) result }
     ensures host { engine.new.host ≡ engine.old.host }
-    ensures sound { IsSound engine.new.state }
+    ensures well { IsWell engine.old.host engine.new.state }
     ensures begun { engine.new.state.begun ≤ reader.new.lines }
     ensures on { IsOn result → (reader.old.lines < reader.new.lines) × (reader.new.lines ≤ 1048576) }
     ensures source { I.faults script.old ≤ I.faults script.new }
     ensures keeps { Keeps B.sizes B.faults B.rest B.held bench.old bench.new }
 {
     match reader.next(script) {
-        Ok(LineEnd::Line) => turn_of(answer(engine, bench, reader.line()), any_refused),
+        Ok(LineEnd::Line) => turn_of(answer(engine, alloc, bench, reader.line()), any_refused),
         Ok(LineEnd::TooLong) => turn_of(engine.refuse(bench, &Refusal::LineTooLong), any_refused),
         Ok(LineEnd::End) => Turn::Over(ended(any_refused)),
         Ok(LineEnd::Spent { lines, bytes }) => Turn::Over(RunStatus::ScriptTooLong {
@@ -198,49 +235,49 @@ fn take_turn<B: Bench, I: Source>(
 }
 
 // Carries a line out and replies to it.
-fn answer<B: Bench>(engine: &mut Engine, bench: &mut B, line: &[u8]) -> Reply
+fn answer<B: Bench>(engine: &mut Engine, alloc: Global, bench: &mut B, line: &[u8]) -> Reply
     requires ready { IsReady engine.old.host (B.sizes bench.old) }
-    requires sound { IsSound engine.old.state }
+    requires well { IsWell engine.old.host engine.old.state }
     requires begun { engine.old.state.begun + 1 < 2 ^ 32 }
     ensures answered { Ends (λ t u. Knows engine.old.host engine.old.state t → LineAnswered (Rose (B.faults bench.old (OnDrive 0)) (B.faults bench.new (OnDrive 0))) (Rose (B.faults bench.old OnReplies) (B.faults bench.new OnReplies)) engine.old.host line.now engine.old.state engine.new.state result t u) (B.tale bench.old) (B.tale bench.new) }
-    ensures moments { Moments (TurnMoment engine.old.host (makes line.now) engine.old.state) (B.tale bench.old) (B.tale bench.new) }
-    ensures turned { IsReplied result → Ends (Turned engine.old.host (makes line.now) engine.old.state engine.new.state) (B.tale bench.old) (B.tale bench.new) }
+    ensures moments { (more : Script) → Moments (LinesMoment engine.old.host (line_of line.now more) engine.old.state) (B.tale bench.old) (B.tale bench.new) }
+    ensures ran { IsReplied result → (more : Script) → Ends (RanTo engine.old.host (line_of line.now more) engine.old.state engine.new.state more) (B.tale bench.old) (B.tale bench.new) }
     ensures knows { (IsLost result → ⊥) → Ends (λ t u. Knows engine.old.host engine.old.state t → Knows engine.old.host engine.new.state u) (B.tale bench.old) (B.tale bench.new) }
-    ensures home { Moments (StaysHome engine.old.host.geometry) (B.tale bench.old) (B.tale bench.new) }
+    ensures home { Moments (StaysHome engine.old.host) (B.tale bench.old) (B.tale bench.new) }
     ensures cause { HasReplyCause (Rose (B.faults bench.old (OnDrive 0)) (B.faults bench.new (OnDrive 0))) (Rose (B.faults bench.old OnReplies) (B.faults bench.new OnReplies)) result }
     ensures host { engine.new.host ≡ engine.old.host }
-    ensures sound { IsSound engine.new.state }
+    ensures well { IsWell engine.old.host engine.new.state }
     ensures begun { engine.new.state.begun ≤ engine.old.state.begun + 1 }
     ensures keeps { Keeps B.sizes B.faults B.rest B.held bench.old bench.new }
 {
-    match read_line(line) {
-        Some(Command::Boot) => boot_anew(engine, bench),
-        Some(command) => engine.exec(bench, &command),
-        None => engine.refuse(bench, &Refusal::BadLine),
+    let Some(command) = read_line(line) else {
+        return engine.refuse(bench, &Refusal::BadLine);
+    };
+    match command {
+        Command::Boot => boot_anew(engine, alloc, bench),
+        command => engine.exec(bench, alloc, &command),
     }
 }
 
-fn boot_anew<B: Bench>(engine: &mut Engine, bench: &mut B) -> Reply
+fn boot_anew<B: Bench>(engine: &mut Engine, alloc: Global, bench: &mut B) -> Reply
     requires ready { IsReady engine.old.host (B.sizes bench.old) }
-    requires sound { IsSound engine.old.state }
+    requires well { IsWell engine.old.host engine.old.state }
     ensures answered { Ends (Executed (Rose (B.faults bench.old (OnDrive 0)) (B.faults bench.new (OnDrive 0))) (Rose (B.faults bench.old OnReplies) (B.faults bench.new OnReplies)) engine.old.host Boot engine.old.state engine.new.state result) (B.tale bench.old) (B.tale bench.new) }
-    ensures moments { Moments (TurnMoment engine.old.host false engine.old.state) (B.tale bench.old) (B.tale bench.new) }
-    ensures turned { IsReplied result → Ends (Turned engine.old.host false engine.old.state engine.new.state) (B.tale bench.old) (B.tale bench.new) }
+    ensures moments { Moments (TurnMoment engine.old.host [] engine.old.state) (B.tale bench.old) (B.tale bench.new) }
+    ensures ran { IsReplied result → (text : List ℕ) → IsCommand text Boot → (more : Script) → Ends (RanTo engine.old.host (line_of text more) engine.old.state engine.new.state more) (B.tale bench.old) (B.tale bench.new) }
     ensures knows { (IsLost result → ⊥) → Ends (λ t u. Knows engine.old.host engine.old.state t → Knows engine.old.host engine.new.state u) (B.tale bench.old) (B.tale bench.new) }
-    ensures home { Moments (StaysHome engine.old.host.geometry) (B.tale bench.old) (B.tale bench.new) }
+    ensures home { Moments (StaysHome engine.old.host) (B.tale bench.old) (B.tale bench.new) }
     ensures cause { HasReplyCause (Rose (B.faults bench.old (OnDrive 0)) (B.faults bench.new (OnDrive 0))) (Rose (B.faults bench.old OnReplies) (B.faults bench.new OnReplies)) result }
     ensures host { engine.new.host ≡ engine.old.host }
-    ensures sound { IsSound engine.new.state }
+    ensures well { IsWell engine.old.host engine.new.state }
     ensures begun { engine.new.state.begun ≤ engine.old.state.begun }
     ensures keeps { Keeps B.sizes B.faults B.rest B.held bench.old bench.new }
 {
-    match engine.reboot(bench) {
-        Ok(booted) => {
-            *engine = booted;
-            engine.accept(bench)
-        }
+    match engine.reboot(bench, alloc) {
+        Ok(()) => engine.accept(bench),
         Err(BootRefusal::Lost { active, listed }) => Reply::Panic { active, listed },
         Err(BootRefusal::Spent) => Reply::Spent,
+        Err(BootRefusal::Memory) => Reply::NoMemory,
     }
 }
 
@@ -255,6 +292,7 @@ fn turn_of(reply: Reply, any_refused: bool) -> Turn
         Reply::Refused(_) => Turn::On { refused: true },
         Reply::Panic { active, listed } => Turn::Over(RunStatus::Panic { active, listed }),
         Reply::Spent => Turn::Over(RunStatus::NumbersSpent),
+        Reply::NoMemory => Turn::Over(RunStatus::NoMemory),
         Reply::Told => Turn::Over(RunStatus::WriteFault),
     }
 }

@@ -1,23 +1,41 @@
-use crate::{RunStatus, run};
-use mdv_base::{Block, DriveName, DriveNo, Place, SliceName, ZERO_BLOCK};
+use crate::run;
+use mdv_base::{Block, DriveNo, ZERO_BLOCK};
+use mdv_course::RunStatus;
 use mdv_port::MemSource;
 use mdv_shelf::{MemShelf, Shelf};
-use mdv_store::record_block;
 use std::alloc::AllocError;
 use std::process::Abort;
 use std::test::Fail;
 
-// A drive of 40000 blocks, whose slice has more than a replica takes.
-const WIDE: &str = "host hostA\ndrive c0t0d0 40000 hostA d0.img\nslice c0t0d0s7 12000 28000 db\n";
+// A drive of 40000 blocks: the slice for replicas, which has more than a replica takes, and four for volumes, of
+// which 0 and 4 overlap.
+const WIDE: &str = "host alpha
+drive c0t0d0 40000 alpha d0.img
+slice c0t0d0s0 0 1000
+slice c0t0d0s1 1000 990
+slice c0t0d0s3 2000 4000
+slice c0t0d0s4 999 1
+slice c0t0d0s7 12000 28000 db
+";
 
 const WIDE_BLOCKS: u64 = 40000;
 
-// The least slice for a replica, which lies at block 32.
-const TABLE: &str = "host alpha\ndrive c0t0d0 8224 alpha disk.img\nslice c0t0d0s7 16 8208 db\n";
+// The least slice for a replica, which lies at block 32, and one of the 16 blocks before it.
+const TABLE: &str = "host alpha
+drive c0t0d0 8224 alpha disk.img
+slice c0t0d0s0 0 16
+slice c0t0d0s7 16 8208 db
+";
 
 const BLOCKS: u64 = 8224;
 
 const CREATION: &str = "metadb -a -f c0t0d0s7\n";
+
+// A database, a volume, and a block of it.
+const VOLUME: &str =
+    "metadb -a -f c0t0d0s7\nmetainit d5 1 1 c0t0d0s0\nwrite d5 3 ab\nread d5 3 1\n";
+
+const DOWN: &str = "refused E13 WrongState Down";
 
 const FRESH: u64 = 0x0102_0304_0506_0708;
 
@@ -32,6 +50,10 @@ const MASTER: &[u8] =
 
 const RECORD: &[u8] =
     b"MDVREC01\0\0\0\x24\x01\x01\0\0\0\x07\0\0\0\x10\0\0\x20\0\0\0\0\0\0\0\0\0\0\0";
+
+// The record with d5, a stripe on the 16 blocks of c0t0d0s0.
+const RECORD_OF_VOLUME: &[u8] =
+    b"MDVREC01\0\0\0\x56\x01\x01\0\0\0\x07\0\0\0\x10\0\0\x20\0\0\0\0\0\0\0\0\0\0\x01\0\x05\0\0\0\0\0\x01\0\x01\0\0\0\x20\0\0\0\0\0\0\0\0\0\0\0\0\0\0\0\0\0\0\0\0\x10";
 
 const CLOSED: &[u8] = b"MDVGATE1\0\0\0\0\0\0\0\0\0\0\0\0\0\0\0\0\0\0\0\0\0";
 
@@ -70,16 +92,52 @@ fn run_host<R: AllocGlobal>(
 // The run of a script by alpha ends so, and this is all that was told to the shelf since it was made.
 fn expect_run<R: Abort + AllocGlobal>(
     rt: &R,
+    table: &str,
     shelf: &mut MemShelf,
     script: &str,
     status: RunStatus,
     told: &str,
 ) -> Result<(), Fail> {
     let mut source = MemSource::new(script.as_bytes().to_vec(rt.alloc())?);
-    let end = run_host(rt, &["alpha"], TABLE, shelf, &mut source)?;
-    assert_eq!(rt; end, status, "{script:?}");
+    let end = run_host(rt, &["alpha"], table, shelf, &mut source)?;
     assert_eq!(rt; shelf.told(), told.as_bytes(), "{script:?}");
+    assert_eq!(rt; end, status, "{script:?}");
     Ok(())
+}
+
+// A line and its reply, both without the last newline.
+type Row = (&'static str, &'static str);
+
+// A script of these lines on a blank drive of so many blocks, where the calls of these numbers fail.
+fn expect_rows<R: Abort + AllocGlobal>(
+    rt: &R,
+    table: &str,
+    blocks: u64,
+    failing: &[u64],
+    rows: &[Row],
+) -> Result<(), Fail> {
+    let mut shelf = MemShelf::new(rt.alloc(), &[blocks])?;
+    for number in failing {
+        shelf.fail_call(*number)?;
+    }
+    let mut script = String::new(rt.alloc());
+    let mut told = String::new(rt.alloc());
+    let mut status = RunStatus::Done;
+    for (line, reply) in rows {
+        script.push_str(format!(in rt.alloc(); "{line}\n")?.as_str())?;
+        told.push_str(format!(in rt.alloc(); "{reply}\n")?.as_str())?;
+        if reply.as_bytes().starts_with(b"refused") {
+            status = RunStatus::SomeRefused;
+        }
+    }
+    expect_run(
+        rt,
+        table,
+        &mut shelf,
+        script.as_str(),
+        status,
+        told.as_str(),
+    )
 }
 
 // The text and zeros behind it.
@@ -123,39 +181,145 @@ fn expect_head<R: Abort>(rt: &R, shelf: &mut MemShelf, head: [&[u8]; 4]) -> Resu
     expect_block(rt, shelf, 35, second)
 }
 
+// Each refusal in its place: E6, E12, E13, then E7 where a database is open, else E3 and E10.
 #[test]
-fn answers_each_line(rt: HostRuntime) -> Result<(), Fail> {
-    let each = "metadb -a c0t0d0s7
-metadb -a -f c0t0d0s7
-metadb -a -f c0t0d0s7
-metadb -a -f c0t1d0s7
-metadb
-boot
+fn answers_creations(rt: HostRuntime) -> Result<(), Fail> {
+    let rows: [Row; 10] = [
+        ("metadb -a c0t1d0s7", "refused E6 NoSuchSlice"),
+        ("metadb -a c0t0d0s0", "refused E12 WrongKind"),
+        ("metadb -a c0t0d0s7", "refused E3 NeedForce"),
+        ("metadb -a -f c0t0d0s7", "ok"),
+        ("metadb -a -f c0t1d0s7", "refused E6 NoSuchSlice"),
+        ("metadb -a -f c0t0d0s0", "refused E12 WrongKind"),
+        ("metadb -a c0t0d0s7", "refused E7 SliceInUse"),
+        ("metadb -a -f c0t0d0s7", "refused E7 SliceInUse"),
+        ("boot", "ok"),
+        ("metadb -a -f c0t0d0s7", "refused E7 SliceInUse"),
+    ];
+    expect_rows(&rt, WIDE, WIDE_BLOCKS, &[], &rows)?;
+    let small =
+        "host alpha\ndrive c0t0d0 9000 alpha disk.img\nslice c0t0d0s0 0 16\nslice c0t0d0s7 16 8207 db\n";
+    let rows: [Row; 6] = [
+        ("metadb -a c0t1d0s7", "refused E6 NoSuchSlice"),
+        ("metadb -a c0t0d0s0", "refused E12 WrongKind"),
+        ("metadb -a c0t0d0s7", DOWN),
+        ("boot", "ok"),
+        ("metadb -a c0t0d0s7", "refused E3 NeedForce"),
+        ("metadb -a -f c0t0d0s7", "refused E10 TooSmall"),
+    ];
+    expect_rows(&rt, small, 9000, &[0], &rows)
+}
+
+// Each refusal in its place: E2, E6, E5, E12, E7. A volume is there behind a boot too.
+#[test]
+fn answers_changes(rt: HostRuntime) -> Result<(), Fail> {
+    let rows: [Row; 14] = [
+        ("metainit d0 1 1 c0t1d0s0", "refused E2 NoDatabase"),
+        ("metadb -a -f c0t0d0s7", "ok"),
+        ("metainit d0 1 1 c0t1d0s0", "refused E6 NoSuchSlice"),
+        ("metainit d0 1 1 c0t0d0s0", "ok"),
+        ("metainit d0 1 1 c0t1d0s0", "refused E6 NoSuchSlice"),
+        ("metainit d0 1 1 c0t0d0s7", "refused E5 NameTaken"),
+        ("metainit d0 1 1 c0t0d0s0", "refused E5 NameTaken"),
+        ("metainit d1 1 1 c0t0d0s7", "refused E12 WrongKind"),
+        ("metainit d1 1 1 c0t0d0s0", "refused E7 SliceInUse"),
+        ("metainit d1 1 1 c0t0d0s4", "refused E7 SliceInUse"),
+        ("metainit d1 1 1 c0t0d0s1", "ok"),
+        ("boot", "ok"),
+        ("metainit d1 1 1 c0t0d0s3", "refused E5 NameTaken"),
+        ("metainit d8191 1 1 c0t0d0s3", "ok"),
+    ];
+    expect_rows(&rt, WIDE, WIDE_BLOCKS, &[], &rows)
+}
+
+// Each refusal in its place: E2, E4, E22. What was written is read, behind a boot too, and no block of another volume.
+#[test]
+fn answers_transfers(rt: HostRuntime) -> Result<(), Fail> {
+    let rows: [Row; 23] = [
+        ("read d0 1000 1", "refused E2 NoDatabase"),
+        ("write d0 1000 ab", "refused E2 NoDatabase"),
+        ("metadb -a -f c0t0d0s7", "ok"),
+        ("read d0 1000 1", "refused E4 NoSuchVolume"),
+        ("write d0 1000 ab", "refused E4 NoSuchVolume"),
+        ("metainit d0 1 1 c0t0d0s0", "ok"),
+        ("metainit d1 1 1 c0t0d0s1", "ok"),
+        ("read d0 0 1", "0 -\nok"),
+        ("read d0 999 1", "999 -\nok"),
+        ("read d0 999 2", "refused E22 OutOfRange"),
+        (
+            "read d0 18446744073709551615 1024",
+            "refused E22 OutOfRange",
+        ),
+        ("write d0 1000 ab", "refused E22 OutOfRange"),
+        ("write d0 5 ab", "ok"),
+        ("read d0 5 1", "5 ab\nok"),
+        ("write d0 7 00F000", "ok"),
+        ("read d0 4 4", "4 -\n5 ab\n6 -\n7 00f0\nok"),
+        ("write d1 5 cd", "ok"),
+        ("write d0 5 00", "ok"),
+        ("boot", "ok"),
+        ("read d0 5 1", "5 -\nok"),
+        ("read d1 5 1", "5 cd\nok"),
+        ("read d0 7 1", "7 00f0\nok"),
+        ("read d1 989 2", "refused E22 OutOfRange"),
+    ];
+    expect_rows(&rt, WIDE, WIDE_BLOCKS, &[], &rows)
+}
+
+#[test]
+fn reads_up_to_1024_blocks(rt: HostRuntime) -> Result<(), Fail> {
+    let script = "metadb -a -f c0t0d0s7
+metainit d0 1 1 c0t0d0s3
+write d0 1500 ab
+read d0 477 1024
 ";
-    let replies = "refused E3 NeedForce
-ok
-refused E7 SliceInUse
-refused E6 NoSuchSlice
-refused E1 BadLine
-ok
-";
+    let mut told = String::new(rt.alloc());
+    told.push_str("ok\nok\nok\n")?;
+    for block in 477..1500 {
+        told.push_str(format!(in rt.alloc(); "{block} -\n")?.as_str())?;
+    }
+    told.push_str("1500 ab\nok\n")?;
+    let mut shelf = MemShelf::new(rt.alloc(), &[WIDE_BLOCKS])?;
+    expect_run(
+        &rt,
+        WIDE,
+        &mut shelf,
+        script,
+        RunStatus::Done,
+        told.as_str(),
+    )
+}
+
+#[test]
+fn refuses_what_the_grammar_lacks(rt: HostRuntime) -> Result<(), Fail> {
+    let lines = [
+        "",
+        "metadb",
+        "boot ",
+        "metadb -a c0t0d0s8",
+        "metaclear d0",
+        "metainit d8192 1 1 c0t0d0s0",
+        "metainit d0 1 2 c0t0d0s0",
+        "read d0 0 0",
+        "read d0 0 1025",
+        "read d0 0",
+        "write d0 0",
+        "write d0 0 a",
+        "write d0 0 xy",
+    ];
+    let mut rows = Vec::new(rt.alloc());
+    for line in lines {
+        rows.push((line, "refused E1 BadLine"))?;
+    }
+    expect_rows(&rt, TABLE, BLOCKS, &[], rows.as_slice())?;
     let (longest, longer) = ("x".repeat(rt.alloc(), 4096)?, "x".repeat(rt.alloc(), 4097)?);
     let long = format!(in rt.alloc(); "{CREATION}{longest}\n{longer}\nboot")?;
-    let long_replies = "ok\nrefused E1 BadLine\nrefused E29 LineTooLong\nok\n";
-    let cases = [
-        ("", RunStatus::Done, ""),
-        (each, RunStatus::SomeRefused, replies),
-        (long.as_str(), RunStatus::SomeRefused, long_replies),
-        ("boot", RunStatus::Done, "ok\n"),
-    ];
-    for (script, status, told) in cases {
-        let mut shelf = MemShelf::new(rt.alloc(), &[WIDE_BLOCKS])?;
-        let mut source = MemSource::new(script.as_bytes().to_vec(rt.alloc())?);
-        let end = run_host(&rt, &["hostA"], WIDE, &mut shelf, &mut source)?;
-        assert_eq!(rt; shelf.told(), told.as_bytes());
-        assert_eq!(rt; end, status, "{told:?}");
-    }
-    Ok(())
+    let told = "ok\nrefused E1 BadLine\nrefused E29 LineTooLong\nok\n";
+    let mut shelf = MemShelf::new(rt.alloc(), &[BLOCKS])?;
+    let refused = RunStatus::SomeRefused;
+    expect_run(&rt, TABLE, &mut shelf, long.as_str(), refused, told)?;
+    let mut shelf = MemShelf::new(rt.alloc(), &[BLOCKS])?;
+    expect_run(&rt, TABLE, &mut shelf, "", RunStatus::Done, "")
 }
 
 // A creation writes each block as it is spelled here, and each boot behind it writes the table anew: that
@@ -165,20 +329,41 @@ fn writes_the_blocks_of_a_replica(rt: HostRuntime) -> Result<(), Fail> {
     let claim_two = b"MDVCLAIM\0\0\0\0\0\0\0\x02";
     let claim_four = b"MDVCLAIM\0\0\0\0\0\0\0\x04";
     let mut shelf = MemShelf::new(rt.alloc(), &[BLOCKS])?;
-    expect_run(&rt, &mut shelf, CREATION, RunStatus::Done, "ok\n")?;
+    let done = RunStatus::Done;
+    expect_run(&rt, TABLE, &mut shelf, CREATION, done, "ok\n")?;
     expect_block(&rt, &mut shelf, 31, b"")?;
     expect_head(&rt, &mut shelf, [MASTER, CLAIM_ONE, FIRST, CLOSED])?;
     expect_block(&rt, &mut shelf, 36, RECORD)?;
     expect_block(&rt, &mut shelf, 4130, b"")?;
     let mut shelf = MemShelf::new(rt.alloc(), &[BLOCKS])?;
     let booted = "metadb -a -f c0t0d0s7\nboot\n";
-    expect_run(&rt, &mut shelf, booted, RunStatus::Done, "ok\nok\n")?;
+    expect_run(&rt, TABLE, &mut shelf, booted, done, "ok\nok\n")?;
     expect_head(&rt, &mut shelf, [MASTER, claim_two, FIRST, SECOND])?;
     expect_block(&rt, &mut shelf, 36, RECORD)?;
     expect_block(&rt, &mut shelf, 4130, RECORD)?;
-    expect_run(&rt, &mut shelf, "boot\n", RunStatus::Done, "ok\nok\nok\n")?;
+    expect_run(&rt, TABLE, &mut shelf, "boot\n", done, "ok\nok\nok\n")?;
     expect_head(&rt, &mut shelf, [MASTER, claim_four, THIRD, FOURTH])?;
     Ok(())
+}
+
+// A volume's table goes to the other slot, and its block 3 is block 3 of its slice; the next boot takes the slots in turn.
+#[test]
+fn writes_the_blocks_of_a_volume(rt: HostRuntime) -> Result<(), Fail> {
+    let claim_two = b"MDVCLAIM\0\0\0\0\0\0\0\x02";
+    let changed = b"MDVGATE1\x01\0\0\0\0\0\0\0\x01\0\0\0\0\0\0\0\x01\0\0\0\x56";
+    let adopted = b"MDVGATE1\x01\0\0\0\0\0\0\0\x02\0\0\0\0\0\0\0\0\0\0\0\x56";
+    let mut shelf = MemShelf::new(rt.alloc(), &[BLOCKS])?;
+    let told = "ok\nok\nok\n3 ab\nok\n";
+    expect_run(&rt, TABLE, &mut shelf, VOLUME, RunStatus::Done, told)?;
+    expect_block(&rt, &mut shelf, 2, b"")?;
+    expect_block(&rt, &mut shelf, 3, b"\xab")?;
+    expect_block(&rt, &mut shelf, 4, b"")?;
+    expect_head(&rt, &mut shelf, [MASTER, CLAIM_ONE, FIRST, changed])?;
+    expect_block(&rt, &mut shelf, 36, RECORD)?;
+    expect_block(&rt, &mut shelf, 4130, RECORD_OF_VOLUME)?;
+    expect_run(&rt, TABLE, &mut shelf, "", RunStatus::Done, told)?;
+    expect_head(&rt, &mut shelf, [MASTER, claim_two, adopted, changed])?;
+    expect_block(&rt, &mut shelf, 36, RECORD_OF_VOLUME)
 }
 
 #[test]
@@ -209,14 +394,16 @@ fn refuses_a_faulty_use(rt: HostRuntime) -> Result<(), Fail> {
     Ok(())
 }
 
-// What stands behind the three lines of the table, and how an empty script ends.
+// What stands behind the lines of the table, and how an empty script ends.
 #[test]
 fn finds_the_home_of_a_host(rt: HostRuntime) -> Result<(), Fail> {
     let cases = [
         ("", RunStatus::Done),
         ("\n# more\n", RunStatus::Done),
-        ("slice c0t0d0s0 0 16\n", RunStatus::Usage),
-        ("slice c0t0d0s0 0 16 db\n", RunStatus::Usage),
+        ("slice c0t0d0s1 1 15\n", RunStatus::Done),
+        ("slice c0t0d0s1 1 15 db\n", RunStatus::Usage),
+        ("slice c0t0d0s1 1 16\n", RunStatus::Usage),
+        ("slice c0t0d0s1 8223 1\n", RunStatus::Usage),
         ("host beta\n", RunStatus::Usage),
         ("drive c0t1d0 8224 alpha other.img\n", RunStatus::Usage),
         ("slice c0t0d0s8 0 16\n", RunStatus::Usage),
@@ -231,29 +418,56 @@ fn finds_the_home_of_a_host(rt: HostRuntime) -> Result<(), Fail> {
     Ok(())
 }
 
-// A script on a blank drive, where the call of that number fails.
+const NO_DATABASE: &str = "refused E2 NoDatabase\nrefused E2 NoDatabase\nrefused E2 NoDatabase\n";
+
+// The call that fails, how the script of a volume ends then, and what is told: all of it, or what comes before the
+// replies of `NO_DATABASE`. The boot has three calls, the format six, the writing of a table six, the write of
+// a block two, its read one, and each reply one.
+const FAILED_CALLS: [(u64, RunStatus, &str); 16] = [
+    (0, RunStatus::SomeRefused, "refused E13 WrongState Down\n"),
+    (1, RunStatus::SomeRefused, "refused E13 WrongState Down\n"),
+    (2, RunStatus::SomeRefused, "refused E13 WrongState Down\n"),
+    (3, RunStatus::SomeRefused, "refused E23 IoFault\n"),
+    (9, PANIC, ""),
+    (14, PANIC, ""),
+    (15, RunStatus::WriteFault, ""),
+    (16, PANIC, "ok\n"),
+    (21, PANIC, "ok\n"),
+    (22, RunStatus::WriteFault, "ok\n"),
+    (
+        23,
+        RunStatus::SomeRefused,
+        "ok\nok\nrefused E23 IoFault\n3 -\nok\n",
+    ),
+    (
+        24,
+        RunStatus::SomeRefused,
+        "ok\nok\nrefused E23 IoFault\n3 ab\nok\n",
+    ),
+    (25, RunStatus::WriteFault, "ok\nok\n"),
+    (
+        26,
+        RunStatus::SomeRefused,
+        "ok\nok\nok\nrefused E23 IoFault\n",
+    ),
+    (27, RunStatus::WriteFault, "ok\nok\nok\n"),
+    (28, RunStatus::Done, "ok\nok\nok\n3 ab\nok\n"),
+];
+
 #[test]
 fn tells_of_failed_calls(rt: HostRuntime) -> Result<(), Fail> {
-    let down = "refused E13 WrongState Down\n";
-    let failed = "refused E23 IoFault\n";
-    // The boot has three calls, the format six, the writing of the table six, and the reply one.
-    let cases = [
-        (CREATION, 0, RunStatus::SomeRefused, down),
-        (CREATION, 1, RunStatus::SomeRefused, down),
-        (CREATION, 2, RunStatus::SomeRefused, down),
-        (CREATION, 3, RunStatus::SomeRefused, failed),
-        (CREATION, 9, PANIC, ""),
-        (CREATION, 14, PANIC, ""),
-        (CREATION, 15, RunStatus::WriteFault, ""),
-        (CREATION, 16, RunStatus::Done, "ok\n"),
-        // Of these the first reply can't be given: a refusal, and that of a boot.
-        ("metadb -a c0t0d0s7\n", 3, RunStatus::WriteFault, ""),
-        ("boot\n", 6, RunStatus::WriteFault, ""),
-    ];
-    for (script, number, status, told) in cases {
+    for (number, status, told) in FAILED_CALLS {
         let mut shelf = MemShelf::new(rt.alloc(), &[BLOCKS])?;
         shelf.fail_call(number)?;
-        expect_run(&rt, &mut shelf, script, status, told)?;
+        let behind = if number < 9 { NO_DATABASE } else { "" };
+        let all = format!(in rt.alloc(); "{told}{behind}")?;
+        expect_run(&rt, TABLE, &mut shelf, VOLUME, status, all.as_str())?;
+    }
+    // The first reply can't be given: a refusal, and that of a boot.
+    for (script, number) in [("metadb -a c0t0d0s7\n", 3), ("boot\n", 6)] {
+        let mut shelf = MemShelf::new(rt.alloc(), &[BLOCKS])?;
+        shelf.fail_call(number)?;
+        expect_run(&rt, TABLE, &mut shelf, script, RunStatus::WriteFault, "")?;
     }
     Ok(())
 }
@@ -289,7 +503,7 @@ fn expect_spent<R: Abort + AllocGlobal>(
     put(&mut shelf, 36, RECORD)?;
     put(&mut shelf, 4130, RECORD)?;
     shelf.stop_after(calls);
-    expect_run(rt, &mut shelf, script, RunStatus::NumbersSpent, "")?;
+    expect_run(rt, TABLE, &mut shelf, script, RunStatus::NumbersSpent, "")?;
     shelf.crash(&[]);
     expect_head(rt, &mut shelf, left)
 }
@@ -307,23 +521,4 @@ fn ends_where_numbers_are_spent(rt: HostRuntime) -> Result<(), Fail> {
     let before = [MASTER, CLAIM_BEFORE, FIRST, CLOSED];
     let drawn = [MASTER, CLAIM_GREATEST, FIRST, GREATEST];
     expect_spent(&rt, "boot\n", before, 17, drawn)
-}
-
-// The empty table of one place of 16 blocks, at block 16 of c0t0d0s7.
-#[test]
-fn spells_an_empty_table(rt: HostRuntime) -> Result<(), Fail> {
-    let drive = DriveName {
-        controller: 0,
-        target: 0,
-        disk: 0,
-    };
-    let place = Place {
-        slice: SliceName { drive, slice: 7 },
-        start: 16,
-        blocks: 16,
-    };
-    let record = b"MDVREC01\0\0\0\x24\x01\x01\0\0\0\x07\0\0\0\x10\0\0\0\x10\0\0\0\0\0\0\0\0\0\0";
-    assert_eq!(rt; record.len(), 36);
-    assert!(rt; record_block(&place).starts_with(record));
-    Ok(())
 }

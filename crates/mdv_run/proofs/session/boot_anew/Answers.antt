@@ -1,63 +1,73 @@
-use Rattle.std.proofs.Common.{false, [], refl, sym, ◌∙◌, ap, subst, arith}
+use Rattle.std.proofs.Common.{[], refl, sym, ◌∙◌, ap, subst, arith}
 use Rattle.std.proofs.lemmas.List.{append-nil}
-use Rattle.mdv_shelf.specs.Tale.{told}
-use Rattle.mdv_shelf.specs.Calls.{OnDrive, OnReplies}
-use Rattle.mdv_shelf.proofs.Moments.{moments_after, moments_weaker, moments_end, ends_more, some_is}
 use Rattle.mdv_base.specs.Causes.{Rose}
-use Rattle.mdv_shelf.specs.Moments.{Ends}
+use Rattle.mdv_port.specs.Script.{line}
+use Rattle.mdv_shelf.specs.Calls.{OnDrive, OnReplies}
+use Rattle.mdv_shelf.specs.Moments.{Moments, Ends}
+use Rattle.mdv_shelf.specs.Tale.{told}
+use Rattle.mdv_shelf.proofs.Moments.{moments_after, moments_weaker, moments_end, ends_more, some_is}
+use Rattle.mdv_words.specs.declared.command.Command.TheVariants.{Boot}
+use Rattle.mdv_command.specs.declared.answer.Answer.TheVariants as outcome
+use Rattle.mdv_command.specs.declared.host.Host.{Host}
+use Rattle.mdv_command.specs.Home.{StaysHome}
+use Rattle.mdv_command.specs.Standing.{Executed, BootMoment, BootedTo, TurnMoment, Turned, Knows}
+use Rattle.mdv_command.proofs.Executing.{executed, rose_within}
+use Rattle.mdv_command.proofs.Staying.{both_stay, boot_stays}
 use Rattle.mdv_engine.specs.declared.engine.Engine.{Engine}
-use Rattle.mdv_engine.specs.declared.engine.Host.{Host}
-use Rattle.mdv_engine.specs.declared.answer.Answer.TheVariants as outcome
-use Rattle.mdv_engine.specs.declared.command.Command.TheVariants.{Boot}
-use Rattle.mdv_engine.specs.Standing.{Executed, BootMoment, BootedTo, TurnMoment, Turned}
-use Rattle.mdv_engine.proofs.Executing.{executed, rose_within}
-use Rattle.mdv_run.proofs.Rebooting.{boot_turn, booted_turn, booted_turned, lost_again, spent_again}
-use Rattle.mdv_engine.proofs.Staying.{both_stay, boot_stays}
-use Rattle.mdv_shelf.specs.Moments.{Moments}
-use Rattle.mdv_engine.specs.Home.{StaysHome}
+use Rattle.mdv_course.specs.Standing.{RanTo}
+use Rattle.mdv_course.proofs.Booting.{boot_turn, booted_turn, booted_ran}
 use Rattle.mdv_run.proofs.session.boot_anew.Goals as goal
-
-pub returns-in-Ok-clause-moments : goal.returns-in-Ok-clause-moments
-returns-in-Ok-clause-moments g c =
-    let host = c.args.engine.now.host in
-    let old = c.args.engine.now.state in
-    let new = c.in-Ok.booted.state in
-    moments_after (BootMoment host) (BootedTo host new) (TurnMoment c.in-Ok.booted.host false new) (TurnMoment host false old) _ _ _ (λ t m moment. boot_turn host old t m moment)
-    (λ t u m booted turn. booted_turn host old new t u booted m (subst (λ (h : Host). TurnMoment h false new u m) c.in-Ok.ensures.host.0 turn))
-    c.reboot.ensures.moments c.in-Ok.ensures.booted c.accept.ensures.moments
-
-pub returns-in-Ok-clause-turned : goal.returns-in-Ok-clause-turned
-returns-in-Ok-clause-turned g c = λ on.
-    let host = c.args.engine.now.host in
-    let old = c.args.engine.now.state in
-    let new = c.in-Ok.booted.state in
-    subst (λ (e : Engine). Ends (Turned host false old e.state) (g.B.Shelf.tale c.args.bench.now) (g.B.Shelf.tale c.accept.new.bench)) (sym c.accept.ensures.same)
-    (ends_more (BootedTo host new) (Turned c.in-Ok.booted.host false new new) (Turned host false old new) _ _ _
-    (λ t u v booted turn. booted_turned host old new t u booted v (subst (λ (h : Host). Turned h false new new u v) c.in-Ok.ensures.host.0 turn))
-    c.in-Ok.ensures.booted (c.accept.ensures.turned on))
 
 pub returns-in-Ok-clause-answered : goal.returns-in-Ok-clause-answered
 returns-in-Ok-clause-answered g c = λ t is.
     let host = c.args.engine.now.host in
     let old = c.args.engine.now.state in
-    let new = c.in-Ok.booted.state in
     let quiet = moments_end (BootMoment host) _ _ c.reboot.ensures.moments t is in
     let done = c.in-Ok.ensures.rebooted t is in
     let end = c.accept.ensures.told done.0 done.1 in (
       end.0,
       end.1,
       subst (λ (e : Engine). Executed (Rose (g.B.Shelf.faults c.args.bench.now (OnDrive 0)) (g.B.Shelf.faults c.accept.new.bench (OnDrive 0))) (Rose (g.B.Shelf.faults c.args.bench.now OnReplies) (g.B.Shelf.faults c.accept.new.bench OnReplies)) host Boot old e.state c.accept.result t end.0) (sym c.accept.ensures.same)
-          (executed _ _ _ _ host Boot old new outcome.Ok c.accept.result t done.0 end.0
+          (executed _ _ _ _ host Boot old c.reboot.new.self.state outcome.Ok c.accept.result t done.0 end.0
           (λ rose. rose_within _ _ _ _ (omega arith) (c.accept.ensures.keeps.no_fewer_faults (OnDrive 0)) rose)
           (λ rose. rose_within _ _ _ _ (c.reboot.ensures.keeps.no_fewer_faults OnReplies) (omega arith) rose)
-          (ap told (some_is _ done.0 quiet.0 done.1 quiet.1) ∙ quiet.2.quiet.quiet) done.2 end.2),
+          (ap told (some_is _ done.0 quiet.0 done.1 quiet.1) ∙ quiet.2.quiet) done.2 end.2),
     )
 
-pub returns-in-Err-Lost-clause-moments : goal.returns-in-Err-Lost-clause-moments
-returns-in-Err-Lost-clause-moments g c =
+pub returns-in-Ok-clause-moments : goal.returns-in-Ok-clause-moments
+returns-in-Ok-clause-moments g c =
     let host = c.args.engine.now.host in
     let old = c.args.engine.now.state in
-    moments_weaker (BootMoment host) (TurnMoment host false old) _ _ (λ t m moment. boot_turn host old t m moment) c.reboot.ensures.moments
+    let new = c.reboot.new.self.state in
+    moments_after (BootMoment host) (BootedTo host new) (TurnMoment c.reboot.new.self.host [] new) (TurnMoment host [] old) _ _ _ (λ t m moment. boot_turn host old t m moment)
+    (λ t u m booted turn. booted_turn host old new t u booted m (subst (λ (h : Host). TurnMoment h [] new u m) c.in-Ok.ensures.host turn))
+    c.reboot.ensures.moments c.in-Ok.ensures.booted c.accept.ensures.moments
+
+pub returns-in-Ok-clause-ran : goal.returns-in-Ok-clause-ran
+returns-in-Ok-clause-ran g c = λ on text is more.
+    let host = c.args.engine.now.host in
+    let old = c.args.engine.now.state in
+    let new = c.reboot.new.self.state in
+    subst (λ (e : Engine). Ends (RanTo host (line text more) old e.state more) (g.B.Shelf.tale c.args.bench.now) (g.B.Shelf.tale c.accept.new.bench)) (sym c.accept.ensures.same)
+    (ends_more (BootedTo host new) (Turned c.reboot.new.self.host [] new new) (RanTo host (line text more) old new more) _ _ _
+    (λ t u v booted turn. booted_ran host old new t u booted text more is v (subst (λ (h : Host). Turned h [] new new u v) c.in-Ok.ensures.host turn))
+    c.in-Ok.ensures.booted (c.accept.ensures.turned on))
+
+pub returns-in-Ok-clause-knows : goal.returns-in-Ok-clause-knows
+returns-in-Ok-clause-knows g c = λ kept.
+    let host = c.args.engine.now.host in
+    let old = c.args.engine.now.state in
+    let new = c.reboot.new.self.state in
+    subst (λ (e : Engine). Ends (λ t u. Knows host old t → Knows host e.state u) (g.B.Shelf.tale c.args.bench.now) (g.B.Shelf.tale c.accept.new.bench)) (sym c.accept.ensures.same)
+    (ends_more (BootedTo host new) (λ t u. Knows c.reboot.new.self.host new t → Knows c.reboot.new.self.host new u) (λ t u. Knows host old t → Knows host new u) _ _ _
+    (λ t u v booted told known. subst (λ (h : Host). Knows h new v) c.in-Ok.ensures.host (told (subst (λ (h : Host). Knows h new u) (sym c.in-Ok.ensures.host) booted.knows)))
+    c.in-Ok.ensures.booted c.accept.ensures.knows)
+
+pub returns-in-Ok-clause-home : goal.returns-in-Ok-clause-home
+returns-in-Ok-clause-home g c =
+    let host = c.args.engine.now.host in
+    both_stay host _ _ _ (boot_stays host _ _ c.reboot.ensures.moments)
+    (subst (λ (h : Host). Moments (StaysHome h) (g.B.Shelf.tale c.reboot.new.shelf) (g.B.Shelf.tale c.accept.new.bench)) c.in-Ok.ensures.host c.accept.ensures.home)
 
 pub returns-in-Err-Lost-clause-answered : goal.returns-in-Err-Lost-clause-answered
 returns-in-Err-Lost-clause-answered g c = λ t is.
@@ -65,12 +75,35 @@ returns-in-Err-Lost-clause-answered g c = λ t is.
     let quiet = moments_end (BootMoment host) _ _ c.reboot.ensures.moments t is in
     let why = (rw c.in-Err-Lost.field-0-is at c.in-Err-Lost.ensures.cause) in
     let done = (rw c.in-Err-Lost.field-0-is at c.in-Err-Lost.ensures.rebooted) t is in (
-      quiet.0,
-      quiet.1,
+      done.0,
+      done.1,
       record {
         answer = outcome.Panic;
-        carried = lost_again _ host c.args.engine.now.state t done.0 quiet.0 done.2;
-        replied = record { piece = []; is_told = quiet.2.quiet.quiet ∙ sym (append-nil (told t)); as_told = (why.1, why.2, refl) };
+        carried = done.2;
+        replied = record { piece = []; is_told = ap told (some_is _ done.0 quiet.0 done.1 quiet.1) ∙ quiet.2.quiet ∙ sym (append-nil (told t)); as_told = (why.1, why.2, refl) };
+      },
+    )
+
+pub returns-in-Err-Lost-clause-moments : goal.returns-in-Err-Lost-clause-moments
+returns-in-Err-Lost-clause-moments g c =
+    let host = c.args.engine.now.host in
+    let old = c.args.engine.now.state in
+    moments_weaker (BootMoment host) (TurnMoment host [] old) _ _ (λ t m moment. boot_turn host old t m moment) c.reboot.ensures.moments
+
+pub returns-in-Err-Lost-clause-home : goal.returns-in-Err-Lost-clause-home
+returns-in-Err-Lost-clause-home g c = boot_stays c.args.engine.now.host _ _ c.reboot.ensures.moments
+
+pub returns-in-Err-Spent-clause-answered : goal.returns-in-Err-Spent-clause-answered
+returns-in-Err-Spent-clause-answered g c = λ t is.
+    let host = c.args.engine.now.host in
+    let quiet = moments_end (BootMoment host) _ _ c.reboot.ensures.moments t is in
+    let done = (rw c.in-Err-Spent.field-0-is at c.in-Err-Spent.ensures.rebooted) t is in (
+      done.0,
+      done.1,
+      record {
+        answer = outcome.Spent;
+        carried = done.2;
+        replied = record { piece = []; is_told = ap told (some_is _ done.0 quiet.0 done.1 quiet.1) ∙ quiet.2.quiet ∙ sym (append-nil (told t)); as_told = refl };
       },
     )
 
@@ -78,30 +111,30 @@ pub returns-in-Err-Spent-clause-moments : goal.returns-in-Err-Spent-clause-momen
 returns-in-Err-Spent-clause-moments g c =
     let host = c.args.engine.now.host in
     let old = c.args.engine.now.state in
-    moments_weaker (BootMoment host) (TurnMoment host false old) _ _ (λ t m moment. boot_turn host old t m moment) c.reboot.ensures.moments
-
-pub returns-in-Err-Spent-clause-answered : goal.returns-in-Err-Spent-clause-answered
-returns-in-Err-Spent-clause-answered g c = λ t is.
-    let host = c.args.engine.now.host in
-    let quiet = moments_end (BootMoment host) _ _ c.reboot.ensures.moments t is in
-    let done = (rw c.in-Err-Spent.field-0-is at c.in-Err-Spent.ensures.rebooted) t is in (
-      quiet.0,
-      quiet.1,
-      record {
-        answer = outcome.Spent;
-        carried = spent_again _ host c.args.engine.now.state t done.0 quiet.0 done.2;
-        replied = record { piece = []; is_told = quiet.2.quiet.quiet ∙ sym (append-nil (told t)); as_told = refl };
-      },
-    )
-
-pub returns-in-Ok-clause-home : goal.returns-in-Ok-clause-home
-returns-in-Ok-clause-home g c =
-    let host = c.args.engine.now.host in
-    both_stay host.geometry _ _ _ (boot_stays host _ _ c.reboot.ensures.moments)
-    (subst (λ (h : Host). Moments (StaysHome h.geometry) (g.B.Shelf.tale c.reboot.new.shelf) (g.B.Shelf.tale c.accept.new.bench)) c.in-Ok.ensures.host.0 c.accept.ensures.home)
-
-pub returns-in-Err-Lost-clause-home : goal.returns-in-Err-Lost-clause-home
-returns-in-Err-Lost-clause-home g c = boot_stays c.args.engine.now.host _ _ c.reboot.ensures.moments
+    moments_weaker (BootMoment host) (TurnMoment host [] old) _ _ (λ t m moment. boot_turn host old t m moment) c.reboot.ensures.moments
 
 pub returns-in-Err-Spent-clause-home : goal.returns-in-Err-Spent-clause-home
 returns-in-Err-Spent-clause-home g c = boot_stays c.args.engine.now.host _ _ c.reboot.ensures.moments
+
+pub returns-in-Err-Memory-clause-answered : goal.returns-in-Err-Memory-clause-answered
+returns-in-Err-Memory-clause-answered g c = λ t is.
+    let host = c.args.engine.now.host in
+    let quiet = moments_end (BootMoment host) _ _ c.reboot.ensures.moments t is in
+    let done = (rw c.in-Err-Memory.field-0-is at c.in-Err-Memory.ensures.rebooted) t is in (
+      done.0,
+      done.1,
+      record {
+        answer = outcome.NoMemory;
+        carried = done.2;
+        replied = record { piece = []; is_told = ap told (some_is _ done.0 quiet.0 done.1 quiet.1) ∙ quiet.2.quiet ∙ sym (append-nil (told t)); as_told = refl };
+      },
+    )
+
+pub returns-in-Err-Memory-clause-moments : goal.returns-in-Err-Memory-clause-moments
+returns-in-Err-Memory-clause-moments g c =
+    let host = c.args.engine.now.host in
+    let old = c.args.engine.now.state in
+    moments_weaker (BootMoment host) (TurnMoment host [] old) _ _ (λ t m moment. boot_turn host old t m moment) c.reboot.ensures.moments
+
+pub returns-in-Err-Memory-clause-home : goal.returns-in-Err-Memory-clause-home
+returns-in-Err-Memory-clause-home g c = boot_stays c.args.engine.now.host _ _ c.reboot.ensures.moments

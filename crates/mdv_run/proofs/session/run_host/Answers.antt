@@ -1,34 +1,36 @@
-use Rattle.std.proofs.Common.{false, sym, ◌∙◌, ap, subst, arith}
+use Rattle.std.proofs.Common.{false, refl, sym, ◌∙◌, ap, subst, arith}
 use Rattle.mdv_port.specs.Script.{script_of}
 use Rattle.mdv_shelf.specs.Tale.{Tale, told}
 use Rattle.mdv_shelf.specs.Calls.{OnDrive, OnReplies}
 use Rattle.mdv_shelf.specs.Moments.{Moments}
 use Rattle.mdv_shelf.proofs.Moments.{moments_after, moments_weaker, moments_end, some_is}
-use Rattle.mdv_engine.specs.declared.engine.Host.{Host}
-use Rattle.mdv_engine.specs.Line.{kept_at, unbooted}
-use Rattle.mdv_engine.specs.Standing.{BootMoment, BootedTo, Knows}
-use Rattle.mdv_engine.proofs.Executing.{rose_within}
-use Rattle.mdv_run.specs.declared.status.RunStatus.{RunStatus}
-use Rattle.mdv_run.specs.Run.{failures, IsWholeRun}
+use Rattle.mdv_command.specs.declared.host.Host.{Host}
+use Rattle.mdv_command.specs.Line.{kept_at, unbooted}
+use Rattle.mdv_command.specs.Standing.{BootMoment, BootedTo, Knows}
+use Rattle.mdv_command.proofs.Executing.{rose_within}
+use Rattle.mdv_course.specs.declared.status.RunStatus.{RunStatus}
+use Rattle.mdv_course.specs.Run.{failures, IsWholeRun}
 use Rattle.mdv_run.specs.Turns.{LinesRun}
-use Rattle.mdv_run.specs.Standing.{RunMoment, LinesMoment}
-use Rattle.mdv_run.proofs.Whole.{whole_over, whole_lines, boot_run, lines_run}
-use Rattle.mdv_engine.proofs.Staying.{both_stay, boot_stays}
-use Rattle.mdv_engine.specs.Home.{StaysHome}
+use Rattle.mdv_course.specs.Standing.{RunMoment, LinesMoment}
+use Rattle.mdv_course.proofs.Booting.{boot_run, lines_run}
+use Rattle.mdv_engine.specs.declared.engine.Engine.{Engine}
+use Rattle.mdv_run.proofs.Whole.{whole_over, whole_lines}
+use Rattle.mdv_command.proofs.Staying.{both_stay, boot_stays}
+use Rattle.mdv_command.specs.Home.{StaysHome}
 use Rattle.mdv_run.proofs.session.run_host.Goals as goal
 
 pub returns-in-Ok-clause-runs : goal.returns-in-Ok-clause-runs
 returns-in-Ok-clause-runs g c = λ t is input left.
     let host = c.args.host in
     let quiet = moments_end (BootMoment host) _ _ c.boot.ensures.moments t is in
-    let done = c.in-Ok.ensures.rebooted t is in
+    let done = c.in-Ok.ensures.rebooted c.in-Ok.engine.state refl t is in
     let booted = c.in-Ok.ensures.booted t is in
     let lines = c.run_lines.ensures.runs input left done.0 done.1 in
     let knows : Knows c.in-Ok.engine.host c.in-Ok.engine.state done.0 = subst (λ (h : Host). Knows h c.in-Ok.engine.state done.0) (sym c.in-Ok.ensures.host.0) (subst (λ (u : Tale). Knows host c.in-Ok.engine.state u) (some_is _ booted.0 done.0 booted.1 done.1) booted.2.knows) in
     let here = failures (g.B.Shelf.faults c.boot.new.shelf) (g.B.Shelf.faults c.run_lines.new.bench) (g.I.Source.faults c.args.script.now) (g.I.Source.faults c.run_lines.new.script) in
     let all = failures (g.B.Shelf.faults c.args.bench.now) (g.B.Shelf.faults c.run_lines.new.bench) (g.I.Source.faults c.args.script.now) (g.I.Source.faults c.run_lines.new.script) in
-    (whole_lines all here _ host t done.0 lines.0 (script_of input) _ c.in-Ok.engine.state c.run_lines.result lines.1 (ap told (some_is _ done.0 quiet.0 done.1 quiet.1) ∙ quiet.2.quiet.quiet)
-    (λ rose. rose_within _ _ _ _ (omega arith) (c.run_lines.ensures.keeps.no_fewer_faults (OnDrive 0)) rose) done.2
+    (whole_lines all _ (λ rose. rose_within _ _ _ _ (omega arith) (c.run_lines.ensures.keeps.no_fewer_faults (OnDrive 0)) rose) host t (script_of input) _ here done.0 lines.0 c.in-Ok.engine.state c.run_lines.result lines.1 (ap told (some_is _ done.0 quiet.0 done.1 quiet.1) ∙ quiet.2.quiet)
+    done.2
     (record { drive_from = c.boot.ensures.keeps.no_fewer_faults (OnDrive 0); drive_to = omega arith; source_from = omega arith; source_to = omega arith; replies_from = c.boot.ensures.keeps.no_fewer_faults OnReplies; replies_to = omega arith })
     (subst (λ (h : Host). LinesRun here h c.in-Ok.engine.state false (script_of input) c.run_lines.result done.0 lines.0) c.in-Ok.ensures.host.0 (lines.2 knows)))
 
@@ -36,10 +38,10 @@ pub returns-in-Err-clause-runs : goal.returns-in-Err-clause-runs
 returns-in-Err-clause-runs g c = λ t is input left.
     let host = c.args.host in
     let quiet = moments_end (BootMoment host) _ _ c.boot.ensures.moments t is in
-    let done = c.in-Err.ensures.rebooted t is in
+    let done = c.in-Err.ensures.rebooted (unbooted 0) tt t is in
     let all = failures (g.B.Shelf.faults c.args.bench.now) (g.B.Shelf.faults c.boot.new.shelf) (g.I.Source.faults c.args.script.now) (g.I.Source.faults c.args.script.now) in
     (subst (λ (s : RunStatus). IsWholeRun all host t (script_of input) (g.B.Shelf.tale c.boot.new.shelf) s) (sym c.over.ensures)
-    (whole_over all _ host t done.0 (script_of input) _ c.in-Err.refusal (kept_at (unbooted 0) done.0) done.1 (ap told (some_is _ done.0 quiet.0 done.1 quiet.1) ∙ quiet.2.quiet.quiet) (λ rose. rose) done.2 c.in-Err.ensures.cause))
+    (whole_over all _ (λ rose. rose) host t (script_of input) _ Engine done.0 (kept_at (unbooted 0) done.0) c.in-Err.refusal done.1 (ap told (some_is _ done.0 quiet.0 done.1 quiet.1) ∙ quiet.2.quiet) done.2 c.in-Err.ensures.cause))
 
 pub returns-in-Ok-clause-stands : goal.returns-in-Ok-clause-stands
 returns-in-Ok-clause-stands g c = λ input left.
@@ -58,8 +60,8 @@ returns-in-Err-clause-stands g c = λ input left.
 pub returns-in-Ok-clause-home : goal.returns-in-Ok-clause-home
 returns-in-Ok-clause-home g c =
     let host = c.args.host in
-    both_stay host.geometry _ _ _ (boot_stays host _ _ c.boot.ensures.moments)
-    (subst (λ (h : Host). Moments (StaysHome h.geometry) (g.B.Shelf.tale c.boot.new.shelf) (g.B.Shelf.tale c.run_lines.new.bench)) c.in-Ok.ensures.host.0 c.run_lines.ensures.home)
+    both_stay host _ _ _ (boot_stays host _ _ c.boot.ensures.moments)
+    (subst (λ (h : Host). Moments (StaysHome h) (g.B.Shelf.tale c.boot.new.shelf) (g.B.Shelf.tale c.run_lines.new.bench)) c.in-Ok.ensures.host.0 c.run_lines.ensures.home)
 
 pub returns-in-Err-clause-home : goal.returns-in-Err-clause-home
 returns-in-Err-clause-home g c = boot_stays c.args.host _ _ c.boot.ensures.moments

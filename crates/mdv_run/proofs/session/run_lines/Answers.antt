@@ -3,27 +3,28 @@ use Rattle.mdv_port.specs.Reader.{Reader}
 use Rattle.mdv_port.specs.Script.{script_of, script_before}
 use Rattle.mdv_shelf.specs.Calls.{OnDrive, OnReplies}
 use Rattle.mdv_shelf.specs.Moments.{Moments, Ends}
-use Rattle.mdv_engine.specs.declared.engine.Host.{Host}
-use Rattle.mdv_engine.specs.Home.{IsReady}
-use Rattle.mdv_engine.specs.Standing.{Knows}
-use Rattle.mdv_run.specs.Run.{failures}
+use Rattle.mdv_command.specs.declared.host.Host.{Host}
+use Rattle.mdv_command.specs.Home.{IsReady}
+use Rattle.mdv_command.specs.Standing.{Knows}
+use Rattle.mdv_engine.specs.Engine.{IsWell}
+use Rattle.mdv_course.specs.Run.{failures}
 use Rattle.mdv_run.specs.Turns.{LinesRun}
-use Rattle.mdv_run.specs.Standing.{LinesMoment}
+use Rattle.mdv_course.specs.Standing.{LinesMoment}
 use Rattle.mdv_run.proofs.Went.{SoFar, so_far_start, so_far_more, moments_over, over_ends, both_within, script_at_start, keeps_more}
-use Rattle.mdv_engine.proofs.Staying.{nothing_stays, both_stay}
-use Rattle.mdv_engine.specs.Home.{StaysHome}
+use Rattle.mdv_command.proofs.Staying.{nothing_stays, both_stay}
+use Rattle.mdv_command.specs.Home.{StaysHome}
 use Rattle.mdv_run.proofs.session.run_lines.Goals as goal
 
 pub loop-refused-init : goal.loop-refused-init
 loop-refused-init g c = record {
   host = refl;
   ready = c.requires.ready;
-  sound = c.requires.sound;
+  well = c.requires.well;
   begun = subst (λ (r : Reader). c.args.engine.now.state.begun ≤ r.lines) (sym c.new-reader.ensures) (let none = c.requires.begun in omega arith);
   limit = subst (λ (r : Reader). r.lines ≤ 1048576) (sym c.new-reader.ensures) (omega arith);
   keeps = record { same_sizes = refl; same_rest = refl; same_held = refl; no_fewer_faults = λ part. omega arith };
   source = omega arith;
-  home = nothing_stays c.args.engine.now.host.geometry _ _ refl;
+  home = nothing_stays c.args.engine.now.host _ _ refl;
   so_far = λ input left. so_far_start c.args.engine.now.host c.args.engine.now.state input _ _ _ (script_at_start _ _ _ c.new-reader.ensures left);
 }
 
@@ -31,14 +32,14 @@ pub loop-refused-preserved : goal.loop-refused-preserved
 loop-refused-preserved g c = record {
   host = c.in-On.ensures.host ∙ c.loop-refused.invariant.host;
   ready = subst (λ (h : Host). IsReady h (g.B.Shelf.sizes c.take_turn.new.bench)) (sym c.in-On.ensures.host)
-      (let ready = c.loop-refused.invariant.ready in record { small = ready.small; fresh = ready.fresh; drive = c.in-On.ensures.keeps.same_sizes ∙ ready.drive });
-  sound = c.in-On.ensures.sound;
+      (let ready = c.loop-refused.invariant.ready in record { table = ready.table; sound = ready.sound; home = ready.home; small = ready.small; fresh = ready.fresh; drive = c.in-On.ensures.keeps.same_sizes ∙ ready.drive });
+  well = subst (λ (h : Host). IsWell h c.take_turn.new.engine.state) (sym c.in-On.ensures.host) c.in-On.ensures.well;
   begun = c.in-On.ensures.begun;
   limit = (c.in-On.ensures.on tt).1;
   keeps = keeps_more _ _ _ _ _ _ _ c.loop-refused.invariant.keeps c.in-On.ensures.keeps;
   source = let first = c.loop-refused.invariant.source in let more = c.in-On.ensures.source in omega arith;
-  home = both_stay c.args.engine.now.host.geometry _ _ _ c.loop-refused.invariant.home
-      (subst (λ (h : Host). Moments (StaysHome h.geometry) (g.B.Shelf.tale c.loop-refused.bench) (g.B.Shelf.tale c.take_turn.new.bench)) c.loop-refused.invariant.host c.in-On.ensures.home);
+  home = both_stay c.args.engine.now.host _ _ _ c.loop-refused.invariant.home
+      (subst (λ (h : Host). Moments (StaysHome h) (g.B.Shelf.tale c.loop-refused.bench) (g.B.Shelf.tale c.take_turn.new.bench)) c.loop-refused.invariant.host c.in-On.ensures.home);
   so_far = λ input left.
       let here = c.loop-refused.invariant.so_far input left in
       subst (λ (h : Host). SoFar h c.args.engine.now.state c.take_turn.new.engine.state c.in-On.refused input (script_before c.take_turn.new.reader (g.I.Source.left c.take_turn.new.script)) (failures (g.B.Shelf.faults c.args.bench.now) (g.B.Shelf.faults c.take_turn.new.bench) (g.I.Source.faults c.args.script.now) (g.I.Source.faults c.take_turn.new.script)) (g.B.Shelf.tale c.args.bench.now) (g.B.Shelf.tale c.take_turn.new.bench)) (sym c.in-On.ensures.host)
@@ -65,5 +66,5 @@ returns-in-Over-clause-moments g c = λ input left.
 
 pub returns-in-Over-clause-home : goal.returns-in-Over-clause-home
 returns-in-Over-clause-home g c =
-    both_stay c.args.engine.now.host.geometry _ _ _ c.loop-refused.invariant.home
-    (subst (λ (h : Host). Moments (StaysHome h.geometry) (g.B.Shelf.tale c.loop-refused.bench) (g.B.Shelf.tale c.take_turn.new.bench)) c.loop-refused.invariant.host c.in-Over.ensures.home)
+    both_stay c.args.engine.now.host _ _ _ c.loop-refused.invariant.home
+    (subst (λ (h : Host). Moments (StaysHome h) (g.B.Shelf.tale c.loop-refused.bench) (g.B.Shelf.tale c.take_turn.new.bench)) c.loop-refused.invariant.host c.in-Over.ensures.home)

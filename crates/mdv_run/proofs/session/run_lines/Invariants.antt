@@ -2,9 +2,9 @@ use Rattle.std.proofs.Common.{◌≡◌, ◌≤◌, ◌-◌, ℕ, List, Some}
 use Rattle.mdv_shelf.specs.Calls.{Keeps}
 use Rattle.mdv_port.specs.Script.{script_before}
 use Rattle.mdv_shelf.specs.Moments.{Moments}
-use Rattle.mdv_engine.specs.Home.{IsReady, StaysHome}
-use Rattle.mdv_engine.specs.Line.{IsSound}
-use Rattle.mdv_run.specs.Run.{failures}
+use Rattle.mdv_command.specs.Home.{IsReady, StaysHome}
+use Rattle.mdv_engine.specs.Engine.{IsWell}
+use Rattle.mdv_course.specs.Run.{failures}
 use Rattle.mdv_run.proofs.Went.{SoFar}
 use Rattle.mdv_run.proofs.session.run_lines.Given as goal
 
@@ -12,12 +12,12 @@ abbrev pub invariant-loop-refused : goal.invariant-loop-refused
 invariant-loop-refused g l = record {
   host : l.engine.host ≡ l.fn.engine.host;
   ready : IsReady l.engine.host (g.B.Shelf.sizes l.bench);
-  sound : IsSound l.engine.state;
+  well : IsWell l.engine.host l.engine.state;
   begun : l.engine.state.begun ≤ l.reader.lines;
   limit : l.reader.lines ≤ 1048576;
   keeps : Keeps g.B.Shelf.sizes g.B.Shelf.faults g.B.Shelf.rest g.B.Shelf.held l.fn.bench l.bench;
   source : g.I.Source.faults l.fn.script ≤ g.I.Source.faults l.script;
-  home : Moments (StaysHome l.fn.engine.host.geometry) (g.B.Shelf.tale l.fn.bench) (g.B.Shelf.tale l.bench);
+  home : Moments (StaysHome l.fn.engine.host) (g.B.Shelf.tale l.fn.bench) (g.B.Shelf.tale l.bench);
   so_far : (input : List ℕ) → g.I.Source.left l.fn.script ≡ Some input → SoFar l.engine.host l.fn.engine.state l.engine.state l.any_refused input (script_before l.reader (g.I.Source.left l.script)) (failures (g.B.Shelf.faults l.fn.bench) (g.B.Shelf.faults l.bench) (g.I.Source.faults l.fn.script) (g.I.Source.faults l.script)) (g.B.Shelf.tale l.fn.bench) (g.B.Shelf.tale l.bench);
 }
 

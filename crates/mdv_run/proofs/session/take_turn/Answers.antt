@@ -1,21 +1,22 @@
-use Rattle.std.proofs.Common.{◌≡◌, ℕ, inr, false, List, [], Some, refl, sym, ◌∙◌, ap, subst}
+use Rattle.std.proofs.Common.{inr, [], Some, refl, sym, subst}
 use Rattle.mdv_port.specs.Script.{Script, line, too_long, script_before, IsTurn}
 use Rattle.mdv_port.specs.declared.reader.LineEnd.TheVariants.{Line, TooLong, End, Spent}
+use Rattle.mdv_shelf.specs.Moments.{Moments, Ends}
 use Rattle.mdv_shelf.proofs.Moments.{moments_none, moments_weaker}
-use Rattle.mdv_engine.specs.Line.{kept_at}
-use Rattle.mdv_engine.specs.Standing.{TurnMoment}
+use Rattle.mdv_command.specs.Line.{kept_at}
+use Rattle.mdv_command.specs.Standing.{TurnMoment}
 use Rattle.mdv_engine.specs.declared.engine.Engine.{Engine}
-use Rattle.mdv_engine.proofs.Executing.{rose_within}
-use Rattle.mdv_engine.proofs.Plain.{too_long_plain}
+use Rattle.mdv_command.proofs.Executing.{rose_within}
+use Rattle.mdv_command.proofs.Plain.{too_long_plain}
 use Rattle.mdv_run.specs.declared.session.Turn.{Turn}
-use Rattle.mdv_run.specs.declared.status.RunStatus.TheVariants.{ScriptTooLong, ReadFault}
-use Rattle.mdv_run.specs.Grammar.{makes}
-use Rattle.mdv_run.specs.Run.{failures, Runs}
+use Rattle.mdv_course.specs.declared.status.RunStatus.TheVariants.{ScriptTooLong, ReadFault}
+use Rattle.mdv_course.specs.Run.{failures, Runs}
 use Rattle.mdv_run.specs.Turns.{Turns, turn_of}
-use Rattle.mdv_run.specs.Standing.{LinesMoment, RanTo}
-use Rattle.mdv_run.proofs.Lining.{line_moment, long_moment, line_ran, long_ran, lines_start}
+use Rattle.mdv_course.specs.Standing.{LinesMoment, RanTo}
+use Rattle.mdv_course.proofs.Lining.{lines_start}
+use Rattle.mdv_course.proofs.Turning.{long_moment, long_ran}
 use Rattle.mdv_run.proofs.Leading.{end_is, spent_is, long_is, line_is, leads_line, leads_long, read_fault, on_replied, over_turn, ended_known}
-use Rattle.mdv_engine.proofs.Staying.{nothing_stays}
+use Rattle.mdv_command.proofs.Staying.{nothing_stays}
 use Rattle.mdv_run.proofs.session.take_turn.Goals as goal
 
 pub refuse-requires : goal.refuse-requires
@@ -27,10 +28,8 @@ returns-in-Ok-Line-clause-moments g c = λ lines before.
     let host = c.args.engine.now.host in
     let old = c.args.engine.now.state in
     let reads : IsTurn lines Line c.next.new.self (g.I.Source.left c.next.new.source) = rw c.in-Ok-Line.field-0-is at (c.in-Ok-Line.ensures.reads lines before) in
-    let script = line_is lines c.next.new.self (g.I.Source.left c.next.new.source) reads in
-    let is : lines ≡ line c.line.result.now script.0 = script.1 ∙ ap (λ (l : List ℕ). line l script.0) (sym c.line.ensures.value) in
-    moments_weaker (TurnMoment host (makes c.line.result.now) old) (LinesMoment host lines old) _ _
-    (λ t m turn. subst (λ (s : Script). LinesMoment host s old t m) (sym is) (line_moment host old c.line.result.now script.0 t m turn)) c.answer.ensures.moments
+    let script = line_is lines c.line.result.now c.next.new.self (g.I.Source.left c.next.new.source) c.line.ensures.value reads in
+    subst (λ (s : Script). Moments (LinesMoment host s old) (g.B.Shelf.tale c.args.bench.now) (g.B.Shelf.tale c.answer.new.bench)) (sym script.1) (c.answer.ensures.moments script.0)
 
 pub returns-in-Ok-Line-clause-ran : goal.returns-in-Ok-Line-clause-ran
 returns-in-Ok-Line-clause-ran g c = λ on lines before.
@@ -38,13 +37,11 @@ returns-in-Ok-Line-clause-ran g c = λ on lines before.
     let old = c.args.engine.now.state in
     let new = c.answer.new.engine.state in
     let reads : IsTurn lines Line c.next.new.self (g.I.Source.left c.next.new.source) = rw c.in-Ok-Line.field-0-is at (c.in-Ok-Line.ensures.reads lines before) in
-    let script = line_is lines c.next.new.self (g.I.Source.left c.next.new.source) reads in
-    let is : lines ≡ line c.line.result.now script.0 = script.1 ∙ ap (λ (l : List ℕ). line l script.0) (sym c.line.ensures.value) in (
+    let script = line_is lines c.line.result.now c.next.new.self (g.I.Source.left c.next.new.source) c.line.ensures.value reads in (
       script.0,
       script.2,
-      λ t told. (
-          let end = c.answer.ensures.turned (on_replied c.answer.result c.args.any_refused c.turn_of.result c.turn_of.ensures on) t told in
-          (end.0, end.1, subst (λ (s : Script). RanTo host s old new script.0 t end.0) (sym is) (line_ran host old new c.line.result.now script.0 t end.0 end.2))),
+      subst (λ (s : Script). Ends (RanTo host s old new script.0) (g.B.Shelf.tale c.args.bench.now) (g.B.Shelf.tale c.answer.new.bench)) (sym script.1)
+          (c.answer.ensures.ran (on_replied c.answer.result c.args.any_refused c.turn_of.result c.turn_of.ensures on) script.0),
     )
 
 pub returns-in-Ok-Line-clause-turns : goal.returns-in-Ok-Line-clause-turns
@@ -54,13 +51,12 @@ returns-in-Ok-Line-clause-turns g c = λ lines before t told.
     let new = c.answer.new.engine.state in
     let here = failures (g.B.Shelf.faults c.args.bench.now) (g.B.Shelf.faults c.answer.new.bench) (g.I.Source.faults c.args.script.now) (g.I.Source.faults c.next.new.source) in
     let reads : IsTurn lines Line c.next.new.self (g.I.Source.left c.next.new.source) = rw c.in-Ok-Line.field-0-is at (c.in-Ok-Line.ensures.reads lines before) in
-    let script = line_is lines c.next.new.self (g.I.Source.left c.next.new.source) reads in
-    let is : lines ≡ line c.line.result.now script.0 = script.1 ∙ ap (λ (l : List ℕ). line l script.0) (sym c.line.ensures.value) in
+    let script = line_is lines c.line.result.now c.next.new.self (g.I.Source.left c.next.new.source) c.line.ensures.value reads in
     let end = c.answer.ensures.answered t told in (
       end.0,
       end.1,
       λ knows. subst (λ (turn : Turn). Turns here host old new c.args.any_refused lines (script_before c.next.new.self (g.I.Source.left c.next.new.source)) turn t end.0) (sym c.turn_of.ensures)
-          (leads_line here _ _ host old new c.args.any_refused lines script.0 c.line.result.now c.answer.result (script_before c.next.new.self (g.I.Source.left c.next.new.source)) t end.0 is script.2 (λ rose. rose) (λ rose. rose) (end.2 knows)),
+          (leads_line here _ _ host old new c.args.any_refused lines script.0 c.line.result.now c.answer.result (script_before c.next.new.self (g.I.Source.left c.next.new.source)) t end.0 script.1 script.2 (λ rose. rose) (λ rose. rose) (end.2 knows)),
     )
 
 -- a line that was too long
@@ -70,8 +66,8 @@ returns-in-Ok-TooLong-clause-moments g c = λ lines before.
     let old = c.args.engine.now.state in
     let reads : IsTurn lines TooLong c.next.new.self (g.I.Source.left c.next.new.source) = rw c.in-Ok-TooLong.field-0-is at (c.in-Ok-TooLong.ensures.reads lines before) in
     let script = long_is lines c.next.new.self (g.I.Source.left c.next.new.source) reads in
-    moments_weaker (TurnMoment host false old) (LinesMoment host lines old) _ _
-    (λ t m turn. subst (λ (s : Script). LinesMoment host s old t m) (sym script.1) (long_moment host old script.0 t m turn)) (c.refuse.ensures.moments false)
+    moments_weaker (TurnMoment host [] old) (LinesMoment host lines old) _ _
+    (λ t m turn. subst (λ (s : Script). LinesMoment host s old t m) (sym script.1) (long_moment host script.0 old t m turn)) (c.refuse.ensures.moments [])
 
 pub returns-in-Ok-TooLong-clause-ran : goal.returns-in-Ok-TooLong-clause-ran
 returns-in-Ok-TooLong-clause-ran g c = λ on lines before.
@@ -82,11 +78,11 @@ returns-in-Ok-TooLong-clause-ran g c = λ on lines before.
       script.0,
       script.2,
       λ t told. (
-          let end = c.refuse.ensures.turned false (on_replied c.refuse.result c.args.any_refused c.turn_of-in-Ok-TooLong.result c.turn_of-in-Ok-TooLong.ensures on) t told in (
+          let end = c.refuse.ensures.turned [] (on_replied c.refuse.result c.args.any_refused c.turn_of-in-Ok-TooLong.result c.turn_of-in-Ok-TooLong.ensures on) t told in (
             end.0,
             end.1,
             subst (λ (s : Script). RanTo host s old c.refuse.new.self.state script.0 t end.0) (sym script.1)
-                (subst (λ (e : Engine). RanTo host (too_long script.0) old e.state script.0 t end.0) (sym c.refuse.ensures.same) (long_ran host old old script.0 t end.0 end.2)),
+                (subst (λ (e : Engine). RanTo host (too_long script.0) old e.state script.0 t end.0) (sym c.refuse.ensures.same) (long_ran host script.0 old old t end.0 end.2 (λ up. up))),
           )),
     )
 
@@ -103,7 +99,7 @@ returns-in-Ok-TooLong-clause-turns g c = λ lines before t told.
       λ knows. subst (λ (turn : Turn). Turns here host old c.refuse.new.self.state c.args.any_refused lines (script_before c.next.new.self (g.I.Source.left c.next.new.source)) turn t end.0) (sym c.turn_of-in-Ok-TooLong.ensures)
           (subst (λ (e : Engine). Turns here host old e.state c.args.any_refused lines (script_before c.next.new.self (g.I.Source.left c.next.new.source)) (turn_of c.refuse.result c.args.any_refused) t end.0) (sym c.refuse.ensures.same)
           (leads_long here _ host old c.args.any_refused lines script.0 c.refuse.result (script_before c.next.new.self (g.I.Source.left c.next.new.source)) t end.0 script.1 script.2 (λ rose. rose)
-          (refl, record { state = refl; content = λ block. (end.2.1 0 block refl).last }) end.2.0)),
+          (refl, record { memory = refl; content = λ block. (end.2.kept 0 block refl).last }) end.2.replied)),
     )
 
 -- the end of the script, a limit, and a source that failed
@@ -151,10 +147,10 @@ returns-in-Err-clause-turns g c = λ lines before t told.
     )
 
 pub returns-in-Ok-End-clause-home : goal.returns-in-Ok-End-clause-home
-returns-in-Ok-End-clause-home g c = nothing_stays c.args.engine.now.host.geometry _ _ refl
+returns-in-Ok-End-clause-home g c = nothing_stays c.args.engine.now.host _ _ refl
 
 pub returns-in-Ok-Spent-clause-home : goal.returns-in-Ok-Spent-clause-home
-returns-in-Ok-Spent-clause-home g c = nothing_stays c.args.engine.now.host.geometry _ _ refl
+returns-in-Ok-Spent-clause-home g c = nothing_stays c.args.engine.now.host _ _ refl
 
 pub returns-in-Err-clause-home : goal.returns-in-Err-clause-home
-returns-in-Err-clause-home g c = nothing_stays c.args.engine.now.host.geometry _ _ refl
+returns-in-Err-clause-home g c = nothing_stays c.args.engine.now.host _ _ refl

@@ -1,0 +1,46 @@
+-- One line, answered.
+use Rattle.std.proofs.Common.{◌≡◌, inl, inr, ℕ, List, ◌++◌, refl, sym, ◌∙◌, ap}
+use Rattle.mdv_port.specs.Script.{Script, line}
+use Rattle.mdv_shelf.specs.Tale.{Tale}
+use Rattle.mdv_shelf.proofs.Blocks.{both_ways}
+use Rattle.mdv_status.specs.Telling.{replies_in}
+use Rattle.mdv_words.specs.declared.command.Command.{Command}
+use Rattle.mdv_words.specs.declared.command.Command.TheVariants.{Create, MakeStripe, Read, Write, Boot}
+use Rattle.mdv_words.specs.Line.{IsCommand}
+use Rattle.mdv_history.specs.History.{Deed}
+use Rattle.mdv_command.specs.declared.host.Host.{Host}
+use Rattle.mdv_command.specs.Line.{Memory, IsExecuted}
+use Rattle.mdv_command.specs.Standing.{Knows, IsAwake, Turned}
+use Rattle.mdv_course.specs.Standing.{Asks, RanTo, behind}
+use Rattle.mdv_course.proofs.Coming.{behind_none}
+use Rattle.mdv_course.proofs.Turning.{line_ran}
+
+-- a command but `boot` is one that an engine executes
+pub executed_line : (text : List ℕ) (command : Command) → IsCommand text command → (command ≡ Boot → ⊥) → IsExecuted command
+executed_line text (Create slice force) is not = tt
+executed_line text (MakeStripe volume slice) is not = is.0
+executed_line text (Read volume at count) is not = (is.2, is.3)
+executed_line text (Write volume at block) is not = tt
+executed_line text Boot is not = not refl
+
+-- A line whose reply was told whole, where the last boot is known to have read the drive only where it is known of the memory before.
+module _ (host : Host) (text : List ℕ) (more : Script) (asked : List Deed) (asks : Asks text asked) (old new : Memory) (t u : Tale) (turned : Turned host asked old new t u) where
+  unknown_ran : (Knows host old t → ⊥) → RanTo host (line text more) old new more t u
+  unknown_ran never = record {
+    bytes = turned.bytes;
+    is_told = turned.is_told;
+    replies = λ rest. turned.reply.behind rest ∙ ap (λ (l : List (List ℕ)). l ++ replies_in rest) (sym turned.reply.alone);
+    left_is = ap (behind (line text more)) turned.reply.alone ∙ behind_none more;
+    knows = turned.knows;
+    made = λ knows told. absurd (never knows);
+    goes = λ h known. absurd (never known.knows);
+  }
+
+  pub known_ran : (Knows host old t → IsAwake new → IsAwake old) → RanTo host (line text more) old new more t u
+  known_ran awake = elim (both_ways new.down) [
+    | inl down ↦ line_ran host text asked asks more old new t u turned (λ up. absurd (cc (down, up)))
+    | inr up ↦ elim (both_ways old.down) [
+      | inl down ↦ unknown_ran (λ knows. absurd (let before = awake knows up in cc (down, before)))
+      | inr before ↦ line_ran host text asked asks more old new t u turned (λ same. before)
+    ]
+  ]
