@@ -1,21 +1,15 @@
 // How a run goes, by the numbers of its calls: a plain program to hold `run` against. A boot looks with
 // three calls and one for each open slot, and adopts with eight. A creation formats a place with six and
-// writes its first table with six. Each reply is told with one.
-use crate::Shown;
-use crate::writes::{Broken, adopted, made};
+// writes its first table with six, and so many has a change of the table. A block is written with two and read with
+// one, and each reply is told with one.
+use crate::spots::{Spots, Value};
+use crate::writes::{Broken, adopted, changed, made, newest, volume_in};
+use crate::{Shown, ShownVolume};
 use mdv_base::Identity;
-use mdv_run::RunStatus;
+use mdv_course::RunStatus;
 use std::alloc::{AllocError, Global};
 
 pub const OK: &str = "ok\n";
-
-const BAD_LINE: &str = "refused E1 BadLine\n";
-
-const NEED_FORCE: &str = "refused E3 NeedForce\n";
-
-const IN_USE: &str = "refused E7 SliceInUse\n";
-
-const DOWN: &str = "refused E13 WrongState Down\n";
 
 const FAULT: &str = "refused E23 IoFault\n";
 
@@ -29,11 +23,13 @@ pub const PANIC: RunStatus = RunStatus::Panic {
 pub enum Line {
     /// A creation with `-f`.
     Forced,
-    /// A creation without.
-    Unforced,
     Boot,
-    /// No command.
-    Other,
+    /// The volume of that number, 0 or 1, on the slice of that number.
+    Volume(u8),
+    /// A write of a block of the volume.
+    Write(u8, u64, Value),
+    /// A read of one.
+    Read(u8, u64),
 }
 
 /// What goes wrong in a run. Calls are counted from 0 at the run's start.
@@ -50,24 +46,38 @@ pub enum Trouble {
     Stop(u64),
 }
 
+/// What was told ok: the creation of a database, and volumes.
+#[derive(Clone, Copy, Debug, PartialEq, Eq)]
+pub struct Promised {
+    pub database: Option<Identity>,
+    pub volumes: [bool; 2],
+}
+
+/// What is known of the drive between two runs, and within one.
+#[derive(Clone, Copy)]
+pub struct Known {
+    /// How many blocks the volumes have.
+    pub sizes: [u64; 2],
+    /// What the place shows by the writes that were answered.
+    pub shown: Option<Shown>,
+    pub spots: Spots,
+    pub promised: Promised,
+}
+
 /// How a run ends, what it tells, how many calls it makes and what it writes.
 #[derive(Drop)]
 pub struct Course {
+    alloc: Global,
     trouble: Trouble,
     fresh: u64,
     begun: u32,
     standing: Standing,
+    pub known: Known,
     pub status: RunStatus,
     pub told: String,
     pub calls: u64,
-    /// What the place shows by the writes that were answered.
-    pub shown: Option<Shown>,
     /// The write that failed.
     pub broken: Option<Broken>,
-    /// How many numbers its boots drew, with their tables written.
-    pub drawn: u64,
-    /// The database whose creation was told.
-    pub promised: Option<Identity>,
 }
 
 // How the run stands between two lines.
@@ -89,31 +99,26 @@ fn open_slots(shown: Option<Shown>) -> u64 {
 }
 
 impl Line {
-    /// The line with its newline.
-    pub(crate) fn text(self) -> &'static str {
+    /// Adds the line with its newline.
+    pub(crate) fn push_to(self, alloc: Global, script: &mut String) -> Result<(), AllocError> {
         match self {
-            Line::Forced => "metadb -a -f c0t0d0s7\n",
-            Line::Unforced => "metadb -a c0t0d0s7\n",
-            Line::Boot => "boot\n",
-            Line::Other => "boot c0t0d0s7\n",
+            Line::Forced => script.push_str("metadb -a -f c0t0d0s7\n"),
+            Line::Boot => script.push_str("boot\n"),
+            Line::Volume(n) => {
+                script.push_str(format!(in alloc; "metainit d{n} 1 1 c0t0d0s{n}\n")?.as_str())
+            }
+            Line::Write(n, at, value) => {
+                let hex = value.written();
+                script.push_str(format!(in alloc; "write d{n} {at} {hex}\n")?.as_str())
+            }
+            Line::Read(n, at) => {
+                script.push_str(format!(in alloc; "read d{n} {at} 1\n")?.as_str())
+            }
         }
     }
 }
 
 impl Trouble {
-    /// The same trouble so many calls later.
-    pub(crate) fn later(self, calls: u64) -> Trouble {
-        match self {
-            Trouble::Nothing => Trouble::Nothing,
-            Trouble::Fail(call) => Trouble::Fail(call.saturating_add(calls)),
-            Trouble::FailBoth(call, other) => {
-                Trouble::FailBoth(call.saturating_add(calls), other.saturating_add(calls))
-            }
-            Trouble::Lose(call) => Trouble::Lose(call.saturating_add(calls)),
-            Trouble::Stop(call) => Trouble::Stop(call.saturating_add(calls)),
-        }
-    }
-
     // The first call on the drive that fails, of so many from that one on.
     fn failing(self, from: u64, count: u64) -> Option<u64> {
         let call = match self {
@@ -141,26 +146,25 @@ impl Trouble {
 }
 
 impl Course {
-    /// The course of a run of these lines, over a place that shows this. `fresh` is the run's word.
+    /// The course of a run of these lines. `fresh` is the word of the run that no other run has.
     pub(crate) fn of(
         alloc: Global,
         fresh: u64,
-        shown: Option<Shown>,
+        known: Known,
         lines: &[Line],
         trouble: Trouble,
     ) -> Result<Course, AllocError> {
         let mut course = Course {
+            alloc,
             trouble,
             fresh,
             begun: 0,
             standing: Standing::Down,
+            known,
             status: RunStatus::Done,
             told: String::new(alloc),
             calls: 0,
-            shown,
             broken: None,
-            drawn: 0,
-            promised: None,
         };
         course.boot();
         for line in lines {
@@ -184,37 +188,44 @@ impl Course {
     }
 
     fn boot(&mut self) {
-        if !self.passes(open_slots(self.shown).saturating_add(3)) {
+        if !self.passes(open_slots(self.known.shown).saturating_add(3)) {
             self.standing = Standing::Down;
             return;
         }
-        match self.shown {
+        self.known.spots.settle();
+        match self.known.shown {
             None => self.standing = Standing::Empty,
-            Some(shown) => self.adopt(&shown),
+            Some(shown) => {
+                if self.write_table(8, adopted(&shown)) {
+                    self.standing = Standing::InUse;
+                }
+            }
         }
     }
 
-    fn adopt(&mut self, shown: &Shown) {
-        if !self.passes(8) {
-            self.panic(Broken::Adoption);
-            return;
+    // Whether so many calls passed that write what the place shows then; else the run is over.
+    fn write_table(&mut self, calls: u64, new: Shown) -> bool {
+        if self.passes(calls) {
+            self.known.shown = Some(new);
+            true
+        } else {
+            self.panic(Broken::Table(new));
+            false
         }
-        self.shown = Some(adopted(shown));
-        self.drawn = self.drawn.saturating_add(1);
-        self.standing = Standing::InUse;
     }
 
     fn line(&mut self, line: Line) -> Result<(), AllocError> {
         match (self.standing, line) {
-            (Standing::Over, _) => {}
-            (_, Line::Boot) => self.boot_line()?,
-            (_, Line::Other) => self.refuse(BAD_LINE)?,
-            (Standing::Down, _) => self.refuse(DOWN)?,
-            (Standing::InUse, _) => self.refuse(IN_USE)?,
-            (Standing::Empty, Line::Unforced) => self.refuse(NEED_FORCE)?,
-            (Standing::Empty, Line::Forced) => self.creation()?,
+            (Standing::Over, _) => Ok(()),
+            (_, Line::Boot) => self.boot_line(),
+            (Standing::Empty, Line::Forced) => self.creation(),
+            (Standing::InUse, Line::Forced) => self.refuse("refused E7 SliceInUse\n"),
+            (Standing::Down, Line::Forced) => self.refuse("refused E13 WrongState Down\n"),
+            (Standing::InUse, Line::Volume(number)) => self.change(number),
+            (Standing::InUse, Line::Write(number, at, value)) => self.write(number, at, value),
+            (Standing::InUse, Line::Read(number, at)) => self.read(number, at),
+            _ => self.refuse("refused E2 NoDatabase\n"),
         }
-        Ok(())
     }
 
     // A boot is accepted whatever it found.
@@ -239,11 +250,80 @@ impl Course {
             self.panic(Broken::Creation(identity));
             return Ok(());
         }
-        self.shown = Some(made(identity));
+        self.known.shown = Some(made(identity));
         self.standing = Standing::InUse;
         if self.tell(OK)? {
-            self.promised = Some(identity);
+            self.known.promised.database = Some(identity);
         }
+        Ok(())
+    }
+
+    fn volume(&self, number: u8) -> Option<ShownVolume> {
+        volume_in(&newest(&self.known.shown?)?, u16::from(number))
+    }
+
+    fn block_refusal(&self, number: u8, at: u64) -> Option<&'static str> {
+        match self.volume(number) {
+            None => Some("refused E4 NoSuchVolume\n"),
+            Some(volume) if at >= volume.blocks => Some("refused E22 OutOfRange\n"),
+            Some(_) => None,
+        }
+    }
+
+    fn change(&mut self, number: u8) -> Result<(), AllocError> {
+        let Some(shown) = self.known.shown else {
+            return Ok(());
+        };
+        if self.volume(number).is_some() {
+            return self.refuse("refused E5 NameTaken\n");
+        }
+        let volume = ShownVolume {
+            number: u16::from(number),
+            slice: number,
+            blocks: self
+                .known
+                .sizes
+                .get(usize::from(number))
+                .copied()
+                .unwrap_or(0),
+        };
+        if self.write_table(6, changed(&shown, volume)) && self.tell(OK)? {
+            if let Some(promised) = self.known.promised.volumes.get_mut(usize::from(number)) {
+                *promised = true;
+            }
+        }
+        Ok(())
+    }
+
+    // A write that fails puts nothing; one whose sync fails has put the block.
+    fn write(&mut self, number: u8, at: u64, value: Value) -> Result<(), AllocError> {
+        if let Some(refusal) = self.block_refusal(number, at) {
+            return self.refuse(refusal);
+        }
+        self.known.spots.spot(number, at).allow(value);
+        if !self.passes(1) {
+            return self.refuse(FAULT);
+        }
+        self.known.spots.spot(number, at).newest = value;
+        if !self.passes(1) {
+            return self.refuse(FAULT);
+        }
+        if self.tell(OK)? {
+            self.known.spots.spot(number, at).allow_only(value);
+        }
+        Ok(())
+    }
+
+    fn read(&mut self, number: u8, at: u64) -> Result<(), AllocError> {
+        if let Some(refusal) = self.block_refusal(number, at) {
+            return self.refuse(refusal);
+        }
+        if !self.passes(1) {
+            return self.refuse(FAULT);
+        }
+        let value = self.known.spots.spot(number, at).newest.read();
+        let text = format!(in self.alloc; "{at} {value}\nok\n")?;
+        self.tell(text.as_str())?;
         Ok(())
     }
 

@@ -3,8 +3,6 @@
 #![tactic(auto)]
 
 #[cfg(test)]
-mod boot_tests;
-#[cfg(test)]
 mod course;
 #[cfg(test)]
 mod life;
@@ -13,13 +11,15 @@ mod life_tests;
 mod reading;
 #[cfg(test)]
 mod reading_tests;
-#[cfg(test)]
-mod rows;
-#[cfg(test)]
-mod script_tests;
 mod shown;
+#[cfg(test)]
+mod spots;
+#[cfg(test)]
+mod trouble_tests;
+#[cfg(test)]
+mod volume_tests;
 #[cfg(test)]
 mod writes;
 
 pub use reading::{PlaceBlocks, read_place};
-pub use shown::Shown;
+pub use shown::{Shown, ShownTable, ShownVolume};

@@ -1,9 +1,10 @@
 // A life: runs over one drive, each with its script, its trouble and its end, held against the plain course
-// of a run and the plain reading of the place.
-use crate::course::{Course, Line, Trouble};
-use crate::writes::may_show;
+// of a run, the plain reading of the place and what the blocks of the volumes may hold.
+use crate::course::{Course, Known, Line, Promised, Trouble};
+use crate::spots::{FOLLOWED, Spots, Value};
+use crate::writes::{may_show, newest, volume_in};
 use crate::{PlaceBlocks, Shown, read_place};
-use mdv_base::{DriveNo, Identity, ZERO_BLOCK};
+use mdv_base::{Block, DriveNo, ZERO_BLOCK};
 use mdv_port::MemSource;
 use mdv_run::run;
 use mdv_shelf::{MemShelf, Shelf};
@@ -11,16 +12,50 @@ use std::alloc::{AllocError, Global};
 use std::process::Abort;
 use std::test::Fail;
 
-const TABLE: &str = "host alpha\ndrive c0t0d0 8224 alpha disk.img\nslice c0t0d0s7 16 8208 db\n";
+/// A drive and its table: how many blocks it has, where the place begins, and where the slices 0 and 1 begin and how
+/// many blocks they have.
+#[derive(Clone, Copy)]
+pub struct Ground {
+    table: &'static str,
+    blocks: u64,
+    head: u64,
+    starts: [u64; 2],
+    sizes: [u64; 2],
+}
 
-const BLOCKS: u64 = 8224;
+/// As small a drive as a place and two volumes take.
+pub const SMALL: Ground = Ground {
+    table: "host alpha
+drive c0t0d0 8224 alpha disk.img
+slice c0t0d0s0 0 8
+slice c0t0d0s1 8 8
+slice c0t0d0s7 16 8208 db
+",
+    blocks: 8224,
+    head: 32,
+    starts: [0, 8],
+    sizes: [8, 8],
+};
 
-// The place's first block on the drive, and those of the two bodies.
-const HEAD: u64 = 32;
+/// A drive with more slices, and blocks behind the place.
+pub const WIDE: Ground = Ground {
+    table: "host alpha
+drive c0t0d0 40000 alpha d0.img
+slice c0t0d0s0 0 1000
+slice c0t0d0s1 1000 990
+slice c0t0d0s3 2000 4000
+slice c0t0d0s7 12000 28000 db
+",
+    blocks: 40000,
+    head: 12016,
+    starts: [0, 1000],
+    sizes: [1000, 990],
+};
 
-const FIRST_BODY: u64 = 36;
+// The blocks of the two bodies, counted from the place's first.
+const FIRST_BODY: u64 = 4;
 
-const SECOND_BODY: u64 = 4130;
+const SECOND_BODY: u64 = 4098;
 
 // One less than a number that 1 to 12 divide, so it picks the last of up to 12 values.
 const LAST: u32 = 27719;
@@ -43,38 +78,37 @@ pub struct Step<'a> {
     pub end: End,
 }
 
-/// The drive, and what is known of it. After a quiet end of a run in which a write failed the next run
+/// The drive, and what is known of it. After a quiet end of a run in which the write of a table failed the next run
 /// has no trouble: till then a crash may leave what isn't shown.
 #[derive(Drop)]
 pub struct Life {
+    ground: Ground,
     shelf: MemShelf,
     calls: u64,
     runs: u64,
     told: String,
-    pub shown: Option<Shown>,
-    // the greatest number that was shown
-    seen: u64,
-    /// The database whose creation was told.
-    pub promised: Option<Identity>,
+    pub known: Known,
 }
 
 impl Life {
     /// A life over a blank drive.
-    pub(crate) fn new(alloc: Global) -> Result<Life, AllocError> {
+    pub(crate) fn new(alloc: Global, ground: Ground) -> Result<Life, AllocError> {
         Ok(Life {
-            shelf: MemShelf::new(alloc, &[BLOCKS])?,
+            ground,
+            shelf: MemShelf::new(alloc, &[ground.blocks])?,
             calls: 0,
             runs: 0,
             told: String::new(alloc),
-            shown: None,
-            seen: 0,
-            promised: None,
+            known: Known {
+                sizes: ground.sizes,
+                shown: None,
+                spots: Spots::new(),
+                promised: Promised {
+                    database: None,
+                    volumes: [false; 2],
+                },
+            },
         })
-    }
-
-    // The word of this run that no other run has.
-    fn fresh(&self) -> u64 {
-        self.runs.saturating_add(0x0102_0304_0506_0700)
     }
 
     fn ask(&mut self, trouble: Trouble) -> Result<(), Fail> {
@@ -100,8 +134,14 @@ impl Life {
         match step.end {
             End::Quiet => {}
             End::Stable => self.shelf.crash(&[]),
-            End::Newest => self.shelf.crash(&vec![in alloc; LAST; 4131]?),
-            End::Drawn(seed) => self.shelf.crash(&drawn(alloc, seed)?),
+            End::Newest => {
+                let all = self.ground.blocks as usize;
+                self.shelf.crash(&vec![in alloc; LAST; all]?);
+            }
+            End::Drawn(seed) => {
+                let last = self.ground.head.saturating_add(SECOND_BODY);
+                self.shelf.crash(&drawn(alloc, seed, last)?);
+            }
         }
         if self.shelf.drives() == 0 {
             return Err(Fail::from("no drive"));
@@ -112,29 +152,50 @@ impl Life {
         Ok(())
     }
 
-    // Three calls.
-    fn look(&mut self) -> Result<Option<Shown>, Fail> {
-        if self.shelf.drives() == 0 || self.shelf.blocks(DriveNo(0)) < BLOCKS {
-            return Err(Fail::from("no such drive"));
+    fn read(&mut self, at: u64, out: &mut [Block]) -> Result<(), Fail> {
+        if out.is_empty() || self.shelf.drives() == 0 {
+            return Err(Fail::from("nothing to read"));
         }
+        let blocks = self.shelf.blocks(DriveNo(0));
+        if at > blocks || out.len() as u64 > blocks - at {
+            return Err(Fail::from("no such blocks"));
+        }
+        if self.shelf.read(DriveNo(0), at, out).is_err() {
+            return Err(Fail::from("a failed read"));
+        }
+        self.calls = self.calls.saturating_add(1);
+        Ok(())
+    }
+
+    fn look(&mut self) -> Result<Option<Shown>, Fail> {
+        let at = self.ground.head;
         let mut head = [ZERO_BLOCK; 4];
         let mut first = [ZERO_BLOCK];
         let mut second = [ZERO_BLOCK];
-        let failed = self.shelf.read(DriveNo(0), HEAD, &mut head).is_err()
-            || self.shelf.read(DriveNo(0), FIRST_BODY, &mut first).is_err()
-            || self
-                .shelf
-                .read(DriveNo(0), SECOND_BODY, &mut second)
-                .is_err();
-        if failed {
-            return Err(Fail::from("a failed read"));
-        }
-        self.calls = self.calls.saturating_add(3);
+        self.read(at, &mut head)?;
+        self.read(at.saturating_add(FIRST_BODY), &mut first)?;
+        self.read(at.saturating_add(SECOND_BODY), &mut second)?;
         Ok(read_place(&PlaceBlocks {
             head,
             first_body: first[0],
             second_body: second[0],
         }))
+    }
+
+    // What the blocks of the volume hold now is allowed.
+    fn look_at<R: Abort>(&mut self, rt: &R, volume: u8, step: &Step) -> Result<(), Fail> {
+        let starts = self.ground.starts;
+        let start = starts.get(usize::from(volume)).copied();
+        let mut blocks = [ZERO_BLOCK; FOLLOWED as usize];
+        self.read(start.ok_or("a volume")?, &mut blocks)?;
+        for (at, block) in blocks.iter().enumerate() {
+            let value = Value::of(block).ok_or("no value")?;
+            let at = at as u64;
+            let spot = self.known.spots.spot(volume, at);
+            assert!(rt; spot.allows(value), "{step:?} d{volume} {at} {value:?}");
+            spot.newest = value;
+        }
+        Ok(())
     }
 }
 
@@ -145,11 +206,11 @@ pub(crate) fn next(state: u64) -> u64 {
         .wrapping_add(1_442_695_040_888_963_407)
 }
 
-// Choices for the blocks up to the second body.
-fn drawn(alloc: Global, seed: u64) -> Result<Vec<u32>, AllocError> {
+// Choices for the blocks up to that one.
+fn drawn(alloc: Global, seed: u64, last: u64) -> Result<Vec<u32>, AllocError> {
     let mut choice = Vec::new(alloc);
     let mut state = seed;
-    for _ in 0..=SECOND_BODY {
+    for _ in 0..=last {
         state = next(state);
         choice.push(((state >> 33) % 4) as u32)?;
     }
@@ -159,30 +220,25 @@ fn drawn(alloc: Global, seed: u64) -> Result<Vec<u32>, AllocError> {
 fn script_of(alloc: Global, lines: &[Line]) -> Result<String, AllocError> {
     let mut script = String::new(alloc);
     for line in lines {
-        script.push_str(line.text())?;
+        line.push_to(alloc, &mut script)?;
     }
     Ok(script)
 }
 
 /// Plays a run and its end: the status and the bytes told are those of its course, the place then shows
-/// what that course may leave, and a database that was promised is there.
+/// what that course may leave, each block of a volume has a value that it allows, and what was promised is there.
 pub(crate) fn play<R: Abort + AllocGlobal>(
     rt: &R,
     life: &mut Life,
     step: Step,
 ) -> Result<Course, Fail> {
-    let fresh = life.fresh();
-    let course = Course::of(rt.alloc(), fresh, life.shown, step.lines, step.trouble)?;
+    let fresh = life.runs.saturating_add(0x0102_0304_0506_0700);
+    let course = Course::of(rt.alloc(), fresh, life.known, step.lines, step.trouble)?;
     life.ask(step.trouble)?;
     let mut source = MemSource::new(script_of(rt.alloc(), step.lines)?.into_bytes());
     let words = [format!(in rt.alloc(); "alpha")?];
-    let status = run(
-        &words,
-        TABLE.as_bytes(),
-        &mut life.shelf,
-        &mut source,
-        fresh,
-    );
+    let table = life.ground.table.as_bytes();
+    let status = run(&words, table, &mut life.shelf, &mut source, fresh);
     assert_eq!(rt; status, course.status, "{step:?}");
     life.told.push_str(course.told.as_str())?;
     let told = std::str::from_utf8(life.shelf.told()).unwrap_or("no text");
@@ -191,34 +247,48 @@ pub(crate) fn play<R: Abort + AllocGlobal>(
     life.calls = life.calls.saturating_add(course.calls);
     life.runs = life.runs.saturating_add(1);
     life.end(rt.alloc(), &step)?;
-    life.shown = life.look()?;
+    let shown = life.look()?;
     assert!(rt;
-        may_show(course.shown, course.broken, life.shown),
-        "{step:?} {:?} {:?}",
-        course.shown,
-        life.shown
+        may_show(course.known.shown, course.broken, shown),
+        "{step:?} {:?} {shown:?}",
+        course.known.shown
     );
-    expect_promise(rt, life, &course);
-    expect_numbers(rt, life, course.drawn);
+    life.known = course.known;
+    life.known.shown = shown;
+    life.look_at(rt, 0, &step)?;
+    life.look_at(rt, 1, &step)?;
+    expect_promised(rt, &life.known);
     Ok(course)
 }
 
-// A database whose creation was told is the one that is shown from then on.
-fn expect_promise<R: Abort>(rt: &R, life: &mut Life, course: &Course) {
-    if course.promised.is_some() {
-        life.promised = course.promised;
+// A database whose creation was told is the one that is shown from then on, and its newest table has each volume that
+// was told.
+fn expect_promised<R: Abort>(rt: &R, known: &Known) {
+    let Promised { database, volumes } = known.promised;
+    if database.is_some() {
+        assert_eq!(rt; known.shown.map(|shown| shown.identity), database);
     }
-    if life.promised.is_some() {
-        assert_eq!(rt; life.shown.map(|shown| shown.identity), life.promised);
+    let table = known.shown.and_then(|shown| newest(&shown));
+    for (number, told) in volumes.iter().enumerate() {
+        let number = number as u16;
+        assert!(rt; !*told || table.is_some_and(|table| volume_in(&table, number).is_some()));
     }
 }
 
-// The greatest number rises by one at least with each number that was drawn.
-fn expect_numbers<R: Abort>(rt: &R, life: &mut Life, drawn: u64) {
-    let Some(shown) = life.shown else {
-        return;
-    };
-    let greatest = shown.greatest();
-    assert!(rt; greatest >= life.seen.saturating_add(drawn));
-    life.seen = greatest;
+/// A life so far, on a small drive: runs of these lines with no trouble.
+pub(crate) fn begun<R: Abort + AllocGlobal>(rt: &R, runs: &[&[Line]]) -> Result<Life, Fail> {
+    let mut life = Life::new(rt.alloc(), SMALL)?;
+    for lines in runs {
+        play(rt, &mut life, calm(lines))?;
+    }
+    Ok(life)
+}
+
+/// A run of these lines with no trouble.
+pub(crate) fn calm(lines: &[Line]) -> Step<'_> {
+    Step {
+        lines,
+        trouble: Trouble::Nothing,
+        end: End::Quiet,
+    }
 }

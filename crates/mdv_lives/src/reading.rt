@@ -1,9 +1,9 @@
 // A place is read by comparing bytes, with nothing of the crates that write one. It is the place of 8192
 // blocks from block 16 of c0t0d0s7 on, and the host is alpha.
-ghost use Rattle.std.specs.Prelude.{◌≡◌, ◌<◌, ◌^◌, IfSome, None};
+ghost use Rattle.std.specs.Prelude.{◌≡◌, ◌<◌, ◌^◌, IfSome, None, length};
 ghost use Rattle.mdv_lives.specs.Numbers.{IsMarked};
 
-use crate::Shown;
+use crate::{Shown, ShownTable, ShownVolume};
 use mdv_base::{Block, Identity, Mark};
 
 /// The blocks of a place that say what it shows: its first four, and the first one of each slot's body.
@@ -18,20 +18,24 @@ pub struct PlaceBlocks {
 const WHOSE: &[u8] =
     b"\0\x05alpha\0\0\0\0\0\0\0\0\0\0\0\0\0\0\0\0\0\0\0\0\0\0\0\0\0\0\0\0\0\0\x07\0\0\0\x10\0\0\x20\0\0\x01";
 
-// The record of the empty table.
-const RECORD: &[u8] =
-    b"MDVREC01\0\0\0\x24\x01\x01\0\0\0\x07\0\0\0\x10\0\0\x20\0\0\0\0\0\0\0\0\0\0\0";
+// What stands in a record between its length and the number of its volumes: one list, of this one place, and neither
+// a set nor pools.
+const BEFORE_VOLUMES: &[u8] = b"\x01\x01\0\0\0\x07\0\0\0\x10\0\0\x20\0\0\0\0\0\0\0\0\0";
+
+// What stands in a volume between its number and its drive's: a stripe without a pool, alone and of width 1, with an
+// interlace of 32 blocks, on a slice.
+const STRIPE: &[u8] = b"\0\0\0\0\0\x01\0\x01\0\0\0\x20\0";
 
 /// What the place shows; None where it shows no table.
 pub fn read_place(place: &PlaceBlocks) -> Option<Shown>
     ensures table { IfSome result (λ s. s.first ≡ None → s.second ≡ None → ⊥) }
-    ensures within { IfSome result (λ s. (s.claim < 2 ^ 63) × IfSome s.first IsMarked × IfSome s.second IsMarked) }
+    ensures within { IfSome result (λ s. (s.claim < 2 ^ 63) × IfSome s.first (λ t. IsMarked t.mark) × IfSome s.second (λ t. IsMarked t.mark)) }
 {
     let [master, claim, first, second] = &place.head;
     let identity = identity_of(master)?;
     let claim = claim_of(claim)?;
-    let first = mark_of(first, &place.first_body)?;
-    let second = mark_of(second, &place.second_body)?;
+    let first = table_of(first, &place.first_body)?;
+    let second = table_of(second, &place.second_body)?;
     if first.is_none() && second.is_none() {
         return None;
     }
@@ -62,22 +66,64 @@ fn claim_of(claim: &Block) -> Option<u64>
     below_limit(number(&claim[8..16]))
 }
 
-// The mark of an open slot, none of a closed one; None where the gate isn't of its form, or stands open
-// over another body than the empty table.
-fn mark_of(gate: &Block, body: &Block) -> Option<Option<Mark>>
-    ensures { IfSome result (λ m. IfSome m IsMarked) }
+// The table of an open slot, none of a closed one; None where the gate isn't of its form, or stands open over a body
+// that isn't the record of a table.
+fn table_of(gate: &Block, body: &Block) -> Option<Option<ShownTable>>
+    ensures { IfSome result (λ t. IfSome t (λ t. IsMarked t.mark)) }
 {
     if !begins(gate, b"MDVGATE1") || !is_zero(&gate[29..]) {
         return None;
     }
     match gate[8] {
         0 if is_zero(&gate[8..]) => Some(None),
-        1 if number(&gate[25..29]) == 36 && begins(body, RECORD) => Some(Some(Mark {
-            boot: below_limit(number(&gate[9..17]))?,
-            count: below_limit(number(&gate[17..25]))?,
-        })),
+        1 => {
+            let mark = Mark {
+                boot: below_limit(number(&gate[9..17]))?,
+                count: below_limit(number(&gate[17..25]))?,
+            };
+            Some(Some(table_in(mark, body, number(&gate[25..29]))?))
+        }
         _ => None,
     }
+}
+
+// The table of this mark whose record of so many bytes stands in the body.
+fn table_in(mark: Mark, body: &Block, bytes: u64) -> Option<ShownTable>
+    ensures { IfSome result (λ t. t.mark ≡ mark) }
+{
+    if !begins(body, b"MDVREC01")
+        || number(&body[8..12]) != bytes
+        || !begins(&body[12..], BEFORE_VOLUMES)
+    {
+        return None;
+    }
+    let (lower, upper) = match (number(&body[34..36]), bytes) {
+        (0, 36) => (None, None),
+        (1, 86) => (Some(volume_of(&body[36..86])?), None),
+        (2, 136) => (
+            Some(volume_of(&body[36..86])?),
+            Some(volume_of(&body[86..136])?),
+        ),
+        _ => return None,
+    };
+    Some(ShownTable { mark, lower, upper })
+}
+
+fn volume_of(text: &[u8]) -> Option<ShownVolume>
+    requires { length text.now ≡ 50 }
+{
+    if !begins(&text[2..], STRIPE)
+        || !is_zero(&text[15..18])
+        || !is_zero(&text[19..27])
+        || !is_zero(&text[35..])
+    {
+        return None;
+    }
+    Some(ShownVolume {
+        number: u16::try_from(number(&text[..2])).ok()?,
+        slice: text[18],
+        blocks: number(&text[27..35]),
+    })
 }
 
 // The text, with zeros behind it.

@@ -1,5 +1,5 @@
 // What a write leaves of what a place shows.
-use crate::Shown;
+use crate::{Shown, ShownTable, ShownVolume};
 use mdv_base::{Identity, Mark};
 
 /// A write that failed, and with it its run.
@@ -7,8 +7,8 @@ use mdv_base::{Identity, Mark};
 pub enum Broken {
     /// The first table of that database.
     Creation(Identity),
-    /// The claim of a drawn number, or the table under it.
-    Adoption,
+    /// A table in the slot that doesn't hold the newest one, with the claim before it; whole it would show this.
+    Table(Shown),
 }
 
 /// The first table of a database.
@@ -16,29 +16,81 @@ pub(crate) fn made(identity: Identity) -> Shown {
     Shown {
         identity,
         claim: 1,
-        first: Some(Mark { boot: 1, count: 0 }),
+        first: Some(ShownTable {
+            mark: Mark { boot: 1, count: 0 },
+            lower: None,
+            upper: None,
+        }),
         second: None,
     }
 }
 
-/// What a boot leaves: it draws one more than the greatest number, claims it, and writes the table under
-/// it to the slot that doesn't hold the newest one.
+/// The table with the greatest mark.
+pub(crate) fn newest(shown: &Shown) -> Option<ShownTable> {
+    if is_second_newest(shown) {
+        shown.second
+    } else {
+        shown.first
+    }
+}
+
+/// The table's volume of that number.
+pub(crate) fn volume_in(table: &ShownTable, number: u16) -> Option<ShownVolume> {
+    match table.lower {
+        Some(volume) if volume.number == number => return Some(volume),
+        _ => {}
+    }
+    match table.upper {
+        Some(volume) if volume.number == number => Some(volume),
+        _ => None,
+    }
+}
+
+/// What a boot leaves: it draws one more than the greatest number, claims it, and writes the newest table under it.
 pub(crate) fn adopted(before: &Shown) -> Shown {
     let number = before.greatest().saturating_add(1);
-    let mark = Some(Mark {
+    let mark = Mark {
         boot: number,
         count: 0,
-    });
-    let (first, second) = if is_second_newest(before) {
-        (mark, before.second)
-    } else {
-        (before.first, mark)
     };
-    Shown {
-        identity: before.identity,
+    let claimed = Shown {
         claim: number,
-        first,
-        second,
+        ..*before
+    };
+    match newest(before) {
+        Some(table) => with_spare(&claimed, Some(ShownTable { mark, ..table })),
+        None => claimed,
+    }
+}
+
+/// What a change leaves: the newest table with one volume more, under the next count.
+pub(crate) fn changed(before: &Shown, volume: ShownVolume) -> Shown {
+    let Some(table) = newest(before) else {
+        return *before;
+    };
+    let mark = Mark {
+        count: table.mark.count.saturating_add(1),
+        ..table.mark
+    };
+    let (lower, upper) = match table.lower {
+        Some(other) if other.number < volume.number => (Some(other), Some(volume)),
+        other => (Some(volume), other),
+    };
+    with_spare(before, Some(ShownTable { mark, lower, upper }))
+}
+
+// The slot that doesn't hold the newest table has this one.
+fn with_spare(before: &Shown, table: Option<ShownTable>) -> Shown {
+    if is_second_newest(before) {
+        Shown {
+            first: table,
+            ..*before
+        }
+    } else {
+        Shown {
+            second: table,
+            ..*before
+        }
     }
 }
 
@@ -48,39 +100,28 @@ pub(crate) fn may_show(shown: Option<Shown>, broken: Option<Broken>, after: Opti
     match (broken, shown) {
         (None, _) => after == shown,
         (Some(Broken::Creation(identity)), _) => after.is_none() || after == Some(made(identity)),
-        (Some(Broken::Adoption), Some(before)) => {
-            after.is_some_and(|after| is_between(&before, &after))
+        (Some(Broken::Table(new)), Some(before)) => {
+            after.is_some_and(|after| is_between(&before, &new, &after))
         }
-        (Some(Broken::Adoption), None) => false,
+        (Some(Broken::Table(_)), None) => false,
     }
 }
 
-// The newest table is kept, and the claim is old or new. Once it is new the other slot may be old, closed
-// or new.
-fn is_between(before: &Shown, after: &Shown) -> bool {
-    let new = adopted(before);
-    let (kept, spare) = newest_first(before, before);
-    let (kept_after, spare_after) = newest_first(before, after);
-    let (_, written) = newest_first(before, &new);
-    let claimed = after.claim == new.claim;
-    after.identity == before.identity
-        && kept_after == kept
-        && (claimed || after.claim == before.claim)
-        && (spare_after == spare || (claimed && (spare_after.is_none() || spare_after == written)))
-}
-
-// The marks of a place, that of the slot first which was the newest before.
-fn newest_first(before: &Shown, shown: &Shown) -> (Option<Mark>, Option<Mark>) {
-    if is_second_newest(before) {
-        (shown.second, shown.first)
-    } else {
-        (shown.first, shown.second)
-    }
+// Nothing was written, or the claim, or the spare slot was closed behind it, or it has the new table.
+fn is_between(before: &Shown, new: &Shown, after: &Shown) -> bool {
+    let claimed = Shown {
+        claim: new.claim,
+        ..*before
+    };
+    let closed = with_spare(&claimed, None);
+    after == before || *after == claimed || *after == closed || after == new
 }
 
 fn is_second_newest(shown: &Shown) -> bool {
     match (shown.first, shown.second) {
-        (Some(first), Some(second)) => first.boot < second.boot,
+        (Some(first), Some(second)) => {
+            (first.mark.boot, first.mark.count) < (second.mark.boot, second.mark.count)
+        }
         (None, Some(_)) => true,
         _ => false,
     }

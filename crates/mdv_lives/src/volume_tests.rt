@@ -1,0 +1,91 @@
+// Lives of volumes and their blocks.
+use crate::course::{Line, Trouble};
+use crate::life::{End, Step, begun, play};
+use crate::spots::Value;
+use std::process::Abort;
+use std::test::Fail;
+
+const MADE: [Line; 2] = [Line::Forced, Line::Volume(0)];
+
+const READ_TWICE: [Line; 2] = [Line::Read(0, 5), Line::Read(0, 5)];
+
+const ENDS: [End; 6] = [
+    End::Stable,
+    End::Newest,
+    End::Drawn(1),
+    End::Drawn(2),
+    End::Drawn(3),
+    End::Drawn(4),
+];
+
+// What two reads tell before the line was done, and behind it.
+type Told = (&'static str, &'static str);
+
+// Stops a run of the line behind such a run, and crashes; two runs then read block 5 of d0 twice each. They tell either,
+// and all the same; behind a line whose `ok` was told they tell that it was done.
+fn expect_stop<R: Abort + AllocGlobal>(
+    rt: &R,
+    before: &[Line],
+    line: Line,
+    calls: u64,
+    end: End,
+    told: Told,
+) -> Result<bool, Fail> {
+    let (undone, done) = told;
+    let mut life = begun(rt, &[before])?;
+    let step = Step {
+        lines: &[line],
+        trouble: Trouble::Stop(calls),
+        end,
+    };
+    let stopped = play(rt, &mut life, step)?;
+    let mut reads = Step {
+        lines: &READ_TWICE,
+        trouble: Trouble::Nothing,
+        end,
+    };
+    let first = play(rt, &mut life, reads)?;
+    reads.end = End::Stable;
+    let second = play(rt, &mut life, reads)?;
+    let was_told = stopped.told.as_str() == "ok\n";
+    assert_eq!(rt;
+        first.told.as_str(),
+        second.told.as_str(),
+        "{calls} {end:?}"
+    );
+    assert!(rt;
+        first.told.as_str() == done || (!was_told && first.told.as_str() == undone),
+        "{calls} {end:?}"
+    );
+    Ok(was_told)
+}
+
+// A boot over two slots makes 13 calls, the write two, and its reply one.
+#[test]
+fn a_write_is_stopped_at_each_call(rt: HostRuntime) -> Result<(), Fail> {
+    let line = Line::Write(0, 5, Value::Ab);
+    let told = ("5 -\nok\n5 -\nok\n", "5 ab\nok\n5 ab\nok\n");
+    for calls in 0..17 {
+        for end in ENDS {
+            let was_told = expect_stop(&rt, &MADE, line, calls, end, told)?;
+            assert_eq!(rt; was_told, calls == 16, "{calls}");
+        }
+    }
+    Ok(())
+}
+
+// A boot over one slot makes 12 calls, the change six, and its reply one.
+#[test]
+fn a_change_is_stopped_at_each_call(rt: HostRuntime) -> Result<(), Fail> {
+    let told = (
+        "refused E4 NoSuchVolume\nrefused E4 NoSuchVolume\n",
+        "5 -\nok\n5 -\nok\n",
+    );
+    for calls in 0..20 {
+        for end in ENDS {
+            let was_told = expect_stop(&rt, &[Line::Forced], Line::Volume(0), calls, end, told)?;
+            assert_eq!(rt; was_told, calls == 19, "{calls}");
+        }
+    }
+    Ok(())
+}
