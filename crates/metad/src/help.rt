@@ -6,24 +6,30 @@ pub const HELP: &str = "\
 usage: metad HOST < SCRIPT
        metad --help | --version
 
-Runs the volume manager of one host over drives in image files. It reads drives.tab
-in the working folder, which has three lines:
+Runs the volume manager of one host over a drive in an image file. It reads drives.tab
+in the working folder:
 
     host H
     drive cCtTdD BLOCKS H FILE
     slice cCtTdDsN START BLOCKS db
+    slice cCtTdDsN START BLOCKS
 
 HOST is that H. FILE is an image of BLOCKS * 512 bytes; make one, say, with
-truncate -s 8388608 disk0.img for 16384 blocks. The slice is where a state database may lie,
-from block START of the drive on; it needs 8208 blocks.
+truncate -s 8388608 disk0.img for 16384 blocks. One slice is marked db: there a state
+database may lie, from block START of the drive on; it needs 8208 blocks. Others, as many
+as there are, are for volumes, and share no block with it.
 
 The host boots. Then SCRIPT is read, on standard input, with a command on each line:
 
     metadb -a -f c0t0d0s7    makes a state database; its first replica needs the -f
+    metainit d0 1 1 c0t0d0s0 makes the volume d0 of all blocks of a slice
+    write d0 5 ab            writes block 5 of d0: bytes in hexadecimal, and zeros behind
+    read d0 5 1              tells 1 block of d0, from block 5 on; at most 1024 at a time
     boot                     boots the host anew, as at the start
 
-Each line is answered by one line on standard output: ok, or refused with a number and
-a name, as refused E7 SliceInUse.
+Each line is answered on standard output by a line ok, or refused with a number and a
+name, as refused E7 SliceInUse. A read tells a line for each block before its ok: the number,
+and the bytes up to the last that isn't zero, or - for a block of zeros.
 
 Exit status: 0 Done, 1 SomeRefused, 2 Usage, 3 NoQuorum, 4 Panic, 5 ReadFault, 6 WriteFault,
 7 NoMemory, 8 TwoDatabases, 9 ScriptTooLong, 10 NumbersSpent. From 2 on standard error tells the name.

@@ -1,7 +1,7 @@
 ghost use Rattle.std.specs.Prelude.{◌≡◌, ◌≤◌, ◌↔◌, IsTrue, Some};
 ghost use Rattle.metad.specs.Status.{status_number, status_text};
 
-use mdv_run::RunStatus;
+use mdv_course::RunStatus;
 use std::fmt;
 
 /// The number of a status, with which the program ends.

@@ -2,12 +2,12 @@ use Rattle.std.proofs.Common.{subst, ap, ◌∙◌}
 use Rattle.mdv_name.specs.declared.geometry.Geometry.{Geometry}
 use Rattle.mdv_name.specs.Geometry.{IsFaultOf}
 use Rattle.mdv_name.proofs.OneTable.{one_table, never_both}
-use Rattle.mdv_run.proofs.Tables.{drives_fit}
+use Rattle.mdv_home.proofs.Read.{read_table}
 use Rattle.metad.specs.Bench.{sizes_in}
 use Rattle.metad.proofs.open_images.Goals as goal
 
 pub open_drives-requires : goal.open_drives-requires
-open_drives-requires c = drives_fit c.args.table.now c.in-Ok.geometry c.in-Ok.ensures.ok
+open_drives-requires c = λ n drive below. ((read_table c.args.table.now c.in-Ok.geometry c.in-Ok.ensures.ok).drives n drive below).most
 
 pub returns-in-Err-BadLine-clause-drives : goal.returns-in-Err-BadLine-clause-drives
 returns-in-Err-BadLine-clause-drives c = λ t is. absurd (never_both c.args.table.now t c.in-Err-BadLine.field-0-0 is (subst (IsFaultOf c.args.table.now) c.in-Err-BadLine.field-0-is c.in-Err-BadLine.ensures.fault))
