@@ -184,10 +184,13 @@ impl Life {
 
     // What the blocks of the volume hold now is allowed.
     fn look_at<R: Abort>(&mut self, rt: &R, volume: u8, step: &Step) -> Result<(), Fail> {
-        let starts = self.ground.starts;
-        let start = starts.get(usize::from(volume)).copied();
+        let number = usize::from(volume);
+        let start = self.ground.starts.get(number).copied();
+        let size = self.ground.sizes.get(number).copied();
         let mut blocks = [ZERO_BLOCK; FOLLOWED as usize];
-        self.read(start.ok_or("a volume")?, &mut blocks)?;
+        let followed = FOLLOWED.min(size.ok_or("a volume")?) as usize;
+        let blocks = blocks.get_mut(..followed).ok_or("its blocks")?;
+        self.read(start.ok_or("a volume")?, blocks)?;
         for (at, block) in blocks.iter().enumerate() {
             let value = Value::of(block).ok_or("no value")?;
             let at = at as u64;

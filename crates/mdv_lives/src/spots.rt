@@ -1,8 +1,8 @@
 // What the first blocks of the volumes d0 and d1 hold, and what their histories allow.
 use mdv_base::{Block, ZERO_BLOCK};
 
-/// How many blocks of a volume are followed.
-pub const FOLLOWED: u64 = 8;
+/// How many blocks of a volume are followed. Scripts name no later one.
+pub const FOLLOWED: u64 = 9;
 
 /// What a block holds: zeros, or one of the texts that lives write.
 #[derive(Clone, Copy, Debug, PartialEq, Eq)]
@@ -23,7 +23,7 @@ pub struct Spot {
 
 /// The followed blocks of both volumes, those of d0 first.
 #[derive(Clone, Copy)]
-pub struct Spots([Spot; 16]);
+pub struct Spots([Spot; 18]);
 
 impl Value {
     pub(crate) const ALL: [Value; 4] = [Value::Zeros, Value::Ab, Value::Cd, Value::Long];
@@ -84,15 +84,15 @@ impl Spots {
             newest: Value::Zeros,
             allowed: [true, false, false, false],
         };
-        Spots([spot; 16])
+        Spots([spot; 18])
     }
 
-    /// The block of the volume; the last one for all that aren't followed.
+    /// The block of the volume, the last followed one for a later one.
     pub(crate) fn spot(&mut self, volume: u8, at: u64) -> &mut Spot {
         let number = u64::from(volume)
             .saturating_mul(FOLLOWED)
-            .saturating_add(at);
-        &mut self.0[number.min(15) as usize]
+            .saturating_add(at.min(FOLLOWED - 1));
+        &mut self.0[number.min(17) as usize]
     }
 
     /// A boot has read the drive: each block has the value that a read gives.
