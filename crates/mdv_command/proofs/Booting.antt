@@ -28,7 +28,7 @@ module _ (host : Host) (t : Tale) where
   booting : (After : Log → Type 0) (Then : List Event → History → Type 0) (m : Tale) → KeptOutside (area_of (site_of host)) t m → ((es : List Event) (g : History) → After g.database → Then es g)
       → GoesOnTo (site_of host) NoCreation After t m → (h : History) → StandsAt host h t → Goes host NoDeed [] Then m h
   booting After Then m kept then goes h stands =
-      lift_log host NoDeed Then Anything NoCreation NoChange After t m kept (no_creation host) (λ change none. absurd none) (λ es g there after. then es g after) goes h stands tt
+      lift_log host NoDeed Then Anything NoCreation NoChange After t m kept (no_creation host NoDeed) (λ change none. absurd none) (λ es g there after. then es g after) goes h stands tt
 
   pub boot_moment : (m : Tale) → KeptOutside (area_of (site_of host)) t m → told m ≡ told t → GoesOn (site_of host) NoCreation t m → BootMoment host t m
   boot_moment m kept quiet goes = record { kept = kept; quiet = quiet; goes = booting Anything Reached m kept (λ es g is. tt) goes }

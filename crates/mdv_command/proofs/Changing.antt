@@ -38,7 +38,7 @@ module _ (host : Host) (memory : Memory) (newest : Newest) (opened : memory.open
   changing : (After : Log → Type 0) (Then : List Event → History → Type 0) → Commits host newest change After t m → (h : History) → IsKnown host memory h t → ((es : List Event) (g : History) → StandsAt host g m → After g.database → Then es g)
       → Goes host (IsAsked (Changed change ∷ [])) [] Then m h
   changing After Then goes h known then =
-      lift_log host (IsAsked (Changed change ∷ [])) Then (IsWithNewest (site_of host) newest) NoCreation (IsThisChange (Some change)) After t m kept (no_creation host) asks then (goes (is_opened known.knows)) h known.stands
+      lift_log host (IsAsked (Changed change ∷ [])) Then (IsWithNewest (site_of host) newest) NoCreation (IsThisChange (Some change)) After t m kept (no_creation host (IsAsked (Changed change ∷ []))) asks then (goes (is_opened known.knows)) h known.stands
       (record { is_log = known.stands.stands.database.is_log; is_newest = opened_has memory newest (λ n. IsNewestIn n h.database) opened known.newest })
 
   pub changing_moment : told m ≡ told t → Commits host newest change Anything t m → CarryMoment host (Changed change ∷ []) memory t m

@@ -15,7 +15,7 @@ use Rattle.mdv_history.proofs.Values.{values_settled}
 use Rattle.mdv_command.specs.declared.host.Host.{Host}
 use Rattle.mdv_command.specs.Home.{site_of}
 use Rattle.mdv_command.specs.Line.{Memory}
-use Rattle.mdv_command.specs.Standing.{StandsAt, IsOfRun, IsAsked, Goes, IsKnown, CanTellAll}
+use Rattle.mdv_command.specs.Standing.{StandsAt, IsMadeHere, IsAsked, Goes, IsKnown, CanTellAll}
 use Rattle.mdv_command.proofs.Going.{goes_none, room_after}
 use Rattle.mdv_command.proofs.Knowing.{stands_kept, known_kept, known_on}
 
@@ -38,7 +38,7 @@ module _ (host : Host) (memory : Memory) (u v : Tale) (kept : KeptOutside nowher
     values = here.values;
   }
 
-  tells : (deed : Deed) (e : Event) → MayHappen (site_of host) h e → told_by (e ∷ []) ≡ deed ∷ [] → IsIssue (IsOfRun host) (IsAsked (deed ∷ [])) e → Stands (site_of host) (history_after h e) v
+  tells : (deed : Deed) (e : Event) → MayHappen (site_of host) h e → told_by (e ∷ []) ≡ deed ∷ [] → IsIssue (IsMadeHere host (IsAsked (deed ∷ []))) (IsAsked (deed ∷ [])) e → Stands (site_of host) (history_after h e) v
       → (history_after h e).database.family ≡ h.database.family → Goes host (IsAsked (deed ∷ [])) (deed ∷ []) Known v h
   tells deed e may told issue stands same =
       let standing : StandsAt host (history_after h e) v = record { stands = stands; room = room_after host (IsAsked (deed ∷ [])) h (e ∷ []) (issue, tt) known.stands.room } in

@@ -5,12 +5,12 @@ use Rattle.mdv_shelf.specs.Area.{KeptOutside, nowhere}
 use Rattle.mdv_shelf.specs.Tale.{Tale}
 use Rattle.mdv_log.specs.Log as log
 use Rattle.mdv_log.specs.Log.{NoCreation}
-use Rattle.mdv_history.specs.History.{History, Deed, Event, OfDatabase, Issues, Acknowledges, Shows, Woke, NoDeed, history_after, history_after_all, IsIssue, IssuesOnly, Adds}
+use Rattle.mdv_history.specs.History.{History, Deed, Created, Event, OfDatabase, Issues, Acknowledges, Shows, Woke, NoDeed, history_after, history_after_all, IsIssue, IssuesOnly}
 use Rattle.mdv_history.specs.Standing as history
 use Rattle.mdv_history.proofs.Histories.{history_after_more, course_more, adds_more, adds_weaker}
 use Rattle.mdv_command.specs.declared.host.Host.{Host}
 use Rattle.mdv_command.specs.Home.{site_of}
-use Rattle.mdv_command.specs.Standing.{StandsAt, IsOfRun, IsAsked, Goes}
+use Rattle.mdv_command.specs.Standing.{StandsAt, IsMadeHere, Does, IsAsked, Goes}
 use Rattle.mdv_command.proofs.Knowing.{stands_kept}
 
 -- a database was made only where there is room for it
@@ -18,8 +18,8 @@ abbrev pub HasRoom : Host → History → Type 0
 HasRoom host h = IfSome h.database.issued (λ identity. 8208 ≤ host.home.blocks)
 
 module _ (host : Host) (Asks : Deed → Type 0) where
-  room_next : (h : History) (e : Event) → IsIssue (IsOfRun host) Asks e → HasRoom host h → HasRoom host (history_after h e)
-  room_next h (OfDatabase (log.Issued identity)) is room = is.room
+  room_next : (h : History) (e : Event) → IsIssue (IsMadeHere host Asks) Asks e → HasRoom host h → HasRoom host (history_after h e)
+  room_next h (OfDatabase (log.Issued identity)) is room = is.0.room
   room_next h (OfDatabase (log.Writing mark asked before table)) is room = room
   room_next h (OfDatabase log.Written) is room = room
   room_next h (OfDatabase (log.Told asked)) is room = room
@@ -29,7 +29,7 @@ module _ (host : Host) (Asks : Deed → Type 0) where
   room_next h (Woke content) is room = room
 
   -- events that issue only creations of this run keep that
-  pub room_after : (h : History) (es : List Event) → IssuesOnly (IsOfRun host) Asks es → HasRoom host h → HasRoom host (history_after_all h es)
+  pub room_after : (h : History) (es : List Event) → IssuesOnly (IsMadeHere host Asks) Asks es → HasRoom host h → HasRoom host (history_after_all h es)
   room_after h [] is room = room
   room_after h (e ∷ es) is room = room_after (history_after h e) es is.1 (room_next h e is.0 room)
 
@@ -46,7 +46,7 @@ goes_more host Asks done more Between After u m h one then =
     record {
       es = one.es ++ two.es;
       course = course_more (site_of host) h one.es two.es one.course two.course;
-      does = adds_more (IsOfRun host) Asks done more one.es two.es one.does two.does;
+      does = adds_more (IsMadeHere host Asks) Asks done more one.es two.es one.does two.does;
       stands = subst (λ (g : History). StandsAt host g m) same two.stands;
       after = subst (λ (g : History). After (one.es ++ two.es) g) same two.after;
     }
@@ -57,18 +57,18 @@ pub goes_weaker : (host : Host) (Asks Wider : Deed → Type 0) (done : List Deed
 goes_weaker host Asks Wider done After Then u v h wide kept less goes = record {
   es = goes.es;
   course = goes.course;
-  does = adds_weaker (IsOfRun host) (IsOfRun host) Asks Wider (λ identity is. is) wide done goes.es goes.does;
+  does = adds_weaker (IsMadeHere host Asks) (IsMadeHere host Wider) Asks Wider (λ identity is. (is.0, wide Created is.1)) wide done goes.es goes.does;
   stands = stands_kept host u v kept (history_after_all h goes.es) goes.stands;
   after = less goes.es (history_after_all h goes.es) goes.after;
 }
 
 -- what a law says of a history that the drive stands with
 pub lift : (host : Host) (Known : History → Type 0) (Which : Identity → Type 0) (Asks Wider : Deed → Type 0) (done : List Deed) (After Then : List Event → History → Type 0) (t m : Tale)
-    → ((identity : Identity) → Which identity → IsOfRun host identity) → ((deed : Deed) → Asks deed → Wider deed) → ((es : List Event) (g : History) → After es g → Then es g)
+    → ((identity : Identity) → Which identity → IsMadeHere host Wider identity) → ((deed : Deed) → Asks deed → Wider deed) → ((es : List Event) (g : History) → After es g → Then es g)
     → history.Goes (site_of host) Known Which Asks done After t m → (h : History) → StandsAt host h t → Known h → Goes host Wider done Then m h
 lift host Known Which Asks Wider done After Then t m mine wide less goes h stands known =
     let one = goes h stands.stands known in
-    let does : Adds (IsOfRun host) Wider done one.0 = adds_weaker Which (IsOfRun host) Asks Wider mine wide done one.0 one.2 in
+    let does : Does host Wider done one.0 = adds_weaker Which (IsMadeHere host Wider) Asks Wider mine wide done one.0 one.2 in
     record {
       es = one.0;
       course = one.1;
@@ -77,9 +77,9 @@ lift host Known Which Asks Wider done After Then t m mine wide less goes h stand
       after = less one.0 (history_after_all h one.0) one.4;
     }
 
--- no creation is one of the run's, too
-pub no_creation : (host : Host) (identity : Identity) → NoCreation identity → IsOfRun host identity
-no_creation host identity none = absurd none
+-- no creation is one that is asked, too
+pub no_creation : (host : Host) (Asks : Deed → Type 0) (identity : Identity) → NoCreation identity → IsMadeHere host Asks identity
+no_creation host Asks identity none = absurd none
 
 pub no_deed : (Asks : Deed → Type 0) (deed : Deed) → NoDeed deed → Asks deed
 no_deed Asks deed none = absurd none

@@ -16,7 +16,7 @@ use Rattle.mdv_history.specs.History.{History, Deed, Created, Changed, Wrote, Sa
 use Rattle.mdv_history.proofs.Database.{lift_database}
 use Rattle.mdv_command.specs.declared.host.Host.{Host}
 use Rattle.mdv_command.specs.Home.{IsReady, site_of}
-use Rattle.mdv_command.specs.Standing.{StandsAt, IsOfRun, Goes}
+use Rattle.mdv_command.specs.Standing.{StandsAt, IsMadeHere, Goes}
 use Rattle.mdv_command.proofs.Going.{lift}
 
 -- the site that the database is told, where its place is the home's
@@ -34,7 +34,7 @@ deed_of Changes Asks each (Saw volume at count) none = absurd none
 module _ (host : Host) (Asks : Deed → Type 0) (Then : List Event → History → Type 0) where
   -- what goes on in the database, where nothing is done outside the replica's blocks
   pub lift_log : (Known : Log → Type 0) (Which : Identity → Type 0) (Changes : Change → Type 0) (After : Log → Type 0) (t m : Tale) → KeptOutside (area_of (site_of host)) t m
-      → ((identity : Identity) → Which identity → IsOfRun host identity) → ((change : Change) → Changes change → Asks (Changed change))
+      → ((identity : Identity) → Which identity → IsMadeHere host Asks identity) → ((change : Change) → Changes change → Asks (Changed change))
       → ((es : List Event) (g : History) → StandsAt host g m → After g.database → Then es g)
       → GoesFrom (site_of host) Known Which Changes After t m → (h : History) → StandsAt host h t → Known h.database → Goes host Asks [] Then m h
   lift_log Known Which Changes After t m kept mine each then goes h stands known =

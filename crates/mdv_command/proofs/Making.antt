@@ -14,7 +14,8 @@ use Rattle.mdv_command.specs.declared.answer.Answer.TheVariants as outcome
 use Rattle.mdv_command.specs.declared.host.Host.{Host}
 use Rattle.mdv_command.specs.Home.{site_of, identity_of}
 use Rattle.mdv_command.specs.Line.{Memory}
-use Rattle.mdv_command.specs.Standing.{StandsAt, IsOfRun, IsAsked, Goes, Reached, Knows, IsKnown, IsKnownAfter, CarryMoment, CarriedTo}
+use Rattle.mdv_command.specs.Standing.{StandsAt, IsOfRun, IsMadeHere, IsAsked, Goes, Reached, Knows, IsKnown, IsKnownAfter, CarryMoment, CarriedTo}
+use Rattle.mdv_command.proofs.Going.{only_asked}
 use Rattle.mdv_command.proofs.Lifting.{lift_log}
 use Rattle.mdv_command.proofs.Refusing.{of_opened, knows_opened}
 
@@ -24,8 +25,8 @@ Makes host memory After t m = ShowsNothing (site_of host) t → GoesOnTo (site_o
 
 -- a creation of this run, on a slice with room, where no database is open and the last boot has read the drive
 module _ (host : Host) (memory : Memory) (room : 8208 ≤ host.home.blocks) (none : memory.opened ≡ None) (up : memory.down ≡ false) (t m : Tale) (kept : KeptOutside (area_of (site_of host)) t m) where
-  mine : (other : Identity) → IsThis (identity_of host memory.begun) other → IsOfRun host other
-  mine other same = subst (λ (i : Identity). IsOfRun host i) (sym same) (record { fresh = refl; room = room })
+  mine : (other : Identity) → IsThis (identity_of host memory.begun) other → IsMadeHere host (IsAsked (Created ∷ [])) other
+  mine other same = (subst (λ (i : Identity). IsOfRun host i) (sym same) (record { fresh = refl; room = room }), only_asked Created Created refl)
 
   making : (After : Log → Type 0) (Then : List Event → History → Type 0) → Makes host memory After t m → (h : History) → IsKnown host memory h t → ((es : List Event) (g : History) → StandsAt host g m → After g.database → Then es g)
       → Goes host (IsAsked (Created ∷ [])) [] Then m h

@@ -27,16 +27,24 @@ pub record IsOfRun (host : Host) (identity : Identity) : Type 0 where
   pub fresh : identity.fresh ≡ host.fresh
   pub room : 8208 ≤ host.home.blocks
 
+-- such a creation, where one is asked
+abbrev pub IsMadeHere : Host → (Deed → Type 0) → Identity → Type 0
+IsMadeHere host Asks identity = IsOfRun host identity × Asks Created
+
+-- the events tell these deeds, and issue only what is asked
+abbrev pub Does : Host → (Deed → Type 0) → List Deed → List Event → Type 0
+Does host Asks done es = Adds (IsMadeHere host Asks) Asks done es
+
 -- one of these deeds
 abbrev pub IsAsked : List Deed → Deed → Type 0
 IsAsked asked deed = Contains asked deed
 
--- From a history by some events, which tell these deeds and issue only creations of this run and deeds that are asked, to
--- one that the drive stands with, of which more is known.
+-- From a history by some events, which tell these deeds and issue only deeds that are asked, to one that the drive stands with, of
+-- which more is known.
 pub record Goes (host : Host) (Asks : Deed → Type 0) (done : List Deed) (After : List Event → History → Type 0) (m : Tale) (h : History) : Type 0 where
   pub es : List Event
   pub course : IsCourse (site_of host) h es
-  pub does : Adds (IsOfRun host) Asks done es
+  pub does : Does host Asks done es
   pub stands : StandsAt host (history_after_all h es) m
   pub after : After es (history_after_all h es)
 
