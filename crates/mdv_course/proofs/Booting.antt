@@ -1,28 +1,29 @@
 -- A boot, as a line of the script and as the start of a run.
-use Rattle.std.proofs.Common.{◌≡◌, ◌≢◌, ◌⊎◌, inl, inr, ⊎_elim, ℕ, List, [], ◌++◌, Contains, refl, sym, ◌∙◌, ap, subst, arith}
+use Rattle.std.proofs.Common.{◌≡◌, inl, inr, ℕ, true, List, [], ◌++◌, Contains, refl, sym, ◌∙◌, ap, subst, arith}
 use Rattle.std.proofs.lemmas.List.{append-nil}
 use Rattle.mdv_port.specs.Script.{Script, line}
 use Rattle.mdv_shelf.specs.Tale.{Tale, told}
 use Rattle.mdv_status.specs.Telling.{replies_in}
 use Rattle.mdv_words.specs.declared.command.Command.TheVariants.{Boot}
 use Rattle.mdv_words.specs.Line.{IsCommand}
-use Rattle.mdv_history.specs.History.{History, Deed, Created, Event, NoDeed, history_after_all, Adds, HasWoken, told_by}
-use Rattle.mdv_history.proofs.Histories.{history_after_more, course_more, told_more, adds_more, adds_weaker, woken_first, woken_second}
+use Rattle.mdv_history.specs.History.{History, Deed, Created, Event, NoDeed, history_after_all, HasWoken}
+use Rattle.mdv_history.proofs.Histories.{history_after_more, course_more, adds_more, adds_weaker, woken_first}
 use Rattle.mdv_command.proofs.Plain.{nothing_answers}
 use Rattle.mdv_command.specs.declared.host.Host.{Host}
 use Rattle.mdv_command.specs.Home.{site_of}
 use Rattle.mdv_command.specs.Line.{Memory}
 use Rattle.mdv_command.specs.Replies.{IsFront, acked}
 use Rattle.mdv_command.specs.Standing as turn
-use Rattle.mdv_command.specs.Standing.{StandsAt, IsOfRun, IsAsked, IsKnown, IsAwake, BootMoment, BootedTo, TurnMoment, Turned}
-use Rattle.mdv_course.specs.Standing.{Asks, ComeOf, InWork, IsTold, behind, LinesMoment, RanTo, RunMoment}
+use Rattle.mdv_command.specs.Standing.{StandsAt, IsMadeHere, Does, IsAsked, IsKnown, IsAwake, BootMoment, BootedTo, TurnMoment, Turned}
+use Rattle.mdv_course.specs.Standing.{Asks, AreIdle, AreOfRun, ComeOf, InWork, IsTold, behind, LinesMoment, RanTo, RunMoment}
 use Rattle.mdv_course.proofs.Coming.{behind_none, told_none, in_work_none, idle_none}
 use Rattle.mdv_course.proofs.Turning.{none_acked, front_told, reply_come}
 
 module _ (host : Host) where
   -- by which nothing is asked
-  idly : (told other : List Deed) (es : List Event) → told ≡ other → Adds (IsOfRun host) NoDeed told es → Adds (IsOfRun host) (IsAsked []) other es
-  idly told other es same adds = adds_weaker (IsOfRun host) (IsOfRun host) NoDeed (IsAsked []) (λ identity is. is) (λ deed none. absurd none) other es (subst (λ (l : List Deed). Adds (IsOfRun host) NoDeed l es) same adds)
+  idly : (told other : List Deed) (es : List Event) → told ≡ other → Does host NoDeed told es → Does host (IsAsked []) other es
+  idly told other es same does =
+      adds_weaker (IsMadeHere host NoDeed) (IsMadeHere host (IsAsked [])) NoDeed (IsAsked []) (λ identity is. absurd is.1) (λ deed none. absurd none) other es (subst (λ (l : List Deed). Does host NoDeed l es) same does)
 
   -- the events of a boot, and those of a turn by which nothing is asked
   booted_goes : (bytes : List ℕ) (front : IsFront bytes) (Between After : List Event → History → Type 0) (u m : Tale) (h : History) (first : turn.Goes host NoDeed [] Between u h)
@@ -32,7 +33,7 @@ module _ (host : Host) where
       record {
         es = first.es ++ second.es;
         course = course_more (site_of host) h first.es second.es first.course second.course;
-        does = adds_more (IsOfRun host) (IsAsked []) [] (acked [] bytes) first.es second.es (idly [] [] first.es refl first.does) second.does;
+        does = adds_more (IsMadeHere host (IsAsked [])) (IsAsked []) [] (acked [] bytes) first.es second.es (idly [] [] first.es refl first.does) second.does;
         stands = subst (λ (x : History). StandsAt host x m) same second.stands;
         after = (first.es, second.es, refl, first.after, subst (λ (x : History). After second.es x) same second.after);
       }
@@ -87,25 +88,24 @@ module _ (host : Host) where
           goes = λ h known.
               let before = booted.goes h known.stands in
               let both = booted_goes turned.bytes front (λ es after. IsKnown host new after u × (IsAwake new → HasWoken es)) (λ es after. IsKnown host new after v) u v h before (turned.goes (history_after_all h before.es) before.after.0) in
+              let woken : IsAwake new → HasWoken both.es = λ up. subst HasWoken (sym both.after.2) (woken_first both.after.0 both.after.1 (both.after.3.1 up)) in
               record {
                 es = both.es;
                 course = both.course;
-                come = reply_come host text [] asks more turned.bytes turned.reply both.es both.does;
+                come = reply_come host text [] asks more old new turned.bytes turned.reply (λ some. absurd (some none)) both.es both.does (λ up. inl (woken up));
                 stands = both.stands;
-                after = (
-                  both.after.4,
-                  (
-                    (λ some. absurd (some (both.does.tells ∙ none))),
-                    (λ up. inr (subst HasWoken (sym both.after.2) (woken_first both.after.0 both.after.1 (both.after.3.1 up)))),
-                  ),
-                );
+                after = both.after.4;
               };
         }
 
   -- the boot at a run's start
   module _ (script : Script) where
-    nothing_come : ComeOf host (InWork host) script (replies_in []) []
-    nothing_come = subst (λ (l : List (List ℕ)). ComeOf host (InWork host) script l []) (sym nothing_answers) (in_work_none host script)
+    nothing_come : ComeOf host (InWork host) true script (replies_in []) []
+    nothing_come = subst (λ (l : List (List ℕ)). ComeOf host (InWork host) true script l []) (sym nothing_answers) (in_work_none host true script)
+
+    -- events of a boot that didn't read the drive, or not yet
+    only_booted : (es : List Event) → AreIdle host es → AreOfRun host script [] es
+    only_booted es idle = record { boot = es; lines = []; both = sym (append-nil es); idle = idle; down = true; woken = λ up. absurd (cc (up)); come = nothing_come }
 
     nothing_told : (deed : Deed) → IsTold script (replies_in []) deed → ⊥
     nothing_told deed is = told_none script deed (subst (λ (l : List (List ℕ)). IsTold script l deed) nothing_answers is)
@@ -117,13 +117,7 @@ module _ (host : Host) where
       made = λ is. absurd (nothing_told Created is);
       stands = λ h stands.
           let went = moment.goes h stands in
-          record {
-            es = went.es;
-            course = went.course;
-            come = record { boot = went.es; lines = []; both = sym (append-nil went.es); idle = went.does; come = nothing_come };
-            stands = went.stands;
-            after = λ some. absurd (some went.does.tells);
-          };
+          record { es = went.es; course = went.course; come = only_booted went.es went.does; stands = went.stands; after = tt };
     }
 
     -- the lines behind it
@@ -139,13 +133,11 @@ module _ (host : Host) where
           record {
             es = before.es ++ after.es;
             course = course_more (site_of host) h before.es after.es before.course after.course;
-            come = record { boot = before.es; lines = after.es; both = refl; idle = before.does; come = after.come };
+            come = record { boot = before.es; lines = after.es; both = refl; idle = before.does; down = memory.down; woken = before.after.1; come = after.come };
             stands = subst (λ (x : History). StandsAt host x m) same after.stands;
-            after = λ some. woken before.es after.es before.does.tells before.after.1 after.after some;
+            after = tt;
           };
-    } where
-      woken : (es fs : List Event) → told_by es ≡ [] → (IsAwake memory → HasWoken es) → (told_by fs ≢ [] → IsAwake memory ⊎ HasWoken fs) → told_by (es ++ fs) ≢ [] → HasWoken (es ++ fs)
-      woken es fs none wakes then some = ⊎_elim (λ up. woken_first es fs (wakes up)) (λ woken. woken_second es fs woken) (then (λ quiet. some (told_more es fs ∙ ap (λ (l : List Deed). l ++ told_by fs) none ∙ quiet)))
+    }
 
     -- a moment before anything was done
     pub nothing_run : (t : Tale) → RunMoment host script t t
@@ -153,11 +145,5 @@ module _ (host : Host) where
       bytes = [];
       is_told = sym (append-nil (told t));
       made = λ is. absurd (nothing_told Created is);
-      stands = λ h stands. record {
-        es = [];
-        course = tt;
-        come = record { boot = []; lines = []; both = refl; idle = idle_none host; come = nothing_come };
-        stands = stands;
-        after = λ some. absurd (some refl);
-      };
+      stands = λ h stands. record { es = []; course = tt; come = only_booted [] (idle_none host); stands = stands; after = tt };
     }

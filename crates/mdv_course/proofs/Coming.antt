@@ -1,5 +1,5 @@
 -- The events that come of a script's lines, and what its replies tell.
-use Rattle.std.proofs.Common.{◌≡◌, ◌⊎◌, inl, inr, ⊎_elim, ℕ, List, [], ◌∷◌, ◌++◌, refl, sym, ◌∙◌, ap, subst, append_assoc, Contains}
+use Rattle.std.proofs.Common.{◌≡◌, ◌⊎◌, inl, inr, ⊎_elim, ℕ, Bool, List, [], ◌∷◌, ◌++◌, refl, sym, ◌∙◌, ap, subst, append_assoc, Contains}
 use Rattle.std.proofs.lemmas.List.{append-nil}
 use Rattle.std.proofs.lemmas.List.Elements.{Contains-append_left, Contains-append_right}
 use Rattle.mdv_port.specs.Script.{Script, at_end, spent, too_long, line}
@@ -9,7 +9,7 @@ use Rattle.mdv_history.proofs.Histories.{told_more}
 use Rattle.mdv_command.specs.declared.host.Host.{Host}
 use Rattle.mdv_command.specs.Line.{asked_by}
 use Rattle.mdv_command.specs.Replies.{acked_by}
-use Rattle.mdv_course.specs.Standing.{Asks, AreIdle, AnswerLine, ComeOf, InWork, NothingLeft, IsTold, behind}
+use Rattle.mdv_course.specs.Standing.{Asks, AreIdle, AreOfLine, ComeOf, InWork, NothingLeft, IsTold, behind}
 
 -- a line asks one list of deeds
 pub one_asked : (text : List ℕ) (a b : List Deed) → Asks text a → Asks text b → a ≡ b
@@ -56,61 +56,64 @@ module _ (host : Host) where
   pub idle_none : AreIdle host []
   idle_none = record { tells = refl; issues = tt }
 
-  pub in_work_none : (script : Script) → InWork host script []
-  in_work_none at_end = idle_none
-  in_work_none (spent lines bytes) = idle_none
-  in_work_none (too_long more) = idle_none
-  in_work_none (line text more) = inl refl
+  pub in_work_none : (down : Bool) (script : Script) → InWork host down script []
+  in_work_none down at_end = idle_none
+  in_work_none down (spent lines bytes) = idle_none
+  in_work_none down (too_long more) = idle_none
+  in_work_none down (line text more) = inl refl
 
-  module _ (Left : Script → List Event → Type 0) where
-    at_end_left : (replies : List (List ℕ)) (es : List Event) → ComeOf host Left at_end replies es → Left at_end es
-    at_end_left [] es come = come
-    at_end_left (reply ∷ replies) es come = come
+  module _ (Left : Bool → Script → List Event → Type 0) where
+    at_end_left : (down : Bool) (replies : List (List ℕ)) (es : List Event) → ComeOf host Left down at_end replies es → Left down at_end es
+    at_end_left down [] es come = come
+    at_end_left down (reply ∷ replies) es come = come
 
-    spent_left : (lines bytes : ℕ) (replies : List (List ℕ)) (es : List Event) → ComeOf host Left (spent lines bytes) replies es → Left (spent lines bytes) es
-    spent_left lines bytes [] es come = come
-    spent_left lines bytes (reply ∷ replies) es come = come
+    spent_left : (down : Bool) (lines bytes : ℕ) (replies : List (List ℕ)) (es : List Event) → ComeOf host Left down (spent lines bytes) replies es → Left down (spent lines bytes) es
+    spent_left down lines bytes [] es come = come
+    spent_left down lines bytes (reply ∷ replies) es come = come
+
+    -- what is left where no events came
+    left_behind : (now down : Bool) (script : Script) (es fs : List Event) → NothingLeft now down script es → (P : Bool → List Event → Type 0) → P now fs → P down (es ++ fs)
+    left_behind now down script es fs none P come = subst (λ (d : Bool). P d (es ++ fs)) (sym none.1) (subst (P now) (sym (nothing_front es fs none.0)) come)
 
     -- those of some replies, and those of the ones behind them
-    pub come_more : (script : Script) (a b : List (List ℕ)) (es fs : List Event) → ComeOf host NothingLeft script a es → ComeOf host Left (behind script a) b fs → ComeOf host Left script (a ++ b) (es ++ fs)
-    come_more script [] b es fs none come =
-        subst (λ (l : List Event). ComeOf host Left script b l) (sym (nothing_front es fs none)) (subst (λ (s : Script). ComeOf host Left s b fs) (behind_none script) come)
-    come_more at_end (reply ∷ a) b es fs none come = subst (Left at_end) (sym (nothing_front es fs none)) (at_end_left b fs come)
-    come_more (spent lines bytes) (reply ∷ a) b es fs none come = subst (Left (spent lines bytes)) (sym (nothing_front es fs none)) (spent_left lines bytes b fs come)
-    come_more (too_long more) (reply ∷ a) b es fs first come = (
+    pub come_more : (now down : Bool) (script : Script) (a b : List (List ℕ)) (es fs : List Event) → ComeOf host (NothingLeft now) down script a es → ComeOf host Left now (behind script a) b fs → ComeOf host Left down script (a ++ b) (es ++ fs)
+    come_more now down script [] b es fs none come =
+        left_behind now down script es fs none (λ d l. ComeOf host Left d script b l) (subst (λ (s : Script). ComeOf host Left now s b fs) (behind_none script) come)
+    come_more now down at_end (reply ∷ a) b es fs none come = left_behind now down at_end es fs none (λ d l. Left d at_end l) (at_end_left now b fs come)
+    come_more now down (spent lines bytes) (reply ∷ a) b es fs none come = left_behind now down (spent lines bytes) es fs none (λ d l. Left d (spent lines bytes) l) (spent_left now lines bytes b fs come)
+    come_more now down (too_long more) (reply ∷ a) b es fs first come = (
       first.0,
       first.1 ++ fs,
       ap (λ (l : List Event). l ++ fs) first.2 ∙ append_assoc first.0 first.1 fs,
       first.3,
-      come_more more a b first.1 fs first.4 come,
+      come_more now down more a b first.1 fs first.4 come,
     )
-    come_more (line text more) (reply ∷ a) b es fs first come = (
+    come_more now down (line text more) (reply ∷ a) b es fs first come = (
       first.0,
-      first.1,
-      first.2,
-      first.3 ++ fs,
-      ap (λ (l : List Event). l ++ fs) first.4 ∙ append_assoc first.2 first.3 fs,
-      first.5,
-      come_more more a b first.3 fs first.6 come,
+      first.1 ++ fs,
+      ap (λ (l : List Event). l ++ fs) first.2 ∙ append_assoc first.0 first.1 fs,
+      first.3,
+      first.4,
+      come_more now first.3 more a b first.1 fs first.5 come,
     )
 
     -- what the replies tell, the events tell
-    pub come_told : (script : Script) (replies : List (List ℕ)) (es : List Event) (deed : Deed) → ComeOf host Left script replies es → IsTold script replies deed → Contains (told_by es) deed
-    come_told script [] es deed come is = absurd (told_none script deed is)
-    come_told at_end (reply ∷ replies) es deed come is = absurd is
-    come_told (spent lines bytes) (reply ∷ replies) es deed come is = absurd is
-    come_told (too_long more) (reply ∷ replies) es deed come is =
-        subst (λ (l : List Deed). Contains l deed) (sym (ap told_by come.2 ∙ told_more come.0 come.1)) (Contains-append_right (told_by come.0) (told_by come.1) deed (come_told more replies come.1 deed come.4 is))
-    come_told (line text more) (reply ∷ replies) es deed come (inl here) =
-        let same = one_asked text here.0 come.0 here.1 come.1 in
-        let told : Contains (told_by come.2) deed = subst (λ (l : List Deed). Contains l deed) (sym come.5.tells) (subst (λ (asked : List Deed). Contains (acked_by asked reply) deed) same here.2) in
-        subst (λ (l : List Deed). Contains l deed) (sym (ap told_by come.4 ∙ told_more come.2 come.3)) (Contains-append_left (told_by come.2) (told_by come.3) deed told)
-    come_told (line text more) (reply ∷ replies) es deed come (inr is) =
-        subst (λ (l : List Deed). Contains l deed) (sym (ap told_by come.4 ∙ told_more come.2 come.3)) (Contains-append_right (told_by come.2) (told_by come.3) deed (come_told more replies come.3 deed come.6 is))
+    pub come_told : (down : Bool) (script : Script) (replies : List (List ℕ)) (es : List Event) (deed : Deed) → ComeOf host Left down script replies es → IsTold script replies deed → Contains (told_by es) deed
+    come_told down script [] es deed come is = absurd (told_none script deed is)
+    come_told down at_end (reply ∷ replies) es deed come is = absurd is
+    come_told down (spent lines bytes) (reply ∷ replies) es deed come is = absurd is
+    come_told down (too_long more) (reply ∷ replies) es deed come is =
+        subst (λ (l : List Deed). Contains l deed) (sym (ap told_by come.2 ∙ told_more come.0 come.1)) (Contains-append_right (told_by come.0) (told_by come.1) deed (come_told down more replies come.1 deed come.4 is))
+    come_told down (line text more) (reply ∷ replies) es deed come (inl here) =
+        let same = one_asked text here.0 come.4.asked here.1 come.4.asks in
+        let told : Contains (told_by come.0) deed = subst (λ (l : List Deed). Contains l deed) (sym come.4.does.tells) (subst (λ (asked : List Deed). Contains (acked_by asked reply) deed) same here.2) in
+        subst (λ (l : List Deed). Contains l deed) (sym (ap told_by come.2 ∙ told_more come.0 come.1)) (Contains-append_left (told_by come.0) (told_by come.1) deed told)
+    come_told down (line text more) (reply ∷ replies) es deed come (inr is) =
+        subst (λ (l : List Deed). Contains l deed) (sym (ap told_by come.2 ∙ told_more come.0 come.1)) (Contains-append_right (told_by come.0) (told_by come.1) deed (come_told come.3 more replies come.1 deed come.5 is))
 
   -- those of one line, told by its one reply
-  pub come_line : (Left : Script → List Event → Type 0) (text : List ℕ) (more : Script) (asked : List Deed) (reply : List ℕ) (es : List Event) → Asks text asked → AnswerLine host asked reply es → Left more [] → ComeOf host Left (line text more) (reply ∷ []) es
-  come_line Left text more asked reply es asks answer left = (asked, asks, es, [], sym (append-nil es), answer, left)
+  pub come_line : (Left : Bool → Script → List Event → Type 0) (down then : Bool) (text : List ℕ) (more : Script) (reply : List ℕ) (es : List Event) → AreOfLine host text down reply es then → Left then more [] → ComeOf host Left down (line text more) (reply ∷ []) es
+  come_line Left down then text more reply es of_line left = (es, [], sym (append-nil es), then, of_line, left)
 
-  pub come_long : (Left : Script → List Event → Type 0) (more : Script) (reply : List ℕ) (es : List Event) → AreIdle host es → Left more [] → ComeOf host Left (too_long more) (reply ∷ []) es
-  come_long Left more reply es idle left = (es, [], sym (append-nil es), idle, left)
+  pub come_long : (Left : Bool → Script → List Event → Type 0) (down : Bool) (more : Script) (reply : List ℕ) (es : List Event) → AreIdle host es → Left down more [] → ComeOf host Left down (too_long more) (reply ∷ []) es
+  come_long Left down more reply es idle left = (es, [], sym (append-nil es), idle, left)

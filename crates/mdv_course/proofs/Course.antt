@@ -13,7 +13,7 @@ use Rattle.mdv_command.specs.declared.answer.Answer.{Answer}
 use Rattle.mdv_command.specs.declared.answer.Answer.TheVariants as outcome
 use Rattle.mdv_command.specs.declared.host.Host.{Host}
 use Rattle.mdv_command.specs.Home.{site_of}
-use Rattle.mdv_command.specs.Line.{Memory, Kept, IsCarriedOut, IsCreation, IsRebooted, adopted, empty, down, lost, wanting}
+use Rattle.mdv_command.specs.Line.{Kept, IsCarriedOut, IsRebooted, adopted, empty, down, lost, wanting}
 use Rattle.mdv_command.specs.Line as boot
 use Rattle.mdv_command.specs.Replies.{IsPlain, IsPlainAnswer, IsReply, ok_line, refusal_line}
 use Rattle.mdv_command.proofs.Plain.{bad_line_plain, too_long_plain, memory_plain, create_plain, change_plain, blocks_plain, ok_reply, values_are_reply, refusal_reply}

@@ -10,13 +10,13 @@ use Rattle.mdv_log.specs.Site.{Newest}
 use Rattle.mdv_log.specs.Standing.{IsNewestIn, nothing, replica}
 use Rattle.mdv_log.proofs.Covering.{last_image, nothing_covers}
 use Rattle.mdv_log.proofs.Logs.{told_acknowledges, told_firm, is_log_after_all}
-use Rattle.mdv_history.specs.History.{History, Deed, Created, Event, history_after_all, IsCourse, Adds, told_by}
+use Rattle.mdv_history.specs.History.{History, Deed, Created, Event, history_after_all, IsCourse, told_by}
 use Rattle.mdv_history.specs.Standing.{ValuesHold}
 use Rattle.mdv_history.proofs.Parts.{of_database, database_after, database_course, told_of_database, database_told, told_created, issued_has}
 use Rattle.mdv_command.specs.declared.host.Host.{Host}
 use Rattle.mdv_command.specs.Home.{site_of, identity_of}
 use Rattle.mdv_command.specs.Line.{Memory}
-use Rattle.mdv_command.specs.Standing.{StandsAt, IsOfRun, Knows, IsKnown}
+use Rattle.mdv_command.specs.Standing.{StandsAt, IsOfRun, IsMadeHere, Does, Knows, IsKnown}
 use Rattle.mdv_course.specs.Standing.{ShowsMade}
 
 -- a history with a firm table, of the database of this run's creation of that number
@@ -92,7 +92,7 @@ pub some_told : {X : Type 0} (xs : List X) (x : X) → Contains xs x → xs ≡ 
 some_told xs x has none = absurd (let in_none : Contains [] x = subst (λ (l : List _). Contains l x) none has in omega (arith, in_none.1))
 
 -- Where nothing was there, and then a creation was told, the history is one of this run's database.
-pub made_ours : (host : Host) (Asks : Deed → Type 0) (told : List Deed) (t m : Tale) (es : List Event) → IsCourse (site_of host) (began host t) es → Adds (IsOfRun host) Asks told es → Contains told Created
+pub made_ours : (host : Host) (Asks : Deed → Type 0) (told : List Deed) (t m : Tale) (es : List Event) → IsCourse (site_of host) (began host t) es → Does host Asks told es → Contains told Created
     → StandsAt host (history_after_all (began host t) es) m → (number : ℕ) × IsOurs host number (history_after_all (began host t) es).database
 made_ours host Asks told t m es course adds has stands =
     let events = of_database es in
@@ -102,7 +102,7 @@ made_ours host Asks told t m es course adds has stands =
     let is_log = is_log_after_all host.drives empty_log events (empty_is_log host.drives) is_course in
     let after = history_after_all (began host t) es in
     let firm : is_firm after.database ≡ true = ap is_firm (database_after (began host t) es) ∙ told_firm host.drives (log.log_after_all empty_log events) acknowledged.0 is_log acknowledged.1 in
-    let issued = issued_has (IsOfRun host) (IsOfRun host) Asks (λ identity is. is) (began host t) es adds.issues tt in
+    let issued = issued_has (IsOfRun host) (IsMadeHere host Asks) Asks (λ identity is. is.0) (began host t) es adds.issues tt in
     elim (stands.stands.database.covers (last m) (last_image m)) [
       | nothing not_firm none ↦ absurd (cc (firm, not_firm))
       | replica head agrees ↦ (head.master.identity.number, record { issued = ours_by host after.database.issued head.master.identity agrees.as_issued issued; firm = firm })

@@ -7,6 +7,7 @@ use Rattle.mdv_status.specs.Telling.{replies_in}
 use Rattle.mdv_words.specs.declared.command.Command.{Command}
 use Rattle.mdv_words.specs.declared.command.Command.TheVariants.{Create, MakeStripe, Read, Write, Boot}
 use Rattle.mdv_words.specs.Line.{IsCommand}
+use Rattle.mdv_words.proofs.Lines.{one_command}
 use Rattle.mdv_history.specs.History.{Deed}
 use Rattle.mdv_command.specs.declared.host.Host.{Host}
 use Rattle.mdv_command.specs.Line.{Memory, IsExecuted}
@@ -23,8 +24,13 @@ executed_line text (Read volume at count) is not = (is.2, is.3)
 executed_line text (Write volume at block) is not = tt
 executed_line text Boot is not = not refl
 
--- A line whose reply was told whole, where the last boot is known to have read the drive only where it is known of the memory before.
-module _ (host : Host) (text : List ℕ) (more : Script) (asked : List Deed) (asks : Asks text asked) (old new : Memory) (t u : Tale) (turned : Turned host asked old new t u) where
+-- its line is no `boot`
+pub no_boot : (text : List ℕ) (command : Command) → IsCommand text command → (command ≡ Boot → ⊥) → IsCommand text Boot → ⊥
+no_boot text command is not boot = not (one_command text command Boot is boot)
+
+-- A line that is no boot, whose reply was told whole, where the last boot is known to have read the drive only where it is known of the
+-- memory before.
+module _ (host : Host) (text : List ℕ) (more : Script) (asked : List Deed) (asks : Asks text asked) (old new : Memory) (t u : Tale) (turned : Turned host asked old new t u) (other : IsCommand text Boot → ⊥) where
   unknown_ran : (Knows host old t → ⊥) → RanTo host (line text more) old new more t u
   unknown_ran never = record {
     bytes = turned.bytes;
@@ -38,9 +44,9 @@ module _ (host : Host) (text : List ℕ) (more : Script) (asked : List Deed) (as
 
   pub known_ran : (Knows host old t → IsAwake new → IsAwake old) → RanTo host (line text more) old new more t u
   known_ran awake = elim (both_ways new.down) [
-    | inl down ↦ line_ran host text asked asks more old new t u turned (λ up. absurd (cc (down, up)))
+    | inl down ↦ line_ran host text asked asks more old new t u turned (λ up. absurd (cc (down, up))) other
     | inr up ↦ elim (both_ways old.down) [
       | inl down ↦ unknown_ran (λ knows. absurd (let before = awake knows up in cc (down, before)))
-      | inr before ↦ line_ran host text asked asks more old new t u turned (λ same. before)
+      | inr before ↦ line_ran host text asked asks more old new t u turned (λ same. before) other
     ]
   ]

@@ -13,7 +13,7 @@ use Rattle.mdv_engine.specs.declared.engine.Engine.{Engine}
 use Rattle.mdv_course.specs.Standing.{LinesMoment, RanTo}
 use Rattle.mdv_course.proofs.Turning.{line_moment, line_ran}
 use Rattle.mdv_course.proofs.Waking.{executed_awake}
-use Rattle.mdv_run.proofs.Answering.{executed_line, known_ran}
+use Rattle.mdv_run.proofs.Answering.{executed_line, no_boot, known_ran}
 use Rattle.mdv_run.proofs.session.answer.Goals as goal
 
 pub exec-requires-clause-executed : goal.exec-requires-clause-executed
@@ -44,7 +44,7 @@ returns-in_default-command-clause-ran g c = λ on more.
     let drive = Rose (g.B.Shelf.faults c.args.bench.now (OnDrive 0)) (g.B.Shelf.faults c.exec.new.bench (OnDrive 0)) in
     let replies = Rose (g.B.Shelf.faults c.args.bench.now OnReplies) (g.B.Shelf.faults c.exec.new.bench OnReplies) in
     ends_both (λ t u. Knows host old t → Executed drive replies host command old new c.exec.result t u) (Turned host (asked_by command) old new) (RanTo host (line c.args.line.now more) old new more) _ _
-    (λ t u done turned. known_ran host c.args.line.now more (asked_by command) (inr (command, c.in-Some.ensures.value, refl)) old new t u turned
+    (λ t u done turned. known_ran host c.args.line.now more (asked_by command) (inr (command, c.in-Some.ensures.value, refl)) old new t u turned (no_boot c.args.line.now command c.in-Some.ensures.value c.in_default-command.not-Boot)
     (λ knows. executed_awake drive replies host command old new c.exec.result t u (done knows) (executed_line c.args.line.now command c.in-Some.ensures.value c.in_default-command.not-Boot) on))
     c.exec.ensures.answered (c.exec.ensures.turned on)
 
@@ -61,7 +61,7 @@ returns-in_default-clause-ran g c = λ on more.
     let host = c.args.engine.now.host in
     let old = c.args.engine.now.state in
     subst (λ (e : Engine). Ends (RanTo host (line c.args.line.now more) old e.state more) (g.B.Shelf.tale c.args.bench.now) (g.B.Shelf.tale c.refuse.new.bench)) (sym c.refuse.ensures.same)
-    (λ t is. (let end = c.refuse.ensures.turned [] on t is in (end.0, end.1, line_ran host c.args.line.now [] (inl (c.in_default.ensures.none, refl)) more old old t end.0 end.2 (λ up. up))))
+    (λ t is. (let end = c.refuse.ensures.turned [] on t is in (end.0, end.1, line_ran host c.args.line.now [] (inl (c.in_default.ensures.none, refl)) more old old t end.0 end.2 (λ up. up) (c.in_default.ensures.none Boot))))
 
 -- a boot
 pub returns-in-Boot-clause-moments : goal.returns-in-Boot-clause-moments

@@ -82,7 +82,7 @@ returns-in-Ok-TooLong-clause-ran g c = λ on lines before.
             end.0,
             end.1,
             subst (λ (s : Script). RanTo host s old c.refuse.new.self.state script.0 t end.0) (sym script.1)
-                (subst (λ (e : Engine). RanTo host (too_long script.0) old e.state script.0 t end.0) (sym c.refuse.ensures.same) (long_ran host script.0 old old t end.0 end.2 (λ up. up))),
+                (subst (λ (e : Engine). RanTo host (too_long script.0) old e.state script.0 t end.0) (sym c.refuse.ensures.same) (long_ran host script.0 old t end.0 end.2)),
           )),
     )
 
