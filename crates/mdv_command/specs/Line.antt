@@ -267,7 +267,7 @@ IsCarriedOut failed host kept (Create slice force) answer next =
     ⊎ (MayCreate host kept.memory slice force × IsCreation failed host kept answer next)
 IsCarriedOut failed host kept (command.MakeStripe volume slice) answer next =
     ((refusal : Refusal) × IsChangeRefused host kept.memory (MakeStripe volume slice) refusal × IsTurnedDown refusal kept answer next)
-    ⊎ (IsTurnedDown OutOfMemory kept answer next
+    ⊎ (((kept.memory.opened ≢ None) × IsTurnedDown OutOfMemory kept answer next)
     ⊎ ((may : MayChange host kept.memory (MakeStripe volume slice)) × IsChange failed host kept.memory (MakeStripe volume slice) may kept answer next))
 IsCarriedOut failed host kept (Read volume at count) answer next =
     ((refusal : Refusal) × AreBlocksRefused host kept.memory volume at count refusal × IsTurnedDown refusal kept answer next)

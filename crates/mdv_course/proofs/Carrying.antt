@@ -136,8 +136,8 @@ module _ (failed : Type 0) (calm : failed → ⊥) (host : Host) (sound : IsSoun
       carried (command.MakeStripe volume slice) (inl first) (inr (inr second)) = absurd (never_changed host sound volume slice memory (opening_of host k same.one) first.0 first.1 second.0)
       carried (command.MakeStripe volume slice) (inr (inr first)) (inl second) = absurd (never_changed host sound volume slice memory (opening_of host k same.one) second.0 second.1 first.0)
       carried (command.MakeStripe volume slice) (inr (inr first)) (inr (inr second)) = changed volume slice first.0 second.0 (room_of_opening first.0.newest first.0.opened (opening_of host k same.one)) first.1 second.1
-      carried (command.MakeStripe volume slice) (inr (inl wanting)) second = absurd (sated.not_refused wanting.0)
-      carried (command.MakeStripe volume slice) first (inr (inl wanting)) = absurd (sated_too.not_refused wanting.0)
+      carried (command.MakeStripe volume slice) (inr (inl wanting)) second = absurd (sated.not_refused wanting.1.0)
+      carried (command.MakeStripe volume slice) first (inr (inl wanting)) = absurd (sated_too.not_refused wanting.1.0)
       carried (Read volume at count) (inl first) (inl second) = refused first.0 second.0 (one_blocks_cause host sound home memory volume at count first.0 second.0 first.1 second.1) first.2 second.2
       carried (Read volume at count) (inl first) (inr second) = absurd (never_read volume at count second.1.lies.0 second.1.lies.1 (opening_of host k same.one) first.0 second.0 first.1 second.1)
       carried (Read volume at count) (inr first) (inl second) = absurd (never_read volume at count first.1.lies.0 first.1.lies.1 (opening_of host k same.one) second.0 first.0 second.1 first.1)

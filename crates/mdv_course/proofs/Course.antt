@@ -47,7 +47,7 @@ module _ (failed : Type 0) (calm : failed → ⊥) (host : Host) (kept next : Ke
   carried_plain (Create slice force) (inr (may, inr (inl (refused, unbegun)))) = refused_plain OutOfMemory memory_plain refused
   carried_plain (Create slice force) (inr (may, inr (inr (so, bad)))) = absurd (calm so)
   carried_plain (MakeStripe volume slice) (inl (r, cause, refused)) = refused_plain r (change_plain host kept.memory volume slice r cause) refused.0
-  carried_plain (MakeStripe volume slice) (inr (inl refused)) = refused_plain OutOfMemory memory_plain refused.0
+  carried_plain (MakeStripe volume slice) (inr (inl refused)) = refused_plain OutOfMemory memory_plain refused.1.0
   carried_plain (MakeStripe volume slice) (inr (inr (may, inl (ok, fits, made)))) = ok_plain ok
   carried_plain (MakeStripe volume slice) (inr (inr (may, inr (inl (is, used))))) = subst IsPlainAnswer (sym is) tt
   carried_plain (MakeStripe volume slice) (inr (inr (may, inr (inr (so, panic))))) = absurd (calm so)

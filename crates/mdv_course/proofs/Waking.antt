@@ -55,7 +55,7 @@ module _ (failed : Type 0) (host : Host) (kept next : Kept) (answer : Answer) (u
   carried_awake (Create slice force) executed (inl refused) heard = same_memory refused.2.1.memory
   carried_awake (Create slice force) executed (inr may) heard = may.0.was_up
   carried_awake (MakeStripe volume slice) executed (inl refused) heard = same_memory refused.2.1.memory
-  carried_awake (MakeStripe volume slice) executed (inr (inl wanting)) heard = same_memory wanting.1.memory
+  carried_awake (MakeStripe volume slice) executed (inr (inl wanting)) heard = same_memory wanting.1.1.memory
   carried_awake (MakeStripe volume slice) executed (inr (inr (may, inl (ok, fits, committed)))) heard = sym (ap (λ (m : Memory). m.down) committed.memory) ∙ up
   carried_awake (MakeStripe volume slice) executed (inr (inr (may, inr (inl (spent, used))))) heard = absurd (unheard outcome.Spent (λ h. h) spent heard)
   carried_awake (MakeStripe volume slice) executed (inr (inr (may, inr (inr (so, panic))))) heard = absurd (unheard outcome.Panic (λ h. h) panic heard)

@@ -66,10 +66,14 @@ is_refused host memory newest opened table same (MakeStripe volume slice) r is =
     of SliceInUse is = (newest, opened, is)
     of other is = absurd is
 
+-- where a database is open memory may be wanting
+pub may_want : (host : Host) (memory : Memory) (newest : Newest) → memory.opened ≡ Some newest → (change : Change) → HasChangeCause host memory change OutOfMemory
+may_want host memory newest opened change none = absurd (cc (opened, none))
+
 -- a change that is refused before anything is done
 module _ (host : Host) (memory : Memory) (volume : VolId) (slice : SliceName) where
   pub refused_line : (failed : Type 0) (t : Tale) (r : Refusal) → HasChangeCause host memory (MakeStripe volume slice) r → IsCarriedOut failed host (kept_at memory t) (command.MakeStripe volume slice) (outcome.Refused r) (kept_at memory t)
-  refused_line failed t OutOfMemory is = inr (inl (refl, record { memory = refl; content = λ block. refl }))
+  refused_line failed t OutOfMemory is = inr (inl (is, (refl, record { memory = refl; content = λ block. refl })))
   refused_line failed t other is = inl (other, is, (refl, record { memory = refl; content = λ block. refl }))
 
   pub refused_plain : (r : Refusal) → HasChangeCause host memory (MakeStripe volume slice) r → IsPlain r

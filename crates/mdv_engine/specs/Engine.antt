@@ -1,5 +1,5 @@
 -- What an engine keeps, what its boots answer, and why blocks and changes are refused.
-use Rattle.std.specs.Prelude.{◌≡◌, ◌⊎◌, ◌≤◌, ℕ, Some, IfSome, Result, Ok, Err}
+use Rattle.std.specs.Prelude.{◌≡◌, ◌≢◌, ◌⊎◌, ◌≤◌, ℕ, Some, None, IfSome, Result, Ok, Err}
 use Rattle.mdv_base.specs.declared.name.VolId.{VolId}
 use Rattle.mdv_base.specs.declared.refusal.Refusal.{Refusal}
 use Rattle.mdv_base.specs.declared.refusal.Refusal.TheVariants.{IoFault, OutOfMemory}
@@ -64,9 +64,9 @@ pub record IsNextTable (host : Host) (memory : Memory) (change : Change) (next :
   pub changed : IsChanged host newest change next
   pub placed : IsTableOf host newest.blocks next
 
--- why there is none: the first cause that refuses the change; or memory was wanting
+-- why there is none: the first cause that refuses the change; or, where a database is open, memory was wanting
 abbrev pub HasChangeCause : Host → Memory → Change → Refusal → Type 0
-HasChangeCause host memory change OutOfMemory = Unit {0}
+HasChangeCause host memory change OutOfMemory = memory.opened ≢ None
 HasChangeCause host memory change refusal = IsChangeRefused host memory change refusal
 
 -- what its commit comes to
