@@ -21,8 +21,8 @@ use Rattle.mdv_shelf.specs.Tale.{Tale}
 use Rattle.mdv_table.specs.declared.table.Table.{Table}
 use Rattle.mdv_table.specs.Slices.{IsSound}
 use Rattle.mdv_table.specs.Table.{IsOfGeometry}
-use Rattle.mdv_log.specs.Site.{IsTableAt, IsRecordAt}
-use Rattle.mdv_log.specs.Steps.{IsBody, MayTake, Takes}
+use Rattle.mdv_store_law.specs.Site.{IsTableAt, IsRecordAt}
+use Rattle.mdv_store_law.specs.Steps.{IsBody, MayTake, Takes}
 use Rattle.mdv_database.specs.declared.body.ReadFault.{ReadFault}
 use Rattle.mdv_database.specs.Slots.{blocks_for, IsFitting, IsRead}
 

@@ -14,13 +14,13 @@ use Rattle.mdv_replica.specs.Replica.{with_blocks}
 use Rattle.mdv_replica.proofs.Leaving.{image_synced, leaves_more}
 use Rattle.mdv_table.specs.declared.table.Table.{Table}
 use Rattle.mdv_table.specs.Slices.{IsSound}
-use Rattle.mdv_log.specs.Going.{Adopts, drawn}
-use Rattle.mdv_log.specs.Log.{NoCreation}
-use Rattle.mdv_log.specs.Site.{Site, IsFound, Newest}
-use Rattle.mdv_log.specs.Standing.{GoesOn, GoesOnTo, IsNewestIn, IsOpened, ShowsNothing}
-use Rattle.mdv_log.specs.Steps.{IsAdopted, MayTake, Takes, Rewriting, Rewritten, Rewrites, adopted_newest}
-use Rattle.mdv_log.proofs.Adopting.{adoptions_go}
-use Rattle.mdv_log.proofs.Covering.{kept_covers, not_firm}
+use Rattle.mdv_store_law.specs.Going.{Adopts, drawn}
+use Rattle.mdv_store_law.specs.Log.{NoCreation}
+use Rattle.mdv_store_law.specs.Site.{Site, IsFound, Newest}
+use Rattle.mdv_store_law.specs.Standing.{GoesOn, GoesOnTo, IsNewestIn, IsOpened, ShowsNothing}
+use Rattle.mdv_store_law.specs.Steps.{IsAdopted, MayTake, Takes, Rewriting, Rewritten, Rewrites, adopted_newest}
+use Rattle.mdv_store_law.proofs.Adopting.{adoptions_go}
+use Rattle.mdv_store_law.proofs.Covering.{kept_covers, not_firm}
 use Rattle.mdv_database.specs.declared.database.BootEnd.{BootEnd}
 use Rattle.mdv_database.specs.declared.database.BootEnd.TheVariants.{Adopted, Empty, Down, Lost, Spent, Memory}
 use Rattle.mdv_database.specs.declared.looking.Found.{Found}

@@ -13,12 +13,12 @@ use Rattle.mdv_shelf.specs.Tale.{Tale}
 use Rattle.mdv_shelf.proofs.Moments.{moments_weaker}
 use Rattle.mdv_table.specs.declared.change.Change.{Change}
 use Rattle.mdv_table.specs.declared.table.Table.{Table}
-use Rattle.mdv_log.specs.Going.{Commits, IsWithNewest, next_mark}
-use Rattle.mdv_log.specs.Log.{IsThisChange, NoCreation}
-use Rattle.mdv_log.specs.Site.{Newest}
-use Rattle.mdv_log.specs.Standing.{Anything, GoesFrom, IsOpened}
-use Rattle.mdv_log.specs.Steps.{MayTake, Takes, next_newest}
-use Rattle.mdv_log.proofs.Committing.{commits_go}
+use Rattle.mdv_store_law.specs.Going.{Commits, IsWithNewest, next_mark}
+use Rattle.mdv_store_law.specs.Log.{IsThisChange, NoCreation}
+use Rattle.mdv_store_law.specs.Site.{Newest}
+use Rattle.mdv_store_law.specs.Standing.{Anything, GoesFrom, IsOpened}
+use Rattle.mdv_store_law.specs.Steps.{MayTake, Takes, next_newest}
+use Rattle.mdv_store_law.proofs.Committing.{commits_go}
 use Rattle.mdv_database.specs.Database.{IsCommitted, IsQuiet, MayCommit, site_of}
 use Rattle.mdv_database.proofs.Quiet.{quiet_sized}
 

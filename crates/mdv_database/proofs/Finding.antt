@@ -6,8 +6,8 @@ use Rattle.mdv_replica.specs.Form.{IsSpareSlot, other_slot, shows}
 use Rattle.mdv_replica.specs.Replica.{IsHead, with_blocks}
 use Rattle.mdv_replica.proofs.Heads.{one_head}
 use Rattle.mdv_replica.proofs.Newest.{newest_stays}
-use Rattle.mdv_log.specs.Site.{Site, IsReplica}
-use Rattle.mdv_log.specs.Steps.{IsTheReplica}
+use Rattle.mdv_store_law.specs.Site.{Site, IsReplica}
+use Rattle.mdv_store_law.specs.Steps.{IsTheReplica}
 use Rattle.mdv_database.specs.declared.looking.Found.{Found}
 use Rattle.mdv_database.specs.Database.{IsInHand, IsLookedAt}
 use Rattle.mdv_database.specs.Slots.{BothFit, IsTableOf}

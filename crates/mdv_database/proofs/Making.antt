@@ -13,12 +13,12 @@ use Rattle.mdv_shelf.specs.Moments.{Moments, Ends}
 use Rattle.mdv_shelf.specs.Tale.{Tale, IsImage}
 use Rattle.mdv_shelf.proofs.Moments.{moments_after, moments_end, moments_more, moments_weaker, ends_more}
 use Rattle.mdv_table.specs.declared.table.Table.{Table}
-use Rattle.mdv_log.specs.Going.{Creates, IsCreated, created_head, created_newest, first_mark}
-use Rattle.mdv_log.specs.Log.{IsThis, is_firm}
-use Rattle.mdv_log.specs.Site.{Site, IsNewestOf, IsTableAt}
-use Rattle.mdv_log.specs.Standing.{GoesOn, GoesOnTo, IsOpened, ShowsNothing}
-use Rattle.mdv_log.specs.Steps.{MayTake, Takes}
-use Rattle.mdv_log.proofs.Creating.{creations_go}
+use Rattle.mdv_store_law.specs.Going.{Creates, IsCreated, created_head, created_newest, first_mark}
+use Rattle.mdv_store_law.specs.Log.{IsThis, is_firm}
+use Rattle.mdv_store_law.specs.Site.{Site, IsNewestOf, IsTableAt}
+use Rattle.mdv_store_law.specs.Standing.{GoesOn, GoesOnTo, IsOpened, ShowsNothing}
+use Rattle.mdv_store_law.specs.Steps.{MayTake, Takes}
+use Rattle.mdv_store_law.proofs.Creating.{creations_go}
 use Rattle.mdv_database.specs.Database.{IsQuiet, IsSafe, first_table, site_of}
 use Rattle.mdv_database.proofs.Quiet.{quiet_format, quiet_more}
 

@@ -18,11 +18,11 @@ use Rattle.mdv_table.specs.declared.change.Change.{Change}
 use Rattle.mdv_table.specs.declared.plan.Lists.TheVariants.{One}
 use Rattle.mdv_table.specs.declared.table.Table.{Table}
 use Rattle.mdv_table.specs.Slices.{IsSound}
-use Rattle.mdv_log.specs.Going.{IsCreated, created_head, first_mark}
-use Rattle.mdv_log.specs.Log.{Log, IsMade, IsTellable, is_firm}
-use Rattle.mdv_log.specs.Site.{Site, IsFound, IsNewestOf, IsReplica, IsTableAt, Newest}
-use Rattle.mdv_log.specs.Standing.{IsNewestIn, IsOpened}
-use Rattle.mdv_log.specs.Steps.{IsTheReplica, adopted_newest, next_newest}
+use Rattle.mdv_store_law.specs.Going.{IsCreated, created_head, first_mark}
+use Rattle.mdv_store_law.specs.Log.{Log, IsMade, IsTellable, is_firm}
+use Rattle.mdv_store_law.specs.Site.{Site, IsFound, IsNewestOf, IsReplica, IsTableAt, Newest}
+use Rattle.mdv_store_law.specs.Standing.{IsNewestIn, IsOpened}
+use Rattle.mdv_store_law.specs.Steps.{IsTheReplica, adopted_newest, next_newest}
 use Rattle.mdv_database.specs.declared.database.BootEnd.{BootEnd}
 use Rattle.mdv_database.specs.declared.database.BootEnd.TheVariants as end
 use Rattle.mdv_database.specs.declared.database.CommitFault.{CommitFault}

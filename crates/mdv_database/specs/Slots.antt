@@ -12,7 +12,7 @@ use Rattle.mdv_replica.specs.declared.replica.Slot.TheVariants.{First, Second}
 use Rattle.mdv_replica.specs.Form.{SlotFits, gate_of, other_slot, room_of, text_of}
 use Rattle.mdv_replica.specs.Replica.{with_blocks}
 use Rattle.mdv_table.specs.declared.table.Table.{Table}
-use Rattle.mdv_log.specs.Site.{IsTableAt, IsRecordAt}
+use Rattle.mdv_store_law.specs.Site.{IsTableAt, IsRecordAt}
 use Rattle.mdv_database.specs.declared.body.ReadFault.{ReadFault}
 use Rattle.mdv_database.specs.declared.body.ReadFault.TheVariants.{Failed, Memory}
 use Rattle.mdv_database.specs.declared.looking.Found.{Found}

@@ -13,8 +13,8 @@ ghost use Rattle.mdv_replica.specs.Replica.{IsPlaced, slot_blocks as spec_slot_b
 ghost use Rattle.mdv_record.specs.Text.{record_text};
 ghost use Rattle.mdv_table.specs.declared.plan.Lists.TheVariants.{One};
 ghost use Rattle.mdv_table.specs.Slices.{IsSound};
-ghost use Rattle.mdv_log.specs.Site.{IsRecordAt, IsTableAt};
-ghost use Rattle.mdv_log.specs.Steps.{MayTake, Takes};
+ghost use Rattle.mdv_store_law.specs.Site.{IsRecordAt, IsTableAt};
+ghost use Rattle.mdv_store_law.specs.Steps.{MayTake, Takes};
 ghost use Rattle.mdv_database.specs.Database.{IsQuiet};
 ghost use Rattle.mdv_database.specs.Slots.{blocks_for as spec_blocks_for, HasReadCause, IsFitting, IsRead};
 

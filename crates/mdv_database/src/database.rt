@@ -15,11 +15,11 @@ ghost use Rattle.mdv_replica.specs.Replica.{IsPlaced, slot_blocks, with_blocks};
 ghost use Rattle.mdv_table.specs.declared.change.Change.{Change};
 ghost use Rattle.mdv_table.specs.Slices.{IsSound};
 ghost use Rattle.mdv_table.specs.Table.{IsPlaceOf};
-ghost use Rattle.mdv_log.specs.Going.{IsWithNewest};
-ghost use Rattle.mdv_log.specs.Log.{IsThis, IsThisChange, NoCreation};
-ghost use Rattle.mdv_log.specs.Site.{IsTableAt};
-ghost use Rattle.mdv_log.specs.Standing.{Anything, GoesFrom, GoesOn, GoesOnTo, IsOpened, ShowsNothing};
-ghost use Rattle.mdv_log.specs.Steps.{IsAdopted, Rewrites, Rewritten, adopted_newest, next_newest};
+ghost use Rattle.mdv_store_law.specs.Going.{IsWithNewest};
+ghost use Rattle.mdv_store_law.specs.Log.{IsThis, IsThisChange, NoCreation};
+ghost use Rattle.mdv_store_law.specs.Site.{IsTableAt};
+ghost use Rattle.mdv_store_law.specs.Standing.{Anything, GoesFrom, GoesOn, GoesOnTo, IsOpened, ShowsNothing};
+ghost use Rattle.mdv_store_law.specs.Steps.{IsAdopted, Rewrites, Rewritten, adopted_newest, next_newest};
 ghost use Rattle.mdv_database.specs.Database.{IsOnDrive, IsQuiet, IsInHand, IsFoundIn, IsBooted, IsBootedTo, IsRefusal, IsCertain, IfAdopted, site_of};
 ghost use Rattle.mdv_database.specs.Database.{IsSafe, IsCreatedTo, HasCreateCause, MayCommit, IsCommitted, HasCommitCause, IsCommitRefusal, first_newest, first_table as spec_first_table};
 ghost use Rattle.mdv_database.specs.Slots.{blocks_for};
@@ -48,7 +48,7 @@ pub struct Database {
 }
 
 impl Model for Database {
-    ghost use Rattle.mdv_log.specs.Site.{Newest};
+    ghost use Rattle.mdv_store_law.specs.Site.{Newest};
     ghost use Rattle.mdv_database.specs.Open.{IsOpen};
 
     ghost Value = { Newest };

@@ -9,7 +9,7 @@ ghost use Rattle.mdv_shelf.specs.Tale.{Tale, last};
 ghost use Rattle.mdv_replica.specs.Form.{IsSpareSlot, shows};
 ghost use Rattle.mdv_replica.specs.Replica.{IsFormed, IsHead, IsPlaced, slot_blocks, with_blocks};
 ghost use Rattle.mdv_table.specs.Slices.{IsSound};
-ghost use Rattle.mdv_log.specs.Site.{IsTableAt};
+ghost use Rattle.mdv_store_law.specs.Site.{IsTableAt};
 ghost use Rattle.mdv_database.specs.Database.{IsInHand, IsLookedAt, IsOnDrive, IsQuiet, site_of};
 ghost use Rattle.mdv_database.specs.Slots.{AreHeld, HasReadCause, IfKept, IsFitting, IsHeld, IsTableOf};
 

@@ -9,17 +9,17 @@ use Rattle.mdv_shelf.specs.Tale.{Tale}
 use Rattle.mdv_shelf.proofs.Moments.{moments_end, moments_none, moments_weaker, ends_both}
 use Rattle.mdv_words.specs.declared.command.Command.TheVariants.{Read, Write}
 use Rattle.mdv_history.specs.History.{Deed, Wrote}
-use Rattle.mdv_command.specs.declared.answer.Answer.TheVariants as outcome
-use Rattle.mdv_command.specs.declared.host.Host.{Host}
-use Rattle.mdv_command.specs.Home.{IsReady, StaysHome}
-use Rattle.mdv_command.specs.Line.{Memory, AreBlocksAt, AreBlocksRefused, IsCarriedOut, kept_at}
-use Rattle.mdv_command.specs.Replies.{IsPlain}
-use Rattle.mdv_command.specs.Standing.{CarriedTo, CarryMoment, Knows}
-use Rattle.mdv_command.proofs.Keeping.{are_put, may_be_put}
-use Rattle.mdv_command.proofs.Plain.{blocks_plain, fault_plain, memory_plain}
-use Rattle.mdv_command.proofs.Staying.{nothing_stays, stays_in_volume}
-use Rattle.mdv_command.proofs.Transfer.{writing_moment, wrote_blocks, wrote_some}
-use Rattle.mdv_command.proofs.Turning.{carry_none, refused_none}
+use Rattle.mdv_engine_law.specs.declared.answer.Answer.TheVariants as outcome
+use Rattle.mdv_engine_law.specs.declared.host.Host.{Host}
+use Rattle.mdv_engine_law.specs.Home.{IsReady, StaysHome}
+use Rattle.mdv_engine_law.specs.Line.{Memory, AreBlocksAt, AreBlocksRefused, IsCarriedOut, kept_at}
+use Rattle.mdv_engine_law.specs.Replies.{IsPlain}
+use Rattle.mdv_engine_law.specs.Standing.{CarriedTo, CarryMoment, Knows}
+use Rattle.mdv_engine_law.proofs.Keeping.{are_put, may_be_put}
+use Rattle.mdv_engine_law.proofs.Plain.{blocks_plain, fault_plain, memory_plain}
+use Rattle.mdv_engine_law.proofs.Staying.{nothing_stays, stays_in_volume}
+use Rattle.mdv_engine_law.proofs.Transfer.{writing_moment, wrote_blocks, wrote_some}
+use Rattle.mdv_engine_law.proofs.Turning.{carry_none, refused_none}
 use Rattle.mdv_engine.specs.Engine.{HasBlocksCause, HasReadCause, IsWell}
 
 -- a line that left all as it was

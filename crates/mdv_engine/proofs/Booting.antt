@@ -9,18 +9,18 @@ use Rattle.mdv_shelf.specs.Moments.{Moments, Ends}
 use Rattle.mdv_shelf.specs.Settle.{IsSynced}
 use Rattle.mdv_shelf.specs.Tale.{Tale, last}
 use Rattle.mdv_shelf.proofs.Moments.{moments_both, moments_weaker, moments_end, ends_both}
-use Rattle.mdv_log.specs.Log.{NoCreation, is_firm}
-use Rattle.mdv_log.specs.Site.{Site, Newest, IsFound, IsTableAt}
-use Rattle.mdv_log.specs.Standing.{GoesOn, GoesOnTo, IsNewestIn, IsOpened, ShowsNothing}
-use Rattle.mdv_log.specs.Steps.{IsAdopted}
+use Rattle.mdv_store_law.specs.Log.{NoCreation, is_firm}
+use Rattle.mdv_store_law.specs.Site.{Site, Newest, IsFound, IsTableAt}
+use Rattle.mdv_store_law.specs.Standing.{GoesOn, GoesOnTo, IsNewestIn, IsOpened, ShowsNothing}
+use Rattle.mdv_store_law.specs.Steps.{IsAdopted}
 use Rattle.mdv_database.specs.Database.{IsDrawn, IsQuiet, IsSpent}
-use Rattle.mdv_command.specs.declared.answer.Answer.TheVariants as outcome
-use Rattle.mdv_command.specs.declared.host.Host.{Host}
-use Rattle.mdv_command.specs.Home.{IsReady, site_of}
-use Rattle.mdv_command.specs.Line.{Memory, IsRebooted, IsUsedUp, adopted, empty, down, kept_at, unbooted}
-use Rattle.mdv_command.specs.Standing.{BootMoment, BootedTo}
-use Rattle.mdv_command.proofs.Booting.{boot_moment, booted, booted_adopted, booted_down, booted_empty, unread}
-use Rattle.mdv_command.proofs.Keeping.{rewritten_newest, same_content}
+use Rattle.mdv_engine_law.specs.declared.answer.Answer.TheVariants as outcome
+use Rattle.mdv_engine_law.specs.declared.host.Host.{Host}
+use Rattle.mdv_engine_law.specs.Home.{IsReady, site_of}
+use Rattle.mdv_engine_law.specs.Line.{Memory, IsRebooted, IsUsedUp, adopted, empty, down, kept_at, unbooted}
+use Rattle.mdv_engine_law.specs.Standing.{BootMoment, BootedTo}
+use Rattle.mdv_engine_law.proofs.Booting.{boot_moment, booted, booted_adopted, booted_down, booted_empty, unread}
+use Rattle.mdv_engine_law.proofs.Keeping.{rewritten_newest, same_content}
 use Rattle.mdv_engine.specs.Engine.{IsWell}
 use Rattle.mdv_engine.proofs.Sites.{here, told_site, quiet_here}
 

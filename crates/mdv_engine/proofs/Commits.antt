@@ -7,14 +7,14 @@ use Rattle.mdv_record.specs.declared.record.TooLong.{TooLong}
 use Rattle.mdv_shelf.specs.Moments.{Ends}
 use Rattle.mdv_shelf.specs.Tale.{Tale}
 use Rattle.mdv_table.specs.declared.change.Change.{Change}
-use Rattle.mdv_log.specs.Site.{Newest}
+use Rattle.mdv_store_law.specs.Site.{Newest}
 use Rattle.mdv_history.specs.History.{Changed}
-use Rattle.mdv_command.specs.declared.answer.Answer.{Answer}
-use Rattle.mdv_command.specs.declared.answer.Answer.TheVariants as outcome
-use Rattle.mdv_command.specs.declared.host.Host.{Host}
-use Rattle.mdv_command.specs.Line.{Memory, kept_at}
-use Rattle.mdv_command.specs.Standing.{CarriedTo, Knows}
-use Rattle.mdv_command.proofs.Refusing.{refused_still, spent_still}
+use Rattle.mdv_engine_law.specs.declared.answer.Answer.{Answer}
+use Rattle.mdv_engine_law.specs.declared.answer.Answer.TheVariants as outcome
+use Rattle.mdv_engine_law.specs.declared.host.Host.{Host}
+use Rattle.mdv_engine_law.specs.Line.{Memory, kept_at}
+use Rattle.mdv_engine_law.specs.Standing.{CarriedTo, Knows}
+use Rattle.mdv_engine_law.proofs.Refusing.{refused_still, spent_still}
 use Rattle.mdv_engine.specs.Engine.{IsCommit}
 
 -- a text fits the room or it doesn't

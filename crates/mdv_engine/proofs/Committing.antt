@@ -17,24 +17,24 @@ use Rattle.mdv_table.specs.declared.table.Table.{Table}
 use Rattle.mdv_table.specs.Change.{IsRefused}
 use Rattle.mdv_table.specs.Table.{IsOfGeometry}
 use Rattle.mdv_words.specs.declared.command.Command.TheVariants as command
-use Rattle.mdv_log.specs.Going.{IsWithNewest}
-use Rattle.mdv_log.specs.Log.{Log, IsMade, IsThisChange, NoCreation}
-use Rattle.mdv_log.specs.Site.{Site, Newest}
-use Rattle.mdv_log.specs.Standing.{Anything, GoesFrom, IsOpened}
-use Rattle.mdv_log.specs.Steps.{next_newest}
+use Rattle.mdv_store_law.specs.Going.{IsWithNewest}
+use Rattle.mdv_store_law.specs.Log.{Log, IsMade, IsThisChange, NoCreation}
+use Rattle.mdv_store_law.specs.Site.{Site, Newest}
+use Rattle.mdv_store_law.specs.Standing.{Anything, GoesFrom, IsOpened}
+use Rattle.mdv_store_law.specs.Steps.{next_newest}
 use Rattle.mdv_history.specs.History.{Changed}
 use Rattle.mdv_database.specs.Database.{IsCommitted, IsQuiet, MayCommit}
-use Rattle.mdv_command.specs.declared.answer.Answer.{Answer}
-use Rattle.mdv_command.specs.declared.answer.Answer.TheVariants as outcome
-use Rattle.mdv_command.specs.declared.host.Host.{Host}
-use Rattle.mdv_command.specs.Home.{IsReady, site_of}
-use Rattle.mdv_command.specs.Line.{Memory, IsCarriedOut, IsChanged, kept_at, record_room}
-use Rattle.mdv_command.specs.Replies.{IsPlain}
-use Rattle.mdv_command.specs.Standing.{CarriedTo, CarryMoment, Knows}
-use Rattle.mdv_command.proofs.Changing.{Commits, IsCommittedTo, changing_moment, changed, changed_or_lost}
-use Rattle.mdv_command.proofs.Keeping.{committed}
-use Rattle.mdv_command.proofs.Plain.{change_plain, memory_plain}
-use Rattle.mdv_command.proofs.Refusing.{opened_has}
+use Rattle.mdv_engine_law.specs.declared.answer.Answer.{Answer}
+use Rattle.mdv_engine_law.specs.declared.answer.Answer.TheVariants as outcome
+use Rattle.mdv_engine_law.specs.declared.host.Host.{Host}
+use Rattle.mdv_engine_law.specs.Home.{IsReady, site_of}
+use Rattle.mdv_engine_law.specs.Line.{Memory, IsCarriedOut, IsChanged, kept_at, record_room}
+use Rattle.mdv_engine_law.specs.Replies.{IsPlain}
+use Rattle.mdv_engine_law.specs.Standing.{CarriedTo, CarryMoment, Knows}
+use Rattle.mdv_engine_law.proofs.Changing.{Commits, IsCommittedTo, changing_moment, changed, changed_or_lost}
+use Rattle.mdv_engine_law.proofs.Keeping.{committed}
+use Rattle.mdv_engine_law.proofs.Plain.{change_plain, memory_plain}
+use Rattle.mdv_engine_law.proofs.Refusing.{opened_has}
 use Rattle.mdv_engine.specs.Engine.{HasChangeCause, IsCommit, IsNextTable, IsTableOf, IsWell}
 use Rattle.mdv_engine.proofs.Sites.{here, told_site, quiet_here}
 

@@ -7,20 +7,20 @@ use Rattle.mdv_replica.specs.declared.replica.PlaceAt.{PlaceAt}
 use Rattle.mdv_shelf.specs.Moments.{Moments, Ends}
 use Rattle.mdv_shelf.specs.Tale.{Tale}
 use Rattle.mdv_shelf.proofs.Moments.{moments_both, moments_weaker, moments_end, ends_both}
-use Rattle.mdv_log.specs.Going.{IsCreated}
-use Rattle.mdv_log.specs.Log.{Log, IsThis, is_firm}
-use Rattle.mdv_log.specs.Site.{Site, Newest}
-use Rattle.mdv_log.specs.Standing.{Anything, GoesOnTo, IsOpened, ShowsNothing}
+use Rattle.mdv_store_law.specs.Going.{IsCreated}
+use Rattle.mdv_store_law.specs.Log.{Log, IsThis, is_firm}
+use Rattle.mdv_store_law.specs.Site.{Site, Newest}
+use Rattle.mdv_store_law.specs.Standing.{Anything, GoesOnTo, IsOpened, ShowsNothing}
 use Rattle.mdv_history.specs.History.{Created}
 use Rattle.mdv_database.specs.Database.{IsQuiet, IsSafe, first_newest, first_table}
-use Rattle.mdv_command.specs.declared.answer.Answer.TheVariants as outcome
-use Rattle.mdv_command.specs.declared.host.Host.{Host}
-use Rattle.mdv_command.specs.Home.{IsReady, site_of, identity_of}
-use Rattle.mdv_command.specs.Line.{Memory, IsCreation, kept_at}
-use Rattle.mdv_command.specs.Standing.{CarriedTo, CarryMoment, Knows}
-use Rattle.mdv_command.proofs.Keeping.{created, uncreated}
-use Rattle.mdv_command.proofs.Making.{Makes, making_moment, made, unmade, made_or_lost}
-use Rattle.mdv_command.proofs.Refusing.{refused_still}
+use Rattle.mdv_engine_law.specs.declared.answer.Answer.TheVariants as outcome
+use Rattle.mdv_engine_law.specs.declared.host.Host.{Host}
+use Rattle.mdv_engine_law.specs.Home.{IsReady, site_of, identity_of}
+use Rattle.mdv_engine_law.specs.Line.{Memory, IsCreation, kept_at}
+use Rattle.mdv_engine_law.specs.Standing.{CarriedTo, CarryMoment, Knows}
+use Rattle.mdv_engine_law.proofs.Keeping.{created, uncreated}
+use Rattle.mdv_engine_law.proofs.Making.{Makes, making_moment, made, unmade, made_or_lost}
+use Rattle.mdv_engine_law.proofs.Refusing.{refused_still}
 use Rattle.mdv_engine.proofs.Sites.{here, told_site, quiet_here}
 
 -- what is in memory once a creation was begun, and once it made a database

@@ -19,12 +19,12 @@ use Rattle.mdv_table.specs.declared.volume.VolumeKind.TheVariants.{Stripe}
 use Rattle.mdv_table.specs.Slices.{IsSound}
 use Rattle.mdv_table.specs.Table.{IsComponentOn, IsKindOf, IsStripeOf, IsWholeSlice}
 use Rattle.mdv_table.specs.Volumes.{HasVolume, HasNoVolume}
-use Rattle.mdv_log.specs.Site.{Newest}
+use Rattle.mdv_store_law.specs.Site.{Newest}
 use Rattle.mdv_history.specs.History.{LiesOn}
-use Rattle.mdv_command.specs.declared.host.Host.{Host}
-use Rattle.mdv_command.specs.Home.{site_of}
-use Rattle.mdv_command.specs.Line.{Memory, HasVolumeOn, IsSound as IsSoundMemory}
-use Rattle.mdv_command.proofs.Refusing.{opened_has}
+use Rattle.mdv_engine_law.specs.declared.host.Host.{Host}
+use Rattle.mdv_engine_law.specs.Home.{site_of}
+use Rattle.mdv_engine_law.specs.Line.{Memory, HasVolumeOn, IsSound as IsSoundMemory}
+use Rattle.mdv_engine_law.proofs.Refusing.{opened_has}
 use Rattle.mdv_engine.specs.Engine.{HasBlocks, IsTableOf, IsWell}
 
 -- there is one kind of volume, and one of bases

@@ -14,13 +14,13 @@ use Rattle.mdv_shelf.proofs.Moments.{moments_weaker}
 use Rattle.mdv_table.specs.declared.plan.Lists.TheVariants.{One}
 use Rattle.mdv_table.specs.declared.table.Table.{Table}
 use Rattle.mdv_table.specs.Table.{IsListsOf, IsPlaceOf}
-use Rattle.mdv_log.specs.Site.{Site, area_of}
+use Rattle.mdv_store_law.specs.Site.{Site, area_of}
 use Rattle.mdv_database.specs.Database as database
 use Rattle.mdv_database.specs.Database.{IsOnDrive, IsQuiet}
-use Rattle.mdv_command.specs.declared.host.Host.{Host}
-use Rattle.mdv_command.specs.Home.{IsReady, StaysHome, site_of}
-use Rattle.mdv_command.proofs.Lifting.{site_here}
-use Rattle.mdv_command.proofs.Staying.{stays_in_replica}
+use Rattle.mdv_engine_law.specs.declared.host.Host.{Host}
+use Rattle.mdv_engine_law.specs.Home.{IsReady, StaysHome, site_of}
+use Rattle.mdv_engine_law.proofs.Lifting.{site_here}
+use Rattle.mdv_engine_law.proofs.Staying.{stays_in_replica}
 use Rattle.mdv_engine.specs.Engine.{IsTableOf}
 
 module _ (host : Host) (sizes : List ℕ) (ready : IsReady host sizes) (at : PlaceAt) (at_is : at ≡ place_of host.home) where

@@ -15,7 +15,7 @@ pub struct State {
 }
 
 impl Model for State {
-    ghost use Rattle.mdv_command.specs.Line.{Memory};
+    ghost use Rattle.mdv_engine_law.specs.Line.{Memory};
 
     ghost Value = { Memory };
 

@@ -6,11 +6,11 @@ use Rattle.mdv_shelf.specs.Tale.{Tale, last}
 use Rattle.mdv_shelf.proofs.Blocks.{last_may_be_left}
 use Rattle.mdv_shelf.proofs.Frame.{fixed_kept, fixed_settled}
 use Rattle.mdv_table.specs.declared.change.Change.{Change}
-use Rattle.mdv_log.specs.Log as log
-use Rattle.mdv_log.specs.Log.{IsTellable, NoCreation}
-use Rattle.mdv_log.specs.Site.{Site}
-use Rattle.mdv_log.proofs.Frame.{frames}
-use Rattle.mdv_log.proofs.Logs.{courses_are_logs, told_covers}
+use Rattle.mdv_store_law.specs.Log as log
+use Rattle.mdv_store_law.specs.Log.{IsTellable, NoCreation}
+use Rattle.mdv_store_law.specs.Site.{Site}
+use Rattle.mdv_store_law.proofs.Frame.{frames}
+use Rattle.mdv_store_law.proofs.Logs.{courses_are_logs, told_covers}
 use Rattle.mdv_history.specs.History.{History, Created, Changed, Wrote, Saw, Event, Extent, OfDatabase, Issues, Acknowledges, Shows, Woke, HasExtent, history_after}
 use Rattle.mdv_history.specs.Laws.{CanTell, TellsGo, IsDeed, WritesGo, Wakes}
 use Rattle.mdv_history.specs.Standing.{Stands, Goes, Reached}

@@ -3,9 +3,9 @@ use Rattle.std.proofs.Common.{inl, inr, ℕ, List, sym, subst}
 use Rattle.mdv_shelf.specs.MemHistory.{blank}
 use Rattle.mdv_shelf.specs.Tale.{Tale, Among, values, last, MayLeave}
 use Rattle.mdv_shelf.proofs.Blocks.{last_may_be_left}
-use Rattle.mdv_log.specs.Laws.{restarted}
-use Rattle.mdv_log.specs.Site.{Site}
-use Rattle.mdv_log.proofs.Lawful as database
+use Rattle.mdv_store_law.specs.Laws.{restarted}
+use Rattle.mdv_store_law.specs.Site.{Site}
+use Rattle.mdv_store_law.proofs.Lawful as database
 use Rattle.mdv_history.specs.History.{History}
 use Rattle.mdv_history.specs.Laws.{CrashesStand, NewDrivesStand, ReadsHold, new_history}
 use Rattle.mdv_history.specs.Standing.{ValuesHold}

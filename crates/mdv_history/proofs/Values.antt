@@ -6,7 +6,7 @@ use Rattle.mdv_shelf.specs.Settle.{Settling, IsFixed}
 use Rattle.mdv_shelf.specs.Tale.{Tale, MayLeave, covers}
 use Rattle.mdv_shelf.proofs.Blocks.{both_ways}
 use Rattle.mdv_shelf.proofs.Settled.{covered}
-use Rattle.mdv_log.specs.Site.{Site, area_of}
+use Rattle.mdv_store_law.specs.Site.{Site, area_of}
 use Rattle.mdv_history.specs.History.{AreNewest, issued, settled}
 use Rattle.mdv_history.specs.Standing.{ValuesHold}
 

@@ -14,9 +14,9 @@ use Rattle.mdv_table.specs.declared.volume.Component.{Component}
 use Rattle.mdv_table.specs.declared.volume.Volume.{Volume}
 use Rattle.mdv_table.specs.declared.volume.VolumeKind.TheVariants.{Stripe}
 use Rattle.mdv_table.specs.Volumes.{HasVolume}
-use Rattle.mdv_log.specs.Log as log
-use Rattle.mdv_log.specs.Log.{Version, Log}
-use Rattle.mdv_log.specs.Site.{Site, area_of}
+use Rattle.mdv_store_law.specs.Log as log
+use Rattle.mdv_store_law.specs.Log.{Version, Log}
+use Rattle.mdv_store_law.specs.Site.{Site, area_of}
 
 -- blocks of a volume from block `at` of it on, and where they lie: from block `block` of the drive on
 pub record Extent : Type 0 where

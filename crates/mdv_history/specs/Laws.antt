@@ -5,10 +5,10 @@ use Rattle.mdv_shelf.specs.Area.{KeptOutside, nowhere}
 use Rattle.mdv_shelf.specs.MemHistory.{blank, blank_block}
 use Rattle.mdv_shelf.specs.Settle.{Settling, IsSettled, IsFixed, IsSynced}
 use Rattle.mdv_shelf.specs.Tale.{Tale, Among, last, IsImage}
-use Rattle.mdv_log.specs.Laws.{restarted}
-use Rattle.mdv_log.specs.Log as log
-use Rattle.mdv_log.specs.Log.{Log, IsTellable, NoCreation}
-use Rattle.mdv_log.specs.Site.{Site, area_of}
+use Rattle.mdv_store_law.specs.Laws.{restarted}
+use Rattle.mdv_store_law.specs.Log as log
+use Rattle.mdv_store_law.specs.Log.{Log, IsTellable, NoCreation}
+use Rattle.mdv_store_law.specs.Site.{Site, area_of}
 use Rattle.mdv_history.specs.History.{History, Deed, Created, Changed, Wrote, Saw, Extent, HasExtent, HasWoken, AreNewest, NoDeed}
 use Rattle.mdv_history.specs.Standing.{Stands, Goes, Reached, Anything}
 

@@ -2,8 +2,8 @@
 use Rattle.std.specs.Prelude.{◌≡◌, ℕ, false, List}
 use Rattle.mdv_base.specs.declared.mark.Identity.{Identity}
 use Rattle.mdv_shelf.specs.Tale.{Tale, Among, MayLeave}
-use Rattle.mdv_log.specs.Site.{Site, area_of}
-use Rattle.mdv_log.specs.Standing as database
+use Rattle.mdv_store_law.specs.Site.{Site, area_of}
+use Rattle.mdv_store_law.specs.Standing as database
 use Rattle.mdv_history.specs.History.{History, Deed, Event, history_after_all, IsCourse, Adds}
 
 -- whatever a crash leaves in a block outside the database's place is one of its values

@@ -4,8 +4,8 @@ use Rattle.std.proofs.lemmas.Bool.{cases_Bool, false≢true, cases_lt, and_parts
 use Rattle.std.specs.Prelude.{nat_lt, ◌==◌}
 use Rattle.mdv_base.specs.declared.mark.Mark.{Mark}
 use Rattle.mdv_votes.specs.declared.spot.Spot.{Spot}
-use Rattle.mdv_votes.specs.declared.table.Table.{Table}
-use Rattle.mdv_votes.specs.declared.table.Place.{Place}
+use Rattle.mdv_votes.specs.declared.version.Version.{Version}
+use Rattle.mdv_votes.specs.declared.version.SpotState.{SpotState}
 use Rattle.mdv_votes.specs.Spots.{is_in, same_spot}
 use Rattle.mdv_votes.specs.Family.{table_at, place_at, boot_of, mark_below, newer, newest_of, greatest_of, shown, knows_above, is_above}
 use Rattle.mdv_votes.proofs.Meeting.{same_is, same_self}
@@ -33,10 +33,10 @@ AtMost : Option ℕ → ℕ → Type 0
 AtMost None i = Unit {0}
 AtMost (Some b) i = b ≤ i
 
-Known : List Table → Option ℕ → Type 0
+Known : List Version → Option ℕ → Type 0
 Known family o = (j : ℕ) → o ≡ Some j → j < length family
 
-module _ (set : Bool) (family : List Table) (ok : TablesOk set family) where
+module _ (set : Bool) (family : List Version) (ok : TablesOk set family) where
   newer_parts : (a b : Option ℕ) (i : ℕ) → Known family a → Known family b → AtMost (newer family a b) i → AtMost a i × AtMost b i
   unfolding AtMost Known
   newer_parts None b i ka kb h = (tt, h)
@@ -66,7 +66,7 @@ module _ (set : Bool) (family : List Table) (ok : TablesOk set family) where
         | inr more ↦ inl (sym (cond-false (mark_below (table_at family a).mark (table_at family b).mark) (Some b) (Some a) more) ∙ h)
       ]
 
-  best_of : (places : List Place) (ps : List Spot) (best : Option ℕ) (i : ℕ) → Known family best → ((q : Spot) → Known family (shown (place_at places q)))
+  best_of : (places : List SpotState) (ps : List Spot) (best : Option ℕ) (i : ℕ) → Known family best → ((q : Spot) → Known family (shown (place_at places q)))
       → newest_of family places best ps ≡ Some i
       → AtMost best i × ((q : Spot) (j : ℕ) → is_in ps q ≡ true → shown (place_at places q) ≡ Some j → j ≤ i)
       × ((best ≡ Some i) ⊎ ((q : Spot) × (is_in ps q ≡ true) × (shown (place_at places q) ≡ Some i)))
@@ -89,11 +89,11 @@ module _ (set : Bool) (family : List Table) (ok : TablesOk set family) where
       )
 
 -- a place that isn't a seat shows its newest table
-shown_place : (places : List Place) (q : Spot) → q.mediator ≡ false → shown (place_at places q) ≡ newest places q
+shown_place : (places : List SpotState) (q : Spot) → q.mediator ≡ false → shown (place_at places q) ≡ newest places q
 shown_place places q place =
     cond-false (place_at places q).spot.mediator None (newest places q) (ap (λ (s : Spot). s.mediator) (spot_at places q) ∙ place)
 
-shown_cases : (places : List Place) (q : Spot) (j : ℕ) → shown (place_at places q) ≡ Some j → (q.mediator ≡ false) × (newest places q ≡ Some j)
+shown_cases : (places : List SpotState) (q : Spot) (j : ℕ) → shown (place_at places q) ≡ Some j → (q.mediator ≡ false) × (newest places q ≡ Some j)
 shown_cases places q j e =
     elim (cases_Bool q.mediator) [
       | inl seat ↦
@@ -105,14 +105,14 @@ shown_cases places q j e =
     none_is k x = cc
 
 -- what a boot that reads these places chooses
-pub record IsNewest (places : List Place) (read : List Spot) (i : ℕ) : Type 0 where
+pub record IsNewest (places : List SpotState) (read : List Spot) (i : ℕ) : Type 0 where
   pub place : Spot
   pub was_read : is_in read place ≡ true
   pub kind : place.mediator ≡ false
   pub shows : newest places place ≡ Some i
   pub greatest : (q : Spot) (j : ℕ) → is_in read q ≡ true → q.mediator ≡ false → newest places q ≡ Some j → j ≤ i
 
-pub newest_is : (set : Bool) (family : List Table) (places : List Place) (read : List Spot) (i : ℕ) → TablesOk set family
+pub newest_is : (set : Bool) (family : List Version) (places : List SpotState) (read : List Spot) (i : ℕ) → TablesOk set family
     → ((q : Spot) (j : ℕ) → newest places q ≡ Some j → j < length family) → newest_of family places None read ≡ Some i → IsNewest places read i
 unfolding AtMost Known
 newest_is set family places read i ok known e =
@@ -134,13 +134,13 @@ newest_is set family places read i ok known e =
     none_is k x = cc
 
 -- the greatest number is none below one that was read
-greatest_best : (family : List Table) (places : List Place) (ps : List Spot) (best : ℕ) → best ≤ greatest_of family places best ps
+greatest_best : (family : List Version) (places : List SpotState) (ps : List Spot) (best : ℕ) → best ≤ greatest_of family places best ps
 greatest_best family places [] best = omega arith
 greatest_best family places (p ∷ ps) best =
     let seen = max (place_at places p).claim (boot_of family (place_at places p).newest) in
     omega (arith, greatest_best family places ps (max best seen))
 
-pub greatest_at : (family : List Table) (places : List Place) (ps : List Spot) (best : ℕ) (q : Spot) → is_in ps q ≡ true
+pub greatest_at : (family : List Version) (places : List SpotState) (ps : List Spot) (best : ℕ) (q : Spot) → is_in ps q ≡ true
     → (claim places q ≤ greatest_of family places best ps) × (boot_of family (newest places q) ≤ greatest_of family places best ps)
 greatest_at family places [] best q has = absurd (false≢true has)
 greatest_at family places (p ∷ ps) best q has =
@@ -154,7 +154,7 @@ greatest_at family places (p ∷ ps) best q has =
     ]
 
 -- one that shows a table above knows a greater mark
-pub above_known : (set : Bool) (family : List Table) (places : List Place) (i : ℕ) (q : Spot) → TablesOk set family
+pub above_known : (set : Bool) (family : List Version) (places : List SpotState) (i : ℕ) (q : Spot) → TablesOk set family
     → ((j : ℕ) → newest places q ≡ Some j → j < length family) → Above (newest places q) i → knows_above family places (table_at family i) q ≡ true
 above_known set family places i q ok known above = at (newest places q) refl above
   where

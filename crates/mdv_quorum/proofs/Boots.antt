@@ -3,7 +3,7 @@ use Rattle.std.proofs.Common.{◌≡◌, ◌<◌, ◌≤◌, ◌-◌, ◌^◌, �
 use Rattle.std.proofs.lemmas.Bool.{false≢true, cases_lt, and_parts, or_cases, or_left, lt-ltb}
 use Rattle.std.specs.Prelude.{nat_lt, ◌==◌}
 use Rattle.mdv_votes.specs.declared.spot.Spot.{Spot}
-use Rattle.mdv_votes.specs.declared.table.Table.{Table}
+use Rattle.mdv_votes.specs.declared.version.Version.{Version}
 use Rattle.mdv_votes.specs.Spots.{is_in, is_none, same_spot}
 use Rattle.mdv_votes.specs.Quorum.{is_read}
 use Rattle.mdv_votes.specs.Family.{table_at, boot_of, put_at, with_claim, newest_of, greatest_of, knows_above}
@@ -160,7 +160,7 @@ claim_first : (w : Core) (p : Spot) (places : List Spot) (o : Option ℕ) → Ba
 claim_first w p places None b ok e may = absurd (false≢true may)
 claim_first w p places (Some i) b ok e may = choose_ok w p places i b ok e may
 
-claim_more : (w : Core) (p : Spot) (i : ℕ) (next : Table) (places : List Spot) → Base w → StageOk w (Claiming i next places) → Inv (claimed w p (Claiming i next places))
+claim_more : (w : Core) (p : Spot) (i : ℕ) (next : Version) (places : List Spot) → Base w → StageOk w (Claiming i next places) → Inv (claimed w p (Claiming i next places))
 claim_more w p i next places b ok = record {
   base = record {
     tables = b.tables;

@@ -6,7 +6,7 @@ use Rattle.std.specs.Prelude.{Contains, nat_lt, ◌==◌}
 use Rattle.mdv_base.specs.declared.mark.Mark.{Mark}
 use Rattle.mdv_votes.specs.declared.spot.Spot.{Spot}
 use Rattle.mdv_votes.specs.declared.spot.SpotLists.{SpotLists}
-use Rattle.mdv_votes.specs.declared.table.Table.{Table}
+use Rattle.mdv_votes.specs.declared.version.Version.{Version}
 use Rattle.mdv_votes.specs.Spots.{last_list, same_spots}
 use Rattle.mdv_votes.specs.Family.{table_at, mark_below}
 use Rattle.mdv_votes.proofs.SameSpots.{spots_same}
@@ -88,7 +88,7 @@ mark_next a b h =
       ]
     ]
 
-next_of : Core → SpotLists → Bool → Table
+next_of : Core → SpotLists → Bool → Version
 next_of w lists by_majority = record {
   mark = record { boot = (last_table w).mark.boot; count = (last_table w).mark.count + 1 };
   parent = Some (length w.family - 1);
@@ -98,7 +98,7 @@ next_of w lists by_majority = record {
   plan = (last_table w).plan ++ w.changes ∷ [];
 }
 
-change_fits : (w : Core) (lists : SpotLists) (next : Option Table) → Base w → StageOk w (Ready next) → ListsOk w.set lists → may_follow (last_table w).lists lists ≡ true
+change_fits : (w : Core) (lists : SpotLists) (next : Option Version) → Base w → StageOk w (Ready next) → ListsOk w.set lists → may_follow (last_table w).lists lists ≡ true
     → Fits w.set w.family w.firm ((last_table w).plan ++ w.changes ∷ []) w.told (next_of w lists (not (same_spots (last_table w).lists.mediators lists.mediators)))
 unfolding next_of
 change_fits w lists next b ok new may =
@@ -133,7 +133,7 @@ change_fits w lists next b ok new may =
           subst (λ (k : ℕ). (lists_at w.family k).mediators ≡ []) (only i h live) (equal ∙ nobody);
     }
 
-change_ok : (w : Core) (lists : SpotLists) (next : Option Table) → Base w → StageOk w (Ready next) → is_lists w.set lists ≡ true → may_follow (last_table w).lists lists ≡ true
+change_ok : (w : Core) (lists : SpotLists) (next : Option Version) → Base w → StageOk w (Ready next) → is_lists w.set lists ≡ true → may_follow (last_table w).lists lists ≡ true
     → Inv (changed w lists (not (same_spots (last_table w).lists.mediators lists.mediators)))
 unfolding next_of
 change_ok w lists next b ok lists_may may =

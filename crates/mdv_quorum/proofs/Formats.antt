@@ -3,7 +3,7 @@ use Rattle.std.proofs.Common.{◌≡◌, ◌<◌, ◌≤◌, ◌-◌, ◌*◌, �
 use Rattle.std.proofs.lemmas.Bool.{cases_Bool, false≢true, and_parts, or_cases, not-true, ltb-true, leb-true, cond-false}
 use Rattle.std.specs.List.{count_by, list_any}
 use Rattle.mdv_votes.specs.declared.spot.Spot.{Spot}
-use Rattle.mdv_votes.specs.declared.table.Table.{Table}
+use Rattle.mdv_votes.specs.declared.version.Version.{Version}
 use Rattle.mdv_votes.specs.Spots.{is_named, is_none, is_majority, is_half, same_spot}
 use Rattle.mdv_votes.specs.Quorum.{is_read, is_read_list}
 use Rattle.mdv_votes.specs.Family.{change_at, wiped}
@@ -21,11 +21,11 @@ use Rattle.mdv_quorum.proofs.Format.{format_places, seat_places}
 use Rattle.mdv_quorum.proofs.Invariant.{holds, since, boot_at, Base, Inv, StageOk, NextOk}
 
 -- the firm table doesn't name it
-firm_free : (family : List Table) (firm : Option ℕ) (p : Spot) → is_firm_in family firm p ≡ false → (f : ℕ) → firm ≡ Some f → is_named (lists_at family f) p ≡ false
+firm_free : (family : List Version) (firm : Option ℕ) (p : Spot) → is_firm_in family firm p ≡ false → (f : ℕ) → firm ≡ Some f → is_named (lists_at family f) p ≡ false
 firm_free family firm p free f e = sym (ap (λ (o : Option ℕ). is_firm_in family o p) e) ∙ free
 
 -- a place is formatted for the table in hand
-format_ok : (w : Core) (p : Spot) (next : Table) → Base w → w.deleted ≡ None → ((u : ℕ) → u < length w.family → boot_at w.family u ≤ next.mark.boot)
+format_ok : (w : Core) (p : Spot) (next : Version) → Base w → w.deleted ≡ None → ((u : ℕ) → u < length w.family → boot_at w.family u ≤ next.mark.boot)
     → may_format_place w p next.lists ≡ true → Base (formatted_place w p next)
 format_ok w p next b there high may =
     let m = and_parts (not p.mediator) ((is_named next.lists p && not (is_firm_in w.family w.firm p)) && is_clean_but p (raised w.floor (since w.places p)) w.lost w.places) may in
@@ -39,7 +39,7 @@ format_ok w p next b there high may =
           (firm_free w.family w.firm p free) n.1;
     }
 
-format_next : (w : Core) (p : Spot) (next : Option Table) → w.stage ≡ Ready next → Base w → StageOk w (Ready next) → may_format_next w p next ≡ true → Inv (formatted_next w p next)
+format_next : (w : Core) (p : Spot) (next : Option Version) → w.stage ≡ Ready next → Base w → StageOk w (Ready next) → may_format_next w p next ≡ true → Inv (formatted_next w p next)
 format_next w p None e b ok may = absurd (false≢true may)
 format_next w p (Some next) e b ok may =
     let some = ok.some in
@@ -49,7 +49,7 @@ format_next w p (Some next) e b ok may =
       stage = subst (λ (s : Stage). StageOk (formatted_place w p next) s) (sym e) (record { there = ok.there; some = ok.some; settled = ok.settled; in_hand = ok.in_hand });
     }
 
-format_seat : (w : Core) (p : Spot) (next : Option Table) → Base w → StageOk w (Ready next) → p.mediator ≡ true → not (is_firm_in w.family w.firm p) ≡ true → Inv (formatted_seat w p)
+format_seat : (w : Core) (p : Spot) (next : Option Version) → Base w → StageOk w (Ready next) → p.mediator ≡ true → not (is_firm_in w.family w.firm p) ≡ true → Inv (formatted_seat w p)
 format_seat w p next b ok seat may =
     let some = ok.some in
     record {
@@ -99,7 +99,7 @@ wipe_reading w p places e b ok free = record {
   });
 }
 
-wipe_creating : (w : Core) (p : Spot) (next : Table) → w.stage ≡ Creating next → Base w → StageOk w (Creating next) → Inv (without w p)
+wipe_creating : (w : Core) (p : Spot) (next : Version) → w.stage ≡ Creating next → Base w → StageOk w (Creating next) → Inv (without w p)
 wipe_creating w p next e b ok =
     let none = ok.first in
     record {
@@ -113,7 +113,7 @@ wipe_creating w p next e b ok =
       stage = subst (λ (s : Stage). StageOk (without w p) s) (sym e) (record { first = ok.first; there = ok.there; fits = ok.fits });
     }
 
-wipe_claiming : (w : Core) (p : Spot) (i : ℕ) (next : Table) (claimed : List Spot) → w.stage ≡ Claiming i next claimed → Base w → StageOk w (Claiming i next claimed) → is_firm_in w.family w.firm p ≡ false → Inv (without w p)
+wipe_claiming : (w : Core) (p : Spot) (i : ℕ) (next : Version) (claimed : List Spot) → w.stage ≡ Claiming i next claimed → Base w → StageOk w (Claiming i next claimed) → is_firm_in w.family w.firm p ≡ false → Inv (without w p)
 wipe_claiming w p i next claimed e b ok free = record {
   base = wipe_base w p b free;
   stage = subst (λ (s : Stage). StageOk (without w p) s) (sym e) (record {
@@ -138,7 +138,7 @@ wipe_writing w p boot took e b ok free hand =
       });
     }
 
-next_given : (w : Core) (p : Spot) (next : Option Table) → NextOk w.set w.family w.firm w.log w.told next → NextOk w.set w.family w.firm w.log w.told (given_up p next)
+next_given : (w : Core) (p : Spot) (next : Option Version) → NextOk w.set w.family w.firm w.log w.told next → NextOk w.set w.family w.firm w.log w.told (given_up p next)
 next_given w p None ok = tt
 next_given w p (Some next) ok = at (is_named next.lists p)
   where
@@ -169,13 +169,13 @@ only_read mediators read knows (q ∷ qs) p only h =
     ] in
     subst (λ (s : Spot). read s ≡ true) (same_is q p parts.0) (only_counted read q (subst (λ (l : List Spot). 0 < count_by read l) single some))
 
-only_needed : (t : Table) (p : Spot) (read knows : Spot → Bool) → is_only_place t.lists p ≡ true → is_read t read knows ≡ true → read p ≡ true
+only_needed : (t : Version) (p : Spot) (read knows : Spot → Bool) → is_only_place t.lists p ≡ true → is_read t read knows ≡ true → read p ≡ true
 only_needed t p read knows only reads =
     only_read t.lists.mediators read knows t.lists.first p (and_parts (is_only t.lists.first p) (is_single t.lists.second) only).0
     (covers_at (is_read_list t.lists.mediators read knows) t.lists t.lists.first reads (inl refl))
 
 -- the firm table's only place is blanked: the database is gone
-wipe_last : (w : Core) (p : Spot) (next : Option Table) → Base w → StageOk w (Ready next) → p.mediator ≡ false → is_only_place (last_table w).lists p ≡ true
+wipe_last : (w : Core) (p : Spot) (next : Option Version) → Base w → StageOk w (Ready next) → p.mediator ≡ false → is_only_place (last_table w).lists p ≡ true
     → Inv (record w { places = change_at w.places p wiped; deleted = Some p; stage = Reading [] })
 wipe_last w p next b ok place only = record {
   base = record {

@@ -4,10 +4,10 @@ use Rattle.std.specs.Prelude.{Contains, option_to_list}
 use Rattle.mdv_base.specs.declared.drive.DriveNo.{DriveNo}
 use Rattle.mdv_votes.specs.declared.spot.Spot.{Spot}
 use Rattle.mdv_votes.specs.declared.spot.SpotLists.{SpotLists}
-use Rattle.mdv_votes.specs.declared.table.Table.{Table}
-use Rattle.mdv_votes.specs.declared.table.Place.{Place}
-use Rattle.mdv_votes.specs.declared.table.Since.{Since}
-use Rattle.mdv_votes.specs.declared.table.Since.TheVariants.{Never, Listed, Dropped}
+use Rattle.mdv_votes.specs.declared.version.Version.{Version}
+use Rattle.mdv_votes.specs.declared.version.SpotState.{SpotState}
+use Rattle.mdv_votes.specs.declared.version.Since.{Since}
+use Rattle.mdv_votes.specs.declared.version.Since.TheVariants.{Never, Listed, Dropped}
 use Rattle.mdv_votes.specs.Spots.{is_in, is_named, last_list}
 use Rattle.mdv_votes.specs.Quorum.{is_read, is_written}
 use Rattle.mdv_votes.specs.Family.{table_at, place_at, boot_of, mark_below}
@@ -17,22 +17,22 @@ use Rattle.mdv_quorum.specs.declared.machine.Stage.{Stage}
 use Rattle.mdv_quorum.specs.declared.machine.Stage.TheVariants.{Reading, Creating, Claiming, Writing, Ready}
 use Rattle.mdv_quorum.specs.May.{is_up, is_distinct}
 
-abbrev pub newest : List Place → Spot → Option ℕ
+abbrev pub newest : List SpotState → Spot → Option ℕ
 newest places p = (place_at places p).newest
 
-abbrev pub claim : List Place → Spot → ℕ
+abbrev pub claim : List SpotState → Spot → ℕ
 claim places p = (place_at places p).claim
 
-abbrev pub holds : List Place → Spot → Bool
+abbrev pub holds : List SpotState → Spot → Bool
 holds places p = (place_at places p).holds
 
-abbrev pub since : List Place → Spot → Since
+abbrev pub since : List SpotState → Spot → Since
 since places p = (place_at places p).since
 
-abbrev pub boot_at : List Table → ℕ → ℕ
+abbrev pub boot_at : List Version → ℕ → ℕ
 boot_at family i = (table_at family i).mark.boot
 
-abbrev pub plan_at : List Table → ℕ → List ℕ
+abbrev pub plan_at : List Version → ℕ → List ℕ
 plan_at family i = (table_at family i).plan
 
 -- the table isn't below the firm one
@@ -57,10 +57,10 @@ Late Listed i = Unit {0}
 Late (Dropped m) i = i < m
 
 -- its claim or the boot number of its newest table is at least this one
-abbrev pub Knows : List Table → List Place → Spot → ℕ → Type 0
+abbrev pub Knows : List Version → List SpotState → Spot → ℕ → Type 0
 Knows family places p b = (b ≤ claim places p) ⊎ (b ≤ boot_of family (newest places p))
 
-abbrev pub MadeFrom : List Table → ℕ → Table → Option ℕ → Type 0
+abbrev pub MadeFrom : List Version → ℕ → Version → Option ℕ → Type 0
 MadeFrom family i t None = t.plan ≡ option_to_list t.change
 MadeFrom family i t (Some k) = (k < i) × (t.plan ≡ plan_at family k ++ option_to_list t.change)
 
@@ -71,60 +71,60 @@ pub record ListsOk (set : Bool) (lists : SpotLists) : Type 0 where
   pub alone : set ≡ false → lists.mediators ≡ []
   pub distinct : is_distinct lists.mediators ≡ true
 
-pub record TablesOk (set : Bool) (family : List Table) : Type 0 where
+pub record TablesOk (set : Bool) (family : List Version) : Type 0 where
   pub marks : (i j : ℕ) → i < j → j < length family → mark_below (table_at family i).mark (table_at family j).mark ≡ true
   pub made : (i : ℕ) → i < length family → MadeFrom family i (table_at family i) (table_at family i).parent
   pub lists : (i : ℕ) → i < length family → ListsOk set (lists_at family i)
 
-abbrev pub AllCommon : List Table → Option ℕ → Type 0
+abbrev pub AllCommon : List Version → Option ℕ → Type 0
 AllCommon family firm =
     (i j : ℕ) → i < length family → j < length family → IsLive firm i → IsLive firm j → IsCommon family firm (lists_at family i) (lists_at family j)
 
-pub record PlansOk (family : List Table) (firm : Option ℕ) (log told : List ℕ) : Type 0 where
+pub record PlansOk (family : List Version) (firm : Option ℕ) (log told : List ℕ) : Type 0 where
   pub issued : (i : ℕ) → i < length family → IsLive firm i → IsPrefix (plan_at family i) log
   pub holds_told : (i : ℕ) → i < length family → IsLive firm i → HasAll told (plan_at family i)
   pub descends : (f i : ℕ) → firm ≡ Some f → f ≤ i → i < length family → IsPrefix (plan_at family f) (plan_at family i)
   pub nothing : firm ≡ None → told ≡ []
 
 -- of what was read this place shows a table above, or this mediator, which didn't say so, knows one
-pub record IsBeater (places : List Place) (i : ℕ) (read knows : Spot → Bool) : Type 0 where
+pub record IsBeater (places : List SpotState) (i : ℕ) (read knows : Spot → Bool) : Type 0 where
   pub place : Spot
   pub was_read : read place ≡ true
   pub late : ((place.mediator ≡ false) × Late (since places place) i) ⊎ ((place.mediator ≡ true) × (knows place ≡ false))
   pub above : Above (newest places place) i
 
 -- each read quorum of a table below the firm one is beaten
-abbrev pub Beats : List Table → List Place → ℕ → Type 0
+abbrev pub Beats : List Version → List SpotState → ℕ → Type 0
 Beats family places i = (read knows : Spot → Bool) → is_read (table_at family i) read knows ≡ true → IsBeater places i read knows
 
-abbrev pub KnownIn : List Table → List Place → (Spot → Bool) → ℕ → Type 0
+abbrev pub KnownIn : List Version → List SpotState → (Spot → Bool) → ℕ → Type 0
 KnownIn family places read b = (p : Spot) × (read p ≡ true) × Knows family places p b
 
-abbrev pub NumbersOk : List Table → Option ℕ → List Place → Type 0
+abbrev pub NumbersOk : List Version → Option ℕ → List SpotState → Type 0
 NumbersOk family firm places =
     (i u : ℕ) (read knows : Spot → Bool) → i < length family → u < length family → IsLive firm i → is_read (table_at family i) read knows ≡ true
     → (boot_at family u ≤ boot_at family i) ⊎ KnownIn family places read (boot_at family u)
 
 -- these places hold the firm table or a greater one
-pub record IsKept (family : List Table) (places : List Place) (f : ℕ) (p : Spot) : Type 0 where
+pub record IsKept (family : List Version) (places : List SpotState) (f : ℕ) (p : Spot) : Type 0 where
   pub held : holds places p ≡ true
   pub table : ℕ
   pub shows : newest places p ≡ Some table
   pub above : f ≤ table
   pub named : is_named (lists_at family f) p ≡ true
 
-abbrev pub IsCovered : List Table → List Place → ℕ → Type 0
+abbrev pub IsCovered : List Version → List SpotState → ℕ → Type 0
 IsCovered family places f =
     (took : Spot → Bool) × (is_written (table_at family f) took ≡ true) × ((p : Spot) → took p ≡ true → IsKept family places f p)
 
-pub record IsGone (family : List Table) (firm : Option ℕ) (places : List Place) (p : Spot) : Type 0 where
+pub record IsGone (family : List Version) (firm : Option ℕ) (places : List SpotState) (p : Spot) : Type 0 where
   pub some : 0 < length family
   pub is_firm : firm ≡ Some (length family - 1)
   pub place : p.mediator ≡ false
   pub wiped : holds places p ≡ false
   pub needed : (read knows : Spot → Bool) → is_read (table_at family (length family - 1)) read knows ≡ true → read p ≡ true
 
-pub record PlacesOk (family : List Table) (firm : Option ℕ) (places : List Place) (floor : ℕ) (lost : List DriveNo) (deleted : Option Spot) : Type 0 where
+pub record PlacesOk (family : List Version) (firm : Option ℕ) (places : List SpotState) (floor : ℕ) (lost : List DriveNo) (deleted : Option Spot) : Type 0 where
   pub firm_in : (f : ℕ) → firm ≡ Some f → f < length family
   pub shows : (p : Spot) (j : ℕ) → newest places p ≡ Some j → j < length family
   pub beaten : (f i : ℕ) → firm ≡ Some f → i < f → (i < floor) ⊎ Beats family places i
@@ -139,12 +139,12 @@ pub record PlacesOk (family : List Table) (firm : Option ℕ) (places : List Pla
   pub unused : length places ≡ 0 → length family ≡ 0
 
 -- where half of a list suffices to write a table without mediators, no live table has any
-abbrev pub IsAlone : List Table → Option ℕ → Table → Type 0
+abbrev pub IsAlone : List Version → Option ℕ → Version → Type 0
 IsAlone family firm t =
     t.by_majority ≡ false → t.lists.mediators ≡ [] → (i : ℕ) → i < length family → IsLive firm i → (lists_at family i).mediators ≡ []
 
 -- the table in hand fits behind the family
-pub record Fits (set : Bool) (family : List Table) (firm : Option ℕ) (log told : List ℕ) (next : Table) : Type 0 where
+pub record Fits (set : Bool) (family : List Version) (firm : Option ℕ) (log told : List ℕ) (next : Version) : Type 0 where
   pub mark : (i : ℕ) → i < length family → mark_below (table_at family i).mark next.mark ≡ true
   pub made : MadeFrom family (length family) next next.parent
   pub lists : ListsOk set next.lists
@@ -156,23 +156,23 @@ pub record Fits (set : Bool) (family : List Table) (firm : Option ℕ) (log told
   pub descends : (f : ℕ) → firm ≡ Some f → IsPrefix (plan_at family f) next.plan
   pub alone : IsAlone family firm next
 
-pub record ReadingOk (places : List Place) (floor : ℕ) (deleted : Option Spot) (read : List Spot) : Type 0 where
+pub record ReadingOk (places : List SpotState) (floor : ℕ) (deleted : Option Spot) (read : List Spot) : Type 0 where
   pub clean : (p : Spot) (j : ℕ) → is_in read p ≡ true → p.mediator ≡ false → newest places p ≡ Some j → floor ≤ j
   pub gone : (p : Spot) → deleted ≡ Some p → is_in read p ≡ true → ⊥
 
-pub record CreatingOk (set : Bool) (family : List Table) (firm : Option ℕ) (deleted : Option Spot) (log told : List ℕ) (next : Table) : Type 0 where
+pub record CreatingOk (set : Bool) (family : List Version) (firm : Option ℕ) (deleted : Option Spot) (log told : List ℕ) (next : Version) : Type 0 where
   pub first : length family ≡ 0
   pub there : deleted ≡ None
   pub fits : Fits set family firm log told next
 
 -- a boot has chosen this table
-pub record IsChosen (family : List Table) (log told : List ℕ) (i : ℕ) (t : Table) : Type 0 where
+pub record IsChosen (family : List Version) (log told : List ℕ) (i : ℕ) (t : Version) : Type 0 where
   pub plan : t.plan ≡ plan_at family i
   pub same : t.change ≡ None
   pub issued : IsPrefix (plan_at family i) log
   pub holds_told : HasAll told (plan_at family i)
 
-pub record ClaimingOk (set : Bool) (family : List Table) (firm : Option ℕ) (places : List Place) (deleted : Option Spot) (log told : List ℕ) (i : ℕ) (next : Table) (claimed : List Spot) : Type 0 where
+pub record ClaimingOk (set : Bool) (family : List Version) (firm : Option ℕ) (places : List SpotState) (deleted : Option Spot) (log told : List ℕ) (i : ℕ) (next : Version) (claimed : List Spot) : Type 0 where
   pub there : deleted ≡ None
   pub known : i < length family
   pub chosen : IsChosen family log told i next
@@ -180,33 +180,33 @@ pub record ClaimingOk (set : Bool) (family : List Table) (firm : Option ℕ) (pl
   pub higher : (u : ℕ) → u < length family → boot_at family u < next.mark.boot
   pub claims : (p : Spot) → is_in claimed p ≡ true → next.mark.boot ≤ claim places p
 
-pub record HasTaken (family : List Table) (places : List Place) (p : Spot) : Type 0 where
+pub record HasTaken (family : List Version) (places : List SpotState) (p : Spot) : Type 0 where
   pub shows : newest places p ≡ Some (length family - 1)
   pub held : holds places p ≡ true
   pub named : is_named (lists_at family (length family - 1)) p ≡ true
 
-abbrev pub BootOk : List Table → List ℕ → List ℕ → Option ℕ → Type 0
+abbrev pub BootOk : List Version → List ℕ → List ℕ → Option ℕ → Type 0
 BootOk family log told None = Unit {0}
 BootOk family log told (Some i) =
     (i < length family) × IsChosen family log told i (table_at family (length family - 1))
     × ((u : ℕ) → u < length family - 1 → boot_at family u < boot_at family (length family - 1))
 
-pub record TakingOk (family : List Table) (firm : Option ℕ) (places : List Place) (deleted : Option Spot) (log told : List ℕ) (boot : Option ℕ) (took : List Spot) : Type 0 where
+pub record TakingOk (family : List Version) (firm : Option ℕ) (places : List SpotState) (deleted : Option Spot) (log told : List ℕ) (boot : Option ℕ) (took : List Spot) : Type 0 where
   pub there : deleted ≡ None
   pub some : 0 < length family
   pub taken : (p : Spot) → is_in took p ≡ true → HasTaken family places p
   pub made : BootOk family log told boot
   pub alone : IsAlone family firm (table_at family (length family - 1))
 
-pub record WritingOk (family : List Table) (firm : Option ℕ) (places : List Place) (deleted : Option Spot) (log told : List ℕ) (boot : Option ℕ) (took : List Spot) : Type 0 where
+pub record WritingOk (family : List Version) (firm : Option ℕ) (places : List SpotState) (deleted : Option Spot) (log told : List ℕ) (boot : Option ℕ) (took : List Spot) : Type 0 where
   pub taking : TakingOk family firm places deleted log told boot took
   pub settles : is_written (table_at family (length family - 1)) (is_in took) ≡ true → firm ≡ Some (length family - 1)
 
-abbrev pub NextOk : Bool → List Table → Option ℕ → List ℕ → List ℕ → Option Table → Type 0
+abbrev pub NextOk : Bool → List Version → Option ℕ → List ℕ → List ℕ → Option Version → Type 0
 NextOk set family firm log told None = Unit {0}
 NextOk set family firm log told (Some next) = Fits set family firm log told next × (next.mark.boot ≡ boot_at family (length family - 1))
 
-pub record ReadyOk (set : Bool) (family : List Table) (firm : Option ℕ) (deleted : Option Spot) (log told : List ℕ) (next : Option Table) : Type 0 where
+pub record ReadyOk (set : Bool) (family : List Version) (firm : Option ℕ) (deleted : Option Spot) (log told : List ℕ) (next : Option Version) : Type 0 where
   pub there : deleted ≡ None
   pub some : 0 < length family
   pub settled : firm ≡ Some (length family - 1)

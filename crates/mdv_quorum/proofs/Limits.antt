@@ -6,7 +6,7 @@ use Rattle.std.specs.List.{list_any}
 use Rattle.mdv_base.specs.declared.drive.DriveNo.{DriveNo}
 use Rattle.mdv_votes.specs.declared.spot.Spot.{Spot}
 use Rattle.mdv_votes.specs.declared.spot.SpotLists.{SpotLists}
-use Rattle.mdv_votes.specs.declared.table.Table.{Table}
+use Rattle.mdv_votes.specs.declared.version.Version.{Version}
 use Rattle.mdv_votes.specs.Spots.{is_in}
 use Rattle.mdv_votes.specs.Quorum.{is_read}
 use Rattle.mdv_votes.specs.Family.{table_at, newest_of, greatest_of, knows_above}
@@ -27,7 +27,7 @@ claim_fits w p places i stage may e =
     ltb-true (rewritten w places i).mark.boot (2 ^ 63) (and_parts (is_target w (table_at w.family i).lists p) (nat_lt (rewritten w places i).mark.boot (2 ^ 63)) n.1).1
 
 -- the count of the next table, and how many changes there are
-pub commit_fits : (w : Core) (lists : SpotLists) (next : Option Table) → w.stage ≡ Ready next → may_list w lists w.stage ≡ true → (w.changes < 2 ^ 63) × ((last_table w).mark.count + 1 < 2 ^ 63)
+pub commit_fits : (w : Core) (lists : SpotLists) (next : Option Version) → w.stage ≡ Ready next → may_list w lists w.stage ≡ true → (w.changes < 2 ^ 63) × ((last_table w).mark.count + 1 < 2 ^ 63)
 commit_fits w lists next stage may =
     let at = subst (λ (s : Stage). may_list w lists s ≡ true) stage may in
     let m = and_parts (is_lists w.set lists) (may_follow (last_table w).lists lists && (nat_lt ((last_table w).mark.count + 1) (2 ^ 63) && nat_lt w.changes (2 ^ 63))) at in

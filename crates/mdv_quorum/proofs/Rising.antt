@@ -3,7 +3,7 @@ use Rattle.std.proofs.Common.{◌≡◌, ◌<◌, ◌-◌, ℕ, Bool, true, fals
 use Rattle.std.proofs.lemmas.Bool.{false≢true}
 use Rattle.mdv_votes.specs.declared.spot.Spot.{Spot}
 use Rattle.mdv_votes.specs.declared.spot.SpotLists.{SpotLists}
-use Rattle.mdv_votes.specs.declared.table.Table.{Table}
+use Rattle.mdv_votes.specs.declared.version.Version.{Version}
 use Rattle.mdv_votes.specs.Spots.{is_in, is_named}
 use Rattle.mdv_votes.specs.Quorum.{is_written}
 use Rattle.mdv_votes.specs.Family.{table_at, newest_of, change_at, wiped}
@@ -29,13 +29,13 @@ StagePast m n (Writing boot took) = m < n - 1
 StagePast m n (Ready next) = Unit {0}
 
 -- this table is in the family, and is in hand no more
-record IsPast (t : Table) (m : ℕ) (w : Core) : Type 0 where
+record IsPast (t : Version) (m : ℕ) (w : Core) : Type 0 where
   here : m < length w.family
   same : table_at w.family m ≡ t
   later : StagePast m (length w.family) w.stage
 
-module _ (t : Table) (m : ℕ) where
-  past_settled : (v : Core) (last : Table) (b : Bool) → IsPast t m v → IsPast t m (settled v last b)
+module _ (t : Version) (m : ℕ) where
+  past_settled : (v : Core) (last : Version) (b : Bool) → IsPast t m v → IsPast t m (settled v last b)
   past_settled v last true p = record { here = p.here; same = p.same; later = p.later }
   past_settled v last false p = p
 
@@ -44,7 +44,7 @@ module _ (t : Table) (m : ℕ) where
       past_settled (record w { places = places_after w.places (length w.family - 1) p end; stage = Writing boot (taken_after took p end) }) (last_table w)
       (is_written (last_table w) (is_in (taken_after took p end))) (record { here = omega (arith, below); same = same; later = below })
 
-  past_first : (w : Core) (p : Spot) (end : SlotEnd) (boot : Option ℕ) (next : Table) → IsPast t m w → IsPast t m (wrote (with_table w next) p end boot [])
+  past_first : (w : Core) (p : Spot) (end : SlotEnd) (boot : Option ℕ) (next : Version) → IsPast t m w → IsPast t m (wrote (with_table w next) p end boot [])
   past_first w p end boot next past =
       let here = past.here in
       past_wrote (with_table w next) p end boot [] (omega (arith, here, longer w.set w.family next)) (old_table w.set w.family next m here ∙ past.same)
@@ -67,7 +67,7 @@ module _ (t : Table) (m : ℕ) where
   past_claimed w p (Writing boot took) past = record { here = past.here; same = past.same; later = past.later }
   past_claimed w p (Ready next) past = past
 
-  past_next : (w : Core) (p : Spot) (end : SlotEnd) (next : Option Table) → IsPast t m w → IsPast t m (slotted_next w p end next)
+  past_next : (w : Core) (p : Spot) (end : SlotEnd) (next : Option Version) → IsPast t m w → IsPast t m (slotted_next w p end next)
   past_next w p end None past = past
   past_next w p end (Some next) past = past_first w p end None next past
 
@@ -78,7 +78,7 @@ module _ (t : Table) (m : ℕ) where
   past_slotted w p end (Writing boot took) later past = past_wrote w p end boot took later past.same
   past_slotted w p end (Ready next) later past = past_next w p end next past
 
-  past_format_next : (w : Core) (p : Spot) (next : Option Table) → IsPast t m w → IsPast t m (formatted_next w p next)
+  past_format_next : (w : Core) (p : Spot) (next : Option Version) → IsPast t m w → IsPast t m (formatted_next w p next)
   past_format_next w p None past = past
   past_format_next w p (Some next) past = record { here = past.here; same = past.same; later = past.later }
 
@@ -150,18 +150,18 @@ none_is : (a : ℕ) → None ≡ Some a → ⊥
 none_is a e = cc
 
 -- the number that is drawn is above that of a table that is past
-drawn_above : (t : Table) (m : ℕ) (w : Core) (s : Stage) (b : ℕ) → m < length w.family → table_at w.family m ≡ t → StagePast m (length w.family) s → BootsAt w s → drawn_at w s ≡ Some b → t.mark.boot < b
+drawn_above : (t : Version) (m : ℕ) (w : Core) (s : Stage) (b : ℕ) → m < length w.family → table_at w.family m ≡ t → StagePast m (length w.family) s → BootsAt w s → drawn_at w s ≡ Some b → t.mark.boot < b
 drawn_above t m w (Reading places) b here same later boots e = absurd (none_is b e)
 drawn_above t m w (Creating next) b here same later boots e = absurd (none_is b e)
 drawn_above t m w (Claiming i next places) b here same later boots e =
     let fresh = boots.0.fresh m here in
     let eb = some_same next.mark.boot b e in
-    omega (arith, fresh, eb, ap (λ (x : Table). x.mark.boot) same)
+    omega (arith, fresh, eb, ap (λ (x : Version). x.mark.boot) same)
 drawn_above t m w (Writing None took) b here same later boots e = absurd (none_is b e)
 drawn_above t m w (Writing (Some i) took) b here same later boots e =
     let fresh = boots.1.0.fresh m later in
     let eb = some_same (table_at w.family (length w.family - 1)).mark.boot b e in
-    omega (arith, fresh, eb, ap (λ (x : Table). x.mark.boot) same)
+    omega (arith, fresh, eb, ap (λ (x : Version). x.mark.boot) same)
 drawn_above t m w (Ready next) b here same later boots e = absurd (none_is b e)
 
 may_back : (w : Core) (es fs : List Event) → MayAll w (es ++ fs) → MayAll (after_all w es) fs

@@ -4,8 +4,8 @@ use Rattle.std.proofs.lemmas.Bool.{false≢true, and_parts}
 use Rattle.std.proofs.lemmas.List.Elements.{Contains-append_right, Contains-append_cases}
 use Rattle.std.specs.Prelude.{option_to_list, Contains}
 use Rattle.mdv_votes.specs.declared.spot.Spot.{Spot}
-use Rattle.mdv_votes.specs.declared.table.Table.{Table}
-use Rattle.mdv_votes.specs.declared.table.Place.{Place}
+use Rattle.mdv_votes.specs.declared.version.Version.{Version}
+use Rattle.mdv_votes.specs.declared.version.SpotState.{SpotState}
 use Rattle.mdv_votes.specs.Spots.{is_in, is_named, last_list}
 use Rattle.mdv_votes.specs.Quorum.{is_read, is_written, is_claimed}
 use Rattle.mdv_votes.specs.Family.{table_at, put_at, with_newest}
@@ -24,10 +24,10 @@ use Rattle.mdv_quorum.proofs.Written.{write_places, write_taken, settle_places, 
 use Rattle.mdv_quorum.proofs.Invariant.{holds, boot_at, plan_at, IsLive, Base, Inv, StageOk, TakingOk, BootOk, Fits, KnownIn, HasTaken, IsAlone, MadeFrom, HasAll, IsPrefix}
 
 -- one more place, where it took the table
-taken_put : (family : List Table) (places : List Place) (p : Spot) → holds places p ≡ true → is_named (lists_at family (length family - 1)) p ≡ true → HasTaken family (put_at places p (with_newest (length family - 1))) p
+taken_put : (family : List Version) (places : List SpotState) (p : Spot) → holds places p ≡ true → is_named (lists_at family (length family - 1)) p ≡ true → HasTaken family (put_at places p (with_newest (length family - 1))) p
 taken_put family places p held named =
     elim (put_cases places p p (with_newest (length family - 1)) (λ x. refl)) [
-      | inl a ↦ record { shows = ap (λ (x : Place). x.newest) a.1; held = ap (λ (x : Place). x.holds) a.1 ∙ held; named = named }
+      | inl a ↦ record { shows = ap (λ (x : SpotState). x.newest) a.1; held = ap (λ (x : SpotState). x.holds) a.1 ∙ held; named = named }
       | inr b ↦ absurd (false≢true (sym b.0 ∙ same_self p))
     ]
 
@@ -93,7 +93,7 @@ wrote_ok w p end boot took b t held named =
     (base_after w p end boot took b t) (taking_after w p end boot took t held named) refl
 
 -- the first write of a table
-first_ok : (w : Core) (p : Spot) (end : SlotEnd) (boot : Option ℕ) (next : Table) → Base w → Fits w.set w.family w.firm w.log w.told next → w.deleted ≡ None
+first_ok : (w : Core) (p : Spot) (end : SlotEnd) (boot : Option ℕ) (next : Version) → Base w → Fits w.set w.family w.firm w.log w.told next → w.deleted ≡ None
     → BootOk (w.family ++ next ∷ []) w.log w.told boot
     → ((i : ℕ) (read knows : Spot → Bool) → i < length w.family → IsLive w.firm i → is_read (table_at w.family i) read knows ≡ true
     → (next.mark.boot ≤ boot_at w.family i) ⊎ KnownIn w.family w.places read next.mark.boot)
@@ -115,18 +115,18 @@ first_ok w p end boot next b fits there made numbers target =
       some = (let l = longer w.set w.family next in omega (arith, l));
       taken = λ q has. absurd (false≢true has);
       made = made;
-      alone = subst (λ (t : Table). IsAlone (w.family ++ next ∷ []) w.firm t) (sym is) (λ half nobody i hi live. elim (which w.set w.family next i hi) [
-        | inl old ↦ ap (λ (t : Table). t.lists.mediators) (old_table w.set w.family next i old) ∙ fits.alone half nobody i old live
-        | inr e ↦ ap (λ (t : Table). t.lists.mediators) (new_at w.set w.family next i e) ∙ nobody
+      alone = subst (λ (t : Version). IsAlone (w.family ++ next ∷ []) w.firm t) (sym is) (λ half nobody i hi live. elim (which w.set w.family next i hi) [
+        | inl old ↦ ap (λ (t : Version). t.lists.mediators) (old_table w.set w.family next i old) ∙ fits.alone half nobody i old live
+        | inr e ↦ ap (λ (t : Version). t.lists.mediators) (new_at w.set w.family next i e) ∙ nobody
       ]);
     })
-    m.0 (subst (λ (t : Table). is_named t.lists p ≡ true) (sym is) m.1)
+    m.0 (subst (λ (t : Version). is_named t.lists p ≡ true) (sym is) m.1)
   where
-    used_at : (places : List Place) (q : Spot) → length places ≡ 0 → holds places q ≡ true → ⊥
+    used_at : (places : List SpotState) (q : Spot) → length places ≡ 0 → holds places q ≡ true → ⊥
     used_at [] q e h = false≢true h
     used_at (x ∷ xs) q e h = absurd (omega arith)
 
-slot_claiming : (w : Core) (p : Spot) (end : SlotEnd) (i : ℕ) (next : Table) (claimed : List Spot) → Base w → StageOk w (Claiming i next claimed)
+slot_claiming : (w : Core) (p : Spot) (end : SlotEnd) (i : ℕ) (next : Version) (claimed : List Spot) → Base w → StageOk w (Claiming i next claimed)
     → may_slot w p (Claiming i next claimed) ≡ true → Inv (slotted w p end (Claiming i next claimed))
 slot_claiming w p end i next claimed b ok may =
     let m = and_parts (is_claimed w.set next (is_in claimed)) (is_target w next.lists p) may in
@@ -134,27 +134,27 @@ slot_claiming w p end i next claimed b ok may =
     let last : length (w.family ++ next ∷ []) - 1 ≡ length w.family = omega (arith, l) in
     let is : table_at (w.family ++ next ∷ []) (length (w.family ++ next ∷ []) - 1) ≡ next = new_at w.set w.family next (length (w.family ++ next ∷ []) - 1) last in
     let c = ok.chosen in
-    let same : plan_at (w.family ++ next ∷ []) i ≡ plan_at w.family i = ap (λ (t : Table). t.plan) (old_table w.set w.family next i ok.known) in
+    let same : plan_at (w.family ++ next ∷ []) i ≡ plan_at w.family i = ap (λ (t : Version). t.plan) (old_table w.set w.family next i ok.known) in
     let known = ok.known in
     first_ok w p end (Some i) next b ok.fits ok.there (
       omega (arith, l, known),
       record {
-        plan = ap (λ (t : Table). t.plan) is ∙ c.plan ∙ sym same;
-        same = ap (λ (t : Table). t.change) is ∙ c.same;
+        plan = ap (λ (t : Version). t.plan) is ∙ c.plan ∙ sym same;
+        same = ap (λ (t : Version). t.change) is ∙ c.same;
         issued = subst (λ (x : List ℕ). IsPrefix x w.log) (sym same) c.issued;
         holds_told = subst (λ (x : List ℕ). HasAll w.told x) (sym same) c.holds_told;
       },
       λ u hu.
           let old : u < length w.family = omega (arith, hu, last) in
           let high = ok.higher u old in
-          omega (arith, high, ap (λ (t : Table). t.mark.boot) (old_table w.set w.family next u old), ap (λ (t : Table). t.mark.boot) is),
+          omega (arith, high, ap (λ (t : Version). t.mark.boot) (old_table w.set w.family next u old), ap (λ (t : Version). t.mark.boot) is),
     )
     (λ j read knows hj lj reads.
     let f = claimed_meets w.family w.firm w.set (table_at w.family j) next (is_in claimed) read knows (ok.fits.before j hj lj) (b.tables.lists j hj).alone m.0 reads in
     inr (f.0, f.2, inl (ok.claims f.0 f.1)))
     m.1
 
-slot_next : (w : Core) (p : Spot) (end : SlotEnd) (next : Option Table) → Base w → StageOk w (Ready next) → may_slot_next w p next ≡ true → Inv (slotted_next w p end next)
+slot_next : (w : Core) (p : Spot) (end : SlotEnd) (next : Option Version) → Base w → StageOk w (Ready next) → may_slot_next w p next ≡ true → Inv (slotted_next w p end next)
 slot_next w p end None b ok may = absurd (false≢true may)
 slot_next w p end (Some next) b ok may =
     let hand = ok.in_hand in
@@ -178,7 +178,7 @@ slotted_ok w p end (Writing boot took) b ok may =
 slotted_ok w p end (Ready next) b ok may = slot_next w p end next b ok may
 
 -- the last table has the change that it adds
-has_change : (family : List Table) (i : ℕ) (t : Table) (o : Option ℕ) (c : ℕ) → MadeFrom family i t o → Contains (option_to_list t.change) c → Contains t.plan c
+has_change : (family : List Version) (i : ℕ) (t : Version) (o : Option ℕ) (c : ℕ) → MadeFrom family i t o → Contains (option_to_list t.change) c → Contains t.plan c
 has_change family i t None c made has = subst (λ (l : List ℕ). Contains l c) (sym made) has
 has_change family i t (Some k) c made has =
     subst (λ (l : List ℕ). Contains l c) (sym made.1) (Contains-append_right (plan_at family k) (option_to_list t.change) c has)

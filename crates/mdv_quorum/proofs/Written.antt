@@ -4,10 +4,10 @@ use Rattle.std.proofs.lemmas.Bool.{false≢true, cases_lt}
 use Rattle.mdv_base.specs.declared.drive.DriveNo.{DriveNo}
 use Rattle.mdv_votes.specs.declared.spot.Spot.{Spot}
 use Rattle.mdv_votes.specs.declared.spot.SpotLists.{SpotLists}
-use Rattle.mdv_votes.specs.declared.table.Table.{Table}
-use Rattle.mdv_votes.specs.declared.table.Place.{Place}
-use Rattle.mdv_votes.specs.declared.table.Since.{Since}
-use Rattle.mdv_votes.specs.declared.table.Since.TheVariants.{Never, Listed, Dropped}
+use Rattle.mdv_votes.specs.declared.version.Version.{Version}
+use Rattle.mdv_votes.specs.declared.version.SpotState.{SpotState}
+use Rattle.mdv_votes.specs.declared.version.Since.{Since}
+use Rattle.mdv_votes.specs.declared.version.Since.TheVariants.{Never, Listed, Dropped}
 use Rattle.mdv_votes.specs.Spots.{is_in, last_list, last_or}
 use Rattle.mdv_votes.specs.Quorum.{is_written}
 use Rattle.mdv_votes.specs.Family.{table_at, boot_of, put_at, with_newest, with_since, since_after}
@@ -27,17 +27,17 @@ live_or_below None i = inl (λ f e. absurd (none_is f e))
     none_is f e = cc
 live_or_below (Some f) i = elim (cases_lt i f) [ inl less ↦ inr (f, refl, less) | inr more ↦ inl (λ g e. subst (λ (k : ℕ). k ≤ i) (some_same f g e) more) ]
 
-pub write_places : (family : List Table) (firm : Option ℕ) (places : List Place) (floor : ℕ) (lost : List DriveNo) (deleted : Option Spot) (p : Spot) (set : Bool)
+pub write_places : (family : List Version) (firm : Option ℕ) (places : List SpotState) (floor : ℕ) (lost : List DriveNo) (deleted : Option Spot) (p : Spot) (set : Bool)
     → TablesOk set family → PlacesOk family firm places floor lost deleted → 0 < length family → deleted ≡ None
     → PlacesOk family firm (put_at places p (with_newest (length family - 1))) floor lost deleted
 write_places family firm places floor lost deleted p set tables ok some there =
     let m = length family - 1 in
     let new = put_at places p (with_newest m) in
     let cases = λ (q : Spot). put_cases places p q (with_newest m) (λ x. refl) in
-    let held = λ (q : Spot). elim (cases q) as (λ c. holds new q ≡ holds places q) [ inl a ↦ ap (λ (x : Place). x.holds) a.1 | inr b ↦ ap (λ (x : Place). x.holds) b.1 ] in
-    let stands = λ (q : Spot). elim (cases q) as (λ c. since new q ≡ since places q) [ inl a ↦ ap (λ (x : Place). x.since) a.1 | inr b ↦ ap (λ (x : Place). x.since) b.1 ] in
-    let shows = λ (q : Spot). elim (cases q) as (λ c. (newest new q ≡ Some m) ⊎ (newest new q ≡ newest places q)) [ inl a ↦ inl (ap (λ (x : Place). x.newest) a.1) | inr b ↦ inr (ap (λ (x : Place). x.newest) b.1) ] in
-    let claims = λ (q : Spot). elim (cases q) as (λ c. claim new q ≡ claim places q) [ inl a ↦ ap (λ (x : Place). x.claim) a.1 | inr b ↦ ap (λ (x : Place). x.claim) b.1 ] in
+    let held = λ (q : Spot). elim (cases q) as (λ c. holds new q ≡ holds places q) [ inl a ↦ ap (λ (x : SpotState). x.holds) a.1 | inr b ↦ ap (λ (x : SpotState). x.holds) b.1 ] in
+    let stands = λ (q : Spot). elim (cases q) as (λ c. since new q ≡ since places q) [ inl a ↦ ap (λ (x : SpotState). x.since) a.1 | inr b ↦ ap (λ (x : SpotState). x.since) b.1 ] in
+    let shows = λ (q : Spot). elim (cases q) as (λ c. (newest new q ≡ Some m) ⊎ (newest new q ≡ newest places q)) [ inl a ↦ inl (ap (λ (x : SpotState). x.newest) a.1) | inr b ↦ inr (ap (λ (x : SpotState). x.newest) b.1) ] in
+    let claims = λ (q : Spot). elim (cases q) as (λ c. claim new q ≡ claim places q) [ inl a ↦ ap (λ (x : SpotState). x.claim) a.1 | inr b ↦ ap (λ (x : SpotState). x.claim) b.1 ] in
     record {
       firm_in = ok.firm_in;
       shows = λ q j e. elim (shows q) [
@@ -96,11 +96,11 @@ write_places family firm places floor lost deleted p set tables ok some there =
     }
 
 -- what a write leaves of those that took the table
-pub write_taken : (family : List Table) (places : List Place) (p q : Spot) → HasTaken family places q → HasTaken family (put_at places p (with_newest (length family - 1))) q
+pub write_taken : (family : List Version) (places : List SpotState) (p q : Spot) → HasTaken family places q → HasTaken family (put_at places p (with_newest (length family - 1))) q
 write_taken family places p q t =
     elim (put_cases places p q (with_newest (length family - 1)) (λ x. refl)) [
-      | inl a ↦ record { shows = ap (λ (x : Place). x.newest) a.1; held = ap (λ (x : Place). x.holds) a.1 ∙ t.held; named = t.named }
-      | inr b ↦ record { shows = ap (λ (x : Place). x.newest) b.1 ∙ t.shows; held = ap (λ (x : Place). x.holds) b.1 ∙ t.held; named = t.named }
+      | inl a ↦ record { shows = ap (λ (x : SpotState). x.newest) a.1; held = ap (λ (x : SpotState). x.holds) a.1 ∙ t.held; named = t.named }
+      | inr b ↦ record { shows = ap (λ (x : SpotState). x.newest) b.1 ∙ t.shows; held = ap (λ (x : SpotState). x.holds) b.1 ∙ t.held; named = t.named }
     ]
 
 late_after : (m i : ℕ) (b : Bool) (s : Since) → i < m → Late s i → Late (since_after m b s) i
@@ -135,7 +135,7 @@ last_in lists = at lists.first lists.second
     at first (Some list) = inr refl
 
 -- the last table is firm now
-pub settle_places : (family : List Table) (firm : Option ℕ) (places : List Place) (floor : ℕ) (lost : List DriveNo) (deleted : Option Spot) (took : Spot → Bool) (set : Bool)
+pub settle_places : (family : List Version) (firm : Option ℕ) (places : List SpotState) (floor : ℕ) (lost : List DriveNo) (deleted : Option Spot) (took : Spot → Bool) (set : Bool)
     → TablesOk set family → AllCommon family firm → PlacesOk family firm places floor lost deleted → 0 < length family → deleted ≡ None
     → ((p : Spot) → took p ≡ true → HasTaken family places p) → is_written (table_at family (length family - 1)) took ≡ true
     → IsAlone family firm (table_at family (length family - 1)) → PlacesOk family (Some (length family - 1)) (map (with_since (length family - 1) (last_list (lists_at family (length family - 1)))) places) floor lost deleted
@@ -145,11 +145,11 @@ settle_places family firm places floor lost deleted took set tables common ok so
     let list = last_list (lists_at family m) in
     let new = map (with_since m list) places in
     let cases = λ (q : Spot). map_at places q (with_since m list) (λ x. refl) in
-    let held = λ (q : Spot). elim (cases q) as (λ c. holds new q ≡ holds places q) [ inl a ↦ ap (λ (x : Place). x.holds) a | inr b ↦ ap (λ (x : Place). x.holds) b.0 ∙ sym (ap (λ (x : Place). x.holds) b.1) ] in
-    let shows = λ (q : Spot). elim (cases q) as (λ c. newest new q ≡ newest places q) [ inl a ↦ ap (λ (x : Place). x.newest) a | inr b ↦ ap (λ (x : Place). x.newest) b.0 ∙ sym (ap (λ (x : Place). x.newest) b.1) ] in
+    let held = λ (q : Spot). elim (cases q) as (λ c. holds new q ≡ holds places q) [ inl a ↦ ap (λ (x : SpotState). x.holds) a | inr b ↦ ap (λ (x : SpotState). x.holds) b.0 ∙ sym (ap (λ (x : SpotState). x.holds) b.1) ] in
+    let shows = λ (q : Spot). elim (cases q) as (λ c. newest new q ≡ newest places q) [ inl a ↦ ap (λ (x : SpotState). x.newest) a | inr b ↦ ap (λ (x : SpotState). x.newest) b.0 ∙ sym (ap (λ (x : SpotState). x.newest) b.1) ] in
     let stands = λ (q : Spot). elim (cases q) as (λ c. (since new q ≡ since_after m (is_in list q) (since places q)) ⊎ ((since new q ≡ Never) × (since places q ≡ Never) × (holds places q ≡ false))) [
-      | inl a ↦ inl (ap (λ (x : Place). x.since) a ∙ ap (λ (s : Spot). since_after m (is_in list s) (since places q)) (spot_at places q))
-      | inr b ↦ inr (ap (λ (x : Place). x.since) b.0, ap (λ (x : Place). x.since) b.1, ap (λ (x : Place). x.holds) b.1)
+      | inl a ↦ inl (ap (λ (x : SpotState). x.since) a ∙ ap (λ (s : Spot). since_after m (is_in list s) (since places q)) (spot_at places q))
+      | inr b ↦ inr (ap (λ (x : SpotState). x.since) b.0, ap (λ (x : SpotState). x.since) b.1, ap (λ (x : SpotState). x.holds) b.1)
     ] in
     let is_m = λ (f : ℕ) (e : Some m ≡ Some f). some_same m f e in
     let live_m : IsLive firm m = λ f e. (let hf = ok.firm_in f e in omega (arith, hf)) in
@@ -233,25 +233,25 @@ settle_places family firm places floor lost deleted took set tables common ok so
     not_dropped : (k : ℕ) → Never ≡ Dropped k → ⊥
     not_dropped k e = cc
 
-pub settle_taken : (family : List Table) (places : List Place) (q : Spot) (list : List Spot) → HasTaken family places q → HasTaken family (map (with_since (length family - 1) list) places) q
+pub settle_taken : (family : List Version) (places : List SpotState) (q : Spot) (list : List Spot) → HasTaken family places q → HasTaken family (map (with_since (length family - 1) list) places) q
 settle_taken family places q list t =
     elim (map_at places q (with_since (length family - 1) list) (λ x. refl)) [
-      | inl a ↦ record { shows = ap (λ (x : Place). x.newest) a ∙ t.shows; held = ap (λ (x : Place). x.holds) a ∙ t.held; named = t.named }
-      | inr b ↦ absurd (false≢true (sym (ap (λ (x : Place). x.holds) b.1) ∙ t.held))
+      | inl a ↦ record { shows = ap (λ (x : SpotState). x.newest) a ∙ t.shows; held = ap (λ (x : SpotState). x.holds) a ∙ t.held; named = t.named }
+      | inr b ↦ absurd (false≢true (sym (ap (λ (x : SpotState). x.holds) b.1) ∙ t.held))
     ]
 
 -- a list meets itself
 pub seats_itself : (list : List Spot) → SeatsMeet list list
 seats_itself list took read most asked = meet took read list (half_of_majority took list most) asked
 
-pub itself_common : (family : List Table) (firm : Option ℕ) (lists : SpotLists) → IsCommon family firm lists lists
+pub itself_common : (family : List Version) (firm : Option ℕ) (lists : SpotLists) → IsCommon family firm lists lists
 itself_common family firm lists = record { list = last_list lists; in_a = last_in lists; in_b = last_in lists; seats = seats_itself lists.mediators; last = inl refl }
 
 -- below the last table none is live any more
-only_last : (family : List Table) (i : ℕ) → 0 < length family → i < length family → IsLive (Some (length family - 1)) i → i ≡ length family - 1
+only_last : (family : List Version) (i : ℕ) → 0 < length family → i < length family → IsLive (Some (length family - 1)) i → i ≡ length family - 1
 only_last family i some h live = let up = live (length family - 1) refl in omega (arith, up, h, some)
 
-pub settle_common : (family : List Table) → 0 < length family → AllCommon family (Some (length family - 1))
+pub settle_common : (family : List Version) → 0 < length family → AllCommon family (Some (length family - 1))
 settle_common family some i j hi hj li lj =
     let ei = only_last family i some hi li in
     let ej = only_last family j some hj lj in
@@ -260,7 +260,7 @@ settle_common family some i j hi hj li lj =
 pub prefix_itself : (xs : List ℕ) → IsPrefix xs xs
 prefix_itself xs = ([], append-nil xs)
 
-pub settle_plans : (family : List Table) (firm : Option ℕ) (log told : List ℕ) → 0 < length family → ((f : ℕ) → firm ≡ Some f → f < length family) → PlansOk family firm log told → PlansOk family (Some (length family - 1)) log told
+pub settle_plans : (family : List Version) (firm : Option ℕ) (log told : List ℕ) → 0 < length family → ((f : ℕ) → firm ≡ Some f → f < length family) → PlansOk family firm log told → PlansOk family (Some (length family - 1)) log told
 settle_plans family firm log told some firm_in ok =
     let live_old : (i : ℕ) → i < length family → IsLive (Some (length family - 1)) i → IsLive firm i
     = λ i h live f e. (let same = only_last family i some h live in let hf = firm_in f e in omega (arith, same, hf)) in

@@ -4,8 +4,8 @@ use Rattle.std.specs.List.{list_any, list_all}
 use Rattle.mdv_base.specs.declared.drive.DriveNo.{DriveNo}
 use Rattle.mdv_votes.specs.declared.spot.Spot.{Spot}
 use Rattle.mdv_votes.specs.declared.spot.SpotLists.{SpotLists}
-use Rattle.mdv_votes.specs.declared.table.Table.{Table}
-use Rattle.mdv_votes.specs.declared.table.Place.{Place}
+use Rattle.mdv_votes.specs.declared.version.Version.{Version}
+use Rattle.mdv_votes.specs.declared.version.SpotState.{SpotState}
 use Rattle.mdv_votes.specs.Spots.{same_spot, is_in, is_named, is_none, same_spots}
 use Rattle.mdv_votes.specs.Quorum.{is_written, is_claimed, is_read}
 use Rattle.mdv_votes.specs.Family.{table_at, place_at, newest_of, knows_above}
@@ -50,7 +50,7 @@ may_claim w p (Claiming adopted next claimed) = is_target w next.lists p
 may_claim w p (Writing boot took) = is_boot boot && is_target w (last_table w).lists p
 may_claim w p (Ready next) = false
 
-abbrev pub may_slot_next : Core → Spot → Option Table → Bool
+abbrev pub may_slot_next : Core → Spot → Option Version → Bool
 may_slot_next w p None = false
 may_slot_next w p (Some next) = is_target w next.lists p
 
@@ -63,7 +63,7 @@ may_slot w p (Writing boot took) = is_target w (last_table w).lists p
 may_slot w p (Ready next) = may_slot_next w p next
 
 -- the firm table names the place
-abbrev pub is_firm_in : List Table → Option ℕ → Spot → Bool
+abbrev pub is_firm_in : List Version → Option ℕ → Spot → Bool
 is_firm_in family None p = false
 is_firm_in family (Some i) p = is_named (table_at family i).lists p
 
@@ -72,16 +72,16 @@ shows_below floor None = false
 shows_below floor (Some i) = nat_lt i floor
 
 -- this replica isn't readable, or shows no table below the floor
-abbrev pub is_clean_at : ℕ → List DriveNo → Place → Bool
+abbrev pub is_clean_at : ℕ → List DriveNo → SpotState → Bool
 is_clean_at floor lost x = not (x.holds && is_up lost x.spot) || (x.spot.mediator || not (shows_below floor x.newest))
 
 -- Clean re-use: no readable replica shows a table older than the one that dropped a place which was
 -- formatted again.
-abbrev pub is_clean : ℕ → List DriveNo → List Place → Bool
+abbrev pub is_clean : ℕ → List DriveNo → List SpotState → Bool
 is_clean floor lost places = list_all (is_clean_at floor lost) places
 
-abbrev pub is_clean_but : Spot → ℕ → List DriveNo → List Place → Bool
-is_clean_but p floor lost places = list_all (λ (x : Place). same_spot x.spot p || is_clean_at floor lost x) places
+abbrev pub is_clean_but : Spot → ℕ → List DriveNo → List SpotState → Bool
+is_clean_but p floor lost places = list_all (λ (x : SpotState). same_spot x.spot p || is_clean_at floor lost x) places
 
 -- a replica's place that the table in hand names and the firm one doesn't
 abbrev pub may_format_place : Core → Spot → SpotLists → Bool
@@ -90,7 +90,7 @@ may_format_place w p lists =
     && ((is_named lists p && not (is_firm_in w.family w.firm p))
     && is_clean_but p (raised w.floor (place_at w.places p).since) w.lost w.places)
 
-abbrev pub may_format_next : Core → Spot → Option Table → Bool
+abbrev pub may_format_next : Core → Spot → Option Version → Bool
 may_format_next w p None = false
 may_format_next w p (Some next) = may_format_place w p next.lists
 

@@ -2,7 +2,7 @@
 use Rattle.std.specs.Prelude.{◌≡◌, ℕ, ◌-◌, ◌<◌, ◌≤◌, ◌⊎◌, Bool, false, List, [], ◌∷◌, ◌++◌, Option, None, Some, length, option_to_list, Contains, IsTrue}
 use Rattle.mdv_base.specs.Mark.{IsBelow}
 use Rattle.mdv_votes.specs.declared.spot.Spot.{Spot}
-use Rattle.mdv_votes.specs.declared.table.Table.{Table}
+use Rattle.mdv_votes.specs.declared.version.Version.{Version}
 use Rattle.mdv_votes.specs.Quorum.{is_written, is_read}
 use Rattle.mdv_votes.specs.Family.{table_at, place_at, boot_of, knows_above}
 use Rattle.mdv_quorum.specs.declared.event.Event.{Event}
@@ -16,7 +16,7 @@ use Rattle.mdv_quorum.specs.May.{is_up, MayAll}
 abbrev pub newest_at : Core → Spot → Option ℕ
 newest_at w p = (place_at w.places p).newest
 
-abbrev pub table_of : Core → ℕ → Table
+abbrev pub table_of : Core → ℕ → Version
 table_of w i = table_at w.family i
 
 -- a table has the plan of the one from which it was made, or that plan after the change that it adds

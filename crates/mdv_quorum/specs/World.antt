@@ -4,10 +4,10 @@ use Rattle.mdv_base.specs.declared.drive.DriveNo.{DriveNo}
 use Rattle.mdv_base.specs.declared.mark.Mark.{Mark}
 use Rattle.mdv_votes.specs.declared.spot.Spot.{Spot}
 use Rattle.mdv_votes.specs.declared.spot.SpotLists.{SpotLists}
-use Rattle.mdv_votes.specs.declared.table.Table.{Table}
-use Rattle.mdv_votes.specs.declared.table.Place.{Place}
-use Rattle.mdv_votes.specs.declared.table.Since.{Since}
-use Rattle.mdv_votes.specs.declared.table.Since.TheVariants.{Never, Listed, Dropped}
+use Rattle.mdv_votes.specs.declared.version.Version.{Version}
+use Rattle.mdv_votes.specs.declared.version.SpotState.{SpotState}
+use Rattle.mdv_votes.specs.declared.version.Since.{Since}
+use Rattle.mdv_votes.specs.declared.version.Since.TheVariants.{Never, Listed, Dropped}
 use Rattle.mdv_votes.specs.Spots.{is_in, is_none, is_named, last_list, same_spots}
 use Rattle.mdv_votes.specs.Quorum.{is_written}
 use Rattle.mdv_votes.specs.Family.{table_at, place_at, change_at, put_at, with_claim, with_newest, with_since, wiped, formatted, newest_of, greatest_of}
@@ -37,7 +37,7 @@ start set = record {
 }
 
 -- the table that was written last
-abbrev pub last_table : Core → Table
+abbrev pub last_table : Core → Version
 last_table w = table_at w.family (length w.family - 1)
 
 -- a boot knows what is at this place
@@ -49,7 +49,7 @@ read w p (Writing boot took) = w
 read w p (Ready next) = w
 
 -- the adopted table once more, under the number that the boot drew
-abbrev pub rewritten_of : Bool → List Table → List Place → List Spot → ℕ → Table
+abbrev pub rewritten_of : Bool → List Version → List SpotState → List Spot → ℕ → Version
 rewritten_of set family places read i =
     let t = table_at family i in
     record {
@@ -61,7 +61,7 @@ rewritten_of set family places read i =
       plan = t.plan;
     }
 
-abbrev pub rewritten : Core → List Spot → ℕ → Table
+abbrev pub rewritten : Core → List Spot → ℕ → Version
 rewritten w read i = rewritten_of w.set w.family w.places read i
 
 -- the first claim: the boot has chosen a table, and drawn its number
@@ -80,7 +80,7 @@ claimed w p (Writing boot took) = record w { places = put_at w.places p (with_cl
 claimed w p (Ready next) = w
 
 -- a table that reached a write quorum is firm
-abbrev pub settled : Core → Table → Bool → Core
+abbrev pub settled : Core → Version → Bool → Core
 settled w t false = w
 settled w t true =
     let i = length w.family - 1 in
@@ -91,7 +91,7 @@ abbrev pub taken_after : List Spot → Spot → SlotEnd → List Spot
 taken_after took p Closed = took
 taken_after took p Holds = took ++ p ∷ []
 
-abbrev pub places_after : List Place → ℕ → Spot → SlotEnd → List Place
+abbrev pub places_after : List SpotState → ℕ → Spot → SlotEnd → List SpotState
 places_after places i p Closed = places
 places_after places i p Holds = put_at places p (with_newest i)
 
@@ -103,10 +103,10 @@ wrote w p end boot took =
     (last_table w)
     (is_written (last_table w) (is_in (taken_after took p end)))
 
-abbrev pub with_table : Core → Table → Core
+abbrev pub with_table : Core → Version → Core
 with_table w t = record w { family = w.family ++ t ∷ [] }
 
-abbrev pub slotted_next : Core → Spot → SlotEnd → Option Table → Core
+abbrev pub slotted_next : Core → Spot → SlotEnd → Option Version → Core
 slotted_next w p end None = w
 slotted_next w p end (Some next) = wrote (with_table w next) p end None []
 
@@ -125,7 +125,7 @@ raised floor Listed = floor
 raised floor (Dropped i) = max floor i
 
 -- a replica's place is formatted for the table in hand
-abbrev pub formatted_place : Core → Spot → Table → Core
+abbrev pub formatted_place : Core → Spot → Version → Core
 formatted_place w p next =
     record w {
       places = put_at w.places p (formatted next.mark.boot None);
@@ -140,7 +140,7 @@ formatted_seat w p =
       stage = Ready None;
     }
 
-abbrev pub formatted_next : Core → Spot → Option Table → Core
+abbrev pub formatted_next : Core → Spot → Option Version → Core
 formatted_next w p None = w
 formatted_next w p (Some next) = formatted_place w p next
 
@@ -151,7 +151,7 @@ formatted_at w p (Claiming adopted next claimed) = w
 formatted_at w p (Writing boot took) = w
 formatted_at w p (Ready next) = cond p.mediator (formatted_seat w p) (formatted_next w p next)
 
-abbrev pub given_up : Spot → Option Table → Option Table
+abbrev pub given_up : Spot → Option Version → Option Version
 given_up p None = None
 given_up p (Some next) = cond (is_named next.lists p) None (Some next)
 
@@ -172,7 +172,7 @@ wiped_at w p (Ready next) =
 -- the first table of a database
 abbrev pub created : Core → SpotLists → Core
 created w lists =
-    let next : Table = record {
+    let next : Version = record {
       mark = record { boot = 1; count = 0 };
       parent = None;
       change = Some w.changes;
@@ -186,7 +186,7 @@ created w lists =
 abbrev pub changed : Core → SpotLists → Bool → Core
 changed w lists by_majority =
     let t = last_table w in
-    let next : Table = record {
+    let next : Version = record {
       mark = record { boot = t.mark.boot; count = t.mark.count + 1 };
       parent = Some (length w.family - 1);
       change = Some w.changes;
@@ -216,7 +216,7 @@ told_at w (Writing boot took) = told_of w boot
 told_at w (Ready next) = w
 
 -- the mark of the table that the last completed boot adopted
-abbrev pub mark_of : List Table → Option ℕ → Option Mark
+abbrev pub mark_of : List Version → Option ℕ → Option Mark
 mark_of family None = None
 mark_of family (Some i) = Some ((table_at family i).mark)
 

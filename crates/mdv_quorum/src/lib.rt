@@ -11,6 +11,6 @@ mod theorem;
 pub use event::{Event, SlotEnd};
 pub use machine::Core;
 pub use mdv_votes::{
-    Place, Row, Since, Spot, SpotList, SpotLists, Table, at_least_half, more_than_half,
+    Row, Since, Spot, SpotList, SpotLists, SpotState, Version, at_least_half, more_than_half,
 };
 pub use theorem::{numbers_rise, stands_always};

@@ -1,5 +1,5 @@
 use mdv_base::{DriveNo, Mark};
-use mdv_votes::{Place, Row, Spot, Table, mark_at};
+use mdv_votes::{Row, Spot, SpotState, Version, mark_at};
 use std::alloc::Global;
 
 /// How far the boot or the change in work has come.
@@ -11,12 +11,12 @@ pub(crate) enum Stage {
     },
     /// A creation is in hand of which nothing was written.
     Creating {
-        next: Table,
+        next: Version,
     },
     /// A boot has drawn its number.
     Claiming {
         adopted: usize,
-        next: Table,
+        next: Version,
         claimed: Row<Spot>,
     },
     /// The last table of the family is in hand and was written somewhere.
@@ -27,7 +27,7 @@ pub(crate) enum Stage {
     },
     /// The last table of the family is told.
     Ready {
-        next: Option<Table>,
+        next: Option<Version>,
     },
 }
 
@@ -35,9 +35,9 @@ pub(crate) enum Stage {
 #[derive(Drop)]
 pub struct Core {
     pub(crate) set: bool,
-    pub(crate) places: Row<Place>,
+    pub(crate) places: Row<SpotState>,
     pub(crate) lost: Row<DriveNo>,
-    pub(crate) family: Row<Table>,
+    pub(crate) family: Row<Version>,
     pub(crate) firm: Option<usize>,
     pub(crate) floor: usize,
     /// The place whose blanking ended the database.

@@ -14,8 +14,8 @@ use crate::machine::{Core, Stage};
 use crate::step::raised;
 use mdv_base::{DriveNo, NUMBER_LIMIT};
 use mdv_votes::{
-    Place, Spot, SpotLists, Table, greatest_of, is_claimed, is_in, is_named, is_read, is_written,
-    newest_of, no_table, place_at, same_spot, same_spots, table_at,
+    Spot, SpotLists, SpotState, Version, greatest_of, is_claimed, is_in, is_named, is_read,
+    is_written, newest_of, no_table, place_at, same_spot, same_spots, table_at,
 };
 use std::alloc::Global;
 
@@ -48,32 +48,32 @@ fn shows_below(floor: usize, newest: Option<usize>) -> bool
 }
 
 /// Whether this replica isn't readable, or shows no table below the floor.
-fn is_clean_where(floor: usize, up: bool, place: Place) -> bool
+fn is_clean_where(floor: usize, up: bool, place: SpotState) -> bool
     ensures { result ≡ (not (place.holds && up) || (place.spot.mediator || not (spec_shows_below floor place.newest))) }
 {
     !(place.holds && up) || place.spot.mediator || !shows_below(floor, place.newest)
 }
 
-fn is_clean_at(floor: usize, lost: &[DriveNo], place: Place) -> bool
+fn is_clean_at(floor: usize, lost: &[DriveNo], place: SpotState) -> bool
     ensures { result ≡ spec_is_clean_at floor lost.now place }
 {
     is_clean_where(floor, is_up(lost, place.spot), place)
 }
 
 /// The same of a replica once a lost drive is back.
-fn is_clean_back(floor: usize, lost: &[DriveNo], drive: DriveNo, place: Place) -> bool
+fn is_clean_back(floor: usize, lost: &[DriveNo], drive: DriveNo, place: SpotState) -> bool
     ensures { result ≡ spec_is_clean_at floor (without_drive lost.now drive.0) place }
 {
     is_clean_where(floor, is_up_back(lost, drive, place.spot), place)
 }
 
-fn all_clean_back(floor: usize, lost: &[DriveNo], drive: DriveNo, places: &[Place]) -> bool
+fn all_clean_back(floor: usize, lost: &[DriveNo], drive: DriveNo, places: &[SpotState]) -> bool
     ensures { result ≡ spec_is_clean floor (without_drive lost.now drive.0) places.now }
 {
     places.iter().all(|x| is_clean_back(floor, lost, drive, *x))
 }
 
-fn is_clean_but(p: Spot, floor: usize, lost: &[DriveNo], places: &[Place]) -> bool
+fn is_clean_but(p: Spot, floor: usize, lost: &[DriveNo], places: &[SpotState]) -> bool
     ensures { result ≡ spec_is_clean_but p floor lost.now places.now }
 {
     places
@@ -222,7 +222,7 @@ impl Core {
         self.may_adopt(table, read, p)
     }
 
-    fn may_adopt(&self, table: &Table, read: &[Spot], p: Spot) -> bool
+    fn may_adopt(&self, table: &Version, read: &[Spot], p: Spot) -> bool
         ensures { result ≡ (spec_is_read table.now (spec_is_in read.now) (spec_knows_above self.now.family self.now.places table.now) && (spec_is_target self.now table.now.lists p && nat_lt (spec_greatest_of self.now.family self.now.places 0 read.now + 1) (2 ^ 63))) }
     {
         if !is_read(self.family.as_slice(), self.places.as_slice(), table, read) {
@@ -260,7 +260,7 @@ impl Core {
         self.is_target(&table_at(self.family.as_slice(), last, &none).lists, p)
     }
 
-    fn may_begin(&self, next: &Table, claimed: &[Spot], p: Spot) -> bool
+    fn may_begin(&self, next: &Version, claimed: &[Spot], p: Spot) -> bool
         ensures { result ≡ (spec_is_claimed self.now.set next.now (spec_is_in claimed.now) && spec_is_target self.now next.now.lists p) }
     {
         is_claimed(self.set, next, claimed) && self.is_target(&next.lists, p)

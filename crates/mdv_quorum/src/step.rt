@@ -8,9 +8,9 @@ use crate::machine::{Core, Stage};
 use crate::{Event, SlotEnd};
 use mdv_base::{DriveNo, Mark};
 use mdv_votes::{
-    Place, Row, Since, Spot, SpotLists, Table, format, greatest_of, is_named, is_written,
-    last_list, newest_of, no_table, place_at, same_spots, set_claim, set_newest, settle, table_at,
-    wipe,
+    Row, Since, Spot, SpotLists, SpotState, Version, format_spot, greatest_of, is_named,
+    is_written, last_list, newest_of, no_table, note_list, place_at, same_spots, set_claim,
+    set_newest, table_at, wipe_spot,
 };
 use std::alloc::{AllocError, Global};
 
@@ -18,11 +18,11 @@ use std::alloc::{AllocError, Global};
 fn rewritten(
     alloc: Global,
     set: bool,
-    family: &[Table],
-    places: &[Place],
+    family: &[Version],
+    places: &[SpotState],
     read: &[Spot],
     adopted: usize,
-) -> Result<Table, AllocError>
+) -> Result<Version, AllocError>
     requires { (rewritten_of set family.now places.now read.now adopted).mark.boot < 2 ^ 63 }
     ensures { IfOk result (λ table. table ≡ rewritten_of set family.now places.now read.now adopted) }
 {
@@ -32,7 +32,7 @@ fn rewritten(
     let plan = table.plan.copied(alloc)?;
     let boot = greatest_of(family, places, read) + 1;
     let alone = lists.mediators.as_slice().is_empty();
-    Ok(Table {
+    Ok(Version {
         mark: Mark { boot, count: 0 },
         parent: Some(adopted),
         change: None,
@@ -53,7 +53,7 @@ fn taken(alloc: Global, took: &Row<Spot>, p: Spot, end: SlotEnd) -> Result<Row<S
 }
 
 /// What is known of the places after a write of the table of this number.
-fn after_write(places: &mut Row<Place>, number: usize, p: Spot, end: SlotEnd)
+fn after_write(places: &mut Row<SpotState>, number: usize, p: Spot, end: SlotEnd)
     requires { IsTrue (spec_place_at places.old p).holds }
     ensures { places.new ≡ places_after places.old number p end }
 {
@@ -160,7 +160,7 @@ impl Core {
         let last = self.family.as_slice().len().saturating_sub(1);
         let none = no_table(alloc);
         let table = table_at(self.family.as_slice(), last, &none);
-        settle(&mut self.places, last, last_list(&table.lists).as_slice());
+        note_list(&mut self.places, last, last_list(&table.lists).as_slice());
         self.firm = Some(last);
     }
 
@@ -187,7 +187,7 @@ impl Core {
         p: Spot,
         end: SlotEnd,
         boot: Option<usize>,
-        next: Table,
+        next: Version,
     ) -> Result<(), AllocError>
         requires { IsTrue (spec_place_at self.old.places p).holds }
         ensures ok { OnOk result (self.new ≡ spec_wrote (with_table self.old next) p end boot []) }
@@ -263,7 +263,7 @@ impl Core {
     {
         let plan = Row::of_one(alloc, self.changes)?;
         let log = Row::of_one(alloc, self.changes)?;
-        let next = Table {
+        let next = Version {
             mark: Mark { boot: 1, count: 0 },
             parent: None,
             change: Some(self.changes),
@@ -294,7 +294,7 @@ impl Core {
             boot: table.mark.boot,
             count: table.mark.count + 1,
         };
-        let next = Table {
+        let next = Version {
             mark,
             parent: Some(last),
             change: Some(self.changes),
@@ -329,7 +329,7 @@ impl Core {
         ensures err { OnErr result (self.new ≡ self.old) }
     {
         let since = place_at(self.places.as_slice(), p).since;
-        format(&mut self.places, p, boot, None)?;
+        format_spot(&mut self.places, p, boot, None)?;
         self.floor = raised(self.floor, since);
         Ok(())
     }
@@ -342,7 +342,7 @@ impl Core {
         let none = no_table(alloc);
         let last = self.family.as_slice().len().saturating_sub(1);
         let boot = table_at(self.family.as_slice(), last, &none).mark.boot;
-        format(&mut self.places, p, boot, Some(last))?;
+        format_spot(&mut self.places, p, boot, Some(last))?;
         self.stage = Stage::Ready { next: None };
         Ok(())
     }
@@ -379,7 +379,7 @@ impl Core {
         let last = self.family.as_slice().len().saturating_sub(1);
         let table = table_at(self.family.as_slice(), last, &none);
         let named = is_named(&table.lists, p);
-        wipe(&mut self.places, p);
+        wipe_spot(&mut self.places, p);
         if named {
             self.deleted = Some(p);
             self.stage = Stage::Reading {
@@ -400,7 +400,7 @@ impl Core {
     {
         match &self.stage {
             Stage::Ready { .. } => self.wipe_ready(alloc, p),
-            _ => wipe(&mut self.places, p),
+            _ => wipe_spot(&mut self.places, p),
         }
     }
 

@@ -9,12 +9,12 @@ use Rattle.mdv_words.specs.declared.command.Command.TheVariants.{Create, MakeStr
 use Rattle.mdv_words.specs.Line.{IsCommand}
 use Rattle.mdv_words.proofs.Lines.{one_command}
 use Rattle.mdv_history.specs.History.{Deed}
-use Rattle.mdv_command.specs.declared.host.Host.{Host}
-use Rattle.mdv_command.specs.Line.{Memory, IsExecuted}
-use Rattle.mdv_command.specs.Standing.{Knows, IsAwake, Turned}
-use Rattle.mdv_course.specs.Standing.{Asks, RanTo, behind}
-use Rattle.mdv_course.proofs.Coming.{behind_none}
-use Rattle.mdv_course.proofs.Turning.{line_ran}
+use Rattle.mdv_engine_law.specs.declared.host.Host.{Host}
+use Rattle.mdv_engine_law.specs.Line.{Memory, IsExecuted}
+use Rattle.mdv_engine_law.specs.Standing.{Knows, IsAwake, Turned}
+use Rattle.mdv_run_law.specs.Standing.{Asks, RanTo, behind}
+use Rattle.mdv_run_law.proofs.Coming.{behind_none}
+use Rattle.mdv_run_law.proofs.Turning.{line_ran}
 
 -- a command but `boot` is one that an engine executes
 pub executed_line : (text : List ℕ) (command : Command) → IsCommand text command → (command ≡ Boot → ⊥) → IsExecuted command

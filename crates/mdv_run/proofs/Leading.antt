@@ -5,19 +5,19 @@ use Rattle.mdv_port.specs.Reader.{Reader}
 use Rattle.mdv_port.specs.Script.{Script, at_end, spent, too_long, line, script_before, IsTurn}
 use Rattle.mdv_port.specs.declared.reader.LineEnd.TheVariants.{Line, TooLong, End, Spent}
 use Rattle.mdv_shelf.specs.Tale.{Tale, told}
-use Rattle.mdv_command.specs.declared.answer.Answer.{Answer}
-use Rattle.mdv_command.specs.declared.answer.Answer.TheVariants as outcome
-use Rattle.mdv_command.specs.declared.answer.Reply.{Reply}
-use Rattle.mdv_command.specs.declared.answer.Reply.TheVariants as reply
-use Rattle.mdv_command.specs.declared.host.Host.{Host}
-use Rattle.mdv_command.specs.Line.{Memory}
-use Rattle.mdv_command.specs.Replies.{IsTold, IsReplied}
-use Rattle.mdv_command.specs.Line.{Kept, IsTurnedDown, kept_at}
-use Rattle.mdv_command.specs.Standing.{Replied}
-use Rattle.mdv_command.proofs.Executing.{rose_within, carried_more}
-use Rattle.mdv_course.specs.declared.status.RunStatus.{RunStatus}
-use Rattle.mdv_course.specs.declared.status.RunStatus.TheVariants.{Panic, ReadFault, WriteFault, NoMemory, NumbersSpent}
-use Rattle.mdv_course.specs.Run.{Failures, Follows, Runs, IsAnswered, drive_failed, source_failed, replies_failed, status_of}
+use Rattle.mdv_engine_law.specs.declared.answer.Answer.{Answer}
+use Rattle.mdv_engine_law.specs.declared.answer.Answer.TheVariants as outcome
+use Rattle.mdv_engine_law.specs.declared.answer.Reply.{Reply}
+use Rattle.mdv_engine_law.specs.declared.answer.Reply.TheVariants as reply
+use Rattle.mdv_engine_law.specs.declared.host.Host.{Host}
+use Rattle.mdv_engine_law.specs.Line.{Memory}
+use Rattle.mdv_engine_law.specs.Replies.{IsTold, IsReplied}
+use Rattle.mdv_engine_law.specs.Line.{Kept, IsTurnedDown, kept_at}
+use Rattle.mdv_engine_law.specs.Standing.{Replied}
+use Rattle.mdv_engine_law.proofs.Executing.{rose_within, carried_more}
+use Rattle.mdv_run_law.specs.declared.status.RunStatus.{RunStatus}
+use Rattle.mdv_run_law.specs.declared.status.RunStatus.TheVariants.{Panic, ReadFault, WriteFault, NoMemory, NumbersSpent}
+use Rattle.mdv_run_law.specs.Run.{Failures, Follows, Runs, IsAnswered, drive_failed, source_failed, replies_failed, status_of}
 use Rattle.mdv_run.specs.declared.session.Turn.{Turn}
 use Rattle.mdv_run.specs.declared.session.Turn.TheVariants.{Over}
 use Rattle.mdv_run.specs.Turns.{IsWithin, LineAnswered, Leads, Turns, turn_of, IsOn, IsLostStatus}

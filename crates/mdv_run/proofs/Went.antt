@@ -7,18 +7,18 @@ use Rattle.mdv_shelf.specs.Tale.{Tale, told}
 use Rattle.mdv_shelf.specs.Calls.{Part, Keeps}
 use Rattle.mdv_shelf.specs.Moments.{Moments, Ends}
 use Rattle.mdv_shelf.proofs.Moments.{moments_none, moments_after, ends_more, some_is}
-use Rattle.mdv_command.specs.declared.host.Host.{Host}
-use Rattle.mdv_command.specs.Line.{Memory}
-use Rattle.mdv_command.specs.Line.{Kept, kept_at}
-use Rattle.mdv_command.specs.Standing.{Knows}
-use Rattle.mdv_command.proofs.Executing.{rose_within}
+use Rattle.mdv_engine_law.specs.declared.host.Host.{Host}
+use Rattle.mdv_engine_law.specs.Line.{Memory}
+use Rattle.mdv_engine_law.specs.Line.{Kept, kept_at}
+use Rattle.mdv_engine_law.specs.Standing.{Knows}
+use Rattle.mdv_engine_law.proofs.Executing.{rose_within}
 use Rattle.mdv_run.specs.declared.session.Turn.TheVariants.{On, Over}
-use Rattle.mdv_course.specs.declared.status.RunStatus.{RunStatus}
-use Rattle.mdv_course.specs.declared.status.RunStatus.TheVariants.{Done, SomeRefused, Usage, NoQuorum, Panic, ReadFault, WriteFault, NoMemory, TwoDatabases, ScriptTooLong, NumbersSpent}
-use Rattle.mdv_course.specs.Run.{Failures, Runs, IsLeft, HasStatusCause}
+use Rattle.mdv_run_law.specs.declared.status.RunStatus.{RunStatus}
+use Rattle.mdv_run_law.specs.declared.status.RunStatus.TheVariants.{Done, SomeRefused, Usage, NoQuorum, Panic, ReadFault, WriteFault, NoMemory, TwoDatabases, ScriptTooLong, NumbersSpent}
+use Rattle.mdv_run_law.specs.Run.{Failures, Runs, IsLeft, HasStatusCause}
 use Rattle.mdv_run.specs.Turns.{IsWithin, IsLostStatus, Turns, LinesRun}
-use Rattle.mdv_course.specs.Standing.{LinesMoment, RanTo}
-use Rattle.mdv_course.proofs.Lining.{lines_start, ran_start, lines_more_moment, ran_more}
+use Rattle.mdv_run_law.specs.Standing.{LinesMoment, RanTo}
+use Rattle.mdv_run_law.proofs.Lining.{lines_start, ran_start, lines_more_moment, ran_more}
 
 -- the turns so far: what they told, and that what follows now follows there behind it
 pub record Went (host : Host) (first now : Memory) (any : Bool) (script lines : Script) (here : Failures) (t u : Tale) : Type 0 where

@@ -1,7 +1,7 @@
 use crate::run;
 use mdv_base::{Block, DriveNo, ZERO_BLOCK};
-use mdv_course::RunStatus;
 use mdv_port::MemSource;
+use mdv_run_law::RunStatus;
 use mdv_shelf::{MemShelf, Shelf};
 use std::alloc::AllocError;
 use std::process::Abort;

@@ -4,13 +4,13 @@ use Rattle.std.proofs.lemmas.Bool.{and_parts, or_cases, cases_Bool, false≢true
 use Rattle.std.specs.List.{list_any}
 use Rattle.mdv_votes.specs.declared.spot.Spot.{Spot}
 use Rattle.mdv_votes.specs.declared.spot.SpotLists.{SpotLists}
-use Rattle.mdv_votes.specs.declared.table.Table.{Table}
+use Rattle.mdv_votes.specs.declared.version.Version.{Version}
 use Rattle.mdv_votes.specs.Spots.{is_in, is_majority, is_half, is_none, covers, covers_second, last_list, same_spot}
 use Rattle.mdv_votes.specs.Quorum.{is_read, is_written, is_claimed, is_read_list, is_written_list, is_claimed_list}
 use Rattle.mdv_votes.specs.Family.{table_at}
 use Rattle.mdv_votes.proofs.Meeting.{half_of_majority, meet, same_is}
 
-abbrev pub lists_at : List Table → ℕ → SpotLists
+abbrev pub lists_at : List Version → ℕ → SpotLists
 lists_at family i = (table_at family i).lists
 
 abbrev pub HasList : SpotLists → List Spot → Type 0
@@ -22,7 +22,7 @@ SeatsMeet a b =
     (took read : Spot → Bool) → is_majority took b ≡ true → is_majority read a ≡ true → (m : Spot) × (took m ≡ true) × (read m ≡ true) × (is_in a m ≡ true)
 
 -- two tables have a list in common: the second one's last, or the firm one's last; and their mediators meet
-pub record IsCommon (family : List Table) (firm : Option ℕ) (a b : SpotLists) : Type 0 where
+pub record IsCommon (family : List Version) (firm : Option ℕ) (a b : SpotLists) : Type 0 where
   pub list : List Spot
   pub in_a : HasList a list
   pub in_b : HasList b list
@@ -116,7 +116,7 @@ claimed_backed set mediators took list h =
           }
     ]
 
-pub written_meets : (family : List Table) (firm : Option ℕ) (a b : Table) (took read knows : Spot → Bool) (common : IsCommon family firm a.lists b.lists)
+pub written_meets : (family : List Version) (firm : Option ℕ) (a b : Version) (took read knows : Spot → Bool) (common : IsCommon family firm a.lists b.lists)
     → (b.by_majority ≡ false → b.lists.mediators ≡ [] → a.lists.mediators ≡ []) → is_written b took ≡ true → is_read a read knows ≡ true
     → (p : Spot) × (took p ≡ true) × (read p ≡ true) × ((is_in common.list p ≡ true) ⊎ ((is_in a.lists.mediators p ≡ true) × (knows p ≡ false)))
 written_meets family firm a b took read knows common alone written reads =
@@ -126,7 +126,7 @@ written_meets family firm a b took read knows common alone written reads =
     alone common.seats
     (covers_at (is_read_list a.lists.mediators read knows) a.lists common.list reads common.in_a)
 
-pub claimed_meets : (family : List Table) (firm : Option ℕ) (set : Bool) (a b : Table) (claimed read knows : Spot → Bool) (common : IsCommon family firm a.lists b.lists)
+pub claimed_meets : (family : List Version) (firm : Option ℕ) (set : Bool) (a b : Version) (claimed read knows : Spot → Bool) (common : IsCommon family firm a.lists b.lists)
     → (set ≡ false → a.lists.mediators ≡ []) → is_claimed set b claimed ≡ true → is_read a read knows ≡ true
     → (p : Spot) × (claimed p ≡ true) × (read p ≡ true)
 claimed_meets family firm set a b claimed read knows common alone written reads =

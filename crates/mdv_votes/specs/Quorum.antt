@@ -2,7 +2,7 @@
 use Rattle.std.specs.Prelude.{◌&&◌, ◌||◌, not, Bool, List, cond}
 use Rattle.std.specs.List.{list_any}
 use Rattle.mdv_votes.specs.declared.spot.Spot.{Spot}
-use Rattle.mdv_votes.specs.declared.table.Table.{Table}
+use Rattle.mdv_votes.specs.declared.version.Version.{Version}
 use Rattle.mdv_votes.specs.Spots.{is_majority, is_half, is_none, covers}
 
 -- At least half of each list took the table. With mediators exactly half of a list doesn't suffice
@@ -11,7 +11,7 @@ abbrev pub is_written_list : Bool → List Spot → (Spot → Bool) → List Spo
 is_written_list by_majority mediators took list =
     is_majority took list || (not by_majority && (is_half took list && (is_none mediators || is_majority took mediators)))
 
-abbrev pub is_written : Table → (Spot → Bool) → Bool
+abbrev pub is_written : Version → (Spot → Bool) → Bool
 is_written t took = covers (is_written_list t.by_majority t.lists.mediators took) t.lists
 
 -- Claims go the same way, but those for a set's table without mediators need more than half of each
@@ -20,7 +20,7 @@ abbrev pub is_claimed_list : Bool → List Spot → (Spot → Bool) → List Spo
 is_claimed_list set mediators claimed list =
     is_majority claimed list || (is_half claimed list && cond (is_none mediators) (not set) (is_majority claimed mediators))
 
-abbrev pub is_claimed : Bool → Table → (Spot → Bool) → Bool
+abbrev pub is_claimed : Bool → Version → (Spot → Bool) → Bool
 is_claimed set t claimed = covers (is_claimed_list set t.lists.mediators claimed) t.lists
 
 -- More than half of each list was read. With mediators exactly half suffices where more than half of
@@ -31,5 +31,5 @@ is_read_list mediators read knows_greater list =
     || ((not (is_none mediators) && is_half read list)
     && (is_majority read mediators && not (list_any (λ m. read m && knows_greater m) mediators)))
 
-abbrev pub is_read : Table → (Spot → Bool) → (Spot → Bool) → Bool
+abbrev pub is_read : Version → (Spot → Bool) → (Spot → Bool) → Bool
 is_read t read knows_greater = covers (is_read_list t.lists.mediators read knows_greater) t.lists

@@ -5,15 +5,15 @@ ghost use Rattle.mdv_votes.specs.Spots.{last_list as spec_last_list};
 ghost use Rattle.mdv_votes.specs.Family.{mark_below as spec_mark_below, table_at as spec_table_at, no_table as spec_no_table, boot_of as spec_boot_of, newer as spec_newer, newest_of as spec_newest_of, greatest_of as spec_greatest_of, shown as spec_shown};
 
 use crate::places::place_at;
-use crate::{Place, Row, Spot, SpotList, SpotLists, Table};
+use crate::{Row, Spot, SpotList, SpotLists, SpotState, Version};
 use mdv_base::Mark;
 use std::alloc::{AllocError, Global};
 
 /// A table that stands where there is none. It takes no memory.
-pub fn no_table(alloc: Global) -> Table
+pub fn no_table(alloc: Global) -> Version
     ensures { result ≡ spec_no_table }
 {
-    Table {
+    Version {
         mark: Mark { boot: 0, count: 0 },
         parent: None,
         change: None,
@@ -29,7 +29,7 @@ pub fn no_table(alloc: Global) -> Table
 
 /// The table of this number. It is lent and not copied, so the caller keeps one that stands where
 /// there is none.
-pub fn table_at<'a>(family: &'a [Table], number: usize, none: &'a Table) -> &'a Table
+pub fn table_at<'a>(family: &'a [Version], number: usize, none: &'a Version) -> &'a Version
     requires { none.now ≡ spec_no_table }
     ensures { result.now ≡ spec_table_at family.now number }
 {
@@ -40,7 +40,7 @@ pub fn table_at<'a>(family: &'a [Table], number: usize, none: &'a Table) -> &'a 
 }
 
 /// The mark of the table of this number, which needs no table to stand where there is none.
-pub fn mark_at(family: &[Table], number: usize) -> Mark
+pub fn mark_at(family: &[Version], number: usize) -> Mark
     ensures { result ≡ (spec_table_at family.now number).mark }
 {
     match family.get(number) {
@@ -50,7 +50,7 @@ pub fn mark_at(family: &[Table], number: usize) -> Mark
 }
 
 /// The boot number of a table that is shown, 0 of none.
-pub(crate) fn boot_of(family: &[Table], shown: Option<usize>) -> u64
+pub(crate) fn boot_of(family: &[Version], shown: Option<usize>) -> u64
     ensures { result ≡ spec_boot_of family.now shown }
 {
     match shown {
@@ -66,7 +66,7 @@ pub(crate) fn mark_below(a: Mark, b: Mark) -> bool
 }
 
 /// Of two tables the one with the greater mark.
-fn newer(family: &[Table], a: Option<usize>, b: Option<usize>) -> Option<usize>
+fn newer(family: &[Version], a: Option<usize>, b: Option<usize>) -> Option<usize>
     ensures { result ≡ spec_newer family.now a b }
 {
     match (a, b) {
@@ -82,7 +82,7 @@ fn newer(family: &[Table], a: Option<usize>, b: Option<usize>) -> Option<usize>
     }
 }
 
-fn shown(place: Place) -> Option<usize>
+fn shown(place: SpotState) -> Option<usize>
     ensures { result ≡ spec_shown place }
 {
     if place.spot.mediator {
@@ -94,7 +94,7 @@ fn shown(place: Place) -> Option<usize>
 
 /// Of the tables that these places show the one with the greatest mark. A boot that read them adopts
 /// it.
-pub fn newest_of(family: &[Table], places: &[Place], read: &[Spot]) -> Option<usize>
+pub fn newest_of(family: &[Version], places: &[SpotState], read: &[Spot]) -> Option<usize>
     ensures { result ≡ spec_newest_of family.now places.now None read.now }
 {
     let mut best = None;
@@ -105,7 +105,7 @@ pub fn newest_of(family: &[Table], places: &[Place], read: &[Spot]) -> Option<us
 }
 
 /// The greatest claim or boot number of these places. A boot that read them draws a greater one.
-pub fn greatest_of(family: &[Table], places: &[Place], read: &[Spot]) -> u64
+pub fn greatest_of(family: &[Version], places: &[SpotState], read: &[Spot]) -> u64
     ensures { result ≡ spec_greatest_of family.now places.now 0 read.now }
 {
     let mut best = 0;
@@ -145,14 +145,14 @@ impl SpotLists {
     }
 }
 
-impl Table {
+impl Version {
     /// The same table once more.
-    pub fn copied(&self, alloc: Global) -> Result<Table, AllocError>
+    pub fn copied(&self, alloc: Global) -> Result<Version, AllocError>
         ensures { IfOk result (λ table. table ≡ self.now) }
     {
         let lists = self.lists.copied(alloc)?;
         let plan = self.plan.copied(alloc)?;
-        Ok(Table {
+        Ok(Version {
             mark: self.mark,
             parent: self.parent,
             change: self.change,

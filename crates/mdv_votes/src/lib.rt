@@ -8,12 +8,12 @@ mod quorum;
 mod row;
 mod spot;
 mod spots;
-mod table;
+mod version;
 
 pub use family::{greatest_of, last_list, mark_at, newest_of, no_table, table_at};
-pub use places::{format, place_at, set_claim, set_newest, settle, wipe};
+pub use places::{format_spot, note_list, place_at, set_claim, set_newest, wipe_spot};
 pub use quorum::{is_claimed, is_read, is_written};
 pub use row::Row;
 pub use spot::{Spot, SpotList, SpotLists};
 pub use spots::{at_least_half, is_in, is_named, more_than_half, same_spot, same_spots};
-pub use table::{Place, Since, Table};
+pub use version::{Since, SpotState, Version};

@@ -5,13 +5,13 @@ ghost use Rattle.mdv_votes.specs.Spots.{is_in as spec_is_in};
 ghost use Rattle.mdv_votes.specs.Family.{place_at as spec_place_at, blank_place as spec_blank_place, replaced_at, index_at, changed_at, wiped as spec_wiped, formatted as spec_formatted, put_at, with_claim, with_newest, with_since, since_after as spec_since_after};
 
 use crate::spots::{is_in, same_spot};
-use crate::{Place, Row, Since, Spot};
+use crate::{Row, Since, Spot, SpotState};
 use std::alloc::AllocError;
 
-fn blank_place(spot: Spot) -> Place
+fn blank_place(spot: Spot) -> SpotState
     ensures { result ≡ spec_blank_place spot }
 {
-    Place {
+    SpotState {
         spot,
         holds: false,
         claim: 0,
@@ -21,7 +21,7 @@ fn blank_place(spot: Spot) -> Place
 }
 
 /// What is known of a place; nothing, where it was never told of.
-pub fn place_at(places: &[Place], p: Spot) -> Place
+pub fn place_at(places: &[SpotState], p: Spot) -> SpotState
     ensures { result ≡ spec_place_at places.now p }
 {
     for place in places {
@@ -33,7 +33,7 @@ pub fn place_at(places: &[Place], p: Spot) -> Place
 }
 
 /// Where the place stands in the list, or the list's length.
-fn index_of(places: &[Place], p: Spot) -> usize
+fn index_of(places: &[SpotState], p: Spot) -> usize
     ensures { result ≡ index_at places.now p }
 {
     let mut index = 0;
@@ -47,7 +47,7 @@ fn index_of(places: &[Place], p: Spot) -> usize
 }
 
 /// Puts a place in for the one that is known of this spot, or at the end of the list.
-fn put(places: &mut Row<Place>, p: Spot, place: Place) -> Result<(), AllocError>
+fn put(places: &mut Row<SpotState>, p: Spot, place: SpotState) -> Result<(), AllocError>
     ensures ok { OnOk result (places.new ≡ replaced_at places.old p place) }
     ensures err { OnErr result (places.new ≡ places.old) }
 {
@@ -61,7 +61,7 @@ fn put(places: &mut Row<Place>, p: Spot, place: Place) -> Result<(), AllocError>
 }
 
 /// The same for a place that is known.
-fn change(places: &mut Row<Place>, p: Spot, place: Place)
+fn change(places: &mut Row<SpotState>, p: Spot, place: SpotState)
     requires { IsTrue (spec_place_at places.old p).holds }
     ensures { places.new ≡ replaced_at places.old p place }
 {
@@ -70,28 +70,28 @@ fn change(places: &mut Row<Place>, p: Spot, place: Place)
 }
 
 /// A place is claimed. It is known, so this takes no memory.
-pub fn set_claim(places: &mut Row<Place>, p: Spot, claim: u64)
+pub fn set_claim(places: &mut Row<SpotState>, p: Spot, claim: u64)
     requires { IsTrue (spec_place_at places.old p).holds }
     ensures { places.new ≡ put_at places.old p (with_claim claim) }
 {
     let place = place_at(places.as_slice(), p);
-    change(places, p, Place { claim, ..place });
+    change(places, p, SpotState { claim, ..place });
 }
 
 /// A place took the table of this number. It is known, so this takes no memory.
-pub fn set_newest(places: &mut Row<Place>, p: Spot, number: usize)
+pub fn set_newest(places: &mut Row<SpotState>, p: Spot, number: usize)
     requires { IsTrue (spec_place_at places.old p).holds }
     ensures { places.new ≡ put_at places.old p (with_newest number) }
 {
     let place = place_at(places.as_slice(), p);
     let newest = Some(number);
-    change(places, p, Place { newest, ..place });
+    change(places, p, SpotState { newest, ..place });
 }
 
 /// A place is formatted with this claim, a seat also with the mark of a table. Memory is taken only
 /// for a place that is new to the list.
-pub fn format(
-    places: &mut Row<Place>,
+pub fn format_spot(
+    places: &mut Row<SpotState>,
     p: Spot,
     claim: u64,
     newest: Option<usize>,
@@ -100,7 +100,7 @@ pub fn format(
     ensures err { OnErr result (places.new ≡ places.old) }
 {
     let place = place_at(places.as_slice(), p);
-    let formatted = Place {
+    let formatted = SpotState {
         spot: place.spot,
         holds: true,
         claim,
@@ -110,11 +110,11 @@ pub fn format(
     put(places, p, formatted)
 }
 
-fn wiped(p: Spot, place: Place) -> Place
+fn wiped(p: Spot, place: SpotState) -> SpotState
     ensures { result ≡ changed_at p spec_wiped place }
 {
     if same_spot(place.spot, p) {
-        Place {
+        SpotState {
             holds: false,
             ..place
         }
@@ -124,7 +124,7 @@ fn wiped(p: Spot, place: Place) -> Place
 }
 
 /// A place is blanked. Its claim and its newest table stay known.
-pub fn wipe(places: &mut Row<Place>, p: Spot)
+pub fn wipe_spot(places: &mut Row<SpotState>, p: Spot)
     ensures { places.new ≡ map (changed_at p spec_wiped) places.old }
 {
     for i in 0..places.as_slice().len() {
@@ -146,17 +146,17 @@ fn since_after(table: usize, listed: bool, since: Since) -> Since
     }
 }
 
-fn settled(table: usize, list: &[Spot], place: Place) -> Place
+fn settled(table: usize, list: &[Spot], place: SpotState) -> SpotState
     ensures { result ≡ with_since table list.now place }
 {
-    Place {
+    SpotState {
         since: since_after(table, is_in(list, place.spot), place.since),
         ..place
     }
 }
 
 /// A table is firm whose last list this is.
-pub fn settle(places: &mut Row<Place>, table: usize, list: &[Spot])
+pub fn note_list(places: &mut Row<SpotState>, table: usize, list: &[Spot])
     ensures { places.new ≡ map (with_since table list.now) places.old }
 {
     for i in 0..places.as_slice().len() {

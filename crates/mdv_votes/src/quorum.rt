@@ -9,7 +9,7 @@ ghost use Rattle.mdv_votes.specs.Family.{knows_above as spec_knows_above};
 use crate::family::{mark_at, mark_below};
 use crate::places::place_at;
 use crate::spots::{is_half, is_in, is_majority};
-use crate::{Place, Spot, Table};
+use crate::{Spot, SpotState, Version};
 
 fn is_written_list(by_majority: bool, mediators: &[Spot], took: &[Spot], list: &[Spot]) -> bool
     ensures { result ≡ spec_is_written_list by_majority mediators.now (spec_is_in took.now) list.now }
@@ -21,7 +21,7 @@ fn is_written_list(by_majority: bool, mediators: &[Spot], took: &[Spot], list: &
 }
 
 /// Whether the places and mediators that took a table are a write quorum of it.
-pub fn is_written(table: &Table, took: &[Spot]) -> bool
+pub fn is_written(table: &Version, took: &[Spot]) -> bool
     ensures { result ≡ spec_is_written table.now (spec_is_in took.now) }
 {
     let mediators = table.lists.mediators.as_slice();
@@ -50,7 +50,7 @@ fn is_claimed_list(set: bool, mediators: &[Spot], claimed: &[Spot], list: &[Spot
 }
 
 /// Whether the claims of a boot that adopts this table suffice.
-pub fn is_claimed(set: bool, table: &Table, claimed: &[Spot]) -> bool
+pub fn is_claimed(set: bool, table: &Version, claimed: &[Spot]) -> bool
     ensures { result ≡ spec_is_claimed set table.now (spec_is_in claimed.now) }
 {
     let mediators = table.lists.mediators.as_slice();
@@ -63,7 +63,7 @@ pub fn is_claimed(set: bool, table: &Table, claimed: &[Spot]) -> bool
 }
 
 /// Whether a place or mediator knows a greater mark than that of this table.
-fn knows_above(family: &[Table], places: &[Place], table: &Table, p: Spot) -> bool
+fn knows_above(family: &[Version], places: &[SpotState], table: &Version, p: Spot) -> bool
     ensures { result ≡ spec_knows_above family.now places.now table.now p }
 {
     match place_at(places, p).newest {
@@ -73,7 +73,7 @@ fn knows_above(family: &[Table], places: &[Place], table: &Table, p: Spot) -> bo
 }
 
 /// Whether a mediator that was read knows a greater mark than that of this table.
-fn is_denied(family: &[Table], places: &[Place], table: &Table, read: &[Spot]) -> bool
+fn is_denied(family: &[Version], places: &[SpotState], table: &Version, read: &[Spot]) -> bool
     ensures { result ≡ list_any (λ m. spec_is_in read.now m && spec_knows_above family.now places.now table.now m) table.now.lists.mediators }
 {
     let mediators = table.lists.mediators.as_slice();
@@ -88,9 +88,9 @@ fn is_mediated(denied: bool, mediators: &[Spot], read: &[Spot], list: &[Spot]) -
 }
 
 fn is_read_list(
-    family: &[Table],
-    places: &[Place],
-    table: &Table,
+    family: &[Version],
+    places: &[SpotState],
+    table: &Version,
     read: &[Spot],
     list: &[Spot],
 ) -> bool
@@ -102,7 +102,7 @@ fn is_read_list(
 }
 
 /// Whether what was read suffices to adopt this table.
-pub fn is_read(family: &[Table], places: &[Place], table: &Table, read: &[Spot]) -> bool
+pub fn is_read(family: &[Version], places: &[SpotState], table: &Version, read: &[Spot]) -> bool
     ensures { result ≡ spec_is_read table.now (spec_is_in read.now) (spec_knows_above family.now places.now table.now) }
 {
     let first = is_read_list(family, places, table, read, table.lists.first.as_slice());

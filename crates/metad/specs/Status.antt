@@ -1,7 +1,7 @@
 -- How the program tells the end of a run: by a number, and a failure also by its name and values.
 use Rattle.std.specs.Prelude.{ℕ, List, ◌∷◌, ◌++◌, codes, decimal}
-use Rattle.mdv_course.specs.declared.status.RunStatus.{RunStatus}
-use Rattle.mdv_course.specs.declared.status.RunStatus.TheVariants.{Done, SomeRefused, Usage, NoQuorum, Panic, ReadFault, WriteFault, NoMemory, TwoDatabases, ScriptTooLong, NumbersSpent}
+use Rattle.mdv_run_law.specs.declared.status.RunStatus.{RunStatus}
+use Rattle.mdv_run_law.specs.declared.status.RunStatus.TheVariants.{Done, SomeRefused, Usage, NoQuorum, Panic, ReadFault, WriteFault, NoMemory, TwoDatabases, ScriptTooLong, NumbersSpent}
 
 -- the number that the program ends with
 abbrev pub status_number : RunStatus → ℕ

@@ -17,9 +17,9 @@ mod tests;
 
 use bench::FileBench;
 use image::Image;
-use mdv_course::RunStatus;
 use mdv_name::{Geometry, GeometryFault};
 use mdv_run::run;
+use mdv_run_law::RunStatus;
 use source::FileSource;
 use std::alloc::AllocError;
 use std::fs::File;

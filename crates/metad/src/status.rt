@@ -1,7 +1,7 @@
 ghost use Rattle.std.specs.Prelude.{◌≡◌, ◌≤◌, ◌↔◌, IsTrue, Some};
 ghost use Rattle.metad.specs.Status.{status_number, status_text};
 
-use mdv_course::RunStatus;
+use mdv_run_law::RunStatus;
 use std::fmt;
 
 /// The number of a status, with which the program ends.

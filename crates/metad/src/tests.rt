@@ -1,7 +1,7 @@
 use super::*;
 use mdv_base::{DriveNo, Failed, ZERO_BLOCK};
-use mdv_course::RunStatus;
 use mdv_port::Source;
+use mdv_run_law::RunStatus;
 use mdv_shelf::{Bench, Shelf};
 use std::test::Fail;
 

@@ -7,11 +7,11 @@ use Rattle.mdv_shelf.proofs.Moments.{moments_weaker, moments_end}
 use Rattle.mdv_replica.specs.declared.replica.PlaceAt.{PlaceAt}
 use Rattle.mdv_replica.specs.Form.{greatest}
 use Rattle.mdv_replica.specs.Replica.{with_blocks}
-use Rattle.mdv_log.specs.Going.{drawn}
-use Rattle.mdv_log.specs.Log.{NoCreation}
-use Rattle.mdv_log.specs.Site.{Newest}
-use Rattle.mdv_log.specs.Standing.{GoesOn}
-use Rattle.mdv_log.specs.Steps.{adopted_newest}
+use Rattle.mdv_store_law.specs.Going.{drawn}
+use Rattle.mdv_store_law.specs.Log.{NoCreation}
+use Rattle.mdv_store_law.specs.Site.{Newest}
+use Rattle.mdv_store_law.specs.Standing.{GoesOn}
+use Rattle.mdv_store_law.specs.Steps.{adopted_newest}
 use Rattle.mdv_database.specs.Database.{IsFoundIn, IsQuiet, site_of}
 use Rattle.mdv_database.proofs.Booting.{adopting_goes, adoption_ends, adoption_stands}
 use Rattle.mdv_database.proofs.Quiet.{quiet_sized}

@@ -6,7 +6,7 @@ use Rattle.mdv_shelf.proofs.Counts.{took_more}
 use Rattle.mdv_shelf.proofs.Moments.{moments_end, moments_weaker}
 use Rattle.mdv_table.specs.declared.table.Table.{Table}
 use Rattle.mdv_table.specs.Table.{IsPlaceOf}
-use Rattle.mdv_log.specs.Going.{Creates}
+use Rattle.mdv_store_law.specs.Going.{Creates}
 use Rattle.mdv_database.specs.Database.{IsQuiet, site_of}
 use Rattle.mdv_database.proofs.Making.{creates, format_ends, format_nothing, format_stays, made_ends, made_opens, made_safe, made_stays, quiet_made}
 use Rattle.mdv_database.proofs.Quiet.{quiet_format}

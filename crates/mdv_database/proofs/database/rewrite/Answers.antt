@@ -5,7 +5,7 @@ use Rattle.mdv_replica.specs.Forms.{claim_text, block_of}
 use Rattle.mdv_replica.specs.Replica.{claim_blocks}
 use Rattle.mdv_replica.specs.Images.{Leaves, Claims}
 use Rattle.mdv_replica.proofs.Leaving.{leaves_settling, leaves_settled}
-use Rattle.mdv_log.specs.Steps.{Rewrites}
+use Rattle.mdv_store_law.specs.Steps.{Rewrites}
 use Rattle.mdv_database.specs.Database.{IsQuiet}
 use Rattle.mdv_database.proofs.Quiet.{quiet_settling, quiet_more}
 use Rattle.mdv_database.proofs.Booting.{rewriting, rewritten}

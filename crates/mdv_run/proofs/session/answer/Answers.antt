@@ -6,13 +6,13 @@ use Rattle.mdv_shelf.specs.Moments.{Ends}
 use Rattle.mdv_shelf.proofs.Moments.{moments_weaker, ends_both}
 use Rattle.mdv_words.specs.declared.command.Command.TheVariants.{Boot}
 use Rattle.mdv_words.specs.Line.{IsCommand}
-use Rattle.mdv_command.specs.Line.{asked_by}
-use Rattle.mdv_command.specs.Standing.{Executed, TurnMoment, Turned, Knows}
-use Rattle.mdv_command.proofs.Plain.{bad_line_plain}
+use Rattle.mdv_engine_law.specs.Line.{asked_by}
+use Rattle.mdv_engine_law.specs.Standing.{Executed, TurnMoment, Turned, Knows}
+use Rattle.mdv_engine_law.proofs.Plain.{bad_line_plain}
 use Rattle.mdv_engine.specs.declared.engine.Engine.{Engine}
-use Rattle.mdv_course.specs.Standing.{LinesMoment, RanTo}
-use Rattle.mdv_course.proofs.Turning.{line_moment, line_ran}
-use Rattle.mdv_course.proofs.Waking.{executed_awake}
+use Rattle.mdv_run_law.specs.Standing.{LinesMoment, RanTo}
+use Rattle.mdv_run_law.proofs.Turning.{line_moment, line_ran}
+use Rattle.mdv_run_law.proofs.Waking.{executed_awake}
 use Rattle.mdv_run.proofs.Answering.{executed_line, no_boot, known_ran}
 use Rattle.mdv_run.proofs.session.answer.Goals as goal
 

@@ -7,15 +7,15 @@ use Rattle.mdv_shelf.specs.Moments.{Moments, Ends}
 use Rattle.mdv_shelf.specs.Tale.{told}
 use Rattle.mdv_shelf.proofs.Moments.{moments_after, moments_weaker, moments_end, ends_more, some_is}
 use Rattle.mdv_words.specs.declared.command.Command.TheVariants.{Boot}
-use Rattle.mdv_command.specs.declared.answer.Answer.TheVariants as outcome
-use Rattle.mdv_command.specs.declared.host.Host.{Host}
-use Rattle.mdv_command.specs.Home.{StaysHome}
-use Rattle.mdv_command.specs.Standing.{Executed, BootMoment, BootedTo, TurnMoment, Turned, Knows}
-use Rattle.mdv_command.proofs.Executing.{executed, rose_within}
-use Rattle.mdv_command.proofs.Staying.{both_stay, boot_stays}
+use Rattle.mdv_engine_law.specs.declared.answer.Answer.TheVariants as outcome
+use Rattle.mdv_engine_law.specs.declared.host.Host.{Host}
+use Rattle.mdv_engine_law.specs.Home.{StaysHome}
+use Rattle.mdv_engine_law.specs.Standing.{Executed, BootMoment, BootedTo, TurnMoment, Turned, Knows}
+use Rattle.mdv_engine_law.proofs.Executing.{executed, rose_within}
+use Rattle.mdv_engine_law.proofs.Staying.{both_stay, boot_stays}
 use Rattle.mdv_engine.specs.declared.engine.Engine.{Engine}
-use Rattle.mdv_course.specs.Standing.{RanTo}
-use Rattle.mdv_course.proofs.Booting.{boot_turn, booted_turn, booted_ran}
+use Rattle.mdv_run_law.specs.Standing.{RanTo}
+use Rattle.mdv_run_law.proofs.Booting.{boot_turn, booted_turn, booted_ran}
 use Rattle.mdv_run.proofs.session.boot_anew.Goals as goal
 
 pub returns-in-Ok-clause-answered : goal.returns-in-Ok-clause-answered

@@ -1,5 +1,5 @@
 use Rattle.std.proofs.Common.{refl}
-use Rattle.mdv_command.specs.Line.{unbooted}
+use Rattle.mdv_engine_law.specs.Line.{unbooted}
 use Rattle.mdv_engine.proofs.engine.Engine.boot.Goals as goal
 
 pub returns-in-Ok-clause-rebooted : goal.returns-in-Ok-clause-rebooted

@@ -8,11 +8,11 @@ use Rattle.mdv_replica.specs.Form.{room_of}
 use Rattle.mdv_shelf.specs.Calls.{OnDrive}
 use Rattle.mdv_database.specs.declared.database.CommitFault.{CommitFault}
 use Rattle.mdv_database.specs.Database.{HasCommitCause, IsCommitRefusal}
-use Rattle.mdv_log.specs.Site.{Newest}
-use Rattle.mdv_command.specs.declared.answer.Answer.TheVariants as outcome
-use Rattle.mdv_command.specs.Replies.{IsPlainAnswer}
-use Rattle.mdv_command.proofs.Plain.{no_database_plain, numbers_plain}
-use Rattle.mdv_command.proofs.Refusing.{opened_has}
+use Rattle.mdv_store_law.specs.Site.{Newest}
+use Rattle.mdv_engine_law.specs.declared.answer.Answer.TheVariants as outcome
+use Rattle.mdv_engine_law.specs.Replies.{IsPlainAnswer}
+use Rattle.mdv_engine_law.proofs.Plain.{no_database_plain, numbers_plain}
+use Rattle.mdv_engine_law.proofs.Refusing.{opened_has}
 use Rattle.mdv_engine.specs.Engine.{IsTableOf}
 use Rattle.mdv_engine.specs.declared.engine.Engine.{Engine}
 use Rattle.mdv_engine.proofs.Committing.{changing_moments, committed_answer, committed_carried, lost_answer, lost_carried, long_answer, next_of, spent_answer}

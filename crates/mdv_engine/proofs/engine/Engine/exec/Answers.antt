@@ -2,12 +2,12 @@ use Rattle.std.proofs.Common.{◌∙◌, ap, arith}
 use Rattle.mdv_shelf.specs.Tale.{told}
 use Rattle.mdv_shelf.specs.Calls.{OnDrive, OnReplies}
 use Rattle.mdv_shelf.proofs.Moments.{moments_after, moments_end, ends_more, some_is}
-use Rattle.mdv_command.specs.Line.{asked_by}
-use Rattle.mdv_command.specs.Replies.{text_of}
-use Rattle.mdv_command.specs.Standing.{CarryMoment, OnlyReplied, TellMoment, TurnMoment, Turned, Knows}
-use Rattle.mdv_command.proofs.Executing.{executed, told_cause, rose_within}
-use Rattle.mdv_command.proofs.Turning.{Carried, carried_ends, turn_carry, turn_tell, turned, knows_after}
-use Rattle.mdv_command.proofs.Staying.{both_stay, tell_stays}
+use Rattle.mdv_engine_law.specs.Line.{asked_by}
+use Rattle.mdv_engine_law.specs.Replies.{text_of}
+use Rattle.mdv_engine_law.specs.Standing.{CarryMoment, OnlyReplied, TellMoment, TurnMoment, Turned, Knows}
+use Rattle.mdv_engine_law.proofs.Executing.{executed, told_cause, rose_within}
+use Rattle.mdv_engine_law.proofs.Turning.{Carried, carried_ends, turn_carry, turn_tell, turned, knows_after}
+use Rattle.mdv_engine_law.proofs.Staying.{both_stay, tell_stays}
 use Rattle.mdv_engine.proofs.engine.Engine.exec.Goals as goal
 
 pub returns-clause-answered : goal.returns-clause-answered

@@ -1,5 +1,5 @@
 use Rattle.std.proofs.Common.{inr}
-use Rattle.mdv_command.proofs.Plain.{create_plain}
+use Rattle.mdv_engine_law.proofs.Plain.{create_plain}
 use Rattle.mdv_engine.proofs.engine.Engine.make.Goals as goal
 
 pub returns-in-Some-clause-plain : goal.returns-in-Some-clause-plain

@@ -9,19 +9,19 @@ use Rattle.mdv_home.specs.Home.{place_of}
 use Rattle.mdv_replica.specs.declared.replica.PlaceAt.{PlaceAt}
 use Rattle.mdv_table.specs.Table.{IsPlaceOf}
 use Rattle.mdv_name.specs.declared.geometry.Geometry.{Geometry}
-use Rattle.mdv_log.specs.Going.{IsCreated}
-use Rattle.mdv_log.specs.Log.{Log, IsThis, is_firm}
-use Rattle.mdv_log.specs.Site.{Site, Newest}
-use Rattle.mdv_log.specs.Standing.{Anything, GoesOnTo, IsOpened, ShowsNothing}
+use Rattle.mdv_store_law.specs.Going.{IsCreated}
+use Rattle.mdv_store_law.specs.Log.{Log, IsThis, is_firm}
+use Rattle.mdv_store_law.specs.Site.{Site, Newest}
+use Rattle.mdv_store_law.specs.Standing.{Anything, GoesOnTo, IsOpened, ShowsNothing}
 use Rattle.mdv_history.specs.History.{Created}
 use Rattle.mdv_database.specs.Database as database
 use Rattle.mdv_database.specs.Database.{IsQuiet, IsSafe, first_newest}
-use Rattle.mdv_command.specs.declared.answer.Answer.{Answer}
-use Rattle.mdv_command.specs.declared.answer.Answer.TheVariants as outcome
-use Rattle.mdv_command.specs.Home.{IsReady, StaysHome, identity_of}
-use Rattle.mdv_command.specs.Line.{Memory, IsCreation, kept_at}
-use Rattle.mdv_command.specs.Standing.{CarriedTo, CarryMoment, Knows}
-use Rattle.mdv_command.proofs.Plain.{fault_plain, memory_plain}
+use Rattle.mdv_engine_law.specs.declared.answer.Answer.{Answer}
+use Rattle.mdv_engine_law.specs.declared.answer.Answer.TheVariants as outcome
+use Rattle.mdv_engine_law.specs.Home.{IsReady, StaysHome, identity_of}
+use Rattle.mdv_engine_law.specs.Line.{Memory, IsCreation, kept_at}
+use Rattle.mdv_engine_law.specs.Standing.{CarriedTo, CarryMoment, Knows}
+use Rattle.mdv_engine_law.proofs.Plain.{fault_plain, memory_plain}
 use Rattle.mdv_engine.specs.declared.engine.Engine.{Engine}
 use Rattle.mdv_engine.proofs.Creating.{begun, lost_carried, made_carried, made_creation, making_moments, new_memory, unbegun_carried, unmade_carried, unmade_creation, with_new}
 use Rattle.mdv_engine.proofs.Sites.{place_is, quiet_stays}

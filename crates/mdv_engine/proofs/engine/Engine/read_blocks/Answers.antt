@@ -1,7 +1,7 @@
 use Rattle.std.proofs.Common.{sym, subst, ℕ, arith}
 use Rattle.mdv_shelf.proofs.Counts.{took_at_most, took_one}
-use Rattle.mdv_command.specs.Line.{AreBlocksAt}
-use Rattle.mdv_command.proofs.Keeping.{blocks_shown}
+use Rattle.mdv_engine_law.specs.Line.{AreBlocksAt}
+use Rattle.mdv_engine_law.proofs.Keeping.{blocks_shown}
 use Rattle.mdv_engine.proofs.engine.Engine.read_blocks.Goals as goal
 
 pub returns-in-Ok-clause-ok : goal.returns-in-Ok-clause-ok

@@ -4,7 +4,7 @@ use Rattle.mdv_base.specs.Causes.{Rose}
 use Rattle.mdv_shelf.specs.Calls.{OnDrive}
 use Rattle.mdv_shelf.specs.Tale.{last}
 use Rattle.mdv_status.specs.Values.{values_reply}
-use Rattle.mdv_command.specs.Line.{AreBlocksAt, blocks_of}
+use Rattle.mdv_engine_law.specs.Line.{AreBlocksAt, blocks_of}
 use Rattle.mdv_engine.specs.Engine.{HasBlocksCause}
 use Rattle.mdv_engine.proofs.Blocks.{as_read_cause}
 use Rattle.mdv_engine.proofs.engine.Engine.values.Goals as goal

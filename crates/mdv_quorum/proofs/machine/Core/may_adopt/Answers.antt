@@ -1,7 +1,7 @@
 use Rattle.std.proofs.Common.{sym, ◌∙◌, ap, List, ◌&&◌, ◌≡◌, ◌+◌, ◌^◌, Bool}
 use Rattle.std.specs.Prelude.{nat_lt}
-use Rattle.mdv_votes.specs.declared.table.Table.{Table}
-use Rattle.mdv_votes.specs.declared.table.Place.{Place}
+use Rattle.mdv_votes.specs.declared.version.Version.{Version}
+use Rattle.mdv_votes.specs.declared.version.SpotState.{SpotState}
 use Rattle.mdv_votes.specs.Spots.{is_in}
 use Rattle.mdv_votes.specs.Quorum.{is_read}
 use Rattle.mdv_votes.specs.Family.{knows_above, greatest_of}
@@ -12,8 +12,8 @@ use Rattle.mdv_quorum.proofs.machine.Core.may_adopt.Goals.{After-is_read}
 reads : (c : After-is_read) → c.is_read.result ≡ is_read c.args.table.now (is_in c.args.read.now) (knows_above c.args.self.now.family c.args.self.now.places c.args.table.now)
 reads c =
     c.is_read.ensures
-    ∙ ap (λ (l : List Table). is_read c.args.table.now (is_in c.args.read.now) (knows_above l c.as_slice-2.result.now c.args.table.now)) c.as_slice.ensures
-    ∙ ap (λ (l : List Place). is_read c.args.table.now (is_in c.args.read.now) (knows_above c.args.self.now.family l c.args.table.now)) c.as_slice-2.ensures
+    ∙ ap (λ (l : List Version). is_read c.args.table.now (is_in c.args.read.now) (knows_above l c.as_slice-2.result.now c.args.table.now)) c.as_slice.ensures
+    ∙ ap (λ (l : List SpotState). is_read c.args.table.now (is_in c.args.read.now) (knows_above c.args.self.now.family l c.args.table.now)) c.as_slice-2.ensures
 
 pub returns-then-not-is_read : goal.returns-then-not-is_read
 returns-then-not-is_read c =

@@ -1,7 +1,7 @@
 use Rattle.std.proofs.Common.{◌∙◌, ap, ◌≡◌, ◌-◌, List, ℕ, length}
 use Rattle.mdv_votes.specs.declared.spot.Spot.{Spot}
-use Rattle.mdv_votes.specs.declared.table.Table.{Table}
-use Rattle.mdv_votes.specs.declared.table.Place.{Place}
+use Rattle.mdv_votes.specs.declared.version.Version.{Version}
+use Rattle.mdv_votes.specs.declared.version.SpotState.{SpotState}
 use Rattle.mdv_votes.specs.Spots.{is_in}
 use Rattle.mdv_votes.specs.Quorum.{is_written}
 use Rattle.mdv_votes.specs.Family.{table_at}
@@ -12,14 +12,14 @@ use Rattle.mdv_quorum.proofs.machine.Core.write.Goals as goal
 pub returns : goal.returns
 returns c =
     let w = c.args.self.now in
-    let last : c.saturating_sub-last.result ≡ length w.family - 1 = c.saturating_sub-last.ensures ∙ ap (λ (l : List Table). length l - 1) c.as_slice.ensures in
+    let last : c.saturating_sub-last.result ≡ length w.family - 1 = c.saturating_sub-last.ensures ∙ ap (λ (l : List Version). length l - 1) c.as_slice.ensures in
     let table : c.table_at.result.now ≡ last_table w =
-    c.table_at.ensures ∙ ap (λ (l : List Table). table_at l c.saturating_sub-last.result) c.as_slice-2.ensures ∙ ap (table_at w.family) last in
+    c.table_at.ensures ∙ ap (λ (l : List Version). table_at l c.saturating_sub-last.result) c.as_slice-2.ensures ∙ ap (table_at w.family) last in
     let written : c.is_written-written.result ≡ is_written (last_table w) (is_in c.args.took) =
-    c.is_written-written.ensures ∙ ap (λ (t : Table). is_written t (is_in c.as_slice-3.result.now)) table
+    c.is_written-written.ensures ∙ ap (λ (t : Version). is_written t (is_in c.as_slice-3.result.now)) table
     ∙ ap (λ (l : List Spot). is_written (last_table w) (is_in l)) c.as_slice-3.ensures in
     let places : c.after_write.new.places ≡ places_after w.places (length w.family - 1) c.args.p c.args.end =
     c.after_write.ensures ∙ ap (λ (k : ℕ). places_after w.places k c.args.p c.args.end) last in
     c.settle_last.ensures
-    ∙ ap (λ (l : List Place). settled (record w { places = l; stage = Writing c.args.boot c.args.took }) (last_table w) c.is_written-written.result) places
+    ∙ ap (λ (l : List SpotState). settled (record w { places = l; stage = Writing c.args.boot c.args.took }) (last_table w) c.is_written-written.result) places
     ∙ ap (settled (record w { places = places_after w.places (length w.family - 1) c.args.p c.args.end; stage = Writing c.args.boot c.args.took }) (last_table w)) written

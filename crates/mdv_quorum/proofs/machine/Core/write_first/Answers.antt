@@ -1,6 +1,6 @@
 use Rattle.std.proofs.Common.{◌∙◌, ap, ◌≡◌, ◌-◌, ◌++◌, ◌∷◌, [], List, length}
 use Rattle.mdv_votes.specs.declared.spot.Spot.{Spot}
-use Rattle.mdv_votes.specs.declared.table.Table.{Table}
+use Rattle.mdv_votes.specs.declared.version.Version.{Version}
 use Rattle.mdv_votes.specs.Spots.{is_in}
 use Rattle.mdv_votes.specs.Quorum.{is_written}
 use Rattle.mdv_votes.specs.Family.{table_at}
@@ -12,8 +12,8 @@ use Rattle.mdv_quorum.proofs.machine.Core.write_first.Goals as goal
 pub returns-clause-ok : goal.returns-clause-ok
 returns-clause-ok c =
     let w = c.args.self.now in
-    let after : List Table → List Spot → Core = λ family took.
+    let after : List Version → List Spot → Core = λ family took.
     settled (record w { family = family; places = places_after w.places (length family - 1) c.args.p c.args.end; stage = Writing c.args.boot took })
     (table_at family (length family - 1)) (is_written (table_at family (length family - 1)) (is_in took)) in
     let took : c.in_ok-took.took ≡ taken_after [] c.args.p c.args.end = c.in_ok-took.ensures ∙ ap (λ (l : List Spot). taken_after l c.args.p c.args.end) c.new.ensures in
-    c.write.ensures ∙ ap (λ (l : List Table). after l c.in_ok-took.took) c.in_ok-push.ensures.ok ∙ ap (after (w.family ++ c.args.next ∷ [])) took
+    c.write.ensures ∙ ap (λ (l : List Version). after l c.in_ok-took.took) c.in_ok-push.ensures.ok ∙ ap (after (w.family ++ c.args.next ∷ [])) took

@@ -1,0 +1,100 @@
+-- What a line leaves in memory and on the drive, where it did what was asked.
+use Rattle.std.proofs.Common.{◌≡◌, ⊎_elim, inl, inr, ◌+◌, ◌-◌, ◌<◌, ◌^◌, ℕ, suc, false, List, [], ◌∷◌, length, slice_index_or, Some, refl, sym, ◌∙◌, ap, subst, arith}
+use Rattle.mdv_shelf.specs.Area.{KeptOutside, nowhere}
+use Rattle.mdv_shelf.specs.Calls.{Shows}
+use Rattle.mdv_shelf.specs.Settle.{Settling, IsSettled}
+use Rattle.mdv_shelf.specs.Tale.{Tale, IsImage, last}
+use Rattle.mdv_shelf.proofs.Settled.{covered}
+use Rattle.mdv_store_law.specs.Going.{created_head, created_newest}
+use Rattle.mdv_store_law.specs.Site.{Newest, IsNewestOf, area_of}
+use Rattle.mdv_store_law.specs.Standing.{ShowsNothing, IsOpened}
+use Rattle.mdv_store_law.specs.Steps.{IsTheReplica, IsAdopted, next_newest}
+use Rattle.mdv_store_law.proofs.Covering.{last_image}
+use Rattle.mdv_replica.specs.declared.replica.Head.{Head}
+use Rattle.mdv_replica.specs.declared.replica.Slot.{Slot}
+use Rattle.mdv_replica.specs.declared.replica.Slot.TheVariants.{First, Second}
+use Rattle.mdv_replica.specs.Form.{IsSpareSlot, greatest}
+use Rattle.mdv_replica.specs.Images.{Image}
+use Rattle.mdv_status.specs.Values.{values_reply}
+use Rattle.mdv_table.specs.declared.plan.Lists.TheVariants.{One}
+use Rattle.mdv_table.specs.declared.table.Table.{Table}
+use Rattle.mdv_engine_law.specs.declared.answer.Answer.TheVariants as outcome
+use Rattle.mdv_engine_law.specs.declared.host.Host.{Host}
+use Rattle.mdv_engine_law.specs.Home.{site_of, identity_of}
+use Rattle.mdv_engine_law.specs.Line.{Memory, IsSame, IsSameBeside, Stays, IsCreated, IsUncreated, IsCommitted, IsRewritten, IsRead, ArePut, MayBePut, blocks_of, drive_content, kept_at}
+
+-- these blocks are what a read gives
+pub blocks_shown : (t : Tale) (block : ℕ) (blocks : List (List ℕ)) → Shows t 0 block blocks → blocks_of (drive_content t) block (length blocks) ≡ blocks
+blocks_shown t block [] shows = refl
+blocks_shown t block (x ∷ blocks) shows =
+    let first : last t 0 block ≡ x = ap (λ (b : ℕ). last t 0 b) (omega arith) ∙ sym (shows 0 (omega arith)) in
+    let behind = blocks_shown t (block + 1) blocks (λ k lt. shows (suc k) (omega (arith, lt)) ∙ ap (λ (b : ℕ). last t 0 b) (omega arith)) in
+    cc (first, behind)
+
+module _ (t u : Tale) where
+  -- no block changed
+  pub same_content : KeptOutside nowhere t u → IsSame (drive_content t) (drive_content u)
+  same_content kept block = (kept 0 block refl).last
+
+  -- blocks were written
+  module _ (block : ℕ) (blocks : List (List ℕ)) (settling : Settling 0 block blocks t u) where
+    pub are_put : IsSettled 0 block blocks u → ArePut block blocks (drive_content t) (drive_content u)
+    are_put settled = record { here = λ k lt. sym (settled.shows k lt); elsewhere = λ b out. (settling.outside 0 b out).last }
+
+    pub may_be_put : MayBePut block blocks (drive_content t) (drive_content u)
+    may_be_put = record {
+      here = λ k lt.
+          let same : (block + k) - block ≡ k = omega arith in
+          ⊎_elim (λ old. inl old) (λ new. inr (new ∙ ap (λ (i : ℕ). slice_index_or blocks i []) same)) (settling.inside (block + k) (covered 0 block (length blocks) k lt)).last;
+      elsewhere = λ b out. (settling.outside 0 b out).last;
+    }
+
+module _ (host : Host) (memory next : Memory) (t u : Tale) where
+  pub stays : next ≡ memory → KeptOutside nowhere t u → Stays (kept_at memory t) (kept_at next u)
+  stays same kept = record { memory = same; content = same_content t u kept }
+
+  beside : KeptOutside (area_of (site_of host)) t u → IsSameBeside (site_of host) (drive_content t) (drive_content u)
+  beside kept block out = (kept 0 block out).last
+
+  pub created : (table : Table) → KeptOutside (area_of (site_of host)) t u → next ≡ record { opened = Some (created_newest (site_of host) table); down = false; begun = memory.begun + 1 } → table.plan.lists ≡ One ((site_of host).at.place ∷ []) → table.plan.volumes ≡ []
+      → ((image : Image) → IsImage u image → IsNewestOf (site_of host) (image 0) (created_head (site_of host) (identity_of host memory.begun) table) (created_newest (site_of host) table)) → IsCreated host (kept_at memory t) (kept_at next u)
+  created table kept is lists volumes each = record {
+    newest = created_newest (site_of host) table;
+    new = record { blocks = refl; slot = refl; mark = refl; lists = lists; volumes = volumes };
+    memory = is;
+    head = created_head (site_of host) (identity_of host memory.begun) table;
+    identity = refl;
+    content = each (last u) (last_image u);
+    beside = beside kept;
+  }
+
+  pub uncreated : KeptOutside (area_of (site_of host)) t u → next ≡ record memory { begun = memory.begun + 1 } → ShowsNothing (site_of host) u → IsUncreated host (kept_at memory t) (kept_at next u)
+  uncreated kept is nothing = record { memory = is; content = nothing (last u) (last_image u); beside = beside kept }
+
+  pub committed : (newest : Newest) (table : Table) → KeptOutside (area_of (site_of host)) t u → next ≡ record memory { opened = Some (next_newest newest table) } → IsOpened (site_of host) (next_newest newest table) u → IsCommitted host newest table (kept_at memory t) (kept_at next u)
+  committed newest table kept is opened = record { memory = is; head = opened.head; content = opened.each (last u) (last_image u); beside = beside kept }
+
+  -- a boot adopted the one replica that was there, and its next number is one
+  pub rewritten_newest : (newest : Newest) (head : Head) (slot : Slot) (table : Table) → KeptOutside (area_of (site_of host)) t u → (newest.slot ≡ Second → IsSpareSlot head First → ⊥) → IsTheReplica (site_of host) (drive_content t) head slot table → greatest head + 1 < 2 ^ 63 → IsAdopted (site_of host) (drive_content t) newest u
+      → IsRewritten (site_of host) (drive_content t) (drive_content u) newest
+  rewritten_newest newest head slot table kept tie the fits is = record {
+    head = is.head;
+    replica = is.replica;
+    shown = is.shown;
+    spare = is.spare;
+    tie = subst (λ (h : Head). newest.slot ≡ Second → IsSpareSlot h First → ⊥) (sym (the.only is.head is.replica)) tie;
+    mark = is.mark;
+    has = is.has;
+    is = is.is;
+    fits = subst (λ (h : Head). greatest h + 1 < 2 ^ 63) (sym (the.only is.head is.replica)) fits;
+    written = is.each (last u) (last_image u);
+    beside = beside kept;
+  }
+
+-- a read told what is there
+pub read_blocks : (failed : Type 0) (memory : Memory) (t : Tale) (at block : ℕ) (blocks : List (List ℕ)) (text : List ℕ) → Shows t 0 block blocks → text ≡ values_reply at blocks
+    → IsRead failed at (length blocks) block (kept_at memory t) (outcome.Values text) (kept_at memory t)
+read_blocks failed memory t at block blocks text shows is = (
+  record { memory = refl; content = λ b. refl },
+  inl (text, refl, is ∙ ap (λ (bs : List (List ℕ)). values_reply at bs) (sym (blocks_shown t block blocks shows))),
+)

@@ -1,0 +1,55 @@
+-- What is known between lines stays where no block changes.
+use Rattle.std.proofs.Common.{◌≡◌, Option, Some, None, IfSome, ◌∙◌}
+use Rattle.mdv_shelf.specs.Area.{AreApart, KeptOutside, nowhere}
+use Rattle.mdv_shelf.specs.Tale.{Tale}
+use Rattle.mdv_store_law.specs.Log.{Log}
+use Rattle.mdv_store_law.specs.Site.{Site, Newest, area_of}
+use Rattle.mdv_store_law.specs.Standing.{IsOpened, IsNewestIn}
+use Rattle.mdv_store_law.proofs.Frame.{frames}
+use Rattle.mdv_history.specs.History.{History}
+use Rattle.mdv_history.proofs.Going.{stays_standing}
+use Rattle.mdv_engine_law.specs.declared.host.Host.{Host}
+use Rattle.mdv_engine_law.specs.Home.{site_of}
+use Rattle.mdv_engine_law.specs.Line.{Memory}
+use Rattle.mdv_engine_law.specs.Standing.{StandsAt, Knows, IsKnown}
+
+apart_from_nowhere : (site : Site) → AreApart nowhere (area_of site)
+apart_from_nowhere site drive block none there = absurd (cc (none))
+
+-- of the value in an option, where it is of the value in any
+some_more : {A : Type 0} (o : Option A) (P Q : A → Type 0) → ((x : A) → P x → Q x) → IfSome o P → IfSome o Q
+some_more None P Q more is = is
+some_more (Some x) P Q more is = more x is
+
+-- the newest table is that of the family
+pub newest_same : (newest : Newest) (old new : Log) → new.family ≡ old.family → IsNewestIn newest old → IsNewestIn newest new
+newest_same newest old new same is = record {
+  version = is.version;
+  older = is.older;
+  family = same ∙ is.family;
+  mark = is.mark;
+  table = is.table;
+  written = is.written;
+}
+
+module _ (host : Host) (u v : Tale) (kept : KeptOutside nowhere u v) where
+  pub stands_kept : (h : History) → StandsAt host h u → StandsAt host h v
+  stands_kept h stands = record { stands = stays_standing (site_of host) h u v kept stands.stands; room = stands.room }
+
+  module _ (memory : Memory) where
+    pub knows_kept : Knows host memory u → Knows host memory v
+    knows_kept knows = record {
+      nothing = λ none up. frames.nothing (site_of host) nowhere u v (apart_from_nowhere (site_of host)) kept (knows.nothing none up);
+      opened = some_more memory.opened (λ newest. IsOpened (site_of host) newest u) (λ newest. IsOpened (site_of host) newest v) (λ newest is. frames.opened (site_of host) nowhere newest u v (apart_from_nowhere (site_of host)) kept is) knows.opened;
+    }
+
+    pub known_kept : (h : History) → IsKnown host memory h u → IsKnown host memory h v
+    known_kept h known = record { stands = stands_kept h known.stands; newest = known.newest; knows = knows_kept known.knows }
+
+-- a history that goes on with the same tables is known as the first was
+pub known_on : (host : Host) (memory : Memory) (h after : History) (t : Tale) → StandsAt host after t → after.database.family ≡ h.database.family → IsKnown host memory h t → IsKnown host memory after t
+known_on host memory h after t stands same known = record {
+  stands = stands;
+  newest = some_more memory.opened (λ newest. IsNewestIn newest h.database) (λ newest. IsNewestIn newest after.database) (λ newest is. newest_same newest h.database after.database same is) known.newest;
+  knows = known.knows;
+}

@@ -1,0 +1,65 @@
+-- What goes on in a host's database, and on its drive, goes on in its history.
+use Rattle.std.proofs.Common.{◌≡◌, inl, ℕ, List, [], ◌∷◌, slice_index_or, refl}
+use Rattle.mdv_base.specs.declared.mark.Identity.{Identity}
+use Rattle.mdv_base.specs.declared.name.Key.TheVariants.{Local}
+use Rattle.mdv_home.specs.Home.{place_of}
+use Rattle.mdv_shelf.specs.Area.{KeptOutside}
+use Rattle.mdv_shelf.specs.Settle.{IsSynced}
+use Rattle.mdv_shelf.specs.Tale.{Tale, last}
+use Rattle.mdv_shelf.proofs.Blocks.{last_may_be_left}
+use Rattle.mdv_table.specs.declared.change.Change.{Change}
+use Rattle.mdv_store_law.specs.Log.{Log}
+use Rattle.mdv_store_law.specs.Site.{Site, area_of}
+use Rattle.mdv_store_law.specs.Standing.{GoesFrom}
+use Rattle.mdv_replica.specs.declared.replica.PlaceAt.{PlaceAt}
+use Rattle.mdv_history.specs.History.{History, Deed, Created, Changed, Wrote, Saw, Event, Woke, history_after, history_after_all, IsChangeOf, HasWoken}
+use Rattle.mdv_history.proofs.Database.{lift_database}
+use Rattle.mdv_engine_law.specs.declared.host.Host.{Host}
+use Rattle.mdv_engine_law.specs.Home.{IsReady, site_of}
+use Rattle.mdv_engine_law.specs.Standing.{StandsAt, IsMadeHere, Goes}
+use Rattle.mdv_engine_law.proofs.Going.{lift}
+
+-- the site that the database is told, where its place is the home's
+pub site_here : (host : Host) (sizes : List ℕ) → IsReady host sizes → (at : PlaceAt) → at ≡ place_of host.home
+    → ◌≡◌ {A = Site} (record { drives = host.drives; key = Local host.home.host; at = at; size = slice_index_or sizes at.drive.0 0 }) (site_of host)
+site_here host sizes ready at is = rw (is, ready.drive)
+
+-- a change that is asked is a deed that is
+deed_of : (Changes : Change → Type 0) (Asks : Deed → Type 0) → ((change : Change) → Changes change → Asks (Changed change)) → (deed : Deed) → IsChangeOf Changes deed → Asks deed
+deed_of Changes Asks each Created none = absurd none
+deed_of Changes Asks each (Changed change) is = each change is
+deed_of Changes Asks each (Wrote volume at blocks) none = absurd none
+deed_of Changes Asks each (Saw volume at count) none = absurd none
+
+module _ (host : Host) (Asks : Deed → Type 0) (Then : List Event → History → Type 0) where
+  -- what goes on in the database, where nothing is done outside the replica's blocks
+  pub lift_log : (Known : Log → Type 0) (Which : Identity → Type 0) (Changes : Change → Type 0) (After : Log → Type 0) (t m : Tale) → KeptOutside (area_of (site_of host)) t m
+      → ((identity : Identity) → Which identity → IsMadeHere host Asks identity) → ((change : Change) → Changes change → Asks (Changed change))
+      → ((es : List Event) (g : History) → StandsAt host g m → After g.database → Then es g)
+      → GoesFrom (site_of host) Known Which Changes After t m → (h : History) → StandsAt host h t → Known h.database → Goes host Asks [] Then m h
+  lift_log Known Which Changes After t m kept mine each then goes h stands known =
+      let went = lift host (λ g. Known g.database) Which (IsChangeOf Changes) Asks [] (λ es g. After g.database) (λ es g. After g.database) t m mine (deed_of Changes Asks each) (λ es g is. is)
+      (lift_database (site_of host) Known Which Changes After t m kept (λ lg stood of. goes lg stood.covers of)) h stands known in
+      record {
+        es = went.es;
+        course = went.course;
+        does = went.does;
+        stands = went.stands;
+        after = then went.es (history_after_all h went.es) went.stands went.after;
+      }
+
+  -- a boot has read the drive, and the database is as it was
+  pub goes_woken : (u : Tale) (h : History) → IsSynced 0 u → StandsAt host h u → ((es : List Event) (g : History) → StandsAt host g u → HasWoken es → g.database ≡ h.database → Then es g) → Goes host Asks [] Then u h
+  goes_woken u h synced stands then =
+      let woke : Event = Woke (λ block. last u 0 block) in
+      let now : StandsAt host (history_after h woke) u = record {
+        stands = record { database = stands.stands.database; values = λ block out x left. inl (synced block x left) };
+        room = stands.room;
+      } in
+      record {
+        es = woke ∷ [];
+        course = ((λ block out. stands.stands.values block out (last u 0 block) (last_may_be_left u 0 block)), tt);
+        does = record { tells = refl; issues = (tt, tt) };
+        stands = now;
+        after = then (woke ∷ []) (history_after h woke) now tt refl;
+      }

@@ -1,0 +1,51 @@
+-- A line that ends before anything is done, and what is known by what is in memory.
+use Rattle.std.proofs.Common.{◌≡◌, List, Option, Some, IfSome, sym, ◌∙◌, subst}
+use Rattle.mdv_base.specs.declared.refusal.Refusal.{Refusal}
+use Rattle.mdv_shelf.specs.Tale.{Tale}
+use Rattle.mdv_store_law.specs.Site.{Newest}
+use Rattle.mdv_store_law.specs.Standing.{IsOpened, IsNewestIn}
+use Rattle.mdv_history.specs.History.{Deed}
+use Rattle.mdv_engine_law.specs.declared.answer.Answer.TheVariants as outcome
+use Rattle.mdv_engine_law.specs.declared.host.Host.{Host}
+use Rattle.mdv_engine_law.specs.Home.{site_of}
+use Rattle.mdv_engine_law.specs.Line.{Memory}
+use Rattle.mdv_engine_law.specs.Standing.{IsAsked, Knows, IsKnownAfter, CarriedTo}
+use Rattle.mdv_engine_law.proofs.Going.{goes_none}
+
+-- what holds of the database that is open
+pub of_opened : (memory : Memory) (newest : Newest) (P : Newest → Type 0) → memory.opened ≡ Some newest → P newest → IfSome memory.opened P
+of_opened memory newest P opened is = subst (λ (o : Option Newest). IfSome o P) (sym opened) is
+
+pub opened_has : (memory : Memory) (newest : Newest) (P : Newest → Type 0) → memory.opened ≡ Some newest → IfSome memory.opened P → P newest
+opened_has memory newest P opened is = subst (λ (o : Option Newest). IfSome o P) opened is
+
+-- a database that is open is known by its newest table
+pub knows_opened : (host : Host) (memory : Memory) (newest : Newest) (u : Tale) → memory.opened ≡ Some newest → IsOpened (site_of host) newest u → Knows host memory u
+knows_opened host memory newest u opened is = record {
+  nothing = λ none up. absurd (cc (opened, none));
+  opened = of_opened memory newest (λ n. IsOpened (site_of host) n u) opened is;
+}
+
+module _ (host : Host) (asked : List Deed) (old next : Memory) (t : Tale) where
+  -- what is in memory is the same but for how many creations were begun
+  module _ (opened : next.opened ≡ old.opened) (down : next.down ≡ old.down) where
+    still_knows : Knows host old t → Knows host next t
+    still_knows knows = record {
+      nothing = λ none up. knows.nothing (sym opened ∙ none) (sym down ∙ up);
+      opened = subst (λ (o : Option Newest). IfSome o (λ n. IsOpened (site_of host) n t)) (sym opened) knows.opened;
+    }
+
+    -- a refusal before anything was done
+    pub refused_still : (refusal : Refusal) → CarriedTo host asked old (outcome.Refused refusal) next t t
+    refused_still refusal = record {
+      goes = λ h known. goes_none host (IsAsked asked) (λ es g. IsKnownAfter host asked (outcome.Refused refusal) next g t) t h known.stands (record {
+        stands = known.stands;
+        newest = subst (λ (o : Option Newest). IfSome o (λ n. IsNewestIn n h.database)) (sym opened) known.newest;
+        knows = still_knows known.knows;
+      });
+      knows = still_knows;
+    }
+
+  -- a number would reach its limit
+  pub spent_still : CarriedTo host asked old outcome.Spent next t t
+  spent_still = record { goes = λ h known. goes_none host (IsAsked asked) (λ es g. IsKnownAfter host asked outcome.Spent next g t) t h known.stands tt; knows = λ knows. tt }

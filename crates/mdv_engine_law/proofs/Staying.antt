@@ -1,0 +1,73 @@
+-- What happens stays within the blocks that a host's run may touch.
+use Rattle.std.proofs.Common.{◌≡◌, inl, inr, ◌+◌, ◌≤◌, ◌<◌, ℕ, not, ◌&&◌, true, List, Option, IfSome, refl, ◌∙◌, ap, arith}
+use Rattle.std.proofs.lemmas.Bool.Decides.{nat_tests}
+use Rattle.std.proofs.lemmas.List.Folds.{list_any_at}
+use Rattle.mdv_base.specs.declared.name.VolId.{VolId}
+use Rattle.mdv_store_law.specs.Site.{area_of, IsTableAt}
+use Rattle.mdv_replica.specs.Replica.{with_blocks}
+use Rattle.mdv_name.specs.declared.slice_lines.SliceLine.{SliceLine}
+use Rattle.mdv_shelf.specs.Area.{KeptOutside, range}
+use Rattle.mdv_shelf.specs.Moments.{Moments}
+use Rattle.mdv_shelf.specs.Tale.{Tale, covers}
+use Rattle.mdv_shelf.proofs.Blocks.{both_ways}
+use Rattle.mdv_shelf.proofs.Frame.{kept_outside_same, kept_outside_more, kept_outside_left, kept_outside_wider, neither}
+use Rattle.mdv_shelf.proofs.Moments.{moments_none, moments_weaker, moments_more}
+use Rattle.mdv_engine_law.specs.declared.host.Host.{Host}
+use Rattle.mdv_engine_law.specs.Home.{IsReady, StaysHome, host_area, plain_area, site_of}
+use Rattle.mdv_engine_law.specs.Line.{Memory, AreBlocksAt}
+use Rattle.mdv_engine_law.specs.Standing.{BootMoment, TellMoment}
+use Rattle.mdv_engine_law.proofs.Beside.{IsPlain}
+use Rattle.mdv_engine_law.proofs.Refusing.{opened_has}
+use Rattle.mdv_engine_law.proofs.Transfer.{plain_listed}
+
+module _ (host : Host) where
+  pub stays_same : (t : Tale) → StaysHome host t t
+  stays_same t = kept_outside_same (host_area host) t
+
+  pub stays_more : (t u m : Tale) → StaysHome host t u → StaysHome host u m → StaysHome host t m
+  stays_more t u m first second = kept_outside_more (host_area host) t u m first second
+
+  -- within the replica's blocks
+  pub stays_in_replica : (t m : Tale) → KeptOutside (area_of (site_of host)) t m → StaysHome host t m
+  stays_in_replica t m kept = kept_outside_left (area_of (site_of host)) (plain_area host.drives.slices) t m kept
+
+  -- blocks of a slice that isn't set aside for replicas are among them
+  plain_has : (start count : ℕ) → IsPlain host start count → (block blocks drive b : ℕ) → start ≤ block → block + blocks ≤ start + count → range 0 block blocks drive b ≡ true → plain_area host.drives.slices drive b ≡ true
+  plain_has start count is block blocks drive b from to here =
+      let line : SliceLine = record { name = is.name; at = is.at } in
+      let p = λ (l : SliceLine). not l.at.db && covers l.at.drive.0 l.at.start l.at.blocks drive b in
+      list_any_at p host.drives.slices is.has.0 line is.has.1 (ap p is.has.2 ∙ in_line)
+    where
+      in_line : not is.at.db && covers is.at.drive.0 is.at.start is.at.blocks drive b ≡ true
+      in_line = rw (is.plain, is.drive, ← is.first_is, ← is.count_is) (within start count block blocks drive b from to here)
+        where
+          within : (start count block blocks drive b : ℕ) → start ≤ block → block + blocks ≤ start + count → range 0 block blocks drive b ≡ true → covers 0 start count drive b ≡ true
+          within start count block blocks drive b from to here = grind (arith, nat_tests)
+
+  -- within a volume of the open database
+  pub stays_in_volume : (sizes : List ℕ) → IsReady host sizes → (memory : Memory) (volume : VolId) (at count block : ℕ) → 0 < count → AreBlocksAt host memory volume at count block
+      → IfSome memory.opened (λ newest. IsTableAt host.drives (with_blocks (site_of host).at newest.blocks).place newest.table) → (t m : Tale) → KeptOutside (range 0 block count) t m → StaysHome host t m
+  stays_in_volume sizes ready memory volume at count block some there listed t m kept =
+      let table = opened_has memory there.lies.0 (λ newest. IsTableAt host.drives (with_blocks (site_of host).at newest.blocks).place newest.table) there.lies.1 listed in
+      let from : there.first ≤ block = (let is = there.block_is in omega arith) in
+      let to : block + count ≤ there.first + there.blocks = (let is = there.block_is in let within = there.within in omega arith) in
+      kept_outside_wider (range 0 block count) (host_area host) t m (λ drive b out. elim (both_ways (range 0 block count drive b)) [
+        | inr away ↦ away
+        | inl here ↦
+            let beside = (neither (area_of (site_of host) drive b) (plain_area host.drives.slices drive b) out).1 in
+            let among = plain_has there.first there.blocks (plain_listed host sizes ready memory volume at count block some there table) block count drive b from to here in
+            absurd (cc (beside, among))
+      ]) kept
+
+  -- the same of all moments
+  pub nothing_stays : (a b : Option Tale) → b ≡ a → Moments (StaysHome host) a b
+  nothing_stays a b same = moments_none (StaysHome host) a b same stays_same
+
+  pub both_stay : (a b c : Option Tale) → Moments (StaysHome host) a b → Moments (StaysHome host) b c → Moments (StaysHome host) a c
+  both_stay a b c = moments_more (StaysHome host) (StaysHome host) (StaysHome host) a b c (λ t m stays. stays) stays_more
+
+  pub boot_stays : (a b : Option Tale) → Moments (BootMoment host) a b → Moments (StaysHome host) a b
+  boot_stays a b = moments_weaker (BootMoment host) (StaysHome host) a b (λ t m moment. stays_in_replica t m moment.kept)
+
+  pub tell_stays : (text : List ℕ) (a b : Option Tale) → Moments (TellMoment text) a b → Moments (StaysHome host) a b
+  tell_stays text a b = moments_weaker (TellMoment text) (StaysHome host) a b (λ t m moment drive block out. moment.kept drive block refl)

@@ -1,0 +1,107 @@
+use Rattle.std.proofs.Common.{◌≡◌, ◌∙◌, sym, subst, refl, take, length, ap, []}
+use Rattle.mdv_base.specs.Causes.{Rose}
+use Rattle.mdv_shelf.specs.Calls.{OnReplies}
+use Rattle.mdv_engine_law.specs.Replies.{IsTold, ok_line, refusal_line, text_of}
+use Rattle.mdv_engine_law.specs.declared.answer.Answer.{Answer}
+use Rattle.mdv_engine_law.specs.declared.answer.Reply.TheVariants as reply
+use Rattle.mdv_engine_law.proofs.Giving.{told_whole, tells_some, telling_grew, telling_some}
+use Rattle.mdv_engine_law.proofs.telling.tell.Goals as goal
+
+-- `ok`
+pub returns-in-Ok-give-clause-told : goal.returns-in-Ok-give-clause-told
+returns-in-Ok-give-clause-told g c = λ t is.
+    let failed = Rose (g.B.Shelf.faults c.args.bench.now OnReplies) (g.B.Shelf.faults c.give.new.self OnReplies) in
+    told_whole failed c.args.answer.now reply.Ok ok_line t _ _ is c.in-Ok-give.ensures.gives (subst (λ (a : Answer). IsTold failed a reply.Ok ok_line) (sym c.in-Ok.is) refl)
+
+pub returns-in-Ok-give-clause-answers : goal.returns-in-Ok-give-clause-answers
+returns-in-Ok-give-clause-answers g c =
+    let failed = Rose (g.B.Shelf.faults c.args.bench.now OnReplies) (g.B.Shelf.faults c.give.new.self OnReplies) in
+    (ok_line, subst (λ (a : Answer). IsTold failed a reply.Ok ok_line) (sym c.in-Ok.is) refl)
+
+pub returns-in-Ok-give-clause-fronts : goal.returns-in-Ok-give-clause-fronts
+returns-in-Ok-give-clause-fronts g c = λ t is.
+    telling_grew (text_of c.args.answer.now) t ok_line (ap text_of (sym c.in-Ok.is)) _ _ (length ok_line) is c.in-Ok-give.ensures.gives
+
+pub returns-in-Err-clause-told : goal.returns-in-Err-clause-told
+returns-in-Err-clause-told g c = λ t is.
+    let failed = Rose (g.B.Shelf.faults c.args.bench.now OnReplies) (g.B.Shelf.faults c.give.new.self OnReplies) in
+    tells_some failed ok_line c.args.answer.now t _ _ is
+    (λ count piece front. subst (λ (a : Answer). IsTold failed a reply.Told piece) (sym c.in-Ok.is) (c.in-Err.ensures.cause.failed, (count, front)))
+    c.in-Err.ensures.gives
+
+pub returns-in-Err-clause-answers : goal.returns-in-Err-clause-answers
+returns-in-Err-clause-answers g c =
+    let failed = Rose (g.B.Shelf.faults c.args.bench.now OnReplies) (g.B.Shelf.faults c.give.new.self OnReplies) in
+    ([], subst (λ (a : Answer). IsTold failed a reply.Told []) (sym c.in-Ok.is) (c.in-Err.ensures.cause.failed, (0, refl)))
+
+pub returns-in-Err-clause-fronts : goal.returns-in-Err-clause-fronts
+returns-in-Err-clause-fronts g c = λ t is. telling_some (text_of c.args.answer.now) t ok_line _ _ (ap text_of (sym c.in-Ok.is)) is c.in-Err.ensures.gives
+
+-- the reply to a read
+pub returns-in-Ok-give-2-clause-told : goal.returns-in-Ok-give-2-clause-told
+returns-in-Ok-give-2-clause-told g c = λ t is.
+    let failed = Rose (g.B.Shelf.faults c.args.bench.now OnReplies) (g.B.Shelf.faults c.give-in-Values.new.self OnReplies) in
+    told_whole failed c.args.answer.now reply.Ok c.as_bytes.result.now t _ _ is c.in-Ok-give-2.ensures.gives (subst (λ (a : Answer). IsTold failed a reply.Ok c.as_bytes.result.now) (sym c.in-Values.is) c.as_bytes.ensures)
+
+pub returns-in-Ok-give-2-clause-answers : goal.returns-in-Ok-give-2-clause-answers
+returns-in-Ok-give-2-clause-answers g c =
+    let failed = Rose (g.B.Shelf.faults c.args.bench.now OnReplies) (g.B.Shelf.faults c.give-in-Values.new.self OnReplies) in
+    (c.in-Values.text, subst (λ (a : Answer). IsTold failed a reply.Ok c.in-Values.text) (sym c.in-Values.is) refl)
+
+pub returns-in-Ok-give-2-clause-fronts : goal.returns-in-Ok-give-2-clause-fronts
+returns-in-Ok-give-2-clause-fronts g c = λ t is.
+    let text : c.as_bytes.result.now ≡ text_of c.args.answer.now = c.as_bytes.ensures ∙ ap text_of (sym c.in-Values.is) in
+    telling_grew (text_of c.args.answer.now) t c.as_bytes.result.now text _ _ (length c.as_bytes.result.now) is c.in-Ok-give-2.ensures.gives
+
+pub returns-in-Err-give-clause-told : goal.returns-in-Err-give-clause-told
+returns-in-Err-give-clause-told g c = λ t is.
+    let failed = Rose (g.B.Shelf.faults c.args.bench.now OnReplies) (g.B.Shelf.faults c.give-in-Values.new.self OnReplies) in
+    tells_some failed c.as_bytes.result.now c.args.answer.now t _ _ is
+    (λ count piece front. subst (λ (a : Answer). IsTold failed a reply.Told piece) (sym c.in-Values.is) (c.in-Err-give.ensures.cause.failed, (count, front ∙ ap (take count) c.as_bytes.ensures)))
+    c.in-Err-give.ensures.gives
+
+pub returns-in-Err-give-clause-answers : goal.returns-in-Err-give-clause-answers
+returns-in-Err-give-clause-answers g c =
+    let failed = Rose (g.B.Shelf.faults c.args.bench.now OnReplies) (g.B.Shelf.faults c.give-in-Values.new.self OnReplies) in
+    ([], subst (λ (a : Answer). IsTold failed a reply.Told []) (sym c.in-Values.is) (c.in-Err-give.ensures.cause.failed, (0, refl)))
+
+pub returns-in-Err-give-clause-fronts : goal.returns-in-Err-give-clause-fronts
+returns-in-Err-give-clause-fronts g c = λ t is.
+    let text : c.as_bytes.result.now ≡ text_of c.args.answer.now = c.as_bytes.ensures ∙ ap text_of (sym c.in-Values.is) in
+    telling_some (text_of c.args.answer.now) t c.as_bytes.result.now _ _ text is c.in-Err-give.ensures.gives
+
+-- a refusal
+pub returns-in-Ok-give-3-clause-told : goal.returns-in-Ok-give-3-clause-told
+returns-in-Ok-give-3-clause-told g c = λ t is.
+    let failed = Rose (g.B.Shelf.faults c.args.bench.now OnReplies) (g.B.Shelf.faults c.give-in-Refused.new.self OnReplies) in
+    let text : c.as_bytes-in-Refused.result.now ≡ refusal_line c.in-Refused.refusal = c.as_bytes-in-Refused.ensures.value ∙ c.deref.ensures.0 ∙ c.line_of.ensures in
+    told_whole failed c.args.answer.now (reply.Refused c.in-Refused.refusal) c.as_bytes-in-Refused.result.now t _ _ is c.in-Ok-give-3.ensures.gives
+    (subst (λ (a : Answer). IsTold failed a (reply.Refused c.in-Refused.refusal) c.as_bytes-in-Refused.result.now) (sym c.in-Refused.is) (refl, text))
+
+pub returns-in-Ok-give-3-clause-answers : goal.returns-in-Ok-give-3-clause-answers
+returns-in-Ok-give-3-clause-answers g c =
+    let failed = Rose (g.B.Shelf.faults c.args.bench.now OnReplies) (g.B.Shelf.faults c.give-in-Refused.new.self OnReplies) in
+    (refusal_line c.in-Refused.refusal, subst (λ (a : Answer). IsTold failed a (reply.Refused c.in-Refused.refusal) (refusal_line c.in-Refused.refusal)) (sym c.in-Refused.is) (refl, refl))
+
+pub returns-in-Ok-give-3-clause-fronts : goal.returns-in-Ok-give-3-clause-fronts
+returns-in-Ok-give-3-clause-fronts g c = λ t is.
+    let text : c.as_bytes-in-Refused.result.now ≡ text_of c.args.answer.now = c.as_bytes-in-Refused.ensures.value ∙ c.deref.ensures.0 ∙ c.line_of.ensures ∙ ap text_of (sym c.in-Refused.is) in
+    telling_grew (text_of c.args.answer.now) t c.as_bytes-in-Refused.result.now text _ _ (length c.as_bytes-in-Refused.result.now) is c.in-Ok-give-3.ensures.gives
+
+pub returns-in-Err-give-2-clause-told : goal.returns-in-Err-give-2-clause-told
+returns-in-Err-give-2-clause-told g c = λ t is.
+    let failed = Rose (g.B.Shelf.faults c.args.bench.now OnReplies) (g.B.Shelf.faults c.give-in-Refused.new.self OnReplies) in
+    let text : c.as_bytes-in-Refused.result.now ≡ refusal_line c.in-Refused.refusal = c.as_bytes-in-Refused.ensures.value ∙ c.deref.ensures.0 ∙ c.line_of.ensures in
+    tells_some failed c.as_bytes-in-Refused.result.now c.args.answer.now t _ _ is
+    (λ count piece front. subst (λ (a : Answer). IsTold failed a reply.Told piece) (sym c.in-Refused.is) (c.in-Err-give-2.ensures.cause.failed, (count, front ∙ ap (take count) text)))
+    c.in-Err-give-2.ensures.gives
+
+pub returns-in-Err-give-2-clause-answers : goal.returns-in-Err-give-2-clause-answers
+returns-in-Err-give-2-clause-answers g c =
+    let failed = Rose (g.B.Shelf.faults c.args.bench.now OnReplies) (g.B.Shelf.faults c.give-in-Refused.new.self OnReplies) in
+    ([], subst (λ (a : Answer). IsTold failed a reply.Told []) (sym c.in-Refused.is) (c.in-Err-give-2.ensures.cause.failed, (0, refl)))
+
+pub returns-in-Err-give-2-clause-fronts : goal.returns-in-Err-give-2-clause-fronts
+returns-in-Err-give-2-clause-fronts g c = λ t is.
+    let text : c.as_bytes-in-Refused.result.now ≡ text_of c.args.answer.now = c.as_bytes-in-Refused.ensures.value ∙ c.deref.ensures.0 ∙ c.line_of.ensures ∙ ap text_of (sym c.in-Refused.is) in
+    telling_some (text_of c.args.answer.now) t c.as_bytes-in-Refused.result.now _ _ text is c.in-Err-give-2.ensures.gives

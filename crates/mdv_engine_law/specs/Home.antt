@@ -1,0 +1,42 @@
+-- A host: its table of drives, where its database lies, and the blocks that its run may touch.
+use Rattle.std.specs.Prelude.{◌≡◌, ◌<◌, ◌^◌, ℕ, not, ◌&&◌, List, [], ◌∷◌}
+use Rattle.std.specs.List.{list_any}
+use Rattle.mdv_base.specs.declared.mark.Identity.{Identity}
+use Rattle.mdv_base.specs.declared.name.Key.TheVariants.{Local}
+use Rattle.mdv_home.specs.Placed.{IsHomeTable}
+use Rattle.mdv_home.specs.Home.{IsHome, IsSmall, place_of}
+use Rattle.mdv_store_law.specs.Site.{Site, area_of}
+use Rattle.mdv_name.specs.declared.slice_lines.SliceLine.{SliceLine}
+use Rattle.mdv_shelf.specs.Area.{Area, joined, KeptOutside}
+use Rattle.mdv_shelf.specs.Tale.{Tale, covers}
+use Rattle.mdv_table.specs.Slices.{IsSound}
+use Rattle.mdv_engine_law.specs.declared.host.Host.{Host}
+
+-- where the host has its database
+abbrev pub site_of : Host → Site
+site_of host = record { drives = host.drives; key = Local host.home.host; at = place_of host.home; size = host.home.drive_blocks }
+
+-- the blocks of the slices that aren't set aside for replicas
+abbrev pub plain_area : List SliceLine → Area
+plain_area slices drive block = list_any (λ line. not line.at.db && covers line.at.drive.0 line.at.start line.at.blocks drive block) slices
+
+-- the blocks that a run of the host may touch: those of its replica, and those of such slices
+abbrev pub host_area : Host → Area
+host_area host = joined (area_of (site_of host)) (plain_area host.drives.slices)
+
+-- nothing happened elsewhere
+abbrev pub StaysHome : Host → Tale → Tale → Type 0
+StaysHome host t m = KeptOutside (host_area host) t m
+
+-- the identity of the database that the run's creation of this number made
+abbrev pub identity_of : Host → ℕ → Identity
+identity_of host number = record { fresh = host.fresh; number = number }
+
+-- the table of drives was read, it and the home are sound, the drives are the table's, and the word of the identities fits its type
+pub record IsReady (host : Host) (sizes : List ℕ) : Type 0 where
+  pub table : IsHomeTable host.drives host.home
+  pub sound : IsSound host.drives
+  pub home : IsHome host.drives host.home
+  pub small : IsSmall host.home
+  pub fresh : host.fresh < 2 ^ 64
+  pub drive : sizes ≡ host.home.drive_blocks ∷ []

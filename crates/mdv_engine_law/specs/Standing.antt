@@ -1,0 +1,157 @@
+-- How the drive stands with its history at each moment of a line.
+use Rattle.std.specs.Prelude.{◌≡◌, ◌≢◌, ℕ, ◌≤◌, false, List, [], ◌∷◌, ◌++◌, take, None, IfSome, Contains}
+use Rattle.mdv_base.specs.declared.mark.Identity.{Identity}
+use Rattle.mdv_shelf.specs.Area.{KeptOutside, nowhere}
+use Rattle.mdv_shelf.specs.Tale.{Tale, told}
+use Rattle.mdv_words.specs.declared.command.Command.{Command}
+use Rattle.mdv_store_law.specs.Site.{area_of}
+use Rattle.mdv_store_law.specs.Standing.{ShowsNothing, IsOpened, IsNewestIn}
+use Rattle.mdv_history.specs.History.{History, Deed, Created, Event, history_after_all, IsCourse, Adds, HasWoken, NoDeed}
+use Rattle.mdv_history.specs.Laws.{CanTell}
+use Rattle.mdv_history.specs.Standing as history
+use Rattle.mdv_engine_law.specs.declared.answer.Answer.{Answer}
+use Rattle.mdv_engine_law.specs.declared.answer.Answer.TheVariants as outcome
+use Rattle.mdv_engine_law.specs.declared.answer.Reply.{Reply}
+use Rattle.mdv_engine_law.specs.declared.host.Host.{Host}
+use Rattle.mdv_engine_law.specs.Home.{site_of}
+use Rattle.mdv_engine_law.specs.Line.{Memory, IsCarriedOut, kept_at}
+use Rattle.mdv_engine_law.specs.Replies.{IsReply, IsFront, IsTold, acked}
+
+-- the drive stands with the history, in which a database was made only where there is room for it
+pub record StandsAt (host : Host) (h : History) (m : Tale) : Type 0 where
+  pub stands : history.Stands (site_of host) h m
+  pub room : IfSome h.database.issued (λ identity. 8208 ≤ host.home.blocks)
+
+-- a creation of this run, on a slice that has room for it
+pub record IsOfRun (host : Host) (identity : Identity) : Type 0 where
+  pub fresh : identity.fresh ≡ host.fresh
+  pub room : 8208 ≤ host.home.blocks
+
+-- such a creation, where one is asked
+abbrev pub IsMadeHere : Host → (Deed → Type 0) → Identity → Type 0
+IsMadeHere host Asks identity = IsOfRun host identity × Asks Created
+
+-- the events tell these deeds, and issue only what is asked
+abbrev pub Does : Host → (Deed → Type 0) → List Deed → List Event → Type 0
+Does host Asks done es = Adds (IsMadeHere host Asks) Asks done es
+
+-- one of these deeds
+abbrev pub IsAsked : List Deed → Deed → Type 0
+IsAsked asked deed = Contains asked deed
+
+-- From a history by some events, which tell these deeds and issue only deeds that are asked, to one that the drive stands with, of
+-- which more is known.
+pub record Goes (host : Host) (Asks : Deed → Type 0) (done : List Deed) (After : List Event → History → Type 0) (m : Tale) (h : History) : Type 0 where
+  pub es : List Event
+  pub course : IsCourse (site_of host) h es
+  pub does : Does host Asks done es
+  pub stands : StandsAt host (history_after_all h es) m
+  pub after : After es (history_after_all h es)
+
+abbrev pub Reached : List Event → History → Type 0
+Reached es h = Unit {0}
+
+-- a reply that was told
+pub record Replied (failed : Type 0) (answer : Answer) (reply : Reply) (t u : Tale) : Type 0 where
+  pub piece : List ℕ
+  pub is_told : told u ≡ told t ++ piece
+  pub as_told : IsTold failed answer reply piece
+
+-- a reply that was told, and nothing else happened
+pub record OnlyReplied (failed : Type 0) (answer : Answer) (reply : Reply) (t u : Tale) : Type 0 where
+  pub replied : Replied failed answer reply t u
+  pub kept : KeptOutside nowhere t u
+
+-- a command that was carried out and replied to, where calls on the drive and the giving of replies may have failed
+pub record Executed (drive replies : Type 0) (host : Host) (command : Command) (old new : Memory) (reply : Reply) (t u : Tale) : Type 0 where
+  pub answer : Answer
+  pub carried : IsCarriedOut drive host (kept_at old t) command answer (kept_at new u)
+  pub replied : Replied replies answer reply t u
+
+-- What is known of the drive between two lines: where no database is open and the last boot read the drive, nothing is
+-- there; where one is open, every crash leaves one and the same replica, with its newest table.
+pub record Knows (host : Host) (memory : Memory) (t : Tale) : Type 0 where
+  pub nothing : memory.opened ≡ None → memory.down ≡ false → ShowsNothing (site_of host) t
+  pub opened : IfSome memory.opened (λ newest. IsOpened (site_of host) newest t)
+
+-- what is known of a history there: the open database is the newest of its log
+pub record IsKnown (host : Host) (memory : Memory) (h : History) (t : Tale) : Type 0 where
+  pub stands : StandsAt host h t
+  pub newest : IfSome memory.opened (λ newest. IsNewestIn newest h.database)
+  pub knows : Knows host memory t
+
+-- a moment of a boot: nothing is told, nothing outside the replica's blocks is touched, and each history goes on with nothing asked
+pub record BootMoment (host : Host) (t m : Tale) : Type 0 where
+  pub kept : KeptOutside (area_of (site_of host)) t m
+  pub quiet : told m ≡ told t
+  pub goes : (h : History) → StandsAt host h t → Goes host NoDeed [] Reached m h
+
+-- a boot that is answered, and leaves this in memory: where it has read the drive, each block has one value since
+pub record BootedTo (host : Host) (memory : Memory) (t u : Tale) : Type 0 where
+  pub quiet : told u ≡ told t
+  pub knows : Knows host memory u
+  pub goes : (h : History) → StandsAt host h t → Goes host NoDeed [] (λ es after. IsKnown host memory after u × (memory.down ≡ false → HasWoken es)) u h
+
+-- a moment while a line is carried out, by which these deeds are asked, with nothing told
+pub record CarryMoment (host : Host) (asked : List Deed) (memory : Memory) (t m : Tale) : Type 0 where
+  pub quiet : told m ≡ told t
+  pub goes : (h : History) → IsKnown host memory h t → Goes host (IsAsked asked) [] Reached m h
+
+-- these deeds can be told
+abbrev pub CanTellAll : Host → List Deed → History → Tale → Type 0
+CanTellAll host [] h u = Unit {0}
+CanTellAll host (deed ∷ []) h u = CanTell (site_of host) deed h u
+CanTellAll host (deed ∷ more) h u = ⊥
+
+-- what is known once a line was carried out: behind an `ok`, that its deeds may be told
+abbrev pub IsKnownAfter : Host → List Deed → Answer → Memory → History → Tale → Type 0
+IsKnownAfter host asked outcome.Ok next h u = IsKnown host next h u × CanTellAll host asked h u
+IsKnownAfter host asked (outcome.Values text) next h u = IsKnown host next h u × CanTellAll host asked h u
+IsKnownAfter host asked (outcome.Refused refusal) next h u = IsKnown host next h u
+IsKnownAfter host asked outcome.Panic next h u = Unit {0}
+IsKnownAfter host asked outcome.Spent next h u = Unit {0}
+IsKnownAfter host asked outcome.NoMemory next h u = Unit {0}
+
+-- what is known of the drive alone, where a reply is to be told
+abbrev pub KnowsAfter : Host → Answer → Memory → Tale → Type 0
+KnowsAfter host outcome.Ok next u = Knows host next u
+KnowsAfter host (outcome.Values text) next u = Knows host next u
+KnowsAfter host (outcome.Refused refusal) next u = Knows host next u
+KnowsAfter host outcome.Panic next u = Unit {0}
+KnowsAfter host outcome.Spent next u = Unit {0}
+KnowsAfter host outcome.NoMemory next u = Unit {0}
+
+-- a line that was carried out, and came to this answer
+pub record CarriedTo (host : Host) (asked : List Deed) (old : Memory) (answer : Answer) (new : Memory) (t u : Tale) : Type 0 where
+  pub goes : (h : History) → IsKnown host old h t → Goes host (IsAsked asked) [] (λ es after. IsKnownAfter host asked answer new after u) u h
+  pub knows : Knows host old t → KnowsAfter host answer new u
+
+-- a deed is told only where the last boot read the drive
+abbrev pub IsAwake : Memory → Type 0
+IsAwake memory = memory.down ≡ false
+
+-- a moment while an answer is told
+pub record TellMoment (text : List ℕ) (t m : Tale) : Type 0 where
+  pub kept : KeptOutside nowhere t m
+  pub count : ℕ
+  pub is_told : told m ≡ told t ++ take count text
+
+-- A moment of a line, by which these deeds are asked, and of its reply: at most a front of one reply is told, and each
+-- history goes on by as many acknowledgements as that front says. A creation is told only where no database was open.
+pub record TurnMoment (host : Host) (asked : List Deed) (old : Memory) (t m : Tale) : Type 0 where
+  pub bytes : List ℕ
+  pub is_told : told m ≡ told t ++ bytes
+  pub front : IsFront bytes
+  pub awake : acked asked bytes ≢ [] → IsAwake old
+  pub free : Contains (acked asked bytes) Created → old.opened ≡ None
+  pub goes : (h : History) → IsKnown host old h t → Goes host (IsAsked asked) (acked asked bytes) Reached m h
+
+-- a line and its reply, told whole, that led from one memory to the other
+pub record Turned (host : Host) (asked : List Deed) (old new : Memory) (t u : Tale) : Type 0 where
+  pub bytes : List ℕ
+  pub is_told : told u ≡ told t ++ bytes
+  pub reply : IsReply bytes
+  pub awake : acked asked bytes ≢ [] → IsAwake old
+  pub free : Contains (acked asked bytes) Created → old.opened ≡ None
+  pub knows : Knows host old t → Knows host new u
+  pub goes : (h : History) → IsKnown host old h t → Goes host (IsAsked asked) (acked asked bytes) (λ es after. IsKnown host new after u) u h

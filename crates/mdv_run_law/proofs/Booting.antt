@@ -1,0 +1,149 @@
+-- A boot, as a line of the script and as the start of a run.
+use Rattle.std.proofs.Common.{◌≡◌, inl, inr, ℕ, true, List, [], ◌++◌, Contains, refl, sym, ◌∙◌, ap, subst, arith}
+use Rattle.std.proofs.lemmas.List.{append-nil}
+use Rattle.mdv_port.specs.Script.{Script, line}
+use Rattle.mdv_shelf.specs.Tale.{Tale, told}
+use Rattle.mdv_status.specs.Telling.{replies_in}
+use Rattle.mdv_words.specs.declared.command.Command.TheVariants.{Boot}
+use Rattle.mdv_words.specs.Line.{IsCommand}
+use Rattle.mdv_history.specs.History.{History, Deed, Created, Event, NoDeed, history_after_all, HasWoken}
+use Rattle.mdv_history.proofs.Histories.{history_after_more, course_more, adds_more, adds_weaker, woken_first}
+use Rattle.mdv_engine_law.proofs.Plain.{nothing_answers}
+use Rattle.mdv_engine_law.specs.declared.host.Host.{Host}
+use Rattle.mdv_engine_law.specs.Home.{site_of}
+use Rattle.mdv_engine_law.specs.Line.{Memory}
+use Rattle.mdv_engine_law.specs.Replies.{IsFront, acked}
+use Rattle.mdv_engine_law.specs.Standing as turn
+use Rattle.mdv_engine_law.specs.Standing.{StandsAt, IsMadeHere, Does, IsAsked, IsKnown, IsAwake, BootMoment, BootedTo, TurnMoment, Turned}
+use Rattle.mdv_run_law.specs.Standing.{Asks, AreIdle, AreOfRun, ComeOf, InWork, IsTold, behind, LinesMoment, RanTo, RunMoment}
+use Rattle.mdv_run_law.proofs.Coming.{behind_none, told_none, in_work_none, idle_none}
+use Rattle.mdv_run_law.proofs.Turning.{none_acked, front_told, reply_come}
+
+module _ (host : Host) where
+  -- by which nothing is asked
+  idly : (told other : List Deed) (es : List Event) → told ≡ other → Does host NoDeed told es → Does host (IsAsked []) other es
+  idly told other es same does =
+      adds_weaker (IsMadeHere host NoDeed) (IsMadeHere host (IsAsked [])) NoDeed (IsAsked []) (λ identity is. absurd is.1) (λ deed none. absurd none) other es (subst (λ (l : List Deed). Does host NoDeed l es) same does)
+
+  -- the events of a boot, and those of a turn by which nothing is asked
+  booted_goes : (bytes : List ℕ) (front : IsFront bytes) (Between After : List Event → History → Type 0) (u m : Tale) (h : History) (first : turn.Goes host NoDeed [] Between u h)
+      → (second : turn.Goes host (IsAsked []) (acked [] bytes) After m (history_after_all h first.es)) → turn.Goes host (IsAsked []) (acked [] bytes) (λ es after. (fs : List Event) × (gs : List Event) × (es ≡ fs ++ gs) × Between fs (history_after_all h fs) × After gs after) m h
+  booted_goes bytes front Between After u m h first second =
+      let same : history_after_all (history_after_all h first.es) second.es ≡ history_after_all h (first.es ++ second.es) = sym (history_after_more h first.es second.es) in
+      record {
+        es = first.es ++ second.es;
+        course = course_more (site_of host) h first.es second.es first.course second.course;
+        does = adds_more (IsMadeHere host (IsAsked [])) (IsAsked []) [] (acked [] bytes) first.es second.es (idly [] [] first.es refl first.does) second.does;
+        stands = subst (λ (x : History). StandsAt host x m) same second.stands;
+        after = (first.es, second.es, refl, first.after, subst (λ (x : History). After second.es x) same second.after);
+      }
+
+  never : (bytes : List ℕ) → IsFront bytes → Contains (acked [] bytes) Created → ⊥
+  never bytes front has = absurd (let in_none : Contains [] Created = subst (λ (l : List Deed). Contains l Created) (none_acked bytes front) has in omega (arith, in_none.1))
+
+  -- while the host boots nothing is told
+  pub boot_turn : (old : Memory) (t m : Tale) → BootMoment host t m → TurnMoment host [] old t m
+  boot_turn old t m moment = record {
+    bytes = [];
+    is_told = moment.quiet ∙ sym (append-nil (told t));
+    front = inl nothing_answers;
+    awake = λ some. absurd (some (none_acked [] (inl nothing_answers)));
+    free = λ has. absurd (never [] (inl nothing_answers) has);
+    goes = λ h known.
+        let went = moment.goes h known.stands in
+        record { es = went.es; course = went.course; does = idly [] (acked [] []) went.es (sym (none_acked [] (inl nothing_answers))) went.does; stands = went.stands; after = tt };
+  }
+
+  module _ (old new : Memory) (t u : Tale) (booted : BootedTo host new t u) where
+    told_both : (m : Tale) (bytes : List ℕ) → told m ≡ told u ++ bytes → told m ≡ told t ++ bytes
+    told_both m bytes more = more ∙ ap (λ (l : List ℕ). l ++ bytes) booted.quiet
+
+    -- while the `ok` of a line `boot` is told
+    pub booted_turn : (m : Tale) → TurnMoment host [] new u m → TurnMoment host [] old t m
+    booted_turn m moment = record {
+      bytes = moment.bytes;
+      is_told = told_both m moment.bytes moment.is_told;
+      front = moment.front;
+      awake = λ some. absurd (some (none_acked moment.bytes moment.front));
+      free = λ has. absurd (never moment.bytes moment.front has);
+      goes = λ h known.
+          let before = booted.goes h known.stands in
+          let both = booted_goes moment.bytes moment.front (λ es after. IsKnown host new after u × (IsAwake new → HasWoken es)) turn.Reached u m h before (moment.goes (history_after_all h before.es) before.after.0) in
+          record { es = both.es; course = both.course; does = both.does; stands = both.stands; after = tt };
+    }
+
+    -- and once it is
+    pub booted_ran : (text : List ℕ) (more : Script) → IsCommand text Boot → (v : Tale) → Turned host [] new new u v → RanTo host (line text more) old new more t v
+    booted_ran text more is v turned =
+        let asks : Asks text [] = inr (Boot, is, refl) in
+        let front : IsFront turned.bytes = inr (turned.reply.line, turned.reply.alone) in
+        let none = none_acked turned.bytes front in
+        record {
+          bytes = turned.bytes;
+          is_told = told_both v turned.bytes turned.is_told;
+          replies = λ rest. turned.reply.behind rest ∙ ap (λ (l : List (List ℕ)). l ++ replies_in rest) (sym turned.reply.alone);
+          left_is = ap (behind (line text more)) turned.reply.alone ∙ behind_none more;
+          knows = λ known. turned.knows booted.knows;
+          made = λ known told. absurd (never turned.bytes front (front_told host text [] asks more turned.bytes Created front told));
+          goes = λ h known.
+              let before = booted.goes h known.stands in
+              let both = booted_goes turned.bytes front (λ es after. IsKnown host new after u × (IsAwake new → HasWoken es)) (λ es after. IsKnown host new after v) u v h before (turned.goes (history_after_all h before.es) before.after.0) in
+              let woken : IsAwake new → HasWoken both.es = λ up. subst HasWoken (sym both.after.2) (woken_first both.after.0 both.after.1 (both.after.3.1 up)) in
+              record {
+                es = both.es;
+                course = both.course;
+                come = reply_come host text [] asks more old new turned.bytes turned.reply (λ some. absurd (some none)) both.es both.does (λ up. inl (woken up));
+                stands = both.stands;
+                after = both.after.4;
+              };
+        }
+
+  -- the boot at a run's start
+  module _ (script : Script) where
+    nothing_come : ComeOf host (InWork host) true script (replies_in []) []
+    nothing_come = subst (λ (l : List (List ℕ)). ComeOf host (InWork host) true script l []) (sym nothing_answers) (in_work_none host true script)
+
+    -- events of a boot that didn't read the drive, or not yet
+    only_booted : (es : List Event) → AreIdle host es → AreOfRun host script [] es
+    only_booted es idle = record { boot = es; lines = []; both = sym (append-nil es); idle = idle; down = true; woken = λ up. absurd (cc (up)); come = nothing_come }
+
+    nothing_told : (deed : Deed) → IsTold script (replies_in []) deed → ⊥
+    nothing_told deed is = told_none script deed (subst (λ (l : List (List ℕ)). IsTold script l deed) nothing_answers is)
+
+    pub boot_run : (t m : Tale) → BootMoment host t m → RunMoment host script t m
+    boot_run t m moment = record {
+      bytes = [];
+      is_told = moment.quiet ∙ sym (append-nil (told t));
+      made = λ is. absurd (nothing_told Created is);
+      stands = λ h stands.
+          let went = moment.goes h stands in
+          record { es = went.es; course = went.course; come = only_booted went.es went.does; stands = went.stands; after = tt };
+    }
+
+    -- the lines behind it
+    pub lines_run : (memory : Memory) (t u m : Tale) → BootedTo host memory t u → LinesMoment host script memory u m → RunMoment host script t m
+    lines_run memory t u m booted lines = record {
+      bytes = lines.bytes;
+      is_told = lines.is_told ∙ ap (λ (l : List ℕ). l ++ lines.bytes) booted.quiet;
+      made = lines.made booted.knows;
+      stands = λ h stands.
+          let before = booted.goes h stands in
+          let after = lines.goes (history_after_all h before.es) before.after.0 in
+          let same : history_after_all (history_after_all h before.es) after.es ≡ history_after_all h (before.es ++ after.es) = sym (history_after_more h before.es after.es) in
+          record {
+            es = before.es ++ after.es;
+            course = course_more (site_of host) h before.es after.es before.course after.course;
+            come = record { boot = before.es; lines = after.es; both = refl; idle = before.does; down = memory.down; woken = before.after.1; come = after.come };
+            stands = subst (λ (x : History). StandsAt host x m) same after.stands;
+            after = tt;
+          };
+    }
+
+    -- a moment before anything was done
+    pub nothing_run : (t : Tale) → RunMoment host script t t
+    nothing_run t = record {
+      bytes = [];
+      is_told = sym (append-nil (told t));
+      made = λ is. absurd (nothing_told Created is);
+      stands = λ h stands. record { es = []; course = tt; come = only_booted [] (idle_none host); stands = stands; after = tt };
+    }

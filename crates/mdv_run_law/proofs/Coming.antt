@@ -1,0 +1,119 @@
+-- The events that come of a script's lines, and what its replies tell.
+use Rattle.std.proofs.Common.{◌≡◌, ◌⊎◌, inl, inr, ⊎_elim, ℕ, Bool, List, [], ◌∷◌, ◌++◌, refl, sym, ◌∙◌, ap, subst, append_assoc, Contains}
+use Rattle.std.proofs.lemmas.List.{append-nil}
+use Rattle.std.proofs.lemmas.List.Elements.{Contains-append_left, Contains-append_right}
+use Rattle.mdv_port.specs.Script.{Script, at_end, spent, too_long, line}
+use Rattle.mdv_words.proofs.Lines.{one_command}
+use Rattle.mdv_history.specs.History.{Deed, Event, told_by}
+use Rattle.mdv_history.proofs.Histories.{told_more}
+use Rattle.mdv_engine_law.specs.declared.host.Host.{Host}
+use Rattle.mdv_engine_law.specs.Line.{asked_by}
+use Rattle.mdv_engine_law.specs.Replies.{acked_by}
+use Rattle.mdv_run_law.specs.Standing.{Asks, AreIdle, AreOfLine, ComeOf, InWork, NothingLeft, IsTold, behind}
+
+-- a line asks one list of deeds
+pub one_asked : (text : List ℕ) (a b : List Deed) → Asks text a → Asks text b → a ≡ b
+one_asked text a b (inl one) (inl other) = one.1 ∙ sym other.1
+one_asked text a b (inl one) (inr other) = absurd (one.0 other.0 other.1)
+one_asked text a b (inr one) (inl other) = absurd (other.0 one.0 one.1)
+one_asked text a b (inr one) (inr other) = one.2 ∙ ap asked_by (one_command text one.0 other.0 one.1 other.1) ∙ sym other.2
+
+pub behind_none : (script : Script) → behind script [] ≡ script
+behind_none at_end = refl
+behind_none (spent lines bytes) = refl
+behind_none (too_long more) = refl
+behind_none (line text more) = refl
+
+pub behind_more : (script : Script) (a b : List (List ℕ)) → behind script (a ++ b) ≡ behind (behind script a) b
+behind_more at_end a b = refl
+behind_more (spent lines bytes) a b = refl
+behind_more (too_long more) [] b = refl
+behind_more (too_long more) (reply ∷ a) b = behind_more more a b
+behind_more (line text more) [] b = refl
+behind_more (line text more) (reply ∷ a) b = behind_more more a b
+
+pub told_none : (script : Script) (deed : Deed) → IsTold script [] deed → ⊥
+told_none at_end deed is = is
+told_none (spent lines bytes) deed is = is
+told_none (too_long more) deed is = is
+told_none (line text more) deed is = is
+
+-- what some replies told, and what those behind them tell
+pub told_either : (script : Script) (a b : List (List ℕ)) (deed : Deed) → IsTold script (a ++ b) deed → IsTold script a deed ⊎ IsTold (behind script a) b deed
+told_either at_end a b deed is = absurd is
+told_either (spent lines bytes) a b deed is = absurd is
+told_either (too_long more) [] b deed is = inr is
+told_either (too_long more) (reply ∷ a) b deed is = told_either more a b deed is
+told_either (line text more) [] b deed is = inr is
+told_either (line text more) (reply ∷ a) b deed (inl here) = inl (inl here)
+told_either (line text more) (reply ∷ a) b deed (inr is) = ⊎_elim (λ first. inl (inr first)) (λ second. inr second) (told_either more a b deed is)
+
+nothing_front : (es fs : List Event) → es ≡ [] → es ++ fs ≡ fs
+nothing_front es fs none = ap (λ (l : List Event). l ++ fs) none
+
+module _ (host : Host) where
+  -- nothing happened yet
+  pub idle_none : AreIdle host []
+  idle_none = record { tells = refl; issues = tt }
+
+  pub in_work_none : (down : Bool) (script : Script) → InWork host down script []
+  in_work_none down at_end = idle_none
+  in_work_none down (spent lines bytes) = idle_none
+  in_work_none down (too_long more) = idle_none
+  in_work_none down (line text more) = inl refl
+
+  module _ (Left : Bool → Script → List Event → Type 0) where
+    at_end_left : (down : Bool) (replies : List (List ℕ)) (es : List Event) → ComeOf host Left down at_end replies es → Left down at_end es
+    at_end_left down [] es come = come
+    at_end_left down (reply ∷ replies) es come = come
+
+    spent_left : (down : Bool) (lines bytes : ℕ) (replies : List (List ℕ)) (es : List Event) → ComeOf host Left down (spent lines bytes) replies es → Left down (spent lines bytes) es
+    spent_left down lines bytes [] es come = come
+    spent_left down lines bytes (reply ∷ replies) es come = come
+
+    -- what is left where no events came
+    left_behind : (now down : Bool) (script : Script) (es fs : List Event) → NothingLeft now down script es → (P : Bool → List Event → Type 0) → P now fs → P down (es ++ fs)
+    left_behind now down script es fs none P come = subst (λ (d : Bool). P d (es ++ fs)) (sym none.1) (subst (P now) (sym (nothing_front es fs none.0)) come)
+
+    -- those of some replies, and those of the ones behind them
+    pub come_more : (now down : Bool) (script : Script) (a b : List (List ℕ)) (es fs : List Event) → ComeOf host (NothingLeft now) down script a es → ComeOf host Left now (behind script a) b fs → ComeOf host Left down script (a ++ b) (es ++ fs)
+    come_more now down script [] b es fs none come =
+        left_behind now down script es fs none (λ d l. ComeOf host Left d script b l) (subst (λ (s : Script). ComeOf host Left now s b fs) (behind_none script) come)
+    come_more now down at_end (reply ∷ a) b es fs none come = left_behind now down at_end es fs none (λ d l. Left d at_end l) (at_end_left now b fs come)
+    come_more now down (spent lines bytes) (reply ∷ a) b es fs none come = left_behind now down (spent lines bytes) es fs none (λ d l. Left d (spent lines bytes) l) (spent_left now lines bytes b fs come)
+    come_more now down (too_long more) (reply ∷ a) b es fs first come = (
+      first.0,
+      first.1 ++ fs,
+      ap (λ (l : List Event). l ++ fs) first.2 ∙ append_assoc first.0 first.1 fs,
+      first.3,
+      come_more now down more a b first.1 fs first.4 come,
+    )
+    come_more now down (line text more) (reply ∷ a) b es fs first come = (
+      first.0,
+      first.1 ++ fs,
+      ap (λ (l : List Event). l ++ fs) first.2 ∙ append_assoc first.0 first.1 fs,
+      first.3,
+      first.4,
+      come_more now first.3 more a b first.1 fs first.5 come,
+    )
+
+    -- what the replies tell, the events tell
+    pub come_told : (down : Bool) (script : Script) (replies : List (List ℕ)) (es : List Event) (deed : Deed) → ComeOf host Left down script replies es → IsTold script replies deed → Contains (told_by es) deed
+    come_told down script [] es deed come is = absurd (told_none script deed is)
+    come_told down at_end (reply ∷ replies) es deed come is = absurd is
+    come_told down (spent lines bytes) (reply ∷ replies) es deed come is = absurd is
+    come_told down (too_long more) (reply ∷ replies) es deed come is =
+        subst (λ (l : List Deed). Contains l deed) (sym (ap told_by come.2 ∙ told_more come.0 come.1)) (Contains-append_right (told_by come.0) (told_by come.1) deed (come_told down more replies come.1 deed come.4 is))
+    come_told down (line text more) (reply ∷ replies) es deed come (inl here) =
+        let same = one_asked text here.0 come.4.asked here.1 come.4.asks in
+        let told : Contains (told_by come.0) deed = subst (λ (l : List Deed). Contains l deed) (sym come.4.does.tells) (subst (λ (asked : List Deed). Contains (acked_by asked reply) deed) same here.2) in
+        subst (λ (l : List Deed). Contains l deed) (sym (ap told_by come.2 ∙ told_more come.0 come.1)) (Contains-append_left (told_by come.0) (told_by come.1) deed told)
+    come_told down (line text more) (reply ∷ replies) es deed come (inr is) =
+        subst (λ (l : List Deed). Contains l deed) (sym (ap told_by come.2 ∙ told_more come.0 come.1)) (Contains-append_right (told_by come.0) (told_by come.1) deed (come_told come.3 more replies come.1 deed come.5 is))
+
+  -- those of one line, told by its one reply
+  pub come_line : (Left : Bool → Script → List Event → Type 0) (down then : Bool) (text : List ℕ) (more : Script) (reply : List ℕ) (es : List Event) → AreOfLine host text down reply es then → Left then more [] → ComeOf host Left down (line text more) (reply ∷ []) es
+  come_line Left down then text more reply es of_line left = (es, [], sym (append-nil es), then, of_line, left)
+
+  pub come_long : (Left : Bool → Script → List Event → Type 0) (down : Bool) (more : Script) (reply : List ℕ) (es : List Event) → AreIdle host es → Left down more [] → ComeOf host Left down (too_long more) (reply ∷ []) es
+  come_long Left down more reply es idle left = (es, [], sym (append-nil es), idle, left)

@@ -1,0 +1,96 @@
+-- Where a volume lies: at one place, beside the replica.
+use Rattle.std.proofs.Common.{◌≡◌, ◌≢◌, inl, inr, ℕ, ◌+◌, ◌≤◌, ◌<◌, true, false, List, length, slice_index_or, Contains, sym, ◌∙◌, ap, subst, arith}
+use Rattle.std.proofs.lemmas.Bool.{cases_lt}
+use Rattle.std.proofs.lemmas.Bool.Decides.{nat_tests}
+use Rattle.std.proofs.lemmas.List.{get_or_default}
+use Rattle.std.proofs.lemmas.List.Elements.{All-contains}
+use Rattle.mdv_base.specs.declared.drive.SliceName.{SliceName}
+use Rattle.mdv_base.specs.declared.name.VolId.{VolId}
+use Rattle.mdv_home.specs.Home.{IsHome, line_of}
+use Rattle.mdv_name.specs.declared.slice_lines.SliceAt.{SliceAt}
+use Rattle.mdv_name.specs.declared.slice_lines.SliceLine.{SliceLine}
+use Rattle.mdv_shelf.proofs.Blocks.{both_ways}
+use Rattle.mdv_table.specs.declared.plan.Plan.{Plan}
+use Rattle.mdv_table.specs.declared.volume.Base.{Base}
+use Rattle.mdv_table.specs.declared.volume.Base.TheVariants.{Slice}
+use Rattle.mdv_table.specs.declared.volume.Component.{Component}
+use Rattle.mdv_table.specs.declared.volume.Volume.{Volume}
+use Rattle.mdv_table.specs.declared.volume.VolumeKind.{VolumeKind}
+use Rattle.mdv_table.specs.declared.volume.VolumeKind.TheVariants.{Stripe}
+use Rattle.mdv_table.specs.Slices.{IsSound, HasBlock}
+use Rattle.mdv_table.specs.Table.{IsPlanOf, IsKindOf, IsComponentOn, IsWholeSlice}
+use Rattle.mdv_table.specs.Volumes.{HasVolume, IsAscending}
+use Rattle.mdv_store_law.specs.Site.{Site, area_of}
+use Rattle.mdv_history.specs.History.{LiesOn}
+use Rattle.mdv_engine_law.specs.declared.host.Host.{Host}
+use Rattle.mdv_engine_law.specs.Home.{site_of}
+
+never_below : (vs : List Volume) (number : VolId) (v w : Volume) (k l : ℕ) → IsAscending vs → k < l → l < length vs → slice_index_or vs k v ≡ v → slice_index_or vs l w ≡ w → v.number ≡ number → w.number ≡ number → ⊥
+never_below vs number v w k l ascending below within first second one other =
+    let behind : slice_index_or vs l v ≡ w = get_or_default vs l v w within ∙ second in
+    let pair : v.number.0 < w.number.0 = subst (λ (x : Volume). v.number.0 < x.number.0) behind (subst (λ (x : Volume). x.number.0 < (slice_index_or vs l v).number.0) first (ascending k l v below within)) in
+    let same : v.number.0 ≡ w.number.0 = ap (λ (n : VolId). n.0) (one ∙ sym other) in
+    absurd (omega (arith, pair, same))
+
+-- volumes have numbers of their own
+pub one_volume : (vs : List Volume) (number : VolId) (v w : Volume) → IsAscending vs → HasVolume vs number v → HasVolume vs number w → v ≡ w
+one_volume vs number v w ascending (one, first) (other, second) = elim (cases_lt one.0 other.0) [
+  | inl less ↦ absurd (never_below vs number v w one.0 other.0 ascending less other.1 one.2 other.2 first second)
+  | inr not ↦ elim (cases_lt other.0 one.0) [
+    | inl less ↦ absurd (never_below vs number w v other.0 one.0 ascending less one.1 other.2 one.2 second first)
+    | inr also ↦
+        let same : one.0 ≡ other.0 = omega arith in
+        sym one.2 ∙ get_or_default vs one.0 v w one.1 ∙ ap (λ (k : ℕ). slice_index_or vs k w) same ∙ other.2
+  ]
+]
+
+component_of : VolumeKind → Component
+component_of (Stripe s) = s.component
+
+slice_of : Base → SliceName
+slice_of (Slice s) = s
+
+-- the same volume on the same slice
+module _ (site : Site) (sound : IsSound site.drives) (plan : Plan) (is_plan : IsPlanOf site.drives plan) (volume : VolId) where
+  pub one_place : (first count other others : ℕ) → LiesOn site plan.volumes volume first count → LiesOn site plan.volumes volume other others → (first ≡ other) × (count ≡ others)
+  unfolding component_of slice_of
+  one_place first count other others a b =
+      let volumes = one_volume plan.volumes volume a.of b.of is_plan.numbers.ascending a.has b.has in
+      let component : a.component ≡ b.component = ap component_of (sym a.kind ∙ ap (λ (v : Volume). v.kind) volumes ∙ b.kind) in
+      let slice : a.slice ≡ b.slice = ap slice_of (sym a.on ∙ ap (λ (c : Component). c.on) component ∙ b.on) in
+      let at : a.at ≡ b.at = sound.once b.slice a.at b.at (subst (λ (s : SliceName). Contains site.drives.slices (record { name = s; at = a.at })) slice a.has_slice) b.has_slice in (
+        a.first_is ∙ ap (λ (l : SliceAt). l.start + a.component.start) at ∙ ap (λ (c : Component). b.at.start + c.start) component ∙ sym b.first_is,
+        a.count_is ∙ ap (λ (c : Component). c.blocks) component ∙ sym b.count_is,
+      )
+
+-- its blocks are none that a replica may have
+module _ (host : Host) (sound : IsSound host.drives) (home : IsHome host.drives host.home) (room : 8208 ≤ host.home.blocks) (plan : Plan) (is_plan : IsPlanOf host.drives plan) (volume : VolId) (first count : ℕ)
+    (lies : LiesOn (site_of host) plan.volumes volume first count) where
+  whole : IsWholeSlice host.drives lies.component lies.slice
+  whole =
+      let kind = All-contains (λ (v : Volume). IsKindOf host.drives v.kind) plan.volumes lies.of is_plan.kinds lies.has.0 in
+      let of_kind = subst (λ (k : VolumeKind). IsKindOf host.drives k) lies.kind kind in
+      subst (λ (b : Base). IsComponentOn host.drives lies.component b) lies.on of_kind.component
+
+  lies_at : lies.at ≡ whole.at
+  lies_at = sound.once lies.slice lies.at whole.at lies.has_slice whole.has
+
+  in_slice : (block : ℕ) → first ≤ block → block < first + count → HasBlock lies.at block
+  in_slice block from to =
+      let start = whole.whole.start in
+      let blocks = whole.whole.blocks in
+      let size : lies.at.blocks ≡ whole.at.blocks = ap (λ (l : SliceAt). l.blocks) lies_at in
+      record { first = omega (arith, lies.first_is, start); last = omega (arith, lies.first_is, lies.count_is, start, blocks, size) }
+
+  in_home : (block : ℕ) → area_of (site_of host) 0 block ≡ true → HasBlock (line_of host.home).at block
+  in_home block in_area = record { first = grind (arith, nat_tests); last = grind (arith, nat_tests) }
+
+  pub lies_beside : (block : ℕ) → first ≤ block → block < first + count → area_of (site_of host) 0 block ≡ false
+  lies_beside block from to = elim (both_ways (area_of (site_of host) 0 block)) [
+    | inl in_area ↦
+        let line : SliceLine = record { name = lies.slice; at = lies.at } in
+        let plain : lies.at.db ≡ false = ap (λ (l : SliceAt). l.db) lies_at ∙ whole.whole.plain in
+        let other : line ≢ line_of host.home = λ same. cc (sym plain ∙ ap (λ (l : SliceLine). l.at.db) same) in
+        absurd ((home.others line lies.has_slice other).apart (record { drive = lies.drive; block = block; in_first = in_slice block from to; in_second = in_home block in_area }))
+    | inr out ↦ out
+  ]

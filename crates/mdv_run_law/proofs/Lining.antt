@@ -1,0 +1,131 @@
+-- How the moments of the lines add up.
+use Rattle.std.proofs.Common.{◌≡◌, ◌⊎◌, inl, inr, ⊎_elim, ℕ, Bool, List, [], ◌++◌, refl, sym, ◌∙◌, ap, subst, append_assoc}
+use Rattle.std.proofs.lemmas.List.{append-nil}
+use Rattle.mdv_port.specs.Script.{Script}
+use Rattle.mdv_shelf.specs.Tale.{Tale, told}
+use Rattle.mdv_status.specs.Telling.{replies_in}
+use Rattle.mdv_history.specs.History.{History, Deed, Created, Event, history_after_all}
+use Rattle.mdv_history.proofs.Histories.{history_after_more, course_more}
+use Rattle.mdv_engine_law.proofs.Plain.{nothing_answers}
+use Rattle.mdv_engine_law.specs.declared.host.Host.{Host}
+use Rattle.mdv_engine_law.specs.Home.{site_of}
+use Rattle.mdv_engine_law.specs.Line.{Memory}
+use Rattle.mdv_engine_law.specs.Standing.{StandsAt, Reached, IsKnown}
+use Rattle.mdv_run_law.specs.Standing.{ComeOf, InWork, NothingLeft, IsTold, Goes, behind, AreReplies, LinesMoment, RanTo}
+use Rattle.mdv_run_law.proofs.Coming.{behind_none, behind_more, told_none, told_either, in_work_none, come_more}
+use Rattle.mdv_run_law.proofs.Made.{ours_stays, shows_made}
+
+-- one stretch of events and another
+module _ (host : Host) (Come Then Both : List Event → Type 0) (Between After Last : List Event → History → Type 0) (u m : Tale) (h : History) where
+  pub goes_both : (first : Goes host Come Between u h) (second : Goes host Then After m (history_after_all h first.es))
+      → Both (first.es ++ second.es) → (After second.es (history_after_all (history_after_all h first.es) second.es) → Last (first.es ++ second.es) (history_after_all (history_after_all h first.es) second.es))
+      → Goes host Both Last m h
+  goes_both first second both last =
+      let same : history_after_all (history_after_all h first.es) second.es ≡ history_after_all h (first.es ++ second.es) = sym (history_after_more h first.es second.es) in
+      record {
+        es = first.es ++ second.es;
+        course = course_more (site_of host) h first.es second.es first.course second.course;
+        come = both;
+        stands = subst (λ (x : History). StandsAt host x m) same second.stands;
+        after = subst (λ (x : History). Last (first.es ++ second.es) x) same (last second.after);
+      }
+
+-- nothing happened
+goes_nothing : (host : Host) (Come : List Event → Type 0) (After : List Event → History → Type 0) (m : Tale) (h : History) → Come [] → StandsAt host h m → After [] h → Goes host Come After m h
+goes_nothing host Come After m h come stands after = record { es = []; course = tt; come = come; stands = stands; after = after }
+
+-- bytes that are whole replies, and what comes behind them
+module _ (script left : Script) (a b : List ℕ) (replies : AreReplies a) (left_is : behind script (replies_in a) ≡ left) where
+  pub told_behind : (deed : Deed) → IsTold script (replies_in (a ++ b)) deed → IsTold script (replies_in a) deed ⊎ IsTold left (replies_in b) deed
+  told_behind deed is = ⊎_elim (λ first. inl first) (λ second. inr (subst (λ (s : Script). IsTold s (replies_in b) deed) left_is second))
+      (told_either script (replies_in a) (replies_in b) deed (subst (λ (l : List (List ℕ)). IsTold script l deed) (replies b) is))
+
+  pub come_behind : (host : Host) (Left : Bool → Script → List Event → Type 0) (now down : Bool) (es fs : List Event) → ComeOf host (NothingLeft now) down script (replies_in a) es → ComeOf host Left now left (replies_in b) fs
+      → ComeOf host Left down script (replies_in (a ++ b)) (es ++ fs)
+  come_behind host Left now down es fs first second =
+      subst (λ (l : List (List ℕ)). ComeOf host Left down script l (es ++ fs)) (sym (replies b))
+      (come_more host Left now down script (replies_in a) (replies_in b) es fs first (subst (λ (s : Script). ComeOf host Left now s (replies_in b) fs) (sym left_is) second))
+
+  pub replies_more : AreReplies b → AreReplies (a ++ b)
+  replies_more other rest =
+      ap replies_in (append_assoc a b rest) ∙ replies (b ++ rest) ∙ ap (λ (l : List (List ℕ)). replies_in a ++ l) (other rest)
+      ∙ sym (append_assoc (replies_in a) (replies_in b) (replies_in rest)) ∙ ap (λ (l : List (List ℕ)). l ++ replies_in rest) (sym (replies b))
+
+  pub behind_both : (rest : Script) → behind left (replies_in b) ≡ rest → behind script (replies_in (a ++ b)) ≡ rest
+  behind_both rest is = ap (behind script) (replies b) ∙ behind_more script (replies_in a) (replies_in b) ∙ ap (λ (s : Script). behind s (replies_in b)) left_is ∙ is
+
+replies_none : AreReplies []
+replies_none rest = ap (λ (l : List (List ℕ)). l ++ replies_in rest) (sym nothing_answers)
+
+module _ (host : Host) (script : Script) (first : Memory) (t : Tale) where
+  nothing_told : (deed : Deed) → IsTold script (replies_in []) deed → ⊥
+  nothing_told deed is = told_none script deed (subst (λ (l : List (List ℕ)). IsTold script l deed) nothing_answers is)
+
+  pub lines_start : LinesMoment host script first t t
+  lines_start = record {
+    bytes = [];
+    is_told = sym (append-nil (told t));
+    made = λ knows is. absurd (nothing_told Created is);
+    goes = λ h known. goes_nothing host (ComeOf host (InWork host) first.down script (replies_in [])) Reached t h
+        (subst (λ (l : List (List ℕ)). ComeOf host (InWork host) first.down script l []) (sym nothing_answers) (in_work_none host first.down script)) known.stands tt;
+  }
+
+  pub ran_start : RanTo host script first first script t t
+  ran_start = record {
+    bytes = [];
+    is_told = sym (append-nil (told t));
+    replies = replies_none;
+    left_is = ap (behind script) nothing_answers ∙ behind_none script;
+    knows = λ knows. knows;
+    made = λ knows is. absurd (nothing_told Created is);
+    goes = λ h known. goes_nothing host (ComeOf host (NothingLeft first.down) first.down script (replies_in [])) (λ es after. IsKnown host first after t) t h
+        (subst (λ (l : List (List ℕ)). ComeOf host (NothingLeft first.down) first.down script l []) (sym nothing_answers) (refl, refl)) known.stands known;
+  }
+
+  module _ (now : Memory) (left : Script) (u : Tale) (ran : RanTo host script first now left t u) where
+    is_told_both : (m : Tale) (bytes : List ℕ) → told m ≡ told u ++ bytes → told m ≡ told t ++ (ran.bytes ++ bytes)
+    is_told_both m bytes more = more ∙ ap (λ (l : List ℕ). l ++ bytes) ran.is_told ∙ append_assoc (told t) ran.bytes bytes
+
+    -- one stretch more, at each of its moments and once it is over
+    pub lines_more_moment : (m : Tale) → LinesMoment host left now u m → LinesMoment host script first t m
+    lines_more_moment m lines = record {
+      bytes = ran.bytes ++ lines.bytes;
+      is_told = is_told_both m lines.bytes lines.is_told;
+      made = λ knows is. ⊎_elim
+          (λ before.
+          let has = ran.made knows before in
+          let after = lines.goes has.history has.known in
+          shows_made host has.number (history_after_all has.history after.es) m (ours_stays host has.number has.history after.es after.course (record { issued = has.issued; firm = has.firm })) after.stands)
+          (λ here. lines.made (ran.knows knows) here)
+          (told_behind script left ran.bytes lines.bytes ran.replies ran.left_is Created is);
+      goes = λ h known.
+          let before = ran.goes h known in
+          let after = lines.goes (history_after_all h before.es) before.after in
+          goes_both host (ComeOf host (NothingLeft now.down) first.down script (replies_in ran.bytes)) (ComeOf host (InWork host) now.down left (replies_in lines.bytes)) (ComeOf host (InWork host) first.down script (replies_in (ran.bytes ++ lines.bytes)))
+          (λ es after. IsKnown host now after u) Reached Reached u m h before after (come_behind script left ran.bytes lines.bytes ran.replies ran.left_is host (InWork host) now.down first.down before.es after.es before.come after.come)
+          (λ two. two);
+    }
+
+    pub ran_more : (new : Memory) (rest : Script) (v : Tale) → RanTo host left now new rest u v → RanTo host script first new rest t v
+    ran_more new rest v more = record {
+      bytes = ran.bytes ++ more.bytes;
+      is_told = is_told_both v more.bytes more.is_told;
+      replies = replies_more script left ran.bytes more.bytes ran.replies ran.left_is more.replies;
+      left_is = behind_both script left ran.bytes more.bytes ran.replies ran.left_is rest more.left_is;
+      knows = λ knows. more.knows (ran.knows knows);
+      made = λ knows is. ⊎_elim
+          (λ before.
+          let has = ran.made knows before in
+          let after = more.goes has.history has.known in
+          let ours = ours_stays host has.number has.history after.es after.course (record { issued = has.issued; firm = has.firm }) in
+          record { history = history_after_all has.history after.es; known = after.after; number = has.number; issued = ours.issued; firm = ours.firm })
+          (λ here. more.made (ran.knows knows) here)
+          (told_behind script left ran.bytes more.bytes ran.replies ran.left_is Created is);
+      goes = λ h known.
+          let before = ran.goes h known in
+          let after = more.goes (history_after_all h before.es) before.after in
+          goes_both host (ComeOf host (NothingLeft now.down) first.down script (replies_in ran.bytes)) (ComeOf host (NothingLeft new.down) now.down left (replies_in more.bytes))
+          (ComeOf host (NothingLeft new.down) first.down script (replies_in (ran.bytes ++ more.bytes))) (λ es after. IsKnown host now after u) (λ es after. IsKnown host new after v) (λ es after. IsKnown host new after v)
+          u v h before after (come_behind script left ran.bytes more.bytes ran.replies ran.left_is host (NothingLeft new.down) now.down first.down before.es after.es before.come after.come)
+          (λ two. two);
+    }

@@ -1,0 +1,139 @@
+-- How the drive stands with its history at each moment of a run.
+use Rattle.std.specs.Prelude.{◌≡◌, ◌≢◌, ◌⊎◌, ℕ, Bool, true, false, List, [], ◌∷◌, ◌++◌, Some, Contains}
+use Rattle.mdv_port.specs.Script.{Script, at_end, spent, too_long, line}
+use Rattle.mdv_replica.specs.declared.replica.Head.{Head}
+use Rattle.mdv_replica.specs.Form.{shows}
+use Rattle.mdv_shelf.specs.Tale.{Tale, told, IsImage}
+use Rattle.mdv_status.specs.Telling.{replies_in}
+use Rattle.mdv_words.specs.declared.command.Command.{Command}
+use Rattle.mdv_words.specs.declared.command.Command.TheVariants.{Boot}
+use Rattle.mdv_words.specs.Line.{IsCommand}
+use Rattle.mdv_store_law.specs.Log.{is_firm}
+use Rattle.mdv_store_law.specs.Site.{IsReplica}
+use Rattle.mdv_history.specs.History.{History, Deed, Created, Event, HasWoken, IsCourse, NoDeed, history_after_all}
+use Rattle.mdv_engine_law.specs.declared.host.Host.{Host}
+use Rattle.mdv_engine_law.specs.Home.{site_of, identity_of}
+use Rattle.mdv_engine_law.specs.Line.{Memory, asked_by}
+use Rattle.mdv_engine_law.specs.Replies.{acked_by}
+use Rattle.mdv_engine_law.specs.Standing.{StandsAt, Does, IsAsked, Reached, Knows, IsKnown}
+use Rattle.mdv_run_law.specs.Run.{IsNoCommand}
+
+-- what the `ok` of a line acknowledges: nothing, where the grammar doesn't have the line
+abbrev pub Asks : List ℕ → List Deed → Type 0
+Asks text asked = (IsNoCommand text × (asked ≡ [])) ⊎ ((command : Command) × IsCommand text command × (asked ≡ asked_by command))
+
+-- events by which nothing is asked and nothing is told
+abbrev pub AreIdle : Host → List Event → Type 0
+AreIdle host es = Does host NoDeed [] es
+
+-- Events of a line that was answered by this line of reply: they issue only what it asks, and tell it exactly where the reply is `ok`,
+-- which comes only where the last boot has read the drive. Behind it the last boot has read the drive only where the line is a boot
+-- that did, or where it had and the line is none.
+pub record AreOfLine (host : Host) (text : List ℕ) (down : Bool) (reply : List ℕ) (es : List Event) (then : Bool) : Type 0 where
+  pub asked : List Deed
+  pub asks : Asks text asked
+  pub does : Does host (IsAsked asked) (acked_by asked reply) es
+  pub awake : acked_by asked reply ≢ [] → down ≡ false
+  pub up : then ≡ false → HasWoken es ⊎ ((down ≡ false) × (IsCommand text Boot → ⊥))
+
+-- Events that come, in order, of the lines of the script that these replies answer, one line of reply for each, where the last boot
+-- before them has read the drive, or was down; behind them come events of what is left of the script.
+abbrev pub ComeOf : Host → (Bool → Script → List Event → Type 0) → Bool → Script → List (List ℕ) → List Event → Type 0
+ComeOf host Left down script [] es = Left down script es
+ComeOf host Left down at_end (reply ∷ replies) es = Left down at_end es
+ComeOf host Left down (spent lines bytes) (reply ∷ replies) es = Left down (spent lines bytes) es
+ComeOf host Left down (too_long more) (reply ∷ replies) es =
+    (first : List Event) × (rest : List Event) × (es ≡ first ++ rest) × AreIdle host first × ComeOf host Left down more replies rest
+ComeOf host Left down (line text more) (reply ∷ replies) es =
+    (first : List Event) × (rest : List Event) × (es ≡ first ++ rest) × (then : Bool) × AreOfLine host text down reply first then × ComeOf host Left then more replies rest
+
+-- of the line in work, which nothing was told of: none came yet, or they issue only what it asks
+abbrev pub InWork : Host → Bool → Script → List Event → Type 0
+InWork host down at_end es = AreIdle host es
+InWork host down (spent lines bytes) es = AreIdle host es
+InWork host down (too_long more) es = AreIdle host es
+InWork host down (line text more) es = (es ≡ []) ⊎ ((asked : List Deed) × Asks text asked × Does host (IsAsked asked) [] es)
+
+-- none, and the last boot has read the drive, or not
+abbrev pub NothingLeft : Bool → Bool → Script → List Event → Type 0
+NothingLeft now down script es = (es ≡ []) × (down ≡ now)
+
+-- the deed was told by these replies to the script: its line's reply is `ok`
+abbrev pub IsTold : Script → List (List ℕ) → Deed → Type 0
+IsTold at_end replies deed = ⊥
+IsTold (spent lines bytes) replies deed = ⊥
+IsTold (too_long more) [] deed = ⊥
+IsTold (too_long more) (reply ∷ replies) deed = IsTold more replies deed
+IsTold (line text more) [] deed = ⊥
+IsTold (line text more) (reply ∷ replies) deed = ((asked : List Deed) × Asks text asked × Contains (acked_by asked reply) deed) ⊎ IsTold more replies deed
+
+-- the events of a run, of which these bytes were told: those of its boot, and those of the lines so far
+pub record AreOfRun (host : Host) (script : Script) (bytes : List ℕ) (es : List Event) : Type 0 where
+  pub boot : List Event
+  pub lines : List Event
+  pub both : es ≡ boot ++ lines
+  pub idle : AreIdle host boot
+  pub down : Bool
+  pub woken : down ≡ false → HasWoken boot
+  pub come : ComeOf host (InWork host) down script (replies_in bytes) lines
+
+-- from a history by some events of such a kind to one that the drive stands with, of which more is known
+pub record Goes (host : Host) (Come : List Event → Type 0) (After : List Event → History → Type 0) (m : Tale) (h : History) : Type 0 where
+  pub es : List Event
+  pub course : IsCourse (site_of host) h es
+  pub come : Come es
+  pub stands : StandsAt host (history_after_all h es) m
+  pub after : After es (history_after_all h es)
+
+-- whatever a crash leaves is a replica, with a table, of the database that a creation of this run made
+pub record ShowsMade (host : Host) (t : Tale) : Type 0 where
+  pub number : ℕ
+  pub each : (image : ℕ → ℕ → List ℕ) → IsImage t image → (head : Head) × IsReplica (site_of host) (image 0) head × (shows head ≡ true) × (head.master.identity ≡ identity_of host number)
+
+-- A moment of a run of that script that began at t: the drive stands with each history that it stood with at the start, gone on
+-- by the events of the boot and of the lines so far, in their order; each line's events issue only what it asks, and tell
+-- it exactly where its `ok` was told. Wherever one is told, the last boot before it has read the drive, since when each block has
+-- one value until it is written. Where a creation was told, whatever a crash leaves is a replica of a database that this run made.
+pub record RunMoment (host : Host) (script : Script) (t m : Tale) : Type 0 where
+  pub bytes : List ℕ
+  pub is_told : told m ≡ told t ++ bytes
+  pub made : IsTold script (replies_in bytes) Created → ShowsMade host m
+  pub stands : (h : History) → StandsAt host h t → Goes host (AreOfRun host script bytes) Reached m h
+
+-- what is left of a script behind so many replies
+abbrev pub behind : Script → List (List ℕ) → Script
+behind at_end replies = at_end
+behind (spent lines bytes) replies = spent lines bytes
+behind (too_long more) [] = too_long more
+behind (too_long more) (reply ∷ replies) = behind more replies
+behind (line text more) [] = line text more
+behind (line text more) (reply ∷ replies) = behind more replies
+
+-- bytes that are whole replies
+abbrev pub AreReplies : List ℕ → Type 0
+AreReplies bytes = (rest : List ℕ) → replies_in (bytes ++ rest) ≡ replies_in bytes ++ replies_in rest
+
+-- a moment of a stretch of lines that began with that memory
+pub record LinesMoment (host : Host) (script : Script) (first : Memory) (t m : Tale) : Type 0 where
+  pub bytes : List ℕ
+  pub is_told : told m ≡ told t ++ bytes
+  pub made : Knows host first t → IsTold script (replies_in bytes) Created → ShowsMade host m
+  pub goes : (h : History) → IsKnown host first h t → Goes host (ComeOf host (InWork host) first.down script (replies_in bytes)) Reached m h
+
+-- a history that has the database that a creation of this run made
+pub record HasMade (host : Host) (memory : Memory) (t : Tale) : Type 0 where
+  pub history : History
+  pub known : IsKnown host memory history t
+  pub number : ℕ
+  pub issued : history.database.issued ≡ Some (identity_of host number)
+  pub firm : is_firm history.database ≡ true
+
+-- lines and their replies, told whole, that led from one memory to the other, and from one script to what is left of it
+pub record RanTo (host : Host) (script : Script) (first now : Memory) (left : Script) (t u : Tale) : Type 0 where
+  pub bytes : List ℕ
+  pub is_told : told u ≡ told t ++ bytes
+  pub replies : AreReplies bytes
+  pub left_is : behind script (replies_in bytes) ≡ left
+  pub knows : Knows host first t → Knows host now u
+  pub made : Knows host first t → IsTold script (replies_in bytes) Created → HasMade host now u
+  pub goes : (h : History) → IsKnown host first h t → Goes host (ComeOf host (NothingLeft now.down) first.down script (replies_in bytes)) (λ es after. IsKnown host now after u) u h

@@ -1,0 +1,20 @@
+ghost use Rattle.mdv_run_law.specs.Run.{OneCourse};
+ghost use Rattle.mdv_run_law.specs.Lives.{LivesStand, RunsHaveHome, DatabaseIsFound, BlocksHold};
+
+/// Where nothing failed and memory was never wanting, a run has one course: what the drive's blocks held and the script
+/// settle what is told, the status, and what is in memory and on the drive at the end. A database has to lie in a slice with room for it, as
+/// over every life it does.
+pub fn one_course()
+    ensures { OneCourse }
+{}
+
+/// Over every life, any number of runs with any scripts and failures, each stopped at any moment by a crash that may
+/// leave whatever a crash may leave, the drive stands with a history that acknowledges exactly what was told. So every
+/// boot that can read the drive finds the database whose creation was told, with every change that was told; and each
+/// block of a volume reads as its last acknowledged write, or one that was issued later.
+pub fn lives_stand()
+    ensures stand { LivesStand }
+    ensures home { RunsHaveHome }
+    ensures found { DatabaseIsFound }
+    ensures blocks { BlocksHold }
+{}

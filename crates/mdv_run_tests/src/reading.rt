@@ -1,0 +1,158 @@
+// A place is read by comparing bytes, with nothing of the crates that write one. It is the place of 8192
+// blocks from block 16 of c0t0d0s7 on, and the host is alpha.
+ghost use Rattle.std.specs.Prelude.{◌≡◌, ◌<◌, ◌^◌, IfSome, None, length};
+ghost use Rattle.mdv_run_tests.specs.Numbers.{IsMarked};
+
+use crate::{Shown, ShownTable, ShownVolume};
+use mdv_base::{Block, Identity, Mark};
+
+/// The blocks of a place that say what it shows: its first four, and the first one of each slot's body.
+#[derive(Clone, Copy)]
+pub struct PlaceBlocks {
+    pub head: [Block; 4],
+    pub first_body: Block,
+    pub second_body: Block,
+}
+
+// What stands in a master behind the identity: the host, the slice, the place, and that it is 0 of 1.
+const WHOSE: &[u8] =
+    b"\0\x05alpha\0\0\0\0\0\0\0\0\0\0\0\0\0\0\0\0\0\0\0\0\0\0\0\0\0\0\0\0\0\0\x07\0\0\0\x10\0\0\x20\0\0\x01";
+
+// What stands in a record between its length and the number of its volumes: one list, of this one place, and neither
+// a set nor pools.
+const BEFORE_VOLUMES: &[u8] = b"\x01\x01\0\0\0\x07\0\0\0\x10\0\0\x20\0\0\0\0\0\0\0\0\0";
+
+// What stands in a volume between its number and its drive's: a stripe without a pool, alone and of width 1, with an
+// interlace of 32 blocks, on a slice.
+const STRIPE: &[u8] = b"\0\0\0\0\0\x01\0\x01\0\0\0\x20\0";
+
+/// What the place shows; None where it shows no table.
+pub fn read_place(place: &PlaceBlocks) -> Option<Shown>
+    ensures table { IfSome result (λ s. s.first ≡ None → s.second ≡ None → ⊥) }
+    ensures within { IfSome result (λ s. (s.claim < 2 ^ 63) × IfSome s.first (λ t. IsMarked t.mark) × IfSome s.second (λ t. IsMarked t.mark)) }
+{
+    let [master, claim, first, second] = &place.head;
+    let identity = identity_of(master)?;
+    let claim = claim_of(claim)?;
+    let first = table_of(first, &place.first_body)?;
+    let second = table_of(second, &place.second_body)?;
+    if first.is_none() && second.is_none() {
+        return None;
+    }
+    Some(Shown {
+        identity,
+        claim,
+        first,
+        second,
+    })
+}
+
+fn identity_of(master: &Block) -> Option<Identity> {
+    if !begins(master, b"MDVREPL1") || !is_exactly(&master[20..], WHOSE) {
+        return None;
+    }
+    Some(Identity {
+        fresh: number(&master[8..16]),
+        number: u32::try_from(number(&master[16..20])).ok()?,
+    })
+}
+
+fn claim_of(claim: &Block) -> Option<u64>
+    ensures { IfSome result (λ n. n < 2 ^ 63) }
+{
+    if !begins(claim, b"MDVCLAIM") || !is_zero(&claim[16..]) {
+        return None;
+    }
+    below_limit(number(&claim[8..16]))
+}
+
+// The table of an open slot, none of a closed one; None where the gate isn't of its form, or stands open over a body
+// that isn't the record of a table.
+fn table_of(gate: &Block, body: &Block) -> Option<Option<ShownTable>>
+    ensures { IfSome result (λ t. IfSome t (λ t. IsMarked t.mark)) }
+{
+    if !begins(gate, b"MDVGATE1") || !is_zero(&gate[29..]) {
+        return None;
+    }
+    match gate[8] {
+        0 if is_zero(&gate[8..]) => Some(None),
+        1 => {
+            let mark = Mark {
+                boot: below_limit(number(&gate[9..17]))?,
+                count: below_limit(number(&gate[17..25]))?,
+            };
+            Some(Some(table_in(mark, body, number(&gate[25..29]))?))
+        }
+        _ => None,
+    }
+}
+
+// The table of this mark whose record of so many bytes stands in the body.
+fn table_in(mark: Mark, body: &Block, bytes: u64) -> Option<ShownTable>
+    ensures { IfSome result (λ t. t.mark ≡ mark) }
+{
+    if !begins(body, b"MDVREC01")
+        || number(&body[8..12]) != bytes
+        || !begins(&body[12..], BEFORE_VOLUMES)
+    {
+        return None;
+    }
+    let (lower, upper) = match (number(&body[34..36]), bytes) {
+        (0, 36) => (None, None),
+        (1, 86) => (Some(volume_of(&body[36..86])?), None),
+        (2, 136) => (
+            Some(volume_of(&body[36..86])?),
+            Some(volume_of(&body[86..136])?),
+        ),
+        _ => return None,
+    };
+    Some(ShownTable { mark, lower, upper })
+}
+
+fn volume_of(text: &[u8]) -> Option<ShownVolume>
+    requires { length text.now ≡ 50 }
+{
+    if !begins(&text[2..], STRIPE)
+        || !is_zero(&text[15..18])
+        || !is_zero(&text[19..27])
+        || !is_zero(&text[35..])
+    {
+        return None;
+    }
+    Some(ShownVolume {
+        number: u16::try_from(number(&text[..2])).ok()?,
+        slice: text[18],
+        blocks: number(&text[27..35]),
+    })
+}
+
+// The text, with zeros behind it.
+fn is_exactly(bytes: &[u8], text: &[u8]) -> bool {
+    match bytes.strip_prefix(text) {
+        Some(rest) => is_zero(rest),
+        None => false,
+    }
+}
+
+fn begins(bytes: &[u8], text: &[u8]) -> bool {
+    bytes.starts_with(text)
+}
+
+fn is_zero(bytes: &[u8]) -> bool {
+    bytes.iter().all(|byte| *byte == 0)
+}
+
+// The highest byte stands first.
+fn number(bytes: &[u8]) -> u64 {
+    let mut sum = 0_u64;
+    for byte in bytes {
+        sum = (sum << 8) | u64::from(*byte);
+    }
+    sum
+}
+
+fn below_limit(number: u64) -> Option<u64>
+    ensures { IfSome result (λ n. n < 2 ^ 63) }
+{
+    if number < 1 << 63 { Some(number) } else { None }
+}

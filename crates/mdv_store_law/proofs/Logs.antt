@@ -1,0 +1,206 @@
+-- How logs go on, event by event.
+use Rattle.std.proofs.Common.{◌≡◌, ◌⊎◌, inl, inr, true, false, List, [], ◌∷◌, ◌++◌, slice_index_or, refl, sym, ◌∙◌, ap, subst, Option, Some, None, All, Contains}
+use Rattle.std.proofs.lemmas.List.Elements.{All-nil, All-cons, All-same, All-contains, Contains-get_or}
+use Rattle.mdv_base.specs.declared.mark.Identity.{Identity}
+use Rattle.mdv_base.specs.declared.mark.Mark.{Mark}
+use Rattle.mdv_name.specs.declared.geometry.Geometry.{Geometry}
+use Rattle.mdv_shelf.specs.Tale.{Tale}
+use Rattle.mdv_table.specs.declared.change.Change.{Change}
+use Rattle.mdv_table.specs.declared.table.Table.{Table}
+use Rattle.mdv_store_law.specs.Log.{Version, Log, Event, Issued, Writing, Written, Told, with_asked, newest_changes, log_after, log_after_all, is_firm, IsFirst, IsNext, Extends, IsUntold, IsTellable, MayHappen, IsCourse, told_by, IsAsked, IssuesOnly, Adds, AreMade, IsDescended, IsHeld, IsLog}
+use Rattle.mdv_store_law.specs.Laws.{CoursesAreLogs}
+use Rattle.mdv_store_law.specs.Site.{Site, Newest}
+use Rattle.mdv_store_law.specs.Standing.{nothing, replica, Covers, IsNewestIn}
+use Rattle.mdv_store_law.proofs.Families.{extends_itself, extends_more, extends_asked, made_next, contains_first, contains_behind, extends_written, newest_extends, written_firm, answered_rising, answered_descended, answered_made, answered_held}
+
+pub log_after_more : (log : Log) (es fs : List Event) → log_after_all log (es ++ fs) ≡ log_after_all (log_after_all log es) fs
+log_after_more log [] fs = refl
+log_after_more log (e ∷ es) fs = log_after_more (log_after log e) es fs
+
+pub course_more : (g : Geometry) (log : Log) (es fs : List Event) → IsCourse g log es → IsCourse g (log_after_all log es) fs → IsCourse g log (es ++ fs)
+course_more g log [] fs first second = second
+course_more g log (e ∷ es) fs first second = (first.0, course_more g (log_after log e) es fs first.1 second)
+
+pub told_more : (es fs : List Event) → told_by (es ++ fs) ≡ told_by es ++ told_by fs
+told_more [] fs = refl
+told_more (Issued identity ∷ es) fs = told_more es fs
+told_more (Writing mark asked before table ∷ es) fs = told_more es fs
+told_more (Written ∷ es) fs = told_more es fs
+told_more (Told asked ∷ es) fs = ap (λ (l : List (Option Change)). asked ∷ l) (told_more es fs)
+
+-- a table that begins to be written
+module _ (g : Geometry) (log : Log) (is : IsLog g log) (mark : Mark) (asked : Option Change) (before : List Change) (table : Table) where
+  abbrev pub begun : Version
+  begun = record { mark = mark; table = table; changes = with_asked asked before; is_written = false }
+
+  pub begun_made : IsFirst log.family asked before table ⊎ IsNext g log.family asked before table → AreMade g (with_asked asked before) table
+  begun_made (inl first) = rw (first.unasked, first.unchanged) first.empty
+  begun_made (inr next) =
+      let made = All-contains (λ (v : Version). AreMade g v.changes v.table) log.family next.parent is.made next.one_of in
+      made_next g asked before next.parent.table table (subst (λ (c : List Change). AreMade g c next.parent.table) next.changes made) next.made
+
+  pub begun_extends : IsFirst log.family asked before table ⊎ IsNext g log.family asked before table → All (λ w. w.is_written ≡ true → Extends (with_asked asked before) w.changes) log.family
+  begun_extends (inl first) =
+      let P = λ (w : Version). w.is_written ≡ true → Extends (with_asked asked before) w.changes in
+      All-same P log.family [] first.none (All-nil P)
+  begun_extends (inr next) = λ k d lt written.
+      let w = slice_index_or log.family k d in
+      let parent_has = extends_written log.family next.parent w is.rising is.descended next.one_of (Contains-get_or log.family k d lt) written (next.not_older k d lt written) in
+      extends_more (with_asked asked before) before w.changes (extends_asked asked before) (subst (λ (c : List Change). Extends c w.changes) next.changes parent_has)
+
+  pub begun_held : (told : List Change) → IsHeld log.family told → IsHeld (begun ∷ log.family) told
+  begun_held told held = record { by = held.by; one_of = contains_behind begun held.by log.family held.one_of; written = held.written; has = held.has }
+
+-- what is told is what the newest table has
+module _ (log : Log) (asked : Option Change) (may : IsTellable log asked) where
+  pub newest_told : newest_changes log.family ≡ Some may.newest.changes
+  newest_told = ap newest_changes may.family
+
+  pub newest_has : Contains log.family may.newest
+  newest_has = subst (λ (f : List Version). Contains f may.newest) (sym may.family) (contains_first may.newest may.older)
+
+  pub told_held : (told : List Change) → newest_changes log.family ≡ Some told → IsHeld log.family told
+  told_held told is =
+      let same : may.newest.changes ≡ told = cc (newest_told, is) in
+      record {
+        by = may.newest;
+        one_of = newest_has;
+        written = may.written;
+        has = subst (λ (c : List Change). Extends may.newest.changes c) same (extends_itself may.newest.changes);
+      }
+
+  pub told_extends : (told : List Change) → log.acknowledged ≡ Some told → Extends may.newest.changes told
+  told_extends told is =
+      let untold : Extends may.before told = subst (λ (o : Option (List Change)). IsUntold o may.before) is may.untold in
+      subst (λ (c : List Change). Extends c told) (sym may.changes) (extends_more (with_asked asked may.before) may.before told (extends_asked asked may.before) untold)
+
+pub is_log_after : (g : Geometry) (log : Log) (e : Event) → IsLog g log → MayHappen g log e → IsLog g (log_after log e)
+is_log_after g log (Issued identity) is may = record {
+  rising = tt;
+  made = All-nil (λ (v : Version). AreMade g v.changes v.table);
+  descended = tt;
+  held = λ told same. absurd (cc (same));
+}
+is_log_after g log (Writing mark asked before table) is may = record {
+  rising = (may.0, is.rising);
+  made = All-cons (λ (v : Version). AreMade g v.changes v.table) (begun g log is mark asked before table) log.family (begun_made g log is mark asked before table may.1) is.made;
+  descended = (begun_extends g log is mark asked before table may.1, is.descended);
+  held = λ told same. begun_held g log is mark asked before table told (is.held told same);
+}
+is_log_after g log Written is may = record {
+  rising = answered_rising log.family is.rising;
+  made = answered_made g log.family is.made;
+  descended = answered_descended log.family is.descended;
+  held = λ told same. answered_held log.family told (is.held told same);
+}
+is_log_after g log (Told asked) is may = record {
+  rising = is.rising;
+  made = is.made;
+  descended = is.descended;
+  held = told_held log asked may;
+}
+
+pub is_log_after_all : (g : Geometry) (log : Log) (es : List Event) → IsLog g log → IsCourse g log es → IsLog g (log_after_all log es)
+is_log_after_all g log [] is course = is
+is_log_after_all g log (e ∷ es) is course = is_log_after_all g (log_after log e) es (is_log_after g log e is course.0) course.1
+
+pub courses_are_logs : CoursesAreLogs
+courses_are_logs = λ site log es is course. is_log_after_all site.drives log es is course
+
+-- telling changes nothing that a drive has to show
+pub told_covers : (site : Site) (log : Log) (asked : Option Change) (m : Tale) → Covers site log m → Covers site (log_after log (Told asked)) m
+told_covers site log asked m covers image is = elim (covers image is) [
+  | nothing not_firm none ↦ nothing not_firm none
+  | replica head agrees ↦ replica head (record {
+    replica = agrees.replica;
+    shown = agrees.shown;
+    as_issued = agrees.as_issued;
+    placed = agrees.placed;
+    of_first = agrees.of_first;
+    of_second = agrees.of_second;
+    covered = agrees.covered;
+    numbered = agrees.numbered;
+  })
+]
+
+-- what was told is firm
+pub told_firm : (g : Geometry) (log : Log) (told : List Change) → IsLog g log → log.acknowledged ≡ Some told → is_firm log ≡ true
+told_firm g log told is same = let held = is.held told same in written_firm log.family held.by held.one_of held.written
+
+-- what was told stays so, and more may be
+pub told_stays : (g : Geometry) (log : Log) (es : List Event) (told : List Change) → IsLog g log → IsCourse g log es → log.acknowledged ≡ Some told
+    → (later : List Change) × ((log_after_all log es).acknowledged ≡ Some later) × Extends later told
+told_stays g log [] told is course same = (told, same, extends_itself told)
+told_stays g log (Issued identity ∷ es) told is course same = absurd (let firm = told_firm g log told is same in cc (firm, course.0))
+told_stays g log (Writing mark asked before table ∷ es) told is course same =
+    told_stays g (log_after log (Writing mark asked before table)) es told (is_log_after g log (Writing mark asked before table) is course.0) course.1 same
+told_stays g log (Written ∷ es) told is course same = told_stays g (log_after log Written) es told (is_log_after g log Written is course.0) course.1 same
+told_stays g log (Told asked ∷ es) told is course same =
+    let changes = course.0.newest.changes in
+    let rest = told_stays g (log_after log (Told asked)) es changes (is_log_after g log (Told asked) is course.0) course.1 (newest_told log asked course.0) in
+    (rest.0, rest.1, extends_more rest.0 changes told rest.2 (told_extends log asked course.0 told same))
+
+-- where a creation or a change is told, changes are told in the end
+pub told_acknowledges : (g : Geometry) (log : Log) (es : List Event) → IsLog g log → IsCourse g log es → (told_by es ≡ [] → ⊥) → (later : List Change) × ((log_after_all log es).acknowledged ≡ Some later)
+told_acknowledges g log [] is course some = absurd (some refl)
+told_acknowledges g log (Issued identity ∷ es) is course some = told_acknowledges g (log_after log (Issued identity)) es (is_log_after g log (Issued identity) is course.0) course.1 some
+told_acknowledges g log (Writing mark asked before table ∷ es) is course some =
+    told_acknowledges g (log_after log (Writing mark asked before table)) es (is_log_after g log (Writing mark asked before table) is course.0) course.1 some
+told_acknowledges g log (Written ∷ es) is course some = told_acknowledges g (log_after log Written) es (is_log_after g log Written is course.0) course.1 some
+told_acknowledges g log (Told asked ∷ es) is course some =
+    let rest = told_stays g (log_after log (Told asked)) es course.0.newest.changes (is_log_after g log (Told asked) is course.0) course.1 (newest_told log asked course.0) in
+    (rest.0, rest.1)
+
+pub told_is_acknowledged : (g : Geometry) (log : Log) (es : List Event) → IsLog g log → IsCourse g log es → (told_by es ≡ [] → ⊥) → (log_after_all log es).acknowledged ≡ None → ⊥
+told_is_acknowledged g log es is course some none = let told = told_acknowledges g log es is course some in cc (told.1, none)
+
+-- a table that a change made of the newest one, once its write was answered, may be told
+untold_newest : (g : Geometry) (log : Log) (newest : Newest) (known : IsNewestIn newest log) → IsLog g log → (acknowledged : Option (List Change)) → log.acknowledged ≡ acknowledged → IsUntold acknowledged known.version.changes
+untold_newest g log newest known is None same = tt
+untold_newest g log newest known is (Some told) same =
+    let held = is.held told same in
+    let descended = subst IsDescended known.family is.descended in
+    let one_of = subst (λ (f : List Version). Contains f held.by) known.family held.one_of in
+    extends_more known.version.changes held.by.changes told (newest_extends known.version held.by known.older descended one_of held.written) held.has
+
+pub tellable : (g : Geometry) (log : Log) (newest : Newest) (known : IsNewestIn newest log) (mark : Mark) (change : Change) (table : Table) → IsLog g log
+    → IsTellable (log_after_all log (Writing mark (Some change) known.version.changes table ∷ Written ∷ [])) (Some change)
+tellable g log newest known mark change table is = record {
+  newest = record { mark = mark; table = table; changes = change ∷ known.version.changes; is_written = true };
+  older = log.family;
+  family = refl;
+  written = refl;
+  before = known.version.changes;
+  changes = refl;
+  creation = λ none. absurd (cc (none));
+  untold = untold_newest g log newest known is log.acknowledged refl;
+}
+
+issues_more : (Which : Identity → Type 0) (Asks : Change → Type 0) (es fs : List Event) → IssuesOnly Which Asks es → IssuesOnly Which Asks fs → IssuesOnly Which Asks (es ++ fs)
+issues_more Which Asks [] fs one other = other
+issues_more Which Asks (Issued identity ∷ es) fs one other = (one.0, issues_more Which Asks es fs one.1 other)
+issues_more Which Asks (Writing mark asked before table ∷ es) fs one other = (one.0, issues_more Which Asks es fs one.1 other)
+issues_more Which Asks (Written ∷ es) fs one other = issues_more Which Asks es fs one other
+issues_more Which Asks (Told asked ∷ es) fs one other = issues_more Which Asks es fs one other
+
+module _ (Which Any : Identity → Type 0) (Asks Others : Change → Type 0) (wider : (identity : Identity) → Which identity → Any identity) (more : (change : Change) → Asks change → Others change) where
+  asked_weaker : (asked : Option Change) → IsAsked Asks asked → IsAsked Others asked
+  asked_weaker None is = tt
+  asked_weaker (Some change) is = more change is
+
+  issues_weaker : (es : List Event) → IssuesOnly Which Asks es → IssuesOnly Any Others es
+  issues_weaker [] is = tt
+  issues_weaker (Issued identity ∷ es) is = (wider identity is.0, issues_weaker es is.1)
+  issues_weaker (Writing mark asked before table ∷ es) is = (asked_weaker asked is.0, issues_weaker es is.1)
+  issues_weaker (Written ∷ es) is = issues_weaker es is
+  issues_weaker (Told asked ∷ es) is = issues_weaker es is
+
+pub adds_more : (Which : Identity → Type 0) (Asks : Change → Type 0) (a b c : List (Option Change)) (es fs : List Event) → a ++ b ≡ c → Adds Which Asks a es → Adds Which Asks b fs → Adds Which Asks c (es ++ fs)
+adds_more Which Asks a b c es fs both one other = record {
+  tells = told_more es fs ∙ ap (λ (l : List (Option Change)). l ++ told_by fs) one.tells ∙ ap (λ (l : List (Option Change)). a ++ l) other.tells ∙ both;
+  issues = issues_more Which Asks es fs one.issues other.issues;
+}
+
+pub adds_weaker : (Which Any : Identity → Type 0) (Asks Others : Change → Type 0) (a b : List (Option Change)) (es : List Event)
+    → ((identity : Identity) → Which identity → Any identity) → ((change : Change) → Asks change → Others change) → a ≡ b → Adds Which Asks a es → Adds Any Others b es
+adds_weaker Which Any Asks Others a b es wider more same adds = record { tells = adds.tells ∙ same; issues = issues_weaker Which Any Asks Others wider more es adds.issues }

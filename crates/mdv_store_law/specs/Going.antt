@@ -1,0 +1,112 @@
+-- How a log goes on while a boot, a commit or a creation writes.
+use Rattle.std.specs.Prelude.{◌≡◌, ◌+◌, ◌<◌, ◌^◌, true, false, [], length, Option, Some, None}
+use Rattle.mdv_base.specs.declared.mark.Identity.{Identity}
+use Rattle.mdv_base.specs.declared.mark.Mark.{Mark}
+use Rattle.mdv_record.specs.Text.{record_text}
+use Rattle.mdv_replica.specs.declared.forms.Gate.TheVariants.{Open}
+use Rattle.mdv_replica.specs.declared.replica.Head.{Head}
+use Rattle.mdv_replica.specs.declared.replica.Slot.{Slot}
+use Rattle.mdv_replica.specs.declared.replica.Slot.TheVariants.{First}
+use Rattle.mdv_replica.specs.Form.{IsSpareSlot, formatted_head, greatest, other_slot, with_slot}
+use Rattle.mdv_replica.specs.Forms.{IsMaster}
+use Rattle.mdv_replica.specs.Images.{Image, Leaves}
+use Rattle.mdv_replica.specs.Replica.{Formatting, IsFormatted, LiesAt, master_of, with_blocks}
+use Rattle.mdv_shelf.specs.Settle.{IsSynced}
+use Rattle.mdv_shelf.specs.Tale.{Tale, IsImage, last}
+use Rattle.mdv_table.specs.declared.change.Change.{Change}
+use Rattle.mdv_table.specs.declared.table.Table.{Table}
+use Rattle.mdv_table.specs.Slices.{IsSound}
+use Rattle.mdv_store_law.specs.Log.{Version, Log, IsLog, IsMade, IsTellable, IsThis, IsThisChange, NoCreation, is_firm}
+use Rattle.mdv_store_law.specs.Site.{Site, sized, IsNewestOf, IsTableAt, Newest}
+use Rattle.mdv_store_law.specs.Standing.{IsOpened, IsNewestIn, Anything, GoesFrom, GoesOnTo, GoesOn, ShowsNothing, created_log}
+use Rattle.mdv_store_law.specs.Steps.{MayTake, Takes, Rewritten, Rewrites, IsTheReplica, IsAdopted, adopted_newest, next_newest}
+
+-- what a boot that adopts starts from: synced drives with this one replica, whose newest table isn't in the spare slot
+pub record Adopts (site : Site) (head : Head) (spare : Slot) (table : Table) (t : Tale) : Type 0 where
+  pub sound : IsSound site.drives
+  pub is_spare : IsSpareSlot head spare
+  pub fits : greatest head + 1 < 2 ^ 63
+  pub synced : IsSynced site.at.drive.0 t
+  pub the : IsTheReplica site (last t site.at.drive.0) head (other_slot spare) table
+
+abbrev pub drawn : Head → Mark
+drawn head = record { boot = greatest head + 1; count = 0 }
+
+pub record AdoptionsGo : Type 0 where
+  -- while it writes
+  pub goes : (site : Site) (head : Head) (spare : Slot) (table : Table) (t m : Tale) → Adopts site head spare table t → Rewrites (sized site head) spare (drawn head) table t m → GoesOn site NoCreation t m
+  -- in the end
+  pub adopts : (site : Site) (head : Head) (spare : Slot) (table : Table) (t u : Tale) → Adopts site head spare table t → Leaves (Rewritten (sized site head) spare (drawn head) table) t u → IsAdopted site (last t site.at.drive.0) (adopted_newest head spare table) u
+  pub opens : (site : Site) (head : Head) (spare : Slot) (table : Table) (t u : Tale) → Adopts site head spare table t → Leaves (Rewritten (sized site head) spare (drawn head) table) t u → IsOpened site (adopted_newest head spare table) u
+  pub ends : (site : Site) (head : Head) (spare : Slot) (table : Table) (t u : Tale) → Adopts site head spare table t → Leaves (Rewritten (sized site head) spare (drawn head) table) t u → GoesOnTo site NoCreation (IsNewestIn (adopted_newest head spare table)) t u
+
+-- what a commit starts from: an open database, and a table that a change makes of its newest one
+pub record Commits (site : Site) (newest : Newest) (asked : Option Change) (table : Table) (t : Tale) : Type 0 where
+  pub sound : IsSound site.drives
+  pub fits : newest.mark.count + 1 < 2 ^ 63
+  pub is : IsTableAt site.drives (with_blocks site.at newest.blocks).place table
+  pub made : IsMade site.drives asked newest.table table
+  pub opened : IsOpened site newest t
+
+-- where it writes, and under which mark
+abbrev pub next_mark : Newest → Mark
+next_mark newest = record newest.mark { count = newest.mark.count + 1 }
+
+-- a log that is one, whose newest table is this one
+pub record IsWithNewest (site : Site) (newest : Newest) (log : Log) : Type 0 where
+  pub is_log : IsLog site.drives log
+  pub is_newest : IsNewestIn newest log
+
+pub record CommitsGo : Type 0 where
+  -- while it writes
+  pub goes : (site : Site) (newest : Newest) (asked : Option Change) (table : Table) (t m : Tale) → Commits site newest asked table t
+      → Leaves (MayTake (with_blocks site.at newest.blocks) (other_slot newest.slot) (next_mark newest) table) t m → GoesFrom site (IsWithNewest site newest) NoCreation (IsThisChange asked) Anything t m
+  -- in the end
+  pub opens : (site : Site) (newest : Newest) (asked : Option Change) (table : Table) (t u : Tale) → Commits site newest asked table t
+      → Leaves (Takes (with_blocks site.at newest.blocks) (other_slot newest.slot) (next_mark newest) table) t u → IsOpened site (next_newest newest table) u
+  pub ends : (site : Site) (newest : Newest) (asked : Option Change) (table : Table) (t u : Tale) → Commits site newest asked table t
+      → Leaves (Takes (with_blocks site.at newest.blocks) (other_slot newest.slot) (next_mark newest) table) t u
+      → GoesFrom site (IsWithNewest site newest) NoCreation (IsThisChange asked) (λ log. IsNewestIn (next_newest newest table) log × ((change : Change) → asked ≡ Some change → IsTellable log asked)) t u
+
+-- what a creation starts from, once nothing is there: a first table, which names the place, for a replica of the whole place
+pub record Creates (site : Site) (identity : Identity) (table : Table) : Type 0 where
+  pub form : IsMaster (master_of site.at site.key identity)
+  pub lies : LiesAt site.at site.size (master_of site.at site.key identity)
+  pub is : IsTableAt site.drives site.at.place table
+  pub empty : table.plan.volumes ≡ []
+
+abbrev pub first_mark : Mark
+first_mark = record { boot = 1; count = 0 }
+
+-- what is known of a database that was made, the head of its replica, and its one version
+abbrev pub created_newest : Site → Table → Newest
+created_newest site table = record { blocks = site.at.place.blocks; slot = First; mark = first_mark; table = table }
+
+abbrev pub created_head : Site → Identity → Table → Head
+created_head site identity table = with_slot (formatted_head site.at site.key identity 1) First (Open first_mark (length (record_text table)))
+
+abbrev pub created_version : Table → Version
+created_version table = record { mark = first_mark; table = table; changes = []; is_written = true }
+
+-- the log of a database that was made, of which nobody was told
+pub record IsCreated (site : Site) (identity : Identity) (table : Table) (log : Log) : Type 0 where
+  pub is : log ≡ created_log identity (created_version table)
+  pub newest : IsNewestIn (created_newest site table) log
+  pub tellable : IsTellable log None
+
+pub record CreationsGo : Type 0 where
+  -- while the place is formatted
+  pub nothing : (site : Site) (identity : Identity) (t m : Tale) → ShowsNothing site t → Formatting site.at (master_of site.at site.key identity) 1 t m → ShowsNothing site m
+  pub begins : (site : Site) (identity : Identity) (t m : Tale) → ShowsNothing site t → Formatting site.at (master_of site.at site.key identity) 1 t m → GoesOn site (IsThis identity) t m
+  -- where that fails
+  pub fails : (site : Site) (identity : Identity) (t m : Tale) → ShowsNothing site t → Formatting site.at (master_of site.at site.key identity) 1 t m → GoesOnTo site (IsThis identity) (λ log. is_firm log ≡ false) t m
+  -- while the table is written
+  pub goes : (site : Site) (identity : Identity) (table : Table) (t u m : Tale) → Creates site identity table → ShowsNothing site t → IsFormatted site.at (master_of site.at site.key identity) 1 u
+      → Leaves (MayTake site.at First first_mark table) u m → GoesOn site (IsThis identity) t m
+  -- in the end
+  pub shows : (site : Site) (identity : Identity) (table : Table) (u v : Tale) → Creates site identity table → IsFormatted site.at (master_of site.at site.key identity) 1 u
+      → Leaves (Takes site.at First first_mark table) u v → (image : Image) → IsImage v image → IsNewestOf site (image site.at.drive.0) (created_head site identity table) (created_newest site table)
+  pub opens : (site : Site) (identity : Identity) (table : Table) (u v : Tale) → Creates site identity table → IsFormatted site.at (master_of site.at site.key identity) 1 u
+      → Leaves (Takes site.at First first_mark table) u v → IsOpened site (created_newest site table) v
+  pub ends : (site : Site) (identity : Identity) (table : Table) (t u v : Tale) → Creates site identity table → ShowsNothing site t → IsFormatted site.at (master_of site.at site.key identity) 1 u
+      → Leaves (Takes site.at First first_mark table) u v → GoesOnTo site (IsThis identity) (IsCreated site identity table) t v
