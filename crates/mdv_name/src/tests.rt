@@ -193,6 +193,15 @@ fn tells_the_first_wrong_line(rt: HostRuntime) {
 }
 
 #[test]
+fn tells_a_fault(rt: HostRuntime) -> Result<(), Fail> {
+    let text = format!(in rt.alloc(); "{}", GeometryFault::BadLine(7))?;
+    assert_eq!(rt; text.as_str(), "line 7 is wrong");
+    let text = format!(in rt.alloc(); "{}", GeometryFault::Memory)?;
+    assert_eq!(rt; text.as_str(), "out of memory");
+    Ok(())
+}
+
+#[test]
 fn tells_the_first_wrong_slice(rt: HostRuntime) {
     assert_eq!(rt; bad_line(&rt, b"slice c0t0d0s0 0 9"), Some(1));
     assert_eq!(rt;

@@ -88,3 +88,12 @@ fn tells_the_first_byte_past_ascii(rt: HostRuntime) {
         )
     );
 }
+
+#[test]
+fn tells_a_fault(rt: HostRuntime) -> Result<(), Fail> {
+    let text = format!(in rt.alloc(); "{}", TextFault::NotAscii(4))?;
+    assert_eq!(rt; text.as_str(), "byte 4 is past ASCII");
+    let text = format!(in rt.alloc(); "{}", TextFault::Memory)?;
+    assert_eq!(rt; text.as_str(), "out of memory");
+    Ok(())
+}

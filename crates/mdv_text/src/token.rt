@@ -5,6 +5,7 @@ ghost use Rattle.mdv_text.specs.Token.{token_text, LieInOrder, IsFaultOf};
 
 use crate::words::first_word;
 use std::alloc::Global;
+use thiserror::Error;
 
 /// Where a word lies in its line: from the byte `start` to before the byte `end`.
 #[derive(Clone, Copy, Debug, PartialEq, Eq)]
@@ -14,10 +15,12 @@ pub struct Token {
 }
 
 /// Why a line has no words that can be read.
-#[derive(Debug, Drop, PartialEq, Eq)]
+#[derive(Debug, Drop, Error, PartialEq, Eq)]
 pub enum TextFault {
-    /// The place of the first byte past ASCII.
+    /// The place of the first byte past ASCII, from 0.
+    #[error("byte {0} is past ASCII")]
     NotAscii(u32),
+    #[error("out of memory")]
     Memory,
 }
 
