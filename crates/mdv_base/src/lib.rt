@@ -10,8 +10,6 @@ mod name;
 mod place;
 mod refusal;
 mod state_word;
-#[cfg(test)]
-mod tests;
 
 pub use block::{BLOCK_BYTES, Block, ZERO_BLOCK};
 pub use drive::{DriveName, DriveNo, Failed, SliceName};

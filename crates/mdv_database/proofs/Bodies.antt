@@ -5,24 +5,10 @@ use Rattle.std.proofs.lemmas.List.{get_or-append_right}
 use Rattle.std.proofs.Math.Seq.{take-add}
 use Rattle.std.specs.List.{concat, flat_map}
 use Rattle.std.specs.Simd.{first_chunks}
-use Rattle.mdv_base.specs.declared.mark.Mark.{Mark}
-use Rattle.mdv_base.specs.declared.place.Place.{Place}
-use Rattle.mdv_name.specs.declared.geometry.Geometry.{Geometry}
-use Rattle.mdv_record.specs.Text.{record_text}
+use Rattle.mdv_database.specs.Below.{Mark, Place, Geometry, record_text, PlaceAt, Slot, room_of, text_of, Leaves, Fills, MayFill, SlotWriting, IsSlotWritten, body_at, slot_blocks, Tale, Table, IsSound, IsOfGeometry, IsTableAt, IsRecordAt, IsBody, MayTake, Takes}
 use Rattle.mdv_record.proofs.Codes.{one_table}
-use Rattle.mdv_replica.specs.declared.replica.PlaceAt.{PlaceAt}
-use Rattle.mdv_replica.specs.declared.replica.Slot.{Slot}
-use Rattle.mdv_replica.specs.Form.{room_of, text_of}
-use Rattle.mdv_replica.specs.Images.{Leaves, Fills, MayFill}
-use Rattle.mdv_replica.specs.Replica.{SlotWriting, IsSlotWritten, body_at, slot_blocks}
 use Rattle.mdv_replica.proofs.Bodies.{take-bytes_of_written}
 use Rattle.mdv_replica.proofs.Leaving.{leaves_weaker, leaves_slotting, leaves_slotted}
-use Rattle.mdv_shelf.specs.Tale.{Tale}
-use Rattle.mdv_table.specs.declared.table.Table.{Table}
-use Rattle.mdv_table.specs.Slices.{IsSound}
-use Rattle.mdv_table.specs.Table.{IsOfGeometry}
-use Rattle.mdv_store_law.specs.Site.{IsTableAt, IsRecordAt}
-use Rattle.mdv_store_law.specs.Steps.{IsBody, MayTake, Takes}
 use Rattle.mdv_database.specs.declared.body.ReadFault.{ReadFault}
 use Rattle.mdv_database.specs.Slots.{blocks_for, IsFitting, IsRead}
 

@@ -1,24 +1,8 @@
 -- What a boot leaves: its look, and its adoption.
 use Rattle.std.proofs.Common.{◌≡◌, ℕ, ◌+◌, ◌<◌, ◌^◌, List, [], refl, sym, ◌∙◌, subst, Option, Some, None}
-use Rattle.mdv_base.specs.declared.mark.Mark.{Mark}
-use Rattle.mdv_shelf.specs.Area.{KeptOutside, nowhere}
-use Rattle.mdv_shelf.specs.Moments.{Moments, Ends}
-use Rattle.mdv_shelf.specs.Settle.{IsSynced}
-use Rattle.mdv_shelf.specs.Tale.{Tale, last}
+use Rattle.mdv_database.specs.Below.{Mark, KeptOutside, nowhere, Moments, Ends, IsSynced, Tale, last, PlaceAt, Slot, IsSpareSlot, greatest, Leaves, Claims, with_blocks, Table, IsSound, Adopts, drawn, NoCreation, Site, IsFound, Newest, GoesOn, GoesOnTo, IsNewestIn, IsOpened, ShowsNothing, IsAdopted, MayTake, Takes, Rewriting, Rewritten, Rewrites, adopted_newest}
 use Rattle.mdv_shelf.proofs.Moments.{moments_end, some_is}
-use Rattle.mdv_replica.specs.declared.replica.PlaceAt.{PlaceAt}
-use Rattle.mdv_replica.specs.declared.replica.Slot.{Slot}
-use Rattle.mdv_replica.specs.Form.{IsSpareSlot, greatest}
-use Rattle.mdv_replica.specs.Images.{Leaves, Claims}
-use Rattle.mdv_replica.specs.Replica.{with_blocks}
 use Rattle.mdv_replica.proofs.Leaving.{image_synced, leaves_more}
-use Rattle.mdv_table.specs.declared.table.Table.{Table}
-use Rattle.mdv_table.specs.Slices.{IsSound}
-use Rattle.mdv_store_law.specs.Going.{Adopts, drawn}
-use Rattle.mdv_store_law.specs.Log.{NoCreation}
-use Rattle.mdv_store_law.specs.Site.{Site, IsFound, Newest}
-use Rattle.mdv_store_law.specs.Standing.{GoesOn, GoesOnTo, IsNewestIn, IsOpened, ShowsNothing}
-use Rattle.mdv_store_law.specs.Steps.{IsAdopted, MayTake, Takes, Rewriting, Rewritten, Rewrites, adopted_newest}
 use Rattle.mdv_store_law.proofs.Adopting.{adoptions_go}
 use Rattle.mdv_store_law.proofs.Covering.{kept_covers, not_firm}
 use Rattle.mdv_database.specs.declared.database.BootEnd.{BootEnd}

@@ -1,23 +1,7 @@
 -- What the calls of a commit lead to.
 use Rattle.std.proofs.Common.{◌≡◌, ℕ, ◌+◌, ◌<◌, ◌^◌, List, subst, Option}
-use Rattle.mdv_base.specs.declared.mark.Mark.{Mark}
-use Rattle.mdv_base.specs.declared.name.Key.{Key}
-use Rattle.mdv_name.specs.declared.geometry.Geometry.{Geometry}
-use Rattle.mdv_replica.specs.declared.replica.PlaceAt.{PlaceAt}
-use Rattle.mdv_replica.specs.declared.replica.Slot.{Slot}
-use Rattle.mdv_replica.specs.Form.{other_slot}
-use Rattle.mdv_replica.specs.Images.{Leaves}
-use Rattle.mdv_replica.specs.Replica.{with_blocks}
-use Rattle.mdv_shelf.specs.Moments.{Moments, Ends}
-use Rattle.mdv_shelf.specs.Tale.{Tale}
+use Rattle.mdv_database.specs.Below.{Mark, Key, Geometry, PlaceAt, Slot, other_slot, Leaves, with_blocks, Moments, Ends, Tale, Change, Table, Commits, IsWithNewest, next_mark, IsThisChange, NoCreation, Newest, Anything, GoesFrom, IsOpened, MayTake, Takes, next_newest}
 use Rattle.mdv_shelf.proofs.Moments.{moments_weaker}
-use Rattle.mdv_table.specs.declared.change.Change.{Change}
-use Rattle.mdv_table.specs.declared.table.Table.{Table}
-use Rattle.mdv_store_law.specs.Going.{Commits, IsWithNewest, next_mark}
-use Rattle.mdv_store_law.specs.Log.{IsThisChange, NoCreation}
-use Rattle.mdv_store_law.specs.Site.{Newest}
-use Rattle.mdv_store_law.specs.Standing.{Anything, GoesFrom, IsOpened}
-use Rattle.mdv_store_law.specs.Steps.{MayTake, Takes, next_newest}
 use Rattle.mdv_store_law.proofs.Committing.{commits_go}
 use Rattle.mdv_database.specs.Database.{IsCommitted, IsQuiet, MayCommit, site_of}
 use Rattle.mdv_database.proofs.Quiet.{quiet_sized}

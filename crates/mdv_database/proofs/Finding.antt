@@ -1,13 +1,8 @@
 -- What a boot finds of a replica, from its head and its slots.
 use Rattle.std.proofs.Common.{◌≡◌, ℕ, true, List, ◌+◌, length, sym, subst, Option, Some, None, IfSome}
-use Rattle.mdv_record.specs.Text.{record_text}
-use Rattle.mdv_replica.specs.declared.replica.Head.{Head}
-use Rattle.mdv_replica.specs.Form.{IsSpareSlot, other_slot, shows}
-use Rattle.mdv_replica.specs.Replica.{IsHead, with_blocks}
+use Rattle.mdv_database.specs.Below.{record_text, Head, IsSpareSlot, other_slot, shows, IsHead, with_blocks, Site, IsReplica, IsTheReplica}
 use Rattle.mdv_replica.proofs.Heads.{one_head}
 use Rattle.mdv_replica.proofs.Newest.{newest_stays}
-use Rattle.mdv_store_law.specs.Site.{Site, IsReplica}
-use Rattle.mdv_store_law.specs.Steps.{IsTheReplica}
 use Rattle.mdv_database.specs.declared.looking.Found.{Found}
 use Rattle.mdv_database.specs.Database.{IsInHand, IsLookedAt}
 use Rattle.mdv_database.specs.Slots.{BothFit, IsTableOf}

@@ -1,23 +1,7 @@
 -- What the calls of a creation lead to.
 use Rattle.std.proofs.Common.{◌≡◌, ℕ, ◌≤◌, false, List, [], refl, subst, Option}
-use Rattle.mdv_base.specs.declared.mark.Identity.{Identity}
-use Rattle.mdv_base.specs.declared.name.Key.{Key}
-use Rattle.mdv_name.specs.declared.geometry.Geometry.{Geometry}
-use Rattle.mdv_replica.specs.declared.forms.Master.{Master}
-use Rattle.mdv_replica.specs.declared.replica.PlaceAt.{PlaceAt}
-use Rattle.mdv_replica.specs.declared.replica.Slot.TheVariants.{First}
-use Rattle.mdv_replica.specs.Forms.{IsMaster}
-use Rattle.mdv_replica.specs.Images.{Image, Leaves}
-use Rattle.mdv_replica.specs.Replica.{Formatting, IsFormatted, IsPlaced, master_of}
-use Rattle.mdv_shelf.specs.Moments.{Moments, Ends}
-use Rattle.mdv_shelf.specs.Tale.{Tale, IsImage}
+use Rattle.mdv_database.specs.Below.{Identity, Key, Geometry, Master, PlaceAt, First, IsMaster, Image, Leaves, Formatting, IsFormatted, IsPlaced, master_of, Moments, Ends, Tale, IsImage, Table, Creates, IsCreated, created_head, created_newest, first_mark, IsThis, is_firm, Site, IsNewestOf, IsTableAt, GoesOn, GoesOnTo, IsOpened, ShowsNothing, MayTake, Takes}
 use Rattle.mdv_shelf.proofs.Moments.{moments_after, moments_end, moments_more, moments_weaker, ends_more}
-use Rattle.mdv_table.specs.declared.table.Table.{Table}
-use Rattle.mdv_store_law.specs.Going.{Creates, IsCreated, created_head, created_newest, first_mark}
-use Rattle.mdv_store_law.specs.Log.{IsThis, is_firm}
-use Rattle.mdv_store_law.specs.Site.{Site, IsNewestOf, IsTableAt}
-use Rattle.mdv_store_law.specs.Standing.{GoesOn, GoesOnTo, IsOpened, ShowsNothing}
-use Rattle.mdv_store_law.specs.Steps.{MayTake, Takes}
 use Rattle.mdv_store_law.proofs.Creating.{creations_go}
 use Rattle.mdv_database.specs.Database.{IsQuiet, IsSafe, first_table, site_of}
 use Rattle.mdv_database.proofs.Quiet.{quiet_format, quiet_more}

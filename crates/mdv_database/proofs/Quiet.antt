@@ -1,21 +1,10 @@
 -- Calls that tell nothing and touch nothing outside a replica's place.
 use Rattle.std.proofs.Common.{◌≡◌, ℕ, ◌+◌, ◌≤◌, subst, slice_index_or, false, List, length, Option, Some, None, IfSome, refl, sym, ◌∙◌, ap, arith}
-use Rattle.mdv_base.specs.declared.mark.Mark.{Mark}
-use Rattle.mdv_shelf.specs.Tale.{Tale, Then, Synced}
-use Rattle.mdv_shelf.specs.Area.{KeptOutside, range, nowhere}
-use Rattle.mdv_shelf.specs.Calls.{and_then}
-use Rattle.mdv_shelf.specs.Moments.{Moments, Ends}
-use Rattle.mdv_shelf.specs.Settle.{Settling, IsSynced}
+use Rattle.mdv_database.specs.Below.{Mark, Tale, Then, Synced, KeptOutside, range, nowhere, and_then, Moments, Ends, Settling, IsSynced, PlaceAt, Slot, First, Second, Master, SlotWriting, Formatting, head_area, slot_area, slot_blocks, IsPlaced, IsFormed, with_blocks, Head}
 use Rattle.mdv_shelf.proofs.Blocks.{kept_unwritten}
 use Rattle.mdv_shelf.proofs.Frame.{kept_outside_same, kept_outside_more, kept_outside_wider, within_range}
 use Rattle.mdv_shelf.proofs.Moments.{grew_one}
 use Rattle.mdv_shelf.proofs.Settled.{told_synced, synced_drive}
-use Rattle.mdv_replica.specs.declared.replica.PlaceAt.{PlaceAt}
-use Rattle.mdv_replica.specs.declared.replica.Slot.{Slot}
-use Rattle.mdv_replica.specs.declared.replica.Slot.TheVariants.{First, Second}
-use Rattle.mdv_replica.specs.declared.forms.Master.{Master}
-use Rattle.mdv_replica.specs.Replica.{SlotWriting, Formatting, head_area, slot_area, slot_blocks, IsPlaced, IsFormed, with_blocks}
-use Rattle.mdv_replica.specs.declared.replica.Head.{Head}
 use Rattle.mdv_database.specs.Database.{IsOnDrive, IsQuiet}
 
 pub quiet_same : (at : PlaceAt) (t : Tale) → IsQuiet at t t

@@ -1,28 +1,6 @@
 -- The database of one place: what a boot finds and leaves, and what a creation and a commit leave.
 use Rattle.std.specs.Prelude.{◌≡◌, ℕ, ◌+◌, ◌≤◌, ◌<◌, ◌^◌, true, false, List, [], ◌∷◌, length, slice_index_or, Option, Some, None, Result, Ok, Err}
-use Rattle.mdv_base.specs.declared.mark.Identity.{Identity}
-use Rattle.mdv_base.specs.declared.name.Key.{Key}
-use Rattle.mdv_base.specs.declared.place.Place.{Place}
-use Rattle.mdv_name.specs.declared.geometry.Geometry.{Geometry}
-use Rattle.mdv_record.specs.Text.{record_text}
-use Rattle.mdv_replica.specs.declared.replica.PlaceAt.{PlaceAt}
-use Rattle.mdv_replica.specs.declared.replica.Head.{Head}
-use Rattle.mdv_replica.specs.declared.replica.Slot.TheVariants.{First, Second}
-use Rattle.mdv_replica.specs.Form.{IsSpareSlot, greatest, other_slot, room_of, shows}
-use Rattle.mdv_replica.specs.Images.{Image}
-use Rattle.mdv_replica.specs.Replica.{IsFormed, slot_blocks, with_blocks}
-use Rattle.mdv_shelf.specs.Area.{range, KeptOutside}
-use Rattle.mdv_shelf.specs.Settle.{IsSynced}
-use Rattle.mdv_shelf.specs.Tale.{Tale, IsImage, last, told}
-use Rattle.mdv_table.specs.declared.change.Change.{Change}
-use Rattle.mdv_table.specs.declared.plan.Lists.TheVariants.{One}
-use Rattle.mdv_table.specs.declared.table.Table.{Table}
-use Rattle.mdv_table.specs.Slices.{IsSound}
-use Rattle.mdv_store_law.specs.Going.{IsCreated, created_head, first_mark}
-use Rattle.mdv_store_law.specs.Log.{Log, IsMade, IsTellable, is_firm}
-use Rattle.mdv_store_law.specs.Site.{Site, IsFound, IsNewestOf, IsReplica, IsTableAt, Newest}
-use Rattle.mdv_store_law.specs.Standing.{IsNewestIn, IsOpened}
-use Rattle.mdv_store_law.specs.Steps.{IsTheReplica, adopted_newest, next_newest}
+use Rattle.mdv_database.specs.Below.{Identity, Key, Place, Geometry, record_text, PlaceAt, Head, First, Second, IsSpareSlot, greatest, other_slot, room_of, shows, Image, IsFormed, slot_blocks, with_blocks, range, KeptOutside, IsSynced, Tale, IsImage, last, told, Change, One, Table, IsSound, IsCreated, created_head, first_mark, Log, IsMade, IsTellable, is_firm, Site, IsFound, IsNewestOf, IsReplica, IsTableAt, Newest, IsNewestIn, IsOpened, IsTheReplica, adopted_newest, next_newest}
 use Rattle.mdv_database.specs.declared.database.BootEnd.{BootEnd}
 use Rattle.mdv_database.specs.declared.database.BootEnd.TheVariants as end
 use Rattle.mdv_database.specs.declared.database.CommitFault.{CommitFault}

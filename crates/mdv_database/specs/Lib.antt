@@ -1,3 +1,4 @@
+pub mod Below
 pub mod Open
 pub mod Slots
 pub mod Database

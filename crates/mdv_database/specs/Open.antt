@@ -1,7 +1,6 @@
 -- What holds of each open database.
 use Rattle.std.specs.Prelude.{◌≡◌, ℕ, ◌≤◌, ◌<◌, ◌^◌}
-use Rattle.mdv_base.specs.declared.mark.Mark.{Mark}
-use Rattle.mdv_replica.specs.Replica.{slot_blocks}
+use Rattle.mdv_database.specs.Below.{Mark, slot_blocks}
 
 -- the numbers of an open database, which has room for the longest text that a slot takes
 pub record IsOpen (blocks : ℕ) (mark : Mark) (room : ℕ) : Type 0 where

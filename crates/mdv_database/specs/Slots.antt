@@ -1,18 +1,6 @@
 -- What the slots of a replica have, as a boot reads it.
 use Rattle.std.specs.Prelude.{◌≡◌, ℕ, ◌+◌, ◌/◌, ◌≤◌, max, List, length, Option, Some, None}
-use Rattle.mdv_base.specs.declared.mark.Mark.{Mark}
-use Rattle.mdv_name.specs.declared.geometry.Geometry.{Geometry}
-use Rattle.mdv_record.specs.Text.{record_text}
-use Rattle.mdv_replica.specs.declared.forms.Gate.{Gate}
-use Rattle.mdv_replica.specs.declared.forms.Gate.TheVariants.{Closed, Open}
-use Rattle.mdv_replica.specs.declared.replica.PlaceAt.{PlaceAt}
-use Rattle.mdv_replica.specs.declared.replica.Head.{Head}
-use Rattle.mdv_replica.specs.declared.replica.Slot.{Slot}
-use Rattle.mdv_replica.specs.declared.replica.Slot.TheVariants.{First, Second}
-use Rattle.mdv_replica.specs.Form.{SlotFits, gate_of, other_slot, room_of, text_of}
-use Rattle.mdv_replica.specs.Replica.{with_blocks}
-use Rattle.mdv_table.specs.declared.table.Table.{Table}
-use Rattle.mdv_store_law.specs.Site.{IsTableAt, IsRecordAt}
+use Rattle.mdv_database.specs.Below.{Mark, Geometry, record_text, Gate, Closed, Open, PlaceAt, Head, Slot, First, Second, SlotFits, gate_of, other_slot, room_of, text_of, with_blocks, Table, IsTableAt, IsRecordAt}
 use Rattle.mdv_database.specs.declared.body.ReadFault.{ReadFault}
 use Rattle.mdv_database.specs.declared.body.ReadFault.TheVariants.{Failed, Memory}
 use Rattle.mdv_database.specs.declared.looking.Found.{Found}

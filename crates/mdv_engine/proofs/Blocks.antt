@@ -1,20 +1,8 @@
 -- What a read and a write of a volume's blocks come to.
 use Rattle.std.proofs.Common.{◌≡◌, inl, inr, ℕ, List, [], ◌∷◌, Option, refl, ◌∙◌, arith}
-use Rattle.mdv_base.specs.declared.name.VolId.{VolId}
-use Rattle.mdv_base.specs.declared.refusal.Refusal.{Refusal}
-use Rattle.mdv_base.specs.declared.refusal.Refusal.TheVariants.{IoFault, OutOfMemory}
-use Rattle.mdv_shelf.specs.Moments.{Moments, Ends}
-use Rattle.mdv_shelf.specs.Settle.{IsSettled, Settling}
-use Rattle.mdv_shelf.specs.Tale.{Tale}
+use Rattle.mdv_engine.specs.Below.{VolId, Refusal, IoFault, OutOfMemory, Moments, Ends, IsSettled, Settling, Tale, Read, Write, Deed, Wrote, Host, IsReady, StaysHome, Memory, AreBlocksAt, AreBlocksRefused, IsCarriedOut, kept_at, IsPlain, CarriedTo, CarryMoment, Knows}
 use Rattle.mdv_shelf.proofs.Moments.{moments_end, moments_none, moments_weaker, ends_both}
-use Rattle.mdv_words.specs.declared.command.Command.TheVariants.{Read, Write}
-use Rattle.mdv_history.specs.History.{Deed, Wrote}
 use Rattle.mdv_engine_law.specs.declared.answer.Answer.TheVariants as outcome
-use Rattle.mdv_engine_law.specs.declared.host.Host.{Host}
-use Rattle.mdv_engine_law.specs.Home.{IsReady, StaysHome}
-use Rattle.mdv_engine_law.specs.Line.{Memory, AreBlocksAt, AreBlocksRefused, IsCarriedOut, kept_at}
-use Rattle.mdv_engine_law.specs.Replies.{IsPlain}
-use Rattle.mdv_engine_law.specs.Standing.{CarriedTo, CarryMoment, Knows}
 use Rattle.mdv_engine_law.proofs.Keeping.{are_put, may_be_put}
 use Rattle.mdv_engine_law.proofs.Plain.{blocks_plain, fault_plain, memory_plain}
 use Rattle.mdv_engine_law.proofs.Staying.{nothing_stays, stays_in_volume}

@@ -1,24 +1,8 @@
 -- What a boot of the host's database leaves, told of the host.
 use Rattle.std.proofs.Common.{◌≡◌, ℕ, false, List, Option, Some, None, refl, sym, subst, ap, ◌∙◌}
-use Rattle.mdv_home.specs.Home.{place_of}
-use Rattle.mdv_replica.specs.declared.replica.PlaceAt.{PlaceAt}
-use Rattle.mdv_replica.specs.Replica.{with_blocks}
-use Rattle.mdv_replica.specs.Form.{other_slot}
-use Rattle.mdv_shelf.specs.Area.{KeptOutside, nowhere}
-use Rattle.mdv_shelf.specs.Moments.{Moments, Ends}
-use Rattle.mdv_shelf.specs.Settle.{IsSynced}
-use Rattle.mdv_shelf.specs.Tale.{Tale, last}
+use Rattle.mdv_engine.specs.Below.{place_of, PlaceAt, with_blocks, other_slot, KeptOutside, nowhere, Moments, Ends, IsSynced, Tale, last, NoCreation, is_firm, Site, Newest, IsFound, IsTableAt, GoesOn, GoesOnTo, IsNewestIn, IsOpened, ShowsNothing, IsAdopted, IsDrawn, IsQuiet, IsSpent, Host, IsReady, site_of, Memory, IsRebooted, IsUsedUp, adopted, empty, down, kept_at, unbooted, BootMoment, BootedTo}
 use Rattle.mdv_shelf.proofs.Moments.{moments_both, moments_weaker, moments_end, ends_both}
-use Rattle.mdv_store_law.specs.Log.{NoCreation, is_firm}
-use Rattle.mdv_store_law.specs.Site.{Site, Newest, IsFound, IsTableAt}
-use Rattle.mdv_store_law.specs.Standing.{GoesOn, GoesOnTo, IsNewestIn, IsOpened, ShowsNothing}
-use Rattle.mdv_store_law.specs.Steps.{IsAdopted}
-use Rattle.mdv_database.specs.Database.{IsDrawn, IsQuiet, IsSpent}
 use Rattle.mdv_engine_law.specs.declared.answer.Answer.TheVariants as outcome
-use Rattle.mdv_engine_law.specs.declared.host.Host.{Host}
-use Rattle.mdv_engine_law.specs.Home.{IsReady, site_of}
-use Rattle.mdv_engine_law.specs.Line.{Memory, IsRebooted, IsUsedUp, adopted, empty, down, kept_at, unbooted}
-use Rattle.mdv_engine_law.specs.Standing.{BootMoment, BootedTo}
 use Rattle.mdv_engine_law.proofs.Booting.{boot_moment, booted, booted_adopted, booted_down, booted_empty, unread}
 use Rattle.mdv_engine_law.proofs.Keeping.{rewritten_newest, same_content}
 use Rattle.mdv_engine.specs.Engine.{IsWell}

@@ -1,19 +1,8 @@
 -- What a commit of the open database answers and leaves, told of the host, by the answer of the database.
 use Rattle.std.proofs.Common.{◌≡◌, ◌≤◌, ◌<◌, ◌⊎◌, ℕ, [], ◌∷◌, Option, Some, Err, Result, refl, sym, subst, ap, ◌∙◌, arith}
-use Rattle.mdv_base.specs.declared.refusal.Refusal.{Refusal}
-use Rattle.mdv_database.specs.declared.database.CommitFault.{CommitFault}
+use Rattle.mdv_engine.specs.Below.{Refusal, CommitFault, TooLong, Ends, Tale, Change, Newest, Changed, Answer, Host, Memory, kept_at, CarriedTo, Knows}
 use Rattle.mdv_database.specs.declared.database.CommitFault.TheVariants as unwritten
-use Rattle.mdv_record.specs.declared.record.TooLong.{TooLong}
-use Rattle.mdv_shelf.specs.Moments.{Ends}
-use Rattle.mdv_shelf.specs.Tale.{Tale}
-use Rattle.mdv_table.specs.declared.change.Change.{Change}
-use Rattle.mdv_store_law.specs.Site.{Newest}
-use Rattle.mdv_history.specs.History.{Changed}
-use Rattle.mdv_engine_law.specs.declared.answer.Answer.{Answer}
 use Rattle.mdv_engine_law.specs.declared.answer.Answer.TheVariants as outcome
-use Rattle.mdv_engine_law.specs.declared.host.Host.{Host}
-use Rattle.mdv_engine_law.specs.Line.{Memory, kept_at}
-use Rattle.mdv_engine_law.specs.Standing.{CarriedTo, Knows}
 use Rattle.mdv_engine_law.proofs.Refusing.{refused_still, spent_still}
 use Rattle.mdv_engine.specs.Engine.{IsCommit}
 

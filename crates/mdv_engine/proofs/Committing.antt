@@ -1,36 +1,9 @@
 -- What a commit of the host's next table leaves, told of the host.
 use Rattle.std.proofs.Common.{◌≡◌, ◌≤◌, ◌<◌, ◌+◌, ◌^◌, inl, inr, ℕ, List, [], ◌∷◌, length, Option, Some, refl, sym, subst, ◌∙◌}
-use Rattle.mdv_base.specs.declared.name.VolId.{VolId}
-use Rattle.mdv_base.specs.declared.drive.SliceName.{SliceName}
-use Rattle.mdv_base.specs.declared.refusal.Refusal.{Refusal}
-use Rattle.mdv_base.specs.declared.refusal.Refusal.TheVariants.{NoSuchSlice, NameTaken, WrongKind, SliceInUse, ReplicaFull, OutOfMemory}
-use Rattle.mdv_home.specs.Home.{place_of}
-use Rattle.mdv_name.specs.declared.geometry.Geometry.{Geometry}
-use Rattle.mdv_record.specs.Text.{record_text}
-use Rattle.mdv_replica.specs.declared.replica.PlaceAt.{PlaceAt}
-use Rattle.mdv_shelf.specs.Moments.{Moments, Ends}
-use Rattle.mdv_shelf.specs.Tale.{Tale}
+use Rattle.mdv_engine.specs.Below.{VolId, SliceName, Refusal, NoSuchSlice, NameTaken, WrongKind, SliceInUse, ReplicaFull, OutOfMemory, place_of, Geometry, record_text, PlaceAt, Moments, Ends, Tale, Change, MakeStripe, Table, IsRefused, IsOfGeometry, IsWithNewest, Log, IsMade, IsThisChange, NoCreation, Site, Newest, Anything, GoesFrom, IsOpened, next_newest, Changed, IsCommitted, IsQuiet, MayCommit, Answer, Host, IsReady, site_of, Memory, IsCarriedOut, IsChanged, kept_at, record_room, IsPlain, CarriedTo, CarryMoment, Knows}
 use Rattle.mdv_shelf.proofs.Moments.{moments_both, moments_weaker, moments_end, some_is, ends_both}
-use Rattle.mdv_table.specs.declared.change.Change.{Change}
-use Rattle.mdv_table.specs.declared.change.Change.TheVariants.{MakeStripe}
-use Rattle.mdv_table.specs.declared.table.Table.{Table}
-use Rattle.mdv_table.specs.Change.{IsRefused}
-use Rattle.mdv_table.specs.Table.{IsOfGeometry}
 use Rattle.mdv_words.specs.declared.command.Command.TheVariants as command
-use Rattle.mdv_store_law.specs.Going.{IsWithNewest}
-use Rattle.mdv_store_law.specs.Log.{Log, IsMade, IsThisChange, NoCreation}
-use Rattle.mdv_store_law.specs.Site.{Site, Newest}
-use Rattle.mdv_store_law.specs.Standing.{Anything, GoesFrom, IsOpened}
-use Rattle.mdv_store_law.specs.Steps.{next_newest}
-use Rattle.mdv_history.specs.History.{Changed}
-use Rattle.mdv_database.specs.Database.{IsCommitted, IsQuiet, MayCommit}
-use Rattle.mdv_engine_law.specs.declared.answer.Answer.{Answer}
 use Rattle.mdv_engine_law.specs.declared.answer.Answer.TheVariants as outcome
-use Rattle.mdv_engine_law.specs.declared.host.Host.{Host}
-use Rattle.mdv_engine_law.specs.Home.{IsReady, site_of}
-use Rattle.mdv_engine_law.specs.Line.{Memory, IsCarriedOut, IsChanged, kept_at, record_room}
-use Rattle.mdv_engine_law.specs.Replies.{IsPlain}
-use Rattle.mdv_engine_law.specs.Standing.{CarriedTo, CarryMoment, Knows}
 use Rattle.mdv_engine_law.proofs.Changing.{Commits, IsCommittedTo, changing_moment, changed, changed_or_lost}
 use Rattle.mdv_engine_law.proofs.Keeping.{committed}
 use Rattle.mdv_engine_law.proofs.Plain.{change_plain, memory_plain}

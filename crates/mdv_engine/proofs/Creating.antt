@@ -1,23 +1,8 @@
 -- What a creation of the host's database leaves, told of the host.
 use Rattle.std.proofs.Common.{◌≡◌, ◌≤◌, ◌+◌, inl, inr, ℕ, false, List, [], ◌∷◌, Option, Some, None, refl, subst, ap, ◌∙◌}
-use Rattle.mdv_base.specs.declared.mark.Identity.{Identity}
-use Rattle.mdv_base.specs.declared.refusal.Refusal.TheVariants.{IoFault, OutOfMemory}
-use Rattle.mdv_home.specs.Home.{place_of}
-use Rattle.mdv_replica.specs.declared.replica.PlaceAt.{PlaceAt}
-use Rattle.mdv_shelf.specs.Moments.{Moments, Ends}
-use Rattle.mdv_shelf.specs.Tale.{Tale}
+use Rattle.mdv_engine.specs.Below.{Identity, IoFault, OutOfMemory, place_of, PlaceAt, Moments, Ends, Tale, IsCreated, Log, IsThis, is_firm, Site, Newest, Anything, GoesOnTo, IsOpened, ShowsNothing, Created, IsQuiet, IsSafe, first_newest, first_table, Host, IsReady, site_of, identity_of, Memory, IsCreation, kept_at, CarriedTo, CarryMoment, Knows}
 use Rattle.mdv_shelf.proofs.Moments.{moments_both, moments_weaker, moments_end, ends_both}
-use Rattle.mdv_store_law.specs.Going.{IsCreated}
-use Rattle.mdv_store_law.specs.Log.{Log, IsThis, is_firm}
-use Rattle.mdv_store_law.specs.Site.{Site, Newest}
-use Rattle.mdv_store_law.specs.Standing.{Anything, GoesOnTo, IsOpened, ShowsNothing}
-use Rattle.mdv_history.specs.History.{Created}
-use Rattle.mdv_database.specs.Database.{IsQuiet, IsSafe, first_newest, first_table}
 use Rattle.mdv_engine_law.specs.declared.answer.Answer.TheVariants as outcome
-use Rattle.mdv_engine_law.specs.declared.host.Host.{Host}
-use Rattle.mdv_engine_law.specs.Home.{IsReady, site_of, identity_of}
-use Rattle.mdv_engine_law.specs.Line.{Memory, IsCreation, kept_at}
-use Rattle.mdv_engine_law.specs.Standing.{CarriedTo, CarryMoment, Knows}
 use Rattle.mdv_engine_law.proofs.Keeping.{created, uncreated}
 use Rattle.mdv_engine_law.proofs.Making.{Makes, making_moment, made, unmade, made_or_lost}
 use Rattle.mdv_engine_law.proofs.Refusing.{refused_still}

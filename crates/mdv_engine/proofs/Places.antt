@@ -2,28 +2,11 @@
 use Rattle.std.proofs.Common.{◌≡◌, inl, inr, ◌≤◌, ◌+◌, ◌^◌, ℕ, true, false, List, Option, Some, None, IfSome, IfNone, refl, subst, ap, ◌∙◌, Contains, arith}
 use Rattle.std.proofs.lemmas.List.Elements.{All-contains}
 use Rattle.std.specs.Option.{is_some}
-use Rattle.mdv_base.specs.declared.name.VolId.{VolId}
-use Rattle.mdv_base.specs.declared.drive.SliceName.{SliceName}
+use Rattle.mdv_engine.specs.Below.{VolId, SliceName, IsHomeTable, IsWithin, HasSlice, HasNoSlice, SliceAt, Table, Base, Slice, Volume, VolumeKind, Stripe, IsComponentOn, IsKindOf, IsStripeOf, IsWholeSlice, HasVolume, HasNoVolume, Newest, LiesOn, Host, site_of, Memory, HasVolumeOn, IsSound as IsSoundMemory}
 use Rattle.mdv_shelf.proofs.Blocks.{both_ways}
-use Rattle.mdv_home.specs.Placed.{IsHomeTable, IsWithin}
 use Rattle.mdv_home.proofs.Places.{slices_within}
-use Rattle.mdv_name.specs.SliceIndex.{HasSlice, HasNoSlice}
-use Rattle.mdv_name.specs.declared.slice_lines.SliceAt.{SliceAt}
-use Rattle.mdv_table.specs.declared.table.Table.{Table}
-use Rattle.mdv_table.specs.declared.volume.Base.{Base}
-use Rattle.mdv_table.specs.declared.volume.Base.TheVariants.{Slice}
 use Rattle.mdv_table.specs.declared.volume.Stripe.{Stripe as OneStripe}
-use Rattle.mdv_table.specs.declared.volume.Volume.{Volume}
-use Rattle.mdv_table.specs.declared.volume.VolumeKind.{VolumeKind}
-use Rattle.mdv_table.specs.declared.volume.VolumeKind.TheVariants.{Stripe}
 use Rattle.mdv_table.specs.Slices.{IsSound}
-use Rattle.mdv_table.specs.Table.{IsComponentOn, IsKindOf, IsStripeOf, IsWholeSlice}
-use Rattle.mdv_table.specs.Volumes.{HasVolume, HasNoVolume}
-use Rattle.mdv_store_law.specs.Site.{Newest}
-use Rattle.mdv_history.specs.History.{LiesOn}
-use Rattle.mdv_engine_law.specs.declared.host.Host.{Host}
-use Rattle.mdv_engine_law.specs.Home.{site_of}
-use Rattle.mdv_engine_law.specs.Line.{Memory, HasVolumeOn, IsSound as IsSoundMemory}
 use Rattle.mdv_engine_law.proofs.Refusing.{opened_has}
 use Rattle.mdv_engine.specs.Engine.{HasBlocks, IsTableOf, IsWell}
 

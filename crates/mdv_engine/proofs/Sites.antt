@@ -1,24 +1,9 @@
 -- Where the database of a host's home lies, and what is said there of the place that the code computed.
 use Rattle.std.proofs.Common.{◌≡◌, ◌+◌, ◌≤◌, ℕ, List, [], ◌∷◌, Option, refl, sym, subst, ap, arith}
 use Rattle.std.proofs.lemmas.List.Elements.{All-head}
-use Rattle.mdv_base.specs.declared.name.Key.TheVariants.{Local}
-use Rattle.mdv_base.specs.declared.place.Place.{Place}
-use Rattle.mdv_home.specs.Home.{line_of, place_of}
-use Rattle.mdv_name.specs.declared.slice_lines.SliceAt.{SliceAt}
-use Rattle.mdv_replica.specs.declared.replica.PlaceAt.{PlaceAt}
-use Rattle.mdv_replica.specs.Replica.{IsPlaced, with_blocks}
-use Rattle.mdv_shelf.specs.Area.{KeptOutside}
-use Rattle.mdv_shelf.specs.Moments.{Moments}
-use Rattle.mdv_shelf.specs.Tale.{Tale}
+use Rattle.mdv_engine.specs.Below.{Local, Place, line_of, place_of, SliceAt, PlaceAt, IsPlaced, with_blocks, KeptOutside, Moments, Tale, One, Table, IsListsOf, IsPlaceOf, Site, area_of, IsOnDrive, IsQuiet, Host, IsReady, StaysHome, site_of}
 use Rattle.mdv_shelf.proofs.Moments.{moments_weaker}
-use Rattle.mdv_table.specs.declared.plan.Lists.TheVariants.{One}
-use Rattle.mdv_table.specs.declared.table.Table.{Table}
-use Rattle.mdv_table.specs.Table.{IsListsOf, IsPlaceOf}
-use Rattle.mdv_store_law.specs.Site.{Site, area_of}
 use Rattle.mdv_database.specs.Database as database
-use Rattle.mdv_database.specs.Database.{IsOnDrive, IsQuiet}
-use Rattle.mdv_engine_law.specs.declared.host.Host.{Host}
-use Rattle.mdv_engine_law.specs.Home.{IsReady, StaysHome, site_of}
 use Rattle.mdv_engine_law.proofs.Lifting.{site_here}
 use Rattle.mdv_engine_law.proofs.Staying.{stays_in_replica}
 use Rattle.mdv_engine.specs.Engine.{IsTableOf}

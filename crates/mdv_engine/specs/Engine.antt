@@ -1,19 +1,8 @@
 -- What an engine keeps, what its boots answer, and why blocks and changes are refused.
 use Rattle.std.specs.Prelude.{◌≡◌, ◌≢◌, ◌⊎◌, ◌≤◌, ℕ, Some, None, IfSome, Result, Ok, Err}
-use Rattle.mdv_base.specs.declared.name.VolId.{VolId}
-use Rattle.mdv_base.specs.declared.refusal.Refusal.{Refusal}
-use Rattle.mdv_base.specs.declared.refusal.Refusal.TheVariants.{IoFault, OutOfMemory}
-use Rattle.mdv_replica.specs.Replica.{with_blocks}
-use Rattle.mdv_table.specs.declared.change.Change.{Change}
-use Rattle.mdv_table.specs.declared.table.Table.{Table}
-use Rattle.mdv_store_law.specs.Site.{Newest, IsTableAt}
-use Rattle.mdv_engine_law.specs.declared.answer.Answer.{Answer}
+use Rattle.mdv_engine.specs.Below.{VolId, Refusal, IoFault, OutOfMemory, with_blocks, Change, Table, Newest, IsTableAt, Answer, BootRefusal, Host, site_of, Memory, Kept, IsSound, IsTurnedDown, IsChanged, IsChangeRefused, MayChange, IsChange, AreBlocksAt, AreBlocksRefused}
 use Rattle.mdv_engine_law.specs.declared.answer.Answer.TheVariants as outcome
-use Rattle.mdv_engine_law.specs.declared.answer.BootRefusal.{BootRefusal}
 use Rattle.mdv_engine_law.specs.declared.answer.BootRefusal.TheVariants as refusal
-use Rattle.mdv_engine_law.specs.declared.host.Host.{Host}
-use Rattle.mdv_engine_law.specs.Home.{site_of}
-use Rattle.mdv_engine_law.specs.Line.{Memory, Kept, IsSound, IsTurnedDown, IsChanged, IsChangeRefused, MayChange, IsChange, AreBlocksAt, AreBlocksRefused}
 
 -- the table is one of the host's table of drives, and names the place of its replica, which has so many blocks
 abbrev pub IsTableOf : Host → ℕ → Table → Type 0

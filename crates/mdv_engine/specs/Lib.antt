@@ -1,2 +1,3 @@
+pub mod Below
 pub use Rattle.mdv_base.specs.Causes
 pub mod Engine

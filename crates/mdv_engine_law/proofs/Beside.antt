@@ -2,33 +2,11 @@
 use Rattle.std.proofs.Common.{◌≡◌, ◌≢◌, inl, inr, ◌+◌, ◌≤◌, ◌<◌, ℕ, if◌then◌else◌, true, false, List, [], ◌∷◌, sym, ◌∙◌, ap, subst, arith}
 use Rattle.std.proofs.lemmas.Bool.Decides.{nat_tests}
 use Rattle.std.proofs.lemmas.List.Elements.{All-contains, All-head}
-use Rattle.mdv_base.specs.declared.drive.SliceName.{SliceName}
-use Rattle.mdv_base.specs.declared.name.VolId.{VolId}
-use Rattle.mdv_base.specs.declared.place.Place.{Place}
-use Rattle.mdv_home.specs.Home.{line_of}
-use Rattle.mdv_store_law.specs.Site.{Site, Newest, IsRecordAt, IsTableAt, IsNewestOf, sized}
-use Rattle.mdv_store_law.specs.Standing.{IsOpened}
+use Rattle.mdv_engine_law.specs.Below.{SliceName, VolId, Place, line_of, Site, Newest, IsRecordAt, IsTableAt, IsNewestOf, sized, IsOpened, HasSlice, SliceAt, SliceLine, Head, Slot, First, Second, text_of, Image, Area, AreApart, KeptOutside, range, Tale, last, IsImage, One, Base, Volume, VolumeKind, HasBlock, IsPlaceOf, IsListsOf, IsWholeSlice, IsComponentOn, IsStripeOf, IsKindOf, LiesOn}
 use Rattle.mdv_store_law.proofs.Covering.{last_image}
 use Rattle.mdv_store_law.proofs.Kept.{text_kept}
-use Rattle.mdv_name.specs.SliceIndex.{HasSlice}
-use Rattle.mdv_name.specs.declared.slice_lines.SliceAt.{SliceAt}
-use Rattle.mdv_name.specs.declared.slice_lines.SliceLine.{SliceLine}
-use Rattle.mdv_replica.specs.declared.replica.Head.{Head}
-use Rattle.mdv_replica.specs.declared.replica.Slot.{Slot}
-use Rattle.mdv_replica.specs.declared.replica.Slot.TheVariants.{First, Second}
-use Rattle.mdv_replica.specs.Form.{text_of}
-use Rattle.mdv_replica.specs.Images.{Image}
 use Rattle.mdv_replica.proofs.Readable.{readable_kept}
-use Rattle.mdv_shelf.specs.Area.{Area, AreApart, KeptOutside, range}
-use Rattle.mdv_shelf.specs.Tale.{Tale, last, IsImage}
 use Rattle.mdv_shelf.proofs.Blocks.{both_ways, last_may_be_left}
-use Rattle.mdv_table.specs.declared.plan.Lists.TheVariants.{One}
-use Rattle.mdv_table.specs.declared.volume.Base.{Base}
-use Rattle.mdv_table.specs.declared.volume.Volume.{Volume}
-use Rattle.mdv_table.specs.declared.volume.VolumeKind.{VolumeKind}
-use Rattle.mdv_table.specs.Slices.{HasBlock}
-use Rattle.mdv_table.specs.Table.{IsPlaceOf, IsListsOf, IsWholeSlice, IsComponentOn, IsStripeOf, IsKindOf}
-use Rattle.mdv_history.specs.History.{LiesOn}
 use Rattle.mdv_engine_law.specs.declared.host.Host.{Host}
 use Rattle.mdv_engine_law.specs.Home.{IsReady, site_of}
 

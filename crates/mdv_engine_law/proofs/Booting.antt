@@ -1,12 +1,6 @@
 -- What a boot leaves of a host's history, and what is known then.
 use Rattle.std.proofs.Common.{◌≡◌, ℕ, true, false, List, [], Option, Some, None, IfSome, sym, subst}
-use Rattle.mdv_shelf.specs.Area.{KeptOutside, nowhere}
-use Rattle.mdv_shelf.specs.Settle.{IsSynced}
-use Rattle.mdv_shelf.specs.Tale.{Tale, told}
-use Rattle.mdv_store_law.specs.Log.{Log, NoCreation, NoChange, is_firm}
-use Rattle.mdv_store_law.specs.Site.{Newest, area_of}
-use Rattle.mdv_store_law.specs.Standing.{ShowsNothing, IsOpened, IsNewestIn, Anything, GoesOn, GoesOnTo}
-use Rattle.mdv_history.specs.History.{History, Event, NoDeed, HasWoken}
+use Rattle.mdv_engine_law.specs.Below.{KeptOutside, nowhere, IsSynced, Tale, told, Log, NoCreation, NoChange, is_firm, Newest, area_of, ShowsNothing, IsOpened, IsNewestIn, Anything, GoesOn, GoesOnTo, History, Event, NoDeed, HasWoken}
 use Rattle.mdv_history.proofs.Histories.{woken_second}
 use Rattle.mdv_engine_law.specs.declared.host.Host.{Host}
 use Rattle.mdv_engine_law.specs.Home.{site_of}

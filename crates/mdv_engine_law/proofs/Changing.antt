@@ -1,15 +1,6 @@
 -- What a commit of a change leaves of a host's history.
 use Rattle.std.proofs.Common.{◌≡◌, List, [], ◌∷◌, Some, refl}
-use Rattle.mdv_shelf.specs.Area.{KeptOutside}
-use Rattle.mdv_shelf.specs.Tale.{Tale, told}
-use Rattle.mdv_table.specs.declared.change.Change.{Change}
-use Rattle.mdv_table.specs.declared.table.Table.{Table}
-use Rattle.mdv_store_law.specs.Going.{IsWithNewest}
-use Rattle.mdv_store_law.specs.Log.{Log, IsTellable, IsThisChange, NoCreation}
-use Rattle.mdv_store_law.specs.Site.{Newest, area_of}
-use Rattle.mdv_store_law.specs.Standing.{IsOpened, IsNewestIn, Anything, GoesFrom}
-use Rattle.mdv_store_law.specs.Steps.{next_newest}
-use Rattle.mdv_history.specs.History.{History, Changed, Event}
+use Rattle.mdv_engine_law.specs.Below.{KeptOutside, Tale, told, Change, Table, IsWithNewest, Log, IsTellable, IsThisChange, NoCreation, Newest, area_of, IsOpened, IsNewestIn, Anything, GoesFrom, next_newest, History, Changed, Event}
 use Rattle.mdv_engine_law.specs.declared.answer.Answer.TheVariants as outcome
 use Rattle.mdv_engine_law.specs.declared.host.Host.{Host}
 use Rattle.mdv_engine_law.specs.Home.{site_of}

@@ -1,16 +1,9 @@
 -- Telling a deed is one event, which leaves the tables of the database as they are: what was known is known.
 use Rattle.std.proofs.Common.{◌≡◌, ◌+◌, List, [], ◌∷◌, Option, Some, None, refl}
-use Rattle.mdv_shelf.specs.Area.{KeptOutside, nowhere}
-use Rattle.mdv_shelf.specs.Tale.{Tale}
+use Rattle.mdv_engine_law.specs.Below.{KeptOutside, nowhere, Tale, Change, IsTellable, Site, History, Deed, Created, Changed, Wrote, Saw, Event, Extent, OfDatabase, Acknowledges, Shows, MayHappen, IsIssue, history_after, told_by, CanTell, Stands}
 use Rattle.mdv_shelf.proofs.Frame.{fixed_kept}
-use Rattle.mdv_table.specs.declared.change.Change.{Change}
 use Rattle.mdv_store_law.specs.Log as log
-use Rattle.mdv_store_law.specs.Log.{IsTellable}
-use Rattle.mdv_store_law.specs.Site.{Site}
 use Rattle.mdv_store_law.proofs.Logs.{courses_are_logs, told_covers}
-use Rattle.mdv_history.specs.History.{History, Deed, Created, Changed, Wrote, Saw, Event, Extent, OfDatabase, Acknowledges, Shows, MayHappen, IsIssue, history_after, told_by}
-use Rattle.mdv_history.specs.Laws.{CanTell}
-use Rattle.mdv_history.specs.Standing.{Stands}
 use Rattle.mdv_history.proofs.Values.{values_settled}
 use Rattle.mdv_engine_law.specs.declared.host.Host.{Host}
 use Rattle.mdv_engine_law.specs.Home.{site_of}

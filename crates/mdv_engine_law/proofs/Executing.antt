@@ -1,11 +1,7 @@
 -- What a command came to, told of the longer stretch that its reply ends.
 use Rattle.std.proofs.Common.{◌≡◌, inl, inr, ℕ, ◌+◌, ◌-◌, ◌^◌, ◌≤◌, min, List, [], ◌∷◌, ◌++◌, sym, refl, ◌∙◌, ap, subst, arith}
-use Rattle.mdv_base.specs.Causes.{Rose}
-use Rattle.mdv_shelf.specs.Area.{KeptOutside, nowhere}
-use Rattle.mdv_shelf.specs.Tale.{Tale, told}
-use Rattle.mdv_table.specs.declared.change.Change.{Change}
-use Rattle.mdv_words.specs.declared.command.Command.{Command}
-use Rattle.mdv_words.specs.declared.command.Command.TheVariants.{Create, MakeStripe, Read, Write, Boot}
+use Rattle.mdv_engine_law.specs.Below.{Rose, KeptOutside, nowhere, Tale, told, Change, Command, Create, Read, Write, Boot}
+use Rattle.mdv_words.specs.declared.command.Command.TheVariants.{MakeStripe}
 use Rattle.mdv_engine_law.specs.declared.answer.Answer.{Answer}
 use Rattle.mdv_engine_law.specs.declared.answer.Answer.TheVariants as outcome
 use Rattle.mdv_engine_law.specs.declared.answer.Reply.{Reply}

@@ -1,10 +1,8 @@
 -- What a giving of replies does to the tale.
 use Rattle.std.proofs.Common.{◌≡◌, ◌⊎◌, inl, inr, ℕ, ◌≤◌, List, [], length, take, Option, Some, refl, sym, ◌∙◌, ◌++◌, ap, arith}
 use Rattle.std.proofs.lemmas.List.{append-nil, take_all}
-use Rattle.mdv_shelf.specs.Tale.{Tale, Then, Gave, told}
-use Rattle.mdv_shelf.specs.Area.{KeptOutside, nowhere}
-use Rattle.mdv_shelf.specs.Calls.{and_then}
-use Rattle.mdv_shelf.specs.Moments.{Grew}
+use Rattle.mdv_engine_law.specs.Below.{Tale, Then, Gave, KeptOutside, nowhere, and_then, Grew}
+use Rattle.mdv_shelf.specs.Tale.{told}
 use Rattle.mdv_shelf.proofs.Blocks.{kept_unwritten}
 use Rattle.mdv_shelf.proofs.Moments.{grew_none, grew_one}
 use Rattle.mdv_engine_law.specs.declared.answer.Answer.{Answer}

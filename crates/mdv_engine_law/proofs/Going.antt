@@ -1,11 +1,7 @@
 -- How what goes on is joined, told of less, and taken from what the history's laws say.
 use Rattle.std.proofs.Common.{◌≡◌, ◌≤◌, List, [], ◌∷◌, ◌++◌, IfSome, refl, sym, subst, arith}
-use Rattle.mdv_base.specs.declared.mark.Identity.{Identity}
-use Rattle.mdv_shelf.specs.Area.{KeptOutside, nowhere}
-use Rattle.mdv_shelf.specs.Tale.{Tale}
+use Rattle.mdv_engine_law.specs.Below.{Identity, KeptOutside, nowhere, Tale, NoCreation, History, Deed, Created, Event, OfDatabase, Issues, Acknowledges, Shows, Woke, NoDeed, history_after, history_after_all, IsIssue, IssuesOnly}
 use Rattle.mdv_store_law.specs.Log as log
-use Rattle.mdv_store_law.specs.Log.{NoCreation}
-use Rattle.mdv_history.specs.History.{History, Deed, Created, Event, OfDatabase, Issues, Acknowledges, Shows, Woke, NoDeed, history_after, history_after_all, IsIssue, IssuesOnly}
 use Rattle.mdv_history.specs.Standing as history
 use Rattle.mdv_history.proofs.Histories.{history_after_more, course_more, adds_more, adds_weaker}
 use Rattle.mdv_engine_law.specs.declared.host.Host.{Host}

@@ -1,23 +1,9 @@
 -- What a line leaves in memory and on the drive, where it did what was asked.
 use Rattle.std.proofs.Common.{◌≡◌, ⊎_elim, inl, inr, ◌+◌, ◌-◌, ◌<◌, ◌^◌, ℕ, suc, false, List, [], ◌∷◌, length, slice_index_or, Some, refl, sym, ◌∙◌, ap, subst, arith}
-use Rattle.mdv_shelf.specs.Area.{KeptOutside, nowhere}
+use Rattle.mdv_engine_law.specs.Below.{KeptOutside, nowhere, Settling, IsSettled, Tale, IsImage, last, created_head, created_newest, Newest, IsNewestOf, area_of, ShowsNothing, IsOpened, IsTheReplica, IsAdopted, next_newest, Head, Slot, First, Second, IsSpareSlot, greatest, Image, values_reply, One, Table}
 use Rattle.mdv_shelf.specs.Calls.{Shows}
-use Rattle.mdv_shelf.specs.Settle.{Settling, IsSettled}
-use Rattle.mdv_shelf.specs.Tale.{Tale, IsImage, last}
 use Rattle.mdv_shelf.proofs.Settled.{covered}
-use Rattle.mdv_store_law.specs.Going.{created_head, created_newest}
-use Rattle.mdv_store_law.specs.Site.{Newest, IsNewestOf, area_of}
-use Rattle.mdv_store_law.specs.Standing.{ShowsNothing, IsOpened}
-use Rattle.mdv_store_law.specs.Steps.{IsTheReplica, IsAdopted, next_newest}
 use Rattle.mdv_store_law.proofs.Covering.{last_image}
-use Rattle.mdv_replica.specs.declared.replica.Head.{Head}
-use Rattle.mdv_replica.specs.declared.replica.Slot.{Slot}
-use Rattle.mdv_replica.specs.declared.replica.Slot.TheVariants.{First, Second}
-use Rattle.mdv_replica.specs.Form.{IsSpareSlot, greatest}
-use Rattle.mdv_replica.specs.Images.{Image}
-use Rattle.mdv_status.specs.Values.{values_reply}
-use Rattle.mdv_table.specs.declared.plan.Lists.TheVariants.{One}
-use Rattle.mdv_table.specs.declared.table.Table.{Table}
 use Rattle.mdv_engine_law.specs.declared.answer.Answer.TheVariants as outcome
 use Rattle.mdv_engine_law.specs.declared.host.Host.{Host}
 use Rattle.mdv_engine_law.specs.Home.{site_of, identity_of}

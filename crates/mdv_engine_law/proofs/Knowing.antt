@@ -1,12 +1,7 @@
 -- What is known between lines stays where no block changes.
 use Rattle.std.proofs.Common.{◌≡◌, Option, Some, None, IfSome, ◌∙◌}
-use Rattle.mdv_shelf.specs.Area.{AreApart, KeptOutside, nowhere}
-use Rattle.mdv_shelf.specs.Tale.{Tale}
-use Rattle.mdv_store_law.specs.Log.{Log}
-use Rattle.mdv_store_law.specs.Site.{Site, Newest, area_of}
-use Rattle.mdv_store_law.specs.Standing.{IsOpened, IsNewestIn}
+use Rattle.mdv_engine_law.specs.Below.{AreApart, KeptOutside, nowhere, Tale, Log, Site, Newest, area_of, IsOpened, IsNewestIn, History}
 use Rattle.mdv_store_law.proofs.Frame.{frames}
-use Rattle.mdv_history.specs.History.{History}
 use Rattle.mdv_history.proofs.Going.{stays_standing}
 use Rattle.mdv_engine_law.specs.declared.host.Host.{Host}
 use Rattle.mdv_engine_law.specs.Home.{site_of}

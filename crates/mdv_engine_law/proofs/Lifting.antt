@@ -1,18 +1,7 @@
 -- What goes on in a host's database, and on its drive, goes on in its history.
 use Rattle.std.proofs.Common.{◌≡◌, inl, ℕ, List, [], ◌∷◌, slice_index_or, refl}
-use Rattle.mdv_base.specs.declared.mark.Identity.{Identity}
-use Rattle.mdv_base.specs.declared.name.Key.TheVariants.{Local}
-use Rattle.mdv_home.specs.Home.{place_of}
-use Rattle.mdv_shelf.specs.Area.{KeptOutside}
-use Rattle.mdv_shelf.specs.Settle.{IsSynced}
-use Rattle.mdv_shelf.specs.Tale.{Tale, last}
+use Rattle.mdv_engine_law.specs.Below.{Identity, Local, place_of, KeptOutside, IsSynced, Tale, last, Change, Log, Site, area_of, GoesFrom, PlaceAt, History, Deed, Created, Changed, Wrote, Saw, Event, Woke, history_after, history_after_all, IsChangeOf, HasWoken}
 use Rattle.mdv_shelf.proofs.Blocks.{last_may_be_left}
-use Rattle.mdv_table.specs.declared.change.Change.{Change}
-use Rattle.mdv_store_law.specs.Log.{Log}
-use Rattle.mdv_store_law.specs.Site.{Site, area_of}
-use Rattle.mdv_store_law.specs.Standing.{GoesFrom}
-use Rattle.mdv_replica.specs.declared.replica.PlaceAt.{PlaceAt}
-use Rattle.mdv_history.specs.History.{History, Deed, Created, Changed, Wrote, Saw, Event, Woke, history_after, history_after_all, IsChangeOf, HasWoken}
 use Rattle.mdv_history.proofs.Database.{lift_database}
 use Rattle.mdv_engine_law.specs.declared.host.Host.{Host}
 use Rattle.mdv_engine_law.specs.Home.{IsReady, site_of}

@@ -1,15 +1,6 @@
 -- What a creation leaves of a host's history.
 use Rattle.std.proofs.Common.{◌≡◌, ◌≤◌, false, List, [], ◌∷◌, Option, Some, None, IfSome, refl, sym, subst}
-use Rattle.mdv_base.specs.declared.mark.Identity.{Identity}
-use Rattle.mdv_base.specs.declared.refusal.Refusal.TheVariants.{IoFault}
-use Rattle.mdv_shelf.specs.Area.{KeptOutside}
-use Rattle.mdv_shelf.specs.Tale.{Tale, told}
-use Rattle.mdv_table.specs.declared.table.Table.{Table}
-use Rattle.mdv_store_law.specs.Going.{IsCreated, created_newest}
-use Rattle.mdv_store_law.specs.Log.{Log, IsThis, NoChange, is_firm}
-use Rattle.mdv_store_law.specs.Site.{Newest, area_of}
-use Rattle.mdv_store_law.specs.Standing.{ShowsNothing, IsOpened, IsNewestIn, Anything, GoesOnTo}
-use Rattle.mdv_history.specs.History.{History, Created, Event}
+use Rattle.mdv_engine_law.specs.Below.{Identity, IoFault, KeptOutside, Tale, told, Table, IsCreated, created_newest, Log, IsThis, NoChange, is_firm, Newest, area_of, ShowsNothing, IsOpened, IsNewestIn, Anything, GoesOnTo, History, Created, Event}
 use Rattle.mdv_engine_law.specs.declared.answer.Answer.TheVariants as outcome
 use Rattle.mdv_engine_law.specs.declared.host.Host.{Host}
 use Rattle.mdv_engine_law.specs.Home.{site_of, identity_of}

@@ -3,19 +3,10 @@ use Rattle.std.proofs.Common.{◌≡◌, ◌⊎◌, ⊎_elim, inl, inr, ℕ, zer
 use Rattle.std.proofs.lemmas.List.{append-nil, append_cancel_right, take_all, take-append-le}
 use Rattle.std.proofs.lemmas.List.Folds.{list_all-append}
 use Rattle.std.specs.Fmt.{digits, decimal}
-use Rattle.mdv_base.specs.Refusal.{refusal_text}
-use Rattle.mdv_base.specs.declared.drive.SliceName.{SliceName}
-use Rattle.mdv_base.specs.declared.name.VolId.{VolId}
-use Rattle.mdv_base.specs.declared.refusal.Refusal.{Refusal}
-use Rattle.mdv_base.specs.declared.refusal.Refusal.TheVariants.{BadLine, NoDatabase, NeedForce, NoSuchVolume, NameTaken, NoSuchSlice, SliceInUse, TooSmall, WrongKind, WrongState, ReplicaFull, OutOfRange, IoFault, OutOfMemory, LineTooLong}
-use Rattle.mdv_base.specs.declared.state_word.StateWord.TheVariants.{Down}
-use Rattle.mdv_status.specs.Telling.{lacks, begins_with_digit, replies_in}
-use Rattle.mdv_status.specs.Values.{block_text}
+use Rattle.mdv_engine_law.specs.Below.{refusal_text, SliceName, VolId, Refusal, BadLine, NoDatabase, NeedForce, NoSuchVolume, NameTaken, NoSuchSlice, SliceInUse, TooSmall, WrongKind, WrongState, ReplicaFull, OutOfRange, IoFault, OutOfMemory, LineTooLong, Down, lacks, begins_with_digit, replies_in, block_text, Deed, MakeStripe}
 use Rattle.mdv_status.proofs.Lines.{is_value_line}
 use Rattle.mdv_status.proofs.Pieces.{lacks_append, lacks_one, lacks_take}
 use Rattle.mdv_status.proofs.Replies.{values_tell_ok, lines_tell_once}
-use Rattle.mdv_history.specs.History.{Deed}
-use Rattle.mdv_table.specs.declared.change.Change.TheVariants.{MakeStripe}
 use Rattle.mdv_engine_law.specs.declared.answer.Answer.{Answer}
 use Rattle.mdv_engine_law.specs.declared.answer.Answer.TheVariants as outcome
 use Rattle.mdv_engine_law.specs.declared.host.Host.{Host}

@@ -1,10 +1,6 @@
 -- A line that ends before anything is done, and what is known by what is in memory.
 use Rattle.std.proofs.Common.{◌≡◌, List, Option, Some, IfSome, sym, ◌∙◌, subst}
-use Rattle.mdv_base.specs.declared.refusal.Refusal.{Refusal}
-use Rattle.mdv_shelf.specs.Tale.{Tale}
-use Rattle.mdv_store_law.specs.Site.{Newest}
-use Rattle.mdv_store_law.specs.Standing.{IsOpened, IsNewestIn}
-use Rattle.mdv_history.specs.History.{Deed}
+use Rattle.mdv_engine_law.specs.Below.{Refusal, Tale, Newest, IsOpened, IsNewestIn, Deed}
 use Rattle.mdv_engine_law.specs.declared.answer.Answer.TheVariants as outcome
 use Rattle.mdv_engine_law.specs.declared.host.Host.{Host}
 use Rattle.mdv_engine_law.specs.Home.{site_of}

@@ -2,13 +2,7 @@
 use Rattle.std.proofs.Common.{◌≡◌, inl, inr, ◌+◌, ◌≤◌, ◌<◌, ℕ, not, ◌&&◌, true, List, Option, IfSome, refl, ◌∙◌, ap, arith}
 use Rattle.std.proofs.lemmas.Bool.Decides.{nat_tests}
 use Rattle.std.proofs.lemmas.List.Folds.{list_any_at}
-use Rattle.mdv_base.specs.declared.name.VolId.{VolId}
-use Rattle.mdv_store_law.specs.Site.{area_of, IsTableAt}
-use Rattle.mdv_replica.specs.Replica.{with_blocks}
-use Rattle.mdv_name.specs.declared.slice_lines.SliceLine.{SliceLine}
-use Rattle.mdv_shelf.specs.Area.{KeptOutside, range}
-use Rattle.mdv_shelf.specs.Moments.{Moments}
-use Rattle.mdv_shelf.specs.Tale.{Tale, covers}
+use Rattle.mdv_engine_law.specs.Below.{VolId, area_of, IsTableAt, with_blocks, SliceLine, KeptOutside, range, Moments, Tale, covers}
 use Rattle.mdv_shelf.proofs.Blocks.{both_ways}
 use Rattle.mdv_shelf.proofs.Frame.{kept_outside_same, kept_outside_more, kept_outside_left, kept_outside_wider, neither}
 use Rattle.mdv_shelf.proofs.Moments.{moments_none, moments_weaker, moments_more}

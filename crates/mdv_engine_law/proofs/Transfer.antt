@@ -1,21 +1,10 @@
 -- What a read and a write of blocks of a volume leave of a host's history.
 use Rattle.std.proofs.Common.{◌+◌, ◌<◌, ◌≤◌, ℕ, List, [], ◌∷◌, length, Option, IfSome, Contains, refl, sym, subst, arith}
-use Rattle.mdv_base.specs.declared.mark.Identity.{Identity}
-use Rattle.mdv_base.specs.declared.name.VolId.{VolId}
-use Rattle.mdv_base.specs.declared.refusal.Refusal.TheVariants.{IoFault}
-use Rattle.mdv_shelf.specs.Area.{AreApart, range}
-use Rattle.mdv_shelf.specs.Settle.{Settling, IsSettled}
-use Rattle.mdv_shelf.specs.Tale.{Tale, last}
+use Rattle.mdv_engine_law.specs.Below.{Identity, VolId, IoFault, AreApart, range, Settling, IsSettled, Tale, last, Table, Version, Newest, IsTableAt, with_blocks, nothing, replica, IsOpened, IsNewestIn, History, Deed, Wrote, Saw, Event, Extent, Issues, HasExtent, LiesOn, history_after}
 use Rattle.mdv_shelf.proofs.Frame.{fixed_settled}
-use Rattle.mdv_table.specs.declared.table.Table.{Table}
-use Rattle.mdv_store_law.specs.Log.{Version}
-use Rattle.mdv_store_law.specs.Site.{Newest, IsTableAt}
-use Rattle.mdv_replica.specs.Replica.{with_blocks}
-use Rattle.mdv_store_law.specs.Standing.{nothing, replica, IsOpened, IsNewestIn}
 use Rattle.mdv_store_law.proofs.Covering.{last_image}
 use Rattle.mdv_store_law.proofs.Families.{contains_first, written_firm}
 use Rattle.mdv_store_law.proofs.Frame.{frames}
-use Rattle.mdv_history.specs.History.{History, Deed, Wrote, Saw, Event, Extent, Issues, HasExtent, LiesOn, history_after}
 use Rattle.mdv_history.proofs.Values.{values_issued, issued_newest}
 use Rattle.mdv_engine_law.specs.declared.answer.Answer.TheVariants as outcome
 use Rattle.mdv_engine_law.specs.declared.host.Host.{Host}

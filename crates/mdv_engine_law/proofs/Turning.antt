@@ -1,13 +1,9 @@
 -- What the moments of a line and of its reply leave of the history.
 use Rattle.std.proofs.Common.{◌≡◌, ◌≢◌, ⊎_elim, inl, ℕ, List, [], ◌++◌, take, Option, None, Contains, refl, sym, ◌∙◌, ap, subst, arith}
 use Rattle.std.proofs.lemmas.List.{append-nil}
-use Rattle.mdv_base.specs.declared.refusal.Refusal.{Refusal}
-use Rattle.mdv_shelf.specs.Area.{KeptOutside, nowhere}
-use Rattle.mdv_shelf.specs.Moments.{Moments, Ends}
-use Rattle.mdv_shelf.specs.Tale.{Tale, told}
+use Rattle.mdv_engine_law.specs.Below.{Refusal, KeptOutside, nowhere, Moments, Ends, Tale, told, History, Deed, Created, Event}
 use Rattle.mdv_shelf.proofs.Frame.{kept_outside_same}
 use Rattle.mdv_shelf.proofs.Moments.{moments_end, ends_both}
-use Rattle.mdv_history.specs.History.{History, Deed, Created, Event}
 use Rattle.mdv_engine_law.specs.declared.answer.Answer.{Answer}
 use Rattle.mdv_engine_law.specs.declared.answer.Answer.TheVariants as outcome
 use Rattle.mdv_engine_law.specs.declared.answer.Reply.{Reply}

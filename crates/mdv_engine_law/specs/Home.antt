@@ -1,15 +1,7 @@
 -- A host: its table of drives, where its database lies, and the blocks that its run may touch.
 use Rattle.std.specs.Prelude.{◌≡◌, ◌<◌, ◌^◌, ℕ, not, ◌&&◌, List, [], ◌∷◌}
 use Rattle.std.specs.List.{list_any}
-use Rattle.mdv_base.specs.declared.mark.Identity.{Identity}
-use Rattle.mdv_base.specs.declared.name.Key.TheVariants.{Local}
-use Rattle.mdv_home.specs.Placed.{IsHomeTable}
-use Rattle.mdv_home.specs.Home.{IsHome, IsSmall, place_of}
-use Rattle.mdv_store_law.specs.Site.{Site, area_of}
-use Rattle.mdv_name.specs.declared.slice_lines.SliceLine.{SliceLine}
-use Rattle.mdv_shelf.specs.Area.{Area, joined, KeptOutside}
-use Rattle.mdv_shelf.specs.Tale.{Tale, covers}
-use Rattle.mdv_table.specs.Slices.{IsSound}
+use Rattle.mdv_engine_law.specs.Below.{Identity, Local, IsHomeTable, IsHome, IsSmall, place_of, Site, area_of, SliceLine, Area, joined, KeptOutside, Tale, covers, IsSound}
 use Rattle.mdv_engine_law.specs.declared.host.Host.{Host}
 
 -- where the host has its database

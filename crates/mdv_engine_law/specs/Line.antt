@@ -1,33 +1,10 @@
 -- What a line comes to, and what is kept then.
 use Rattle.std.specs.Prelude.{◌≡◌, ◌≢◌, ◌⊎◌, ◌+◌, ◌<◌, ◌≤◌, ◌^◌, ℕ, Bool, true, false, List, [], ◌∷◌, length, map, Option, Some, None, slice_index_or}
 use Rattle.std.specs.List.{range_with_len}
-use Rattle.mdv_base.specs.declared.drive.SliceName.{SliceName}
-use Rattle.mdv_base.specs.declared.mark.Mark.{Mark}
-use Rattle.mdv_base.specs.declared.name.VolId.{VolId}
-use Rattle.mdv_base.specs.declared.refusal.Refusal.{Refusal}
-use Rattle.mdv_base.specs.declared.refusal.Refusal.TheVariants.{NoDatabase, NeedForce, NoSuchVolume, NoSuchSlice, SliceInUse, TooSmall, WrongKind, WrongState, OutOfRange, ReplicaFull, IoFault, OutOfMemory}
-use Rattle.mdv_base.specs.declared.state_word.StateWord.{StateWord}
+use Rattle.mdv_engine_law.specs.Below.{SliceName, Mark, VolId, Refusal, NoDatabase, NeedForce, NoSuchVolume, NoSuchSlice, SliceInUse, TooSmall, WrongKind, WrongState, OutOfRange, ReplicaFull, IoFault, OutOfMemory, StateWord, HasNoSlice, record_text, Head, First, Second, IsSpareSlot, greatest, other_slot, room_of, shows, Tale, covers, last, values_reply, Change, MakeStripe, One, Table, HasNoVolume, Command, Create, Read, Write, Boot, IsMade, Site, Newest, IsReplica, IsFound, HasTable, IsNewestOf, area_of, adopted_newest, next_newest, rewritten, Deed, Created, Changed, Wrote, Saw, LiesOn}
 use Rattle.mdv_base.specs.declared.state_word.StateWord.TheVariants as word
-use Rattle.mdv_name.specs.SliceIndex.{HasNoSlice}
-use Rattle.mdv_record.specs.Text.{record_text}
-use Rattle.mdv_replica.specs.declared.replica.Head.{Head}
-use Rattle.mdv_replica.specs.declared.replica.Slot.TheVariants.{First, Second}
-use Rattle.mdv_replica.specs.Form.{IsSpareSlot, greatest, other_slot, room_of, shows}
-use Rattle.mdv_shelf.specs.Tale.{Tale, covers, last}
-use Rattle.mdv_status.specs.Values.{values_reply}
 use Rattle.mdv_table.specs.Change as table
-use Rattle.mdv_table.specs.declared.change.Change.{Change}
-use Rattle.mdv_table.specs.declared.change.Change.TheVariants.{MakeStripe}
-use Rattle.mdv_table.specs.declared.plan.Lists.TheVariants.{One}
-use Rattle.mdv_table.specs.declared.table.Table.{Table}
-use Rattle.mdv_table.specs.Volumes.{HasNoVolume}
-use Rattle.mdv_words.specs.declared.command.Command.{Command}
-use Rattle.mdv_words.specs.declared.command.Command.TheVariants.{Create, Read, Write, Boot}
 use Rattle.mdv_words.specs.declared.command.Command.TheVariants as command
-use Rattle.mdv_store_law.specs.Log.{IsMade}
-use Rattle.mdv_store_law.specs.Site.{Site, Newest, IsReplica, IsFound, HasTable, IsNewestOf, area_of}
-use Rattle.mdv_store_law.specs.Steps.{adopted_newest, next_newest, rewritten}
-use Rattle.mdv_history.specs.History.{Deed, Created, Changed, Wrote, Saw, LiesOn}
 use Rattle.mdv_engine_law.specs.declared.answer.Answer.{Answer}
 use Rattle.mdv_engine_law.specs.declared.answer.Answer.TheVariants as outcome
 use Rattle.mdv_engine_law.specs.declared.host.Host.{Host}

@@ -1,11 +1,7 @@
 -- The bytes of replies, how they are told, and what they acknowledge.
 use Rattle.std.specs.Prelude.{◌≡◌, ◌⊎◌, ℕ, true, List, [], ◌∷◌, ◌++◌, take, codes, if◌then◌else◌}
 use Rattle.std.specs.Str.{bytes_eq}
-use Rattle.mdv_base.specs.Refusal.{refusal_text}
-use Rattle.mdv_base.specs.declared.refusal.Refusal.{Refusal}
-use Rattle.mdv_history.specs.History.{Deed}
-use Rattle.mdv_status.specs.Telling.{lacks, replies_in}
-use Rattle.mdv_status.specs.Values.{values_reply}
+use Rattle.mdv_engine_law.specs.Below.{refusal_text, Refusal, Deed, lacks, replies_in, values_reply}
 use Rattle.mdv_engine_law.specs.declared.answer.Answer.{Answer}
 use Rattle.mdv_engine_law.specs.declared.answer.Answer.TheVariants as outcome
 use Rattle.mdv_engine_law.specs.declared.answer.Reply.{Reply}

@@ -1,13 +1,6 @@
 -- How the drive stands with its history at each moment of a line.
 use Rattle.std.specs.Prelude.{◌≡◌, ◌≢◌, ℕ, ◌≤◌, false, List, [], ◌∷◌, ◌++◌, take, None, IfSome, Contains}
-use Rattle.mdv_base.specs.declared.mark.Identity.{Identity}
-use Rattle.mdv_shelf.specs.Area.{KeptOutside, nowhere}
-use Rattle.mdv_shelf.specs.Tale.{Tale, told}
-use Rattle.mdv_words.specs.declared.command.Command.{Command}
-use Rattle.mdv_store_law.specs.Site.{area_of}
-use Rattle.mdv_store_law.specs.Standing.{ShowsNothing, IsOpened, IsNewestIn}
-use Rattle.mdv_history.specs.History.{History, Deed, Created, Event, history_after_all, IsCourse, Adds, HasWoken, NoDeed}
-use Rattle.mdv_history.specs.Laws.{CanTell}
+use Rattle.mdv_engine_law.specs.Below.{Identity, KeptOutside, nowhere, Tale, told, Command, area_of, ShowsNothing, IsOpened, IsNewestIn, History, Deed, Created, Event, history_after_all, IsCourse, Adds, HasWoken, NoDeed, CanTell}
 use Rattle.mdv_history.specs.Standing as history
 use Rattle.mdv_engine_law.specs.declared.answer.Answer.{Answer}
 use Rattle.mdv_engine_law.specs.declared.answer.Answer.TheVariants as outcome

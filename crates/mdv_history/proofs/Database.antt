@@ -1,12 +1,7 @@
 -- What goes on in the database is a part of the history; the blocks of volumes keep their values.
 use Rattle.std.proofs.Common.{◌≡◌, List, [], ◌∷◌, map, Some, None, refl, sym, subst}
-use Rattle.mdv_base.specs.declared.mark.Identity.{Identity}
-use Rattle.mdv_shelf.specs.Area.{KeptOutside}
-use Rattle.mdv_shelf.specs.Tale.{Tale}
-use Rattle.mdv_table.specs.declared.change.Change.{Change}
+use Rattle.mdv_history.specs.Below.{Identity, KeptOutside, Tale, Change, Log, Site, area_of}
 use Rattle.mdv_store_law.specs.Log as log
-use Rattle.mdv_store_law.specs.Log.{Log}
-use Rattle.mdv_store_law.specs.Site.{Site, area_of}
 use Rattle.mdv_store_law.specs.Standing as database
 use Rattle.mdv_store_law.proofs.Logs.{courses_are_logs}
 use Rattle.mdv_history.specs.History.{History, Event, OfDatabase, history_after_all, IsCourse, told_by, IssuesOnly, IsChangeOf}

@@ -1,14 +1,9 @@
 -- Deeds: an `ok` is told, blocks of a volume are written, a boot reads the drive.
 use Rattle.std.proofs.Common.{inl, ℕ, ◌+◌, List, [], ◌∷◌, length, Option, Some, None, refl}
-use Rattle.mdv_shelf.specs.Area.{KeptOutside, nowhere, range}
-use Rattle.mdv_shelf.specs.Settle.{Settling, IsFixed}
-use Rattle.mdv_shelf.specs.Tale.{Tale, last}
+use Rattle.mdv_history.specs.Below.{KeptOutside, nowhere, range, Settling, IsFixed, Tale, last, Change, IsTellable, NoCreation, Site}
 use Rattle.mdv_shelf.proofs.Blocks.{last_may_be_left}
 use Rattle.mdv_shelf.proofs.Frame.{fixed_kept, fixed_settled}
-use Rattle.mdv_table.specs.declared.change.Change.{Change}
 use Rattle.mdv_store_law.specs.Log as log
-use Rattle.mdv_store_law.specs.Log.{IsTellable, NoCreation}
-use Rattle.mdv_store_law.specs.Site.{Site}
 use Rattle.mdv_store_law.proofs.Frame.{frames}
 use Rattle.mdv_store_law.proofs.Logs.{courses_are_logs, told_covers}
 use Rattle.mdv_history.specs.History.{History, Created, Changed, Wrote, Saw, Event, Extent, OfDatabase, Issues, Acknowledges, Shows, Woke, HasExtent, history_after}

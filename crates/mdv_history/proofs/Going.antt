@@ -1,10 +1,6 @@
 -- How what goes on from one tale to the next is joined, and told of less.
 use Rattle.std.proofs.Common.{◌≡◌, List, [], ◌++◌, refl, sym, subst}
-use Rattle.mdv_base.specs.declared.mark.Identity.{Identity}
-use Rattle.mdv_shelf.specs.Area.{KeptOutside, nowhere}
-use Rattle.mdv_shelf.specs.Tale.{Tale}
-use Rattle.mdv_store_law.specs.Log.{Log}
-use Rattle.mdv_store_law.specs.Site.{Site}
+use Rattle.mdv_history.specs.Below.{Identity, KeptOutside, nowhere, Tale, Log, Site}
 use Rattle.mdv_store_law.specs.Standing as database
 use Rattle.mdv_history.specs.History.{History, Deed, Event, history_after_all}
 use Rattle.mdv_history.specs.Laws.{StaysStanding}

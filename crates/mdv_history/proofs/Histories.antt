@@ -1,8 +1,7 @@
 -- How histories go on, event by event.
 use Rattle.std.proofs.Common.{◌≡◌, List, [], ◌∷◌, ◌++◌, Some, None, refl, ◌∙◌, ap}
-use Rattle.mdv_base.specs.declared.mark.Identity.{Identity}
+use Rattle.mdv_history.specs.Below.{Identity, Site}
 use Rattle.mdv_store_law.specs.Log as log
-use Rattle.mdv_store_law.specs.Site.{Site}
 use Rattle.mdv_history.specs.History.{History, Deed, Changed, Wrote, Saw, Event, OfDatabase, Issues, Acknowledges, Shows, Woke, history_after, history_after_all, IsCourse, told_of, told_by, IsIssue, IssuesOnly, Adds, HasWoken}
 
 pub history_after_more : (history : History) (es fs : List Event) → history_after_all history (es ++ fs) ≡ history_after_all (history_after_all history es) fs

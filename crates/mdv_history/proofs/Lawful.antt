@@ -1,10 +1,8 @@
 -- Crashes, new drives, and what reads give.
 use Rattle.std.proofs.Common.{inl, inr, ℕ, List, sym, subst}
-use Rattle.mdv_shelf.specs.MemHistory.{blank}
-use Rattle.mdv_shelf.specs.Tale.{Tale, Among, values, last, MayLeave}
+use Rattle.mdv_history.specs.Below.{blank, Tale, Among, last, restarted, Site}
+use Rattle.mdv_shelf.specs.Tale.{values, MayLeave}
 use Rattle.mdv_shelf.proofs.Blocks.{last_may_be_left}
-use Rattle.mdv_store_law.specs.Laws.{restarted}
-use Rattle.mdv_store_law.specs.Site.{Site}
 use Rattle.mdv_store_law.proofs.Lawful as database
 use Rattle.mdv_history.specs.History.{History}
 use Rattle.mdv_history.specs.Laws.{CrashesStand, NewDrivesStand, ReadsHold, new_history}

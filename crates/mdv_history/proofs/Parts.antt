@@ -1,10 +1,8 @@
 -- The database's part of a history's events, and what it tells and issues.
 use Rattle.std.proofs.Common.{◌≡◌, ◌⊎◌, inl, inr, ⊎_elim, List, [], ◌∷◌, Option, Some, None, IfSome, Contains, refl, subst, ap, arith}
 use Rattle.std.proofs.lemmas.List.Elements.{Contains-append_cases, Contains-append_right, Contains-push_cases}
-use Rattle.mdv_base.specs.declared.mark.Identity.{Identity}
-use Rattle.mdv_table.specs.declared.change.Change.{Change}
+use Rattle.mdv_history.specs.Below.{Identity, Change, Site}
 use Rattle.mdv_store_law.specs.Log as log
-use Rattle.mdv_store_law.specs.Site.{Site}
 use Rattle.mdv_history.specs.History.{History, Deed, Created, Changed, Wrote, Saw, Event, OfDatabase, Issues, Acknowledges, Shows, Woke, history_after, history_after_all, IsCourse, told_by, IssuesOnly}
 
 abbrev pub of_database : List Event → List log.Event

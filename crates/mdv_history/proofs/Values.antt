@@ -1,12 +1,9 @@
 -- The values that blocks may have, while blocks are written and once they are told.
 use Rattle.std.proofs.Common.{◌≡◌, inl, inr, ⊎_elim, ℕ, ◌+◌, ◌-◌, ◌<◌, ◌≤◌, true, false, List, [], ◌∷◌, length, slice_index_or, refl, ◌∙◌, ap, subst, arith, eq-eqb}
 use Rattle.std.proofs.lemmas.Bool.Decides.{nat_tests}
-use Rattle.mdv_shelf.specs.Area.{KeptOutside}
-use Rattle.mdv_shelf.specs.Settle.{Settling, IsFixed}
-use Rattle.mdv_shelf.specs.Tale.{Tale, MayLeave, covers}
+use Rattle.mdv_history.specs.Below.{KeptOutside, Settling, IsFixed, Tale, MayLeave, covers, Site, area_of}
 use Rattle.mdv_shelf.proofs.Blocks.{both_ways}
 use Rattle.mdv_shelf.proofs.Settled.{covered}
-use Rattle.mdv_store_law.specs.Site.{Site, area_of}
 use Rattle.mdv_history.specs.History.{AreNewest, issued, settled}
 use Rattle.mdv_history.specs.Standing.{ValuesHold}
 

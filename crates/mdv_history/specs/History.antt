@@ -1,22 +1,7 @@
 -- What a drive has lived through: the log of its database, and the values that its other blocks may have.
 use Rattle.std.specs.Prelude.{◌≡◌, ℕ, ◌+◌, ◌-◌, ◌<◌, ◌≤◌, true, false, List, [], ◌∷◌, length, slice_index_or, if◌then◌else◌, Some, None}
-use Rattle.mdv_base.specs.declared.drive.SliceName.{SliceName}
-use Rattle.mdv_base.specs.declared.mark.Identity.{Identity}
-use Rattle.mdv_base.specs.declared.name.VolId.{VolId}
-use Rattle.mdv_name.specs.declared.slice_lines.SliceAt.{SliceAt}
-use Rattle.mdv_name.specs.SliceIndex.{HasSlice}
-use Rattle.mdv_shelf.specs.Area.{AreApart, range}
-use Rattle.mdv_shelf.specs.Tale.{Among, covers}
-use Rattle.mdv_table.specs.declared.change.Change.{Change}
-use Rattle.mdv_table.specs.declared.table.Table.{Table}
-use Rattle.mdv_table.specs.declared.volume.Base.TheVariants.{Slice}
-use Rattle.mdv_table.specs.declared.volume.Component.{Component}
-use Rattle.mdv_table.specs.declared.volume.Volume.{Volume}
-use Rattle.mdv_table.specs.declared.volume.VolumeKind.TheVariants.{Stripe}
-use Rattle.mdv_table.specs.Volumes.{HasVolume}
+use Rattle.mdv_history.specs.Below.{SliceName, Identity, VolId, SliceAt, HasSlice, AreApart, range, Among, covers, Change, Table, Slice, Component, Volume, Stripe, HasVolume, Version, Log, Site, area_of}
 use Rattle.mdv_store_law.specs.Log as log
-use Rattle.mdv_store_law.specs.Log.{Version, Log}
-use Rattle.mdv_store_law.specs.Site.{Site, area_of}
 
 -- blocks of a volume from block `at` of it on, and where they lie: from block `block` of the drive on
 pub record Extent : Type 0 where

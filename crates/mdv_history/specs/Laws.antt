@@ -1,14 +1,7 @@
 -- Laws of histories: over crashes and new drives, over what is done to the database and to blocks of volumes, and over boots.
 use Rattle.std.specs.Prelude.{◌≡◌, ℕ, false, List, [], ◌∷◌, length, Some, None}
-use Rattle.mdv_replica.specs.Images.{Image}
-use Rattle.mdv_shelf.specs.Area.{KeptOutside, nowhere}
-use Rattle.mdv_shelf.specs.MemHistory.{blank, blank_block}
-use Rattle.mdv_shelf.specs.Settle.{Settling, IsSettled, IsFixed, IsSynced}
-use Rattle.mdv_shelf.specs.Tale.{Tale, Among, last, IsImage}
-use Rattle.mdv_store_law.specs.Laws.{restarted}
+use Rattle.mdv_history.specs.Below.{Image, KeptOutside, nowhere, blank, blank_block, Settling, IsSettled, IsFixed, IsSynced, Tale, Among, last, IsImage, restarted, Log, IsTellable, NoCreation, Site, area_of}
 use Rattle.mdv_store_law.specs.Log as log
-use Rattle.mdv_store_law.specs.Log.{Log, IsTellable, NoCreation}
-use Rattle.mdv_store_law.specs.Site.{Site, area_of}
 use Rattle.mdv_history.specs.History.{History, Deed, Created, Changed, Wrote, Saw, Extent, HasExtent, HasWoken, AreNewest, NoDeed}
 use Rattle.mdv_history.specs.Standing.{Stands, Goes, Reached, Anything}
 

@@ -1,3 +1,4 @@
+pub mod Below
 pub mod History
 pub mod Standing
 pub mod Laws

@@ -1,8 +1,6 @@
 -- How a drive stands with its history.
 use Rattle.std.specs.Prelude.{◌≡◌, ℕ, false, List}
-use Rattle.mdv_base.specs.declared.mark.Identity.{Identity}
-use Rattle.mdv_shelf.specs.Tale.{Tale, Among, MayLeave}
-use Rattle.mdv_store_law.specs.Site.{Site, area_of}
+use Rattle.mdv_history.specs.Below.{Identity, Tale, Among, MayLeave, Site, area_of}
 use Rattle.mdv_store_law.specs.Standing as database
 use Rattle.mdv_history.specs.History.{History, Deed, Event, history_after_all, IsCourse, Adds}
 

@@ -4,8 +4,6 @@
 
 mod geometry;
 mod law;
-#[cfg(test)]
-mod tests;
 
 pub use geometry::{FIRST_BLOCK, Home, home_in, place_at};
 pub use law::{

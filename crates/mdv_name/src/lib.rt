@@ -20,8 +20,6 @@ mod print;
 mod read;
 mod slice_lines;
 mod slice_list;
-#[cfg(test)]
-mod tests;
 mod volume;
 
 pub use drive::{parse_drive, parse_plain_slice, spelled_alike};

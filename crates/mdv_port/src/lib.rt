@@ -13,5 +13,3 @@ pub use memory::MemSource;
 pub use reader::{LineEnd, LineReader, MAX_BYTES, MAX_LINE, MAX_LINES};
 pub use source::Source;
 
-#[cfg(test)]
-mod tests;

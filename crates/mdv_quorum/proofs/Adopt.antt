@@ -2,12 +2,7 @@
 use Rattle.std.proofs.Common.{◌≡◌, ◌<◌, ◌≤◌, ℕ, Bool, true, false, refl, ap, sym, ◌∙◌, subst, List, [], ◌∷◌, length, inl, inr, ◌⊎◌, Option, None, Some, arith, ◌&&◌, max}
 use Rattle.std.proofs.lemmas.Bool.{cases_Bool, false≢true, cases_lt, and_parts, or_cases, ltb-true, eqb-true, cond-true, cond-false, or_left, or_right}
 use Rattle.std.specs.Prelude.{nat_lt, ◌==◌}
-use Rattle.mdv_base.specs.declared.mark.Mark.{Mark}
-use Rattle.mdv_votes.specs.declared.spot.Spot.{Spot}
-use Rattle.mdv_votes.specs.declared.version.Version.{Version}
-use Rattle.mdv_votes.specs.declared.version.SpotState.{SpotState}
-use Rattle.mdv_votes.specs.Spots.{is_in, same_spot}
-use Rattle.mdv_votes.specs.Family.{table_at, place_at, boot_of, mark_below, newer, newest_of, greatest_of, shown, knows_above, is_above}
+use Rattle.mdv_quorum.specs.Below.{Mark, Spot, Version, SpotState, is_in, same_spot, table_at, place_at, boot_of, mark_below, newer, newest_of, greatest_of, shown, knows_above, is_above}
 use Rattle.mdv_votes.proofs.Meeting.{same_is, same_self}
 use Rattle.mdv_votes.proofs.PlacesAt.{spot_at}
 use Rattle.mdv_quorum.proofs.Invariant.{newest, claim, TablesOk, Above}

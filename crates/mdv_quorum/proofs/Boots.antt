@@ -2,11 +2,7 @@
 use Rattle.std.proofs.Common.{◌≡◌, ◌<◌, ◌≤◌, ◌-◌, ◌^◌, ℕ, Bool, true, false, refl, ap, sym, ◌∙◌, subst, List, [], ◌∷◌, length, inl, inr, Option, None, Some, arith, ◌&&◌, ◌||◌, append-nil}
 use Rattle.std.proofs.lemmas.Bool.{false≢true, cases_lt, and_parts, or_cases, or_left, lt-ltb}
 use Rattle.std.specs.Prelude.{nat_lt, ◌==◌}
-use Rattle.mdv_votes.specs.declared.spot.Spot.{Spot}
-use Rattle.mdv_votes.specs.declared.version.Version.{Version}
-use Rattle.mdv_votes.specs.Spots.{is_in, is_none, same_spot}
-use Rattle.mdv_votes.specs.Quorum.{is_read}
-use Rattle.mdv_votes.specs.Family.{table_at, boot_of, put_at, with_claim, newest_of, greatest_of, knows_above}
+use Rattle.mdv_quorum.specs.Below.{Spot, Version, is_in, is_none, same_spot, is_read, table_at, boot_of, put_at, with_claim, newest_of, greatest_of, knows_above}
 use Rattle.mdv_votes.proofs.Meeting.{same_is, in_more}
 use Rattle.mdv_votes.proofs.Quorums.{lists_at}
 use Rattle.mdv_quorum.specs.declared.machine.Core.{Core}

@@ -3,12 +3,7 @@ use Rattle.std.proofs.Common.{◌≡◌, ◌<◌, ◌+◌, ◌-◌, ◌^◌, ℕ
 use Rattle.std.proofs.lemmas.Bool.{false≢true, and_parts, or_cases, not-false, ltb-true, eqb-true, cases_eq, lt-ltb, eq-eqb, or_left, or_right, and_from}
 use Rattle.std.proofs.lemmas.List.Elements.{Contains-append_left}
 use Rattle.std.specs.Prelude.{Contains, nat_lt, ◌==◌}
-use Rattle.mdv_base.specs.declared.mark.Mark.{Mark}
-use Rattle.mdv_votes.specs.declared.spot.Spot.{Spot}
-use Rattle.mdv_votes.specs.declared.spot.SpotLists.{SpotLists}
-use Rattle.mdv_votes.specs.declared.version.Version.{Version}
-use Rattle.mdv_votes.specs.Spots.{last_list, same_spots}
-use Rattle.mdv_votes.specs.Family.{table_at, mark_below}
+use Rattle.mdv_quorum.specs.Below.{Mark, Spot, SpotLists, Version, last_list, same_spots, table_at, mark_below}
 use Rattle.mdv_votes.proofs.SameSpots.{spots_same}
 use Rattle.mdv_votes.proofs.Quorums.{lists_at, IsCommon}
 use Rattle.mdv_quorum.specs.declared.machine.Core.{Core}

@@ -1,14 +1,7 @@
 -- Changes of places that leave what each shows.
 use Rattle.std.proofs.Common.{◌≡◌, ◌<◌, ◌≤◌, ◌-◌, ℕ, true, false, refl, ap, sym, ◌∙◌, subst, List, length, inl, inr, ◌⊎◌, Option, None, Some, arith}
 use Rattle.std.proofs.lemmas.Bool.{false≢true, false_from_ne_true}
-use Rattle.mdv_base.specs.declared.drive.DriveNo.{DriveNo}
-use Rattle.mdv_votes.specs.declared.spot.Spot.{Spot}
-use Rattle.mdv_votes.specs.declared.spot.SpotLists.{SpotLists}
-use Rattle.mdv_votes.specs.declared.version.Version.{Version}
-use Rattle.mdv_votes.specs.declared.version.SpotState.{SpotState}
-use Rattle.mdv_votes.specs.declared.version.Since.{Since}
-use Rattle.mdv_votes.specs.Spots.{is_named, same_spot}
-use Rattle.mdv_votes.specs.Family.{place_at, boot_of, put_at, change_at, changed_at, with_claim, wiped}
+use Rattle.mdv_quorum.specs.Below.{DriveNo, Spot, SpotLists, Version, SpotState, Since, is_named, same_spot, place_at, boot_of, put_at, change_at, changed_at, with_claim, wiped}
 use Rattle.mdv_votes.proofs.Meeting.{same_is, same_self}
 use Rattle.mdv_votes.proofs.PlacesAt.{put_cases, put_used, wipe_at, wiped_newest, wiped_claim, wiped_since, wiped_held, wiped_other, wiped_itself, map_used, spot_at}
 use Rattle.mdv_votes.proofs.Quorums.{lists_at}

@@ -3,9 +3,7 @@ use Rattle.std.proofs.Common.{◌≡◌, ◌≤◌, ◌+◌, ◌*◌, ℕ, Bool,
 use Rattle.std.proofs.lemmas.Bool.{and_parts, or_cases, cases_Bool, false≢true, not-true, ltb-true, leb-true, or_parts}
 use Rattle.std.specs.List.{list_all, count_by}
 use Rattle.std.specs.Prelude.{nat_le}
-use Rattle.mdv_votes.specs.declared.spot.Spot.{Spot}
-use Rattle.mdv_votes.specs.declared.spot.SpotLists.{SpotLists}
-use Rattle.mdv_votes.specs.Spots.{is_in, is_majority, is_none, last_list, last_or, same_spot, same_spots}
+use Rattle.mdv_quorum.specs.Below.{Spot, SpotLists, is_in, is_majority, is_none, last_list, last_or, same_spot, same_spots}
 use Rattle.mdv_votes.proofs.Meeting.{same_is, meet_counted, step_counted}
 use Rattle.mdv_votes.proofs.SameSpots.{spots_same}
 use Rattle.mdv_votes.proofs.Quorums.{HasList, SeatsMeet}

@@ -2,15 +2,7 @@
 use Rattle.std.proofs.Common.{◌≡◌, ◌<◌, ◌≤◌, ◌-◌, ℕ, Bool, true, false, refl, ap, sym, ◌∙◌, subst, List, [], ◌∷◌, length, inl, inr, ◌⊎◌, Option, None, Some, arith, cond, not, ◌&&◌, ◌||◌}
 use Rattle.std.proofs.lemmas.Bool.{false≢true, cases_lt, and_parts, or_cases, or_right, or_left, not-true, ltb-false, false_from_ne_true, and_from}
 use Rattle.std.specs.List.{list_all}
-use Rattle.mdv_base.specs.declared.drive.DriveNo.{DriveNo}
-use Rattle.mdv_votes.specs.declared.spot.Spot.{Spot}
-use Rattle.mdv_votes.specs.declared.spot.SpotLists.{SpotLists}
-use Rattle.mdv_votes.specs.declared.version.Version.{Version}
-use Rattle.mdv_votes.specs.declared.version.SpotState.{SpotState}
-use Rattle.mdv_votes.specs.declared.version.Since.{Since}
-use Rattle.mdv_votes.specs.declared.version.Since.TheVariants.{Never, Listed, Dropped}
-use Rattle.mdv_votes.specs.Spots.{is_in, is_named, last_list, last_or, in_second, same_spot}
-use Rattle.mdv_votes.specs.Family.{place_at, boot_of, put_at, formatted, blank_place}
+use Rattle.mdv_quorum.specs.Below.{DriveNo, Spot, SpotLists, Version, SpotState, Since, Never, Listed, Dropped, is_in, is_named, last_list, last_or, in_second, same_spot, place_at, boot_of, put_at, formatted, blank_place}
 use Rattle.mdv_votes.proofs.Meeting.{same_is, same_self}
 use Rattle.mdv_votes.proofs.PlacesAt.{put_cases, put_used, spot_at, Apart}
 use Rattle.mdv_votes.proofs.Quorums.{lists_at}

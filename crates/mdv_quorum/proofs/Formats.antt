@@ -2,11 +2,7 @@
 use Rattle.std.proofs.Common.{◌≡◌, ◌<◌, ◌≤◌, ◌-◌, ◌*◌, ℕ, Bool, true, false, refl, ap, sym, ◌∙◌, subst, List, [], ◌∷◌, length, inl, inr, Option, None, Some, arith, cond, not, ◌&&◌, ◌||◌}
 use Rattle.std.proofs.lemmas.Bool.{cases_Bool, false≢true, and_parts, or_cases, not-true, ltb-true, leb-true, cond-false}
 use Rattle.std.specs.List.{count_by, list_any}
-use Rattle.mdv_votes.specs.declared.spot.Spot.{Spot}
-use Rattle.mdv_votes.specs.declared.version.Version.{Version}
-use Rattle.mdv_votes.specs.Spots.{is_named, is_none, is_majority, is_half, same_spot}
-use Rattle.mdv_votes.specs.Quorum.{is_read, is_read_list}
-use Rattle.mdv_votes.specs.Family.{change_at, wiped}
+use Rattle.mdv_quorum.specs.Below.{Spot, Version, is_named, is_none, is_majority, is_half, same_spot, is_read, is_read_list, change_at, wiped}
 use Rattle.mdv_votes.proofs.Meeting.{same_is, step_counted}
 use Rattle.mdv_votes.proofs.Quorums.{covers_at, none_is, lists_at}
 use Rattle.mdv_quorum.specs.declared.machine.Core.{Core}

@@ -1,16 +1,7 @@
 -- What every event keeps, in named facts over an arbitrary place.
 use Rattle.std.proofs.Common.{◌≡◌, ◌<◌, ◌≤◌, ◌-◌, ℕ, Bool, true, false, List, [], ◌++◌, length, ◌⊎◌, Option, None, Some}
 use Rattle.std.specs.Prelude.{Contains, option_to_list}
-use Rattle.mdv_base.specs.declared.drive.DriveNo.{DriveNo}
-use Rattle.mdv_votes.specs.declared.spot.Spot.{Spot}
-use Rattle.mdv_votes.specs.declared.spot.SpotLists.{SpotLists}
-use Rattle.mdv_votes.specs.declared.version.Version.{Version}
-use Rattle.mdv_votes.specs.declared.version.SpotState.{SpotState}
-use Rattle.mdv_votes.specs.declared.version.Since.{Since}
-use Rattle.mdv_votes.specs.declared.version.Since.TheVariants.{Never, Listed, Dropped}
-use Rattle.mdv_votes.specs.Spots.{is_in, is_named, last_list}
-use Rattle.mdv_votes.specs.Quorum.{is_read, is_written}
-use Rattle.mdv_votes.specs.Family.{table_at, place_at, boot_of, mark_below}
+use Rattle.mdv_quorum.specs.Below.{DriveNo, Spot, SpotLists, Version, SpotState, Since, Never, Listed, Dropped, is_in, is_named, last_list, is_read, is_written, table_at, place_at, boot_of, mark_below}
 use Rattle.mdv_votes.proofs.Quorums.{lists_at, HasList, IsCommon}
 use Rattle.mdv_quorum.specs.declared.machine.Core.{Core}
 use Rattle.mdv_quorum.specs.declared.machine.Stage.{Stage}

@@ -3,13 +3,7 @@ use Rattle.std.proofs.Common.{◌≡◌, ◌<◌, ◌+◌, ◌^◌, ℕ, Bool, t
 use Rattle.std.proofs.lemmas.Bool.{and_parts, ltb-true, cases_Bool, eqb-true, eqb-false, ne_eqb}
 use Rattle.std.specs.Prelude.{nat_lt, ◌==◌}
 use Rattle.std.specs.List.{list_any}
-use Rattle.mdv_base.specs.declared.drive.DriveNo.{DriveNo}
-use Rattle.mdv_votes.specs.declared.spot.Spot.{Spot}
-use Rattle.mdv_votes.specs.declared.spot.SpotLists.{SpotLists}
-use Rattle.mdv_votes.specs.declared.version.Version.{Version}
-use Rattle.mdv_votes.specs.Spots.{is_in}
-use Rattle.mdv_votes.specs.Quorum.{is_read}
-use Rattle.mdv_votes.specs.Family.{table_at, newest_of, greatest_of, knows_above}
+use Rattle.mdv_quorum.specs.Below.{DriveNo, Spot, SpotLists, Version, is_in, is_read, table_at, newest_of, greatest_of, knows_above}
 use Rattle.mdv_quorum.specs.declared.machine.Core.{Core}
 use Rattle.mdv_quorum.specs.declared.machine.Stage.{Stage}
 use Rattle.mdv_quorum.specs.declared.machine.Stage.TheVariants.{Reading, Ready}

@@ -3,15 +3,7 @@ use Rattle.std.proofs.Common.{◌≡◌, ◌<◌, ◌≤◌, ◌+◌, ℕ, Bool,
 use Rattle.std.proofs.lemmas.List.{get_or_append_left, get_or_push}
 use Rattle.std.proofs.lemmas.Bool.{or_cases, and_parts, ltb-true, eqb-true, cases_eq}
 use Rattle.std.specs.Prelude.{option_to_list, nat_lt, ◌==◌}
-use Rattle.mdv_base.specs.declared.drive.DriveNo.{DriveNo}
-use Rattle.mdv_base.specs.declared.mark.Mark.{Mark}
-use Rattle.mdv_votes.specs.declared.spot.Spot.{Spot}
-use Rattle.mdv_votes.specs.declared.spot.SpotLists.{SpotLists}
-use Rattle.mdv_votes.specs.declared.version.Version.{Version}
-use Rattle.mdv_votes.specs.declared.version.SpotState.{SpotState}
-use Rattle.mdv_votes.specs.Spots.{is_in, is_named, last_list}
-use Rattle.mdv_votes.specs.Quorum.{is_read, is_written}
-use Rattle.mdv_votes.specs.Family.{table_at, no_table, boot_of, mark_below}
+use Rattle.mdv_quorum.specs.Below.{DriveNo, Mark, Spot, SpotLists, Version, SpotState, is_in, is_named, last_list, is_read, is_written, table_at, no_table, boot_of, mark_below}
 use Rattle.mdv_votes.proofs.Quorums.{lists_at, IsCommon}
 use Rattle.mdv_quorum.proofs.Invariant.{newest, boot_at, plan_at, Knows, KnownIn, PlacesOk, IsLive, MadeFrom, TablesOk, ListsOk, AllCommon, PlansOk, Fits, IsPrefix, HasAll}
 

@@ -1,12 +1,7 @@
 -- The numbers of completed boots rise.
 use Rattle.std.proofs.Common.{◌≡◌, ◌<◌, ◌-◌, ℕ, Bool, true, false, refl, ap, sym, ◌∙◌, subst, List, [], ◌∷◌, ◌++◌, length, Option, None, Some, arith, cond}
 use Rattle.std.proofs.lemmas.Bool.{false≢true}
-use Rattle.mdv_votes.specs.declared.spot.Spot.{Spot}
-use Rattle.mdv_votes.specs.declared.spot.SpotLists.{SpotLists}
-use Rattle.mdv_votes.specs.declared.version.Version.{Version}
-use Rattle.mdv_votes.specs.Spots.{is_in, is_named}
-use Rattle.mdv_votes.specs.Quorum.{is_written}
-use Rattle.mdv_votes.specs.Family.{table_at, newest_of, change_at, wiped}
+use Rattle.mdv_quorum.specs.Below.{Spot, SpotLists, Version, is_in, is_named, is_written, table_at, newest_of, change_at, wiped}
 use Rattle.mdv_quorum.specs.declared.event.SlotEnd.{SlotEnd}
 use Rattle.mdv_quorum.specs.declared.event.Event.{Event}
 use Rattle.mdv_quorum.specs.declared.event.Event.TheVariants.{Read, Claimed, Slotted, Formatted, Wiped, Lists, Told, Crash, Lose, Back}

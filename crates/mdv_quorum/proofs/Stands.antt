@@ -2,9 +2,7 @@
 use Rattle.std.proofs.Common.{◌≡◌, ◌≤◌, ℕ, Bool, true, sym, ◌∙◌, List, inl, inr, Option, None, Some, arith, ◌&&◌}
 use Rattle.std.proofs.lemmas.Bool.{and_parts, or_cases, ltb-true, eqb-true}
 use Rattle.std.specs.Prelude.{nat_lt, ◌==◌}
-use Rattle.mdv_base.specs.declared.mark.Mark.{Mark}
-use Rattle.mdv_base.specs.Mark.{IsBelow}
-use Rattle.mdv_votes.specs.Family.{table_at, mark_below, knows_above}
+use Rattle.mdv_quorum.specs.Below.{Mark, IsBelow, table_at, mark_below, knows_above}
 use Rattle.mdv_quorum.specs.declared.event.Event.{Event}
 use Rattle.mdv_quorum.specs.declared.machine.Core.{Core}
 use Rattle.mdv_quorum.specs.declared.machine.Stage.{Stage}

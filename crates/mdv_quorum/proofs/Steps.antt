@@ -4,9 +4,7 @@ use Rattle.std.proofs.lemmas.Bool.{false≢true, and_parts, or_parts, not-true, 
 use Rattle.std.proofs.lemmas.List.Folds.{list_any-append}
 use Rattle.std.specs.List.{list_any}
 use Rattle.std.specs.Prelude.{◌==◌}
-use Rattle.mdv_base.specs.declared.drive.DriveNo.{DriveNo}
-use Rattle.mdv_votes.specs.declared.spot.Spot.{Spot}
-use Rattle.mdv_votes.specs.declared.version.Since.TheVariants.{Never, Listed, Dropped}
+use Rattle.mdv_quorum.specs.Below.{DriveNo, Spot, Never, Listed, Dropped}
 use Rattle.mdv_quorum.specs.declared.event.Event.{Event}
 use Rattle.mdv_quorum.specs.declared.event.Event.TheVariants.{Read, Claimed, Slotted, Formatted, Wiped, Lists, Told, Crash, Lose, Back}
 use Rattle.mdv_quorum.specs.declared.machine.Core.{Core}

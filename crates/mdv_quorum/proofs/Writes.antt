@@ -3,12 +3,7 @@ use Rattle.std.proofs.Common.{◌≡◌, ◌<◌, ◌≤◌, ◌-◌, ℕ, Bool,
 use Rattle.std.proofs.lemmas.Bool.{false≢true, and_parts}
 use Rattle.std.proofs.lemmas.List.Elements.{Contains-append_right, Contains-append_cases}
 use Rattle.std.specs.Prelude.{option_to_list, Contains}
-use Rattle.mdv_votes.specs.declared.spot.Spot.{Spot}
-use Rattle.mdv_votes.specs.declared.version.Version.{Version}
-use Rattle.mdv_votes.specs.declared.version.SpotState.{SpotState}
-use Rattle.mdv_votes.specs.Spots.{is_in, is_named, last_list}
-use Rattle.mdv_votes.specs.Quorum.{is_read, is_written, is_claimed}
-use Rattle.mdv_votes.specs.Family.{table_at, put_at, with_newest}
+use Rattle.mdv_quorum.specs.Below.{Spot, Version, SpotState, is_in, is_named, last_list, is_read, is_written, is_claimed, table_at, put_at, with_newest}
 use Rattle.mdv_votes.proofs.Meeting.{same_self, in_more}
 use Rattle.mdv_votes.proofs.Quorums.{claimed_meets, lists_at}
 use Rattle.mdv_votes.proofs.PlacesAt.{put_cases}

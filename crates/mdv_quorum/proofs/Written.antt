@@ -1,16 +1,7 @@
 -- A place takes the last table, and that table becomes firm.
 use Rattle.std.proofs.Common.{◌≡◌, ◌<◌, ◌≤◌, ◌-◌, ℕ, Bool, true, false, refl, ap, sym, ◌∙◌, subst, List, [], length, inl, inr, ◌⊎◌, Option, None, Some, arith, map, append-nil}
 use Rattle.std.proofs.lemmas.Bool.{false≢true, cases_lt}
-use Rattle.mdv_base.specs.declared.drive.DriveNo.{DriveNo}
-use Rattle.mdv_votes.specs.declared.spot.Spot.{Spot}
-use Rattle.mdv_votes.specs.declared.spot.SpotLists.{SpotLists}
-use Rattle.mdv_votes.specs.declared.version.Version.{Version}
-use Rattle.mdv_votes.specs.declared.version.SpotState.{SpotState}
-use Rattle.mdv_votes.specs.declared.version.Since.{Since}
-use Rattle.mdv_votes.specs.declared.version.Since.TheVariants.{Never, Listed, Dropped}
-use Rattle.mdv_votes.specs.Spots.{is_in, last_list, last_or}
-use Rattle.mdv_votes.specs.Quorum.{is_written}
-use Rattle.mdv_votes.specs.Family.{table_at, boot_of, put_at, with_newest, with_since, since_after}
+use Rattle.mdv_quorum.specs.Below.{DriveNo, Spot, SpotLists, Version, SpotState, Since, Never, Listed, Dropped, is_in, last_list, last_or, is_written, table_at, boot_of, put_at, with_newest, with_since, since_after}
 use Rattle.mdv_votes.proofs.Quorums.{written_meets, lists_at, HasList, IsCommon, SeatsMeet}
 use Rattle.mdv_votes.proofs.Meeting.{meet, half_of_majority}
 use Rattle.mdv_votes.proofs.PlacesAt.{put_cases, put_used, map_at, map_used, spot_at}

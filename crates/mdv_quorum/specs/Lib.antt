@@ -1,3 +1,4 @@
+pub mod Below
 pub use Rattle.mdv_votes.specs.Spots
 pub use Rattle.mdv_votes.specs.Quorum
 pub use Rattle.mdv_votes.specs.Family

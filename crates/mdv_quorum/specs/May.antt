@@ -1,14 +1,7 @@
 -- When each event may happen.
 use Rattle.std.specs.Prelude.{ℕ, ◌+◌, ◌^◌, ◌&&◌, ◌||◌, ◌==◌, not, Bool, true, false, List, [], ◌∷◌, Option, None, Some, length, nat_lt, nat_le, cond, IsTrue}
 use Rattle.std.specs.List.{list_any, list_all}
-use Rattle.mdv_base.specs.declared.drive.DriveNo.{DriveNo}
-use Rattle.mdv_votes.specs.declared.spot.Spot.{Spot}
-use Rattle.mdv_votes.specs.declared.spot.SpotLists.{SpotLists}
-use Rattle.mdv_votes.specs.declared.version.Version.{Version}
-use Rattle.mdv_votes.specs.declared.version.SpotState.{SpotState}
-use Rattle.mdv_votes.specs.Spots.{same_spot, is_in, is_named, is_none, same_spots}
-use Rattle.mdv_votes.specs.Quorum.{is_written, is_claimed, is_read}
-use Rattle.mdv_votes.specs.Family.{table_at, place_at, newest_of, knows_above}
+use Rattle.mdv_quorum.specs.Below.{DriveNo, Spot, SpotLists, Version, SpotState, same_spot, is_in, is_named, is_none, same_spots, is_written, is_claimed, is_read, table_at, place_at, newest_of, knows_above}
 use Rattle.mdv_quorum.specs.declared.event.Event.{Event}
 use Rattle.mdv_quorum.specs.declared.event.Event.TheVariants.{Read, Claimed, Slotted, Formatted, Wiped, Lists, Told, Crash, Lose, Back}
 use Rattle.mdv_quorum.specs.declared.machine.Core.{Core}

@@ -1,10 +1,6 @@
 -- What holds of the replicas and mediators of one database after every list of events.
 use Rattle.std.specs.Prelude.{◌≡◌, ℕ, ◌-◌, ◌<◌, ◌≤◌, ◌⊎◌, Bool, false, List, [], ◌∷◌, ◌++◌, Option, None, Some, length, option_to_list, Contains, IsTrue}
-use Rattle.mdv_base.specs.Mark.{IsBelow}
-use Rattle.mdv_votes.specs.declared.spot.Spot.{Spot}
-use Rattle.mdv_votes.specs.declared.version.Version.{Version}
-use Rattle.mdv_votes.specs.Quorum.{is_written, is_read}
-use Rattle.mdv_votes.specs.Family.{table_at, place_at, boot_of, knows_above}
+use Rattle.mdv_quorum.specs.Below.{IsBelow, Spot, Version, is_written, is_read, table_at, place_at, boot_of, knows_above}
 use Rattle.mdv_quorum.specs.declared.event.Event.{Event}
 use Rattle.mdv_quorum.specs.declared.event.Event.TheVariants.{Told}
 use Rattle.mdv_quorum.specs.declared.machine.Core.{Core}

@@ -1,16 +1,6 @@
 -- What each event does to the replicas and mediators of one database.
 use Rattle.std.specs.Prelude.{ℕ, ◌+◌, ◌-◌, ◌&&◌, ◌==◌, not, Bool, true, false, List, [], ◌∷◌, ◌++◌, Option, None, Some, length, max, cond, map, filter, option_to_list}
-use Rattle.mdv_base.specs.declared.drive.DriveNo.{DriveNo}
-use Rattle.mdv_base.specs.declared.mark.Mark.{Mark}
-use Rattle.mdv_votes.specs.declared.spot.Spot.{Spot}
-use Rattle.mdv_votes.specs.declared.spot.SpotLists.{SpotLists}
-use Rattle.mdv_votes.specs.declared.version.Version.{Version}
-use Rattle.mdv_votes.specs.declared.version.SpotState.{SpotState}
-use Rattle.mdv_votes.specs.declared.version.Since.{Since}
-use Rattle.mdv_votes.specs.declared.version.Since.TheVariants.{Never, Listed, Dropped}
-use Rattle.mdv_votes.specs.Spots.{is_in, is_none, is_named, last_list, same_spots}
-use Rattle.mdv_votes.specs.Quorum.{is_written}
-use Rattle.mdv_votes.specs.Family.{table_at, place_at, change_at, put_at, with_claim, with_newest, with_since, wiped, formatted, newest_of, greatest_of}
+use Rattle.mdv_quorum.specs.Below.{DriveNo, Mark, Spot, SpotLists, Version, SpotState, Since, Never, Listed, Dropped, is_in, is_none, is_named, last_list, same_spots, is_written, table_at, place_at, change_at, put_at, with_claim, with_newest, with_since, wiped, formatted, newest_of, greatest_of}
 use Rattle.mdv_quorum.specs.declared.event.SlotEnd.{SlotEnd}
 use Rattle.mdv_quorum.specs.declared.event.SlotEnd.TheVariants.{Closed, Holds}
 use Rattle.mdv_quorum.specs.declared.event.Event.{Event}

@@ -4,10 +4,7 @@ use Rattle.std.proofs.lemmas.List.{append-nil}
 use Rattle.std.specs.Prelude.{All, flat_map}
 use Rattle.byteorder.specs.Endian.{big_bytes, big_number}
 use Rattle.byteorder.specs.Numbers.{big_number-reads_back, length-bytes_high_first}
-use Rattle.mdv_name.specs.declared.geometry.Geometry.{Geometry}
-use Rattle.mdv_table.specs.declared.table.Table.{Table}
-use Rattle.mdv_table.specs.Slices.{IsSound}
-use Rattle.mdv_table.specs.Table.{IsOfGeometry}
+use Rattle.mdv_record.specs.Below.{Geometry, Table, IsSound, IsOfGeometry}
 use Rattle.mdv_table.proofs.Ascending.{few}
 use Rattle.mdv_record.specs.declared.decoding.Front.{Front}
 use Rattle.mdv_record.specs.declared.record.RecordError.{RecordError}

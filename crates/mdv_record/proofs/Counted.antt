@@ -2,8 +2,7 @@
 use Rattle.std.proofs.Common.{◌≡◌, ℕ, refl, sym, ◌∙◌, ap, List, ◌++◌, append_assoc, length, None, Some, arith}
 use Rattle.std.specs.Prelude.{flat_map}
 use Rattle.byteorder.specs.Endian.{big_bytes}
-use Rattle.mdv_base.specs.declared.place.Place.{Place}
-use Rattle.mdv_table.specs.declared.volume.Volume.{Volume}
+use Rattle.mdv_record.specs.Below.{Place, Volume}
 use Rattle.mdv_record.specs.Reading.{Reads, byte_text}
 use Rattle.mdv_record.specs.Text.{place_text, places_text, volume_text, volumes_text}
 use Rattle.mdv_record.proofs.Composing.{some_is}

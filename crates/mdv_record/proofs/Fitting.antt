@@ -1,21 +1,7 @@
 -- What a table of a geometry says fits the fields of a record.
 use Rattle.std.proofs.Common.{◌<◌, ◌^◌, get_or, arith}
 use Rattle.std.proofs.lemmas.List.Elements.{All-weaker}
-use Rattle.mdv_base.specs.declared.drive.SliceName.{SliceName}
-use Rattle.mdv_base.specs.declared.place.Place.{Place}
-use Rattle.mdv_name.specs.declared.geometry.Geometry.{Geometry}
-use Rattle.mdv_name.specs.declared.slice_lines.SliceAt.{SliceAt}
-use Rattle.mdv_name.specs.SliceIndex.{HasSlice}
-use Rattle.mdv_table.specs.declared.plan.Lists.{Lists}
-use Rattle.mdv_table.specs.declared.plan.Lists.TheVariants.{One}
-use Rattle.mdv_table.specs.declared.plan.Plan.{Plan}
-use Rattle.mdv_table.specs.declared.volume.Base.{Base}
-use Rattle.mdv_table.specs.declared.volume.Base.TheVariants.{Slice}
-use Rattle.mdv_table.specs.declared.volume.Component.{Component}
-use Rattle.mdv_table.specs.declared.volume.VolumeKind.{VolumeKind}
-use Rattle.mdv_table.specs.declared.volume.VolumeKind.TheVariants.{Stripe}
-use Rattle.mdv_table.specs.Slices.{IsSound}
-use Rattle.mdv_table.specs.Table.{IsPlanOf, IsListsOf, IsPlaceOf, IsKindOf, IsComponentOn}
+use Rattle.mdv_record.specs.Below.{SliceName, Place, Geometry, SliceAt, HasSlice, Lists, One, Plan, Base, Slice, Component, VolumeKind, Stripe, IsSound, IsPlanOf, IsListsOf, IsPlaceOf, IsKindOf, IsComponentOn}
 use Rattle.mdv_record.specs.Fits.{FitsSlice, FitsPlace, FitsLists, FitsBase, FitsKind, FitsPlan}
 
 module _ (g : Geometry) (sound : IsSound g) where

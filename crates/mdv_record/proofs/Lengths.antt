@@ -4,19 +4,8 @@ use Rattle.std.proofs.lemmas.List.{length-append, take-append-drop, take_more, a
 use Rattle.std.proofs.lemmas.List.Concat.{flat_map-append}
 use Rattle.std.specs.Prelude.{flat_map, codes}
 use Rattle.byteorder.specs.Endian.{big_bytes}
-use Rattle.mdv_base.specs.declared.drive.SliceName.{SliceName}
-use Rattle.mdv_base.specs.declared.place.Place.{Place}
-use Rattle.mdv_table.specs.declared.plan.Lists.{Lists}
-use Rattle.mdv_table.specs.declared.plan.Lists.TheVariants.{One}
-use Rattle.mdv_table.specs.declared.volume.Base.{Base}
-use Rattle.mdv_table.specs.declared.volume.Base.TheVariants.{Slice}
-use Rattle.mdv_table.specs.declared.volume.Component.{Component}
+use Rattle.mdv_record.specs.Below.{SliceName, Place, Lists, One, Base, Slice, Component, Volume, VolumeKind, Stripe, places_of, Table}
 use Rattle.mdv_table.specs.declared.volume.Stripe.{Stripe as OneStripe}
-use Rattle.mdv_table.specs.declared.volume.Volume.{Volume}
-use Rattle.mdv_table.specs.declared.volume.VolumeKind.{VolumeKind}
-use Rattle.mdv_table.specs.declared.volume.VolumeKind.TheVariants.{Stripe}
-use Rattle.mdv_table.specs.Plan.{places_of}
-use Rattle.mdv_table.specs.declared.table.Table.{Table}
 use Rattle.mdv_record.specs.Text.{empty_parts, slice_text, place_text, places_text, lists_text, base_text, component_text, stripe_text, kind_text, volume_text, volumes_text, plan_text, record_text}
 
 pub length-slice_text : (s : SliceName) → length (slice_text s) ≡ 4

@@ -1,17 +1,8 @@
 -- The parts of which each text is made, in order.
 use Rattle.std.proofs.Common.{◌≡◌, ◌<◌, ◌^◌, ℕ, refl, List, [], ◌∷◌, codes}
 use Rattle.byteorder.specs.Endian.{big_bytes}
-use Rattle.mdv_base.specs.declared.drive.SliceName.{SliceName}
-use Rattle.mdv_base.specs.declared.place.Place.{Place}
-use Rattle.mdv_table.specs.declared.plan.Lists.{Lists}
-use Rattle.mdv_table.specs.declared.plan.Lists.TheVariants.{One}
-use Rattle.mdv_table.specs.declared.volume.Base.{Base}
-use Rattle.mdv_table.specs.declared.volume.Base.TheVariants.{Slice}
-use Rattle.mdv_table.specs.declared.volume.Component.{Component}
+use Rattle.mdv_record.specs.Below.{SliceName, Place, Lists, One, Base, Slice, Component, Volume, VolumeKind, Stripe}
 use Rattle.mdv_table.specs.declared.volume.Stripe.{Stripe as OneStripe}
-use Rattle.mdv_table.specs.declared.volume.Volume.{Volume}
-use Rattle.mdv_table.specs.declared.volume.VolumeKind.{VolumeKind}
-use Rattle.mdv_table.specs.declared.volume.VolumeKind.TheVariants.{Stripe}
 use Rattle.mdv_record.specs.declared.decoding.Front.{Front}
 use Rattle.mdv_record.specs.Fits.{FitsSlice, FitsPlace, FitsPlaces, FitsLists, FitsBase, FitsComponent, FitsStripe, FitsKind, FitsVolume}
 use Rattle.mdv_record.specs.Reading.{Always, known_text}

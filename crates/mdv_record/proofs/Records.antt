@@ -2,11 +2,7 @@
 use Rattle.std.proofs.Common.{◌≡◌, ◌<◌, ◌≤◌, ◌+◌, ◌^◌, ℕ, refl, sym, ◌∙◌, ap, List, [], ◌++◌, append_assoc, length, None, Some, Result, Ok, Err, MatchResult, IsErr, arith, codes}
 use Rattle.std.proofs.lemmas.List.{append-nil, length-append}
 use Rattle.byteorder.specs.Endian.{big_bytes}
-use Rattle.mdv_table.specs.declared.plan.Lists.{Lists}
-use Rattle.mdv_table.specs.declared.plan.Lists.TheVariants.{One}
-use Rattle.mdv_table.specs.declared.table.Table.{Table}
-use Rattle.mdv_table.specs.declared.volume.Volume.{Volume}
-use Rattle.mdv_table.specs.Plan.{places_of}
+use Rattle.mdv_record.specs.Below.{Lists, One, Table, Volume, places_of}
 use Rattle.mdv_table.proofs.Ascending.{few}
 use Rattle.mdv_record.specs.declared.decoding.Front.{Front}
 use Rattle.mdv_record.specs.declared.record.RecordError.{RecordError}

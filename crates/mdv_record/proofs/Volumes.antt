@@ -4,8 +4,7 @@ use Rattle.std.proofs.lemmas.List.{get_or-take, length-take}
 use Rattle.std.proofs.lemmas.List.Elements.{All-nil}
 use Rattle.std.specs.Prelude.{All}
 use Rattle.byteorder.specs.Endian.{big_bytes}
-use Rattle.mdv_table.specs.declared.volume.Volume.{Volume}
-use Rattle.mdv_table.specs.Volumes.{IsVolumes}
+use Rattle.mdv_record.specs.Below.{Volume, IsVolumes}
 use Rattle.mdv_record.specs.declared.record.RecordError.{RecordError}
 use Rattle.mdv_record.specs.Reading.{ReadsInMemory}
 use Rattle.mdv_record.specs.Text.{volume_text, volumes_text}

@@ -1,18 +1,7 @@
 -- What the fields of a record can hold.
 use Rattle.std.specs.Prelude.{◌<◌, ◌≤◌, ◌^◌, List, length, All}
-use Rattle.mdv_base.specs.declared.drive.SliceName.{SliceName}
-use Rattle.mdv_base.specs.declared.place.Place.{Place}
-use Rattle.mdv_table.specs.declared.plan.Lists.{Lists}
-use Rattle.mdv_table.specs.declared.plan.Lists.TheVariants.{One}
-use Rattle.mdv_table.specs.declared.plan.Plan.{Plan}
-use Rattle.mdv_table.specs.declared.volume.Base.{Base}
-use Rattle.mdv_table.specs.declared.volume.Base.TheVariants.{Slice}
-use Rattle.mdv_table.specs.declared.volume.Component.{Component}
+use Rattle.mdv_record.specs.Below.{SliceName, Place, Lists, One, Plan, Base, Slice, Component, Volume, VolumeKind, Stripe, IsVolumes}
 use Rattle.mdv_table.specs.declared.volume.Stripe.{Stripe as OneStripe}
-use Rattle.mdv_table.specs.declared.volume.Volume.{Volume}
-use Rattle.mdv_table.specs.declared.volume.VolumeKind.{VolumeKind}
-use Rattle.mdv_table.specs.declared.volume.VolumeKind.TheVariants.{Stripe}
-use Rattle.mdv_table.specs.Volumes.{IsVolumes}
 
 pub record FitsSlice (s : SliceName) : Type 0 where
   pub controller : s.drive.controller < 256

@@ -1,3 +1,4 @@
+pub mod Below
 pub use Rattle.byteorder.specs.Endian
 pub use Rattle.mdv_table.specs.Slices
 pub use Rattle.mdv_table.specs.Table

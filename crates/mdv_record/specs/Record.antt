@@ -1,11 +1,9 @@
 -- What encoding and decoding answer.
 use Rattle.std.specs.Prelude.{◌≡◌, ℕ, List, Result, IfOk, Err, length, take, drop}
-use Rattle.mdv_name.specs.declared.geometry.Geometry.{Geometry}
+use Rattle.mdv_record.specs.Below.{Geometry, Table, IsOfGeometry}
 use Rattle.mdv_record.specs.declared.record.RecordError.{RecordError}
 use Rattle.mdv_record.specs.declared.record.RecordError.TheVariants.{NotARecord}
 use Rattle.mdv_record.specs.Text.{record_text}
-use Rattle.mdv_table.specs.declared.table.Table.{Table}
-use Rattle.mdv_table.specs.Table.{IsOfGeometry}
 
 -- so many bytes are the table's text, and those behind are as before
 pub record IsEncoded (t : Table) (old new : List ℕ) (bytes : ℕ) : Type 0 where

@@ -1,19 +1,8 @@
 -- The text of a table, part by part. Numbers are big-endian.
 use Rattle.std.specs.Prelude.{ℕ, List, [], ◌∷◌, ◌++◌, ◌+◌, length, replicate, codes, flat_map}
 use Rattle.byteorder.specs.Endian.{big_bytes}
-use Rattle.mdv_base.specs.declared.drive.SliceName.{SliceName}
-use Rattle.mdv_base.specs.declared.place.Place.{Place}
-use Rattle.mdv_table.specs.declared.plan.Lists.{Lists}
-use Rattle.mdv_table.specs.declared.plan.Lists.TheVariants.{One}
-use Rattle.mdv_table.specs.declared.plan.Plan.{Plan}
-use Rattle.mdv_table.specs.declared.table.Table.{Table}
-use Rattle.mdv_table.specs.declared.volume.Base.{Base}
-use Rattle.mdv_table.specs.declared.volume.Base.TheVariants.{Slice}
-use Rattle.mdv_table.specs.declared.volume.Component.{Component}
+use Rattle.mdv_record.specs.Below.{SliceName, Place, Lists, One, Plan, Table, Base, Slice, Component, Volume, VolumeKind, Stripe}
 use Rattle.mdv_table.specs.declared.volume.Stripe.{Stripe as OneStripe}
-use Rattle.mdv_table.specs.declared.volume.Volume.{Volume}
-use Rattle.mdv_table.specs.declared.volume.VolumeKind.{VolumeKind}
-use Rattle.mdv_table.specs.declared.volume.VolumeKind.TheVariants.{Stripe}
 
 unfoldable pub slice_text : SliceName → List ℕ
 slice_text s = s.drive.controller ∷ s.drive.target ∷ s.drive.disk ∷ s.slice ∷ []

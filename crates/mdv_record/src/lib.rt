@@ -8,8 +8,6 @@ mod reader;
 mod reading;
 mod record;
 mod spelling;
-#[cfg(test)]
-mod tests;
 
 pub use decoding::decode;
 pub use encoding::{encode, text_bytes};

@@ -2,10 +2,7 @@
 use Rattle.std.proofs.Common.{◌≡◌, ◌<◌, ◌^◌, ◌-◌, ℕ, zero, suc, refl, sym, ◌∙◌, ap, List, [], ◌∷◌, ◌++◌, length, get_or, replicate, arith, codes}
 use Rattle.byteorder.specs.Endian.{big_bytes, big_number}
 use Rattle.byteorder.specs.Numbers.{big_number-reads_back}
-use Rattle.mdv_base.specs.Bytes.{padded_to}
-use Rattle.mdv_base.specs.Name.{IsName}
-use Rattle.mdv_base.specs.declared.name.Key.{Key}
-use Rattle.mdv_base.specs.declared.name.Key.TheVariants.{Local, Set}
+use Rattle.mdv_replica.specs.Below.{padded_to, IsName, Key, Local, Set}
 use Rattle.mdv_replica.specs.declared.forms.Gate.{Gate}
 use Rattle.mdv_replica.specs.declared.forms.Gate.TheVariants.{Closed, Open}
 use Rattle.mdv_replica.specs.declared.forms.Master.{Master}

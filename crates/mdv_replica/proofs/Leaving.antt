@@ -1,11 +1,7 @@
 -- From what calls do at each moment to what a crash leaves then.
 use Rattle.std.proofs.Common.{◌≡◌, ◌⊎◌, inl, inr, ⊎_elim, ℕ, zero, suc, ◌+◌, ◌<◌, Bool, true, List, [], ◌∷◌, length, slice_index_or, refl, sym, ◌∙◌, ap, subst, cond, arith}
 use Rattle.std.proofs.lemmas.Bool.Decides.{nat_tests}
-use Rattle.mdv_base.specs.declared.mark.Mark.{Mark}
-use Rattle.mdv_shelf.specs.Tale.{Tale, last, MayLeave, IsImage}
-use Rattle.mdv_shelf.specs.Area.{Area, KeptOutside, range}
-use Rattle.mdv_shelf.specs.Calls.{Shows}
-use Rattle.mdv_shelf.specs.Settle.{Settling, IsSettled, IsSynced, IsFixed}
+use Rattle.mdv_replica.specs.Below.{Mark, Tale, last, MayLeave, IsImage, Area, KeptOutside, range, Shows, Settling, IsSettled, IsSynced, IsFixed}
 use Rattle.mdv_shelf.proofs.Blocks.{both_ways, last_may_be_left}
 use Rattle.mdv_shelf.proofs.Frame.{settling_one, settled_one}
 use Rattle.mdv_replica.specs.declared.forms.Gate.TheVariants.{Open}

@@ -1,7 +1,6 @@
 -- What a look makes of the master, the claim and the gates that it read.
 use Rattle.std.proofs.Common.{◌≡◌, ◌↔◌, ℕ, ◌+◌, ◌<◌, ◌≤◌, ◌-◌, min, Bool, true, false, List, [], length, slice_index_or, Option, Some, None, IfSome, MatchOption, is_some, is_none, refl, sym, ◌∙◌, ap, subst, arith}
-use Rattle.mdv_base.specs.declared.flags.Flags.{Flags}
-use Rattle.mdv_base.specs.declared.place.Place.{Place}
+use Rattle.mdv_replica.specs.Below.{Flags, Place}
 use Rattle.mdv_replica.specs.declared.forms.Master.{Master}
 use Rattle.mdv_replica.specs.declared.forms.Gate.{Gate}
 use Rattle.mdv_replica.specs.declared.looking.ClaimAndGates.{ClaimAndGates}

@@ -1,7 +1,6 @@
 -- The newest table of a replica.
 use Rattle.std.proofs.Common.{◌≡◌, ℕ, Bool, true, false, ◌||◌, refl, sym, ◌∙◌, ap, arith}
-use Rattle.mdv_base.specs.Mark.{IsBelow}
-use Rattle.mdv_base.specs.declared.mark.Mark.{Mark}
+use Rattle.mdv_replica.specs.Below.{IsBelow, Mark}
 use Rattle.mdv_replica.specs.declared.forms.Gate.{Gate}
 use Rattle.mdv_replica.specs.declared.forms.Gate.TheVariants.{Closed, Open}
 use Rattle.mdv_replica.specs.declared.replica.Head.{Head}

@@ -2,12 +2,7 @@
 use Rattle.std.proofs.Common.{◌≡◌, ◌-◌, min, ℕ, List, ◌∷◌, ◌++◌, length, take, replicate, refl, sym, ◌∙◌, ap, append_assoc, arith, codes}
 use Rattle.std.proofs.lemmas.List.{take_at}
 use Rattle.byteorder.specs.Endian.{big_bytes}
-use Rattle.mdv_base.specs.Bytes.{padded_to}
-use Rattle.mdv_base.specs.Name.{IsName}
-use Rattle.mdv_base.specs.declared.drive.SliceName.{SliceName}
-use Rattle.mdv_base.specs.declared.mark.Mark.{Mark}
-use Rattle.mdv_base.specs.declared.name.Key.{Key}
-use Rattle.mdv_base.specs.declared.name.Key.TheVariants.{Local, Set}
+use Rattle.mdv_replica.specs.Below.{padded_to, IsName, SliceName, Mark, Key, Local, Set}
 use Rattle.mdv_replica.specs.declared.forms.Master.{Master}
 use Rattle.mdv_replica.specs.declared.forms.Gate.TheVariants.{Closed, Open}
 use Rattle.mdv_replica.specs.Forms.{key_text, name_of_key, slice_bytes, master_text, claim_text, gate_text, block_of}

@@ -1,7 +1,6 @@
 -- How a readable replica stays readable where its blocks are kept, claimed or written.
 use Rattle.std.proofs.Common.{◌≡◌, ◌≢◌, ◌⊎◌, inl, inr, ℕ, ◌+◌, ◌≤◌, ◌<◌, ◌^◌, List, [], length, take, slice_index_or, sym, ◌∙◌, ap, subst, arith}
-use Rattle.mdv_base.specs.declared.mark.Mark.{Mark}
-use Rattle.mdv_base.specs.declared.place.Place.{Place}
+use Rattle.mdv_replica.specs.Below.{Mark, Place}
 use Rattle.mdv_replica.specs.declared.forms.Gate.{Gate}
 use Rattle.mdv_replica.specs.declared.forms.Gate.TheVariants.{Closed, Open}
 use Rattle.mdv_replica.specs.declared.replica.PlaceAt.{PlaceAt}

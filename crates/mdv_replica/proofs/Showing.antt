@@ -1,11 +1,7 @@
 -- What a place shows of a replica while it is written.
 use Rattle.std.proofs.Common.{◌≡◌, ◌≢◌, ◌⊎◌, inl, inr, ⊎_elim, ℕ, ◌+◌, ◌≤◌, ◌<◌, ◌^◌, false, List, [], length, sym, ◌∙◌, ap, subst, arith}
 use Rattle.std.proofs.lemmas.Bool.Decides.{nat_tests}
-use Rattle.mdv_base.specs.declared.mark.Identity.{Identity}
-use Rattle.mdv_base.specs.declared.mark.Mark.{Mark}
-use Rattle.mdv_base.specs.declared.name.Key.{Key}
-use Rattle.mdv_base.specs.declared.place.Place.{Place}
-use Rattle.mdv_shelf.specs.Area.{range}
+use Rattle.mdv_replica.specs.Below.{Identity, Mark, Key, Place, range}
 use Rattle.mdv_shelf.proofs.Frame.{before_range, behind_range}
 use Rattle.mdv_replica.specs.declared.forms.Gate.TheVariants.{Closed, Open}
 use Rattle.mdv_replica.specs.declared.replica.PlaceAt.{PlaceAt}

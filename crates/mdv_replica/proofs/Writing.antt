@@ -1,11 +1,7 @@
 -- The moments of a slot's writing and of a formatting.
 use Rattle.std.proofs.Common.{◌≡◌, inl, inr, ⊎_elim, ℕ, ◌+◌, ◌<◌, false, Option, List, [], ◌∷◌, length, sym, ◌∙◌, arith}
-use Rattle.mdv_base.specs.declared.mark.Mark.{Mark}
-use Rattle.mdv_shelf.specs.Tale.{Tale, covers}
-use Rattle.mdv_shelf.specs.Area.{range}
-use Rattle.mdv_shelf.specs.Settle.{Settling, IsSettled}
+use Rattle.mdv_replica.specs.Below.{Mark, Tale, covers, range, Settling, IsSettled, Moments, Ends}
 use Rattle.mdv_shelf.proofs.Frame.{kept_outside_more, kept_outside_left, kept_outside_right, kept_outside_wider, before_range, behind_range, within_range, settling_one, settled_one, settled_only, fixed_settled, fixed_kept, shows_more}
-use Rattle.mdv_shelf.specs.Moments.{Moments, Ends}
 use Rattle.mdv_shelf.proofs.Moments.{moments_weaker, moments_after, moments_end, ends_both, ends_more}
 use Rattle.mdv_replica.specs.declared.forms.Gate.TheVariants.{Closed, Open}
 use Rattle.mdv_replica.specs.declared.forms.Master.{Master}

@@ -2,11 +2,7 @@
 -- body counts as a record at a place.
 use Rattle.std.specs.Prelude.{ℕ, ◌*◌, ◌≤◌, max, Bool, true, false, ◌||◌, List, length, map, take}
 use Rattle.std.specs.List.{concat, range_with_len}
-use Rattle.mdv_base.specs.Mark.{IsBelow}
-use Rattle.mdv_base.specs.declared.mark.Identity.{Identity}
-use Rattle.mdv_base.specs.declared.mark.Mark.{Mark}
-use Rattle.mdv_base.specs.declared.name.Key.{Key}
-use Rattle.mdv_base.specs.declared.place.Place.{Place}
+use Rattle.mdv_replica.specs.Below.{IsBelow, Identity, Mark, Key, Place}
 use Rattle.mdv_replica.specs.declared.forms.Gate.{Gate}
 use Rattle.mdv_replica.specs.declared.forms.Gate.TheVariants.{Closed, Open}
 use Rattle.mdv_replica.specs.declared.replica.PlaceAt.{PlaceAt}

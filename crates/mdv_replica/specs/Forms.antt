@@ -1,12 +1,7 @@
 -- How the blocks of a replica are spelled. Bytes of a block that no field has are zero.
 use Rattle.std.specs.Prelude.{◌<◌, ◌^◌, ℕ, List, [], ◌∷◌, ◌++◌, length, codes}
 use Rattle.byteorder.specs.Endian.{big_bytes}
-use Rattle.mdv_base.specs.Bytes.{padded_to}
-use Rattle.mdv_base.specs.Name.{IsName}
-use Rattle.mdv_base.specs.declared.drive.SliceName.{SliceName}
-use Rattle.mdv_base.specs.declared.mark.Mark.{Mark}
-use Rattle.mdv_base.specs.declared.name.Key.{Key}
-use Rattle.mdv_base.specs.declared.name.Key.TheVariants.{Local, Set}
+use Rattle.mdv_replica.specs.Below.{padded_to, IsName, SliceName, Mark, Key, Local, Set}
 use Rattle.mdv_replica.specs.declared.forms.Master.{Master}
 use Rattle.mdv_replica.specs.declared.forms.Gate.{Gate}
 use Rattle.mdv_replica.specs.declared.forms.Gate.TheVariants.{Closed, Open}

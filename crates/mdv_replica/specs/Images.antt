@@ -1,8 +1,6 @@
 -- What a crash leaves of a place that is being written, told from what one might have left before.
 use Rattle.std.specs.Prelude.{◌≡◌, ◌⊎◌, ℕ, ◌+◌, ◌<◌, false, List, [], length, slice_index_or}
-use Rattle.mdv_base.specs.declared.mark.Mark.{Mark}
-use Rattle.mdv_shelf.specs.Tale.{Tale, IsImage}
-use Rattle.mdv_shelf.specs.Area.{Area, range}
+use Rattle.mdv_replica.specs.Below.{Mark, Tale, IsImage, Area, range}
 use Rattle.mdv_replica.specs.declared.forms.Gate.TheVariants.{Closed, Open}
 use Rattle.mdv_replica.specs.declared.forms.Master.{Master}
 use Rattle.mdv_replica.specs.declared.replica.PlaceAt.{PlaceAt}

@@ -1,12 +1,7 @@
 -- What a place shows while it is formatted, wiped, claimed and written, whatever its records are: `counts` tells which
 -- text of a slot's body counts as a record at a place.
 use Rattle.std.specs.Prelude.{◌≡◌, ◌⊎◌, ℕ, ◌<◌, ◌^◌, Bool, true, IsTrue, List, length}
-use Rattle.mdv_base.specs.Mark.{IsBelow}
-use Rattle.mdv_base.specs.declared.mark.Identity.{Identity}
-use Rattle.mdv_base.specs.declared.mark.Mark.{Mark}
-use Rattle.mdv_base.specs.declared.name.Key.{Key}
-use Rattle.mdv_base.specs.declared.place.Place.{Place}
-use Rattle.mdv_shelf.specs.Tale.{Tale}
+use Rattle.mdv_replica.specs.Below.{IsBelow, Identity, Mark, Key, Place, Tale}
 use Rattle.mdv_replica.specs.declared.forms.Gate.{Gate}
 use Rattle.mdv_replica.specs.declared.forms.Gate.TheVariants.{Closed, Open}
 use Rattle.mdv_replica.specs.declared.replica.PlaceAt.{PlaceAt}

@@ -1,3 +1,4 @@
+pub mod Below
 pub use Rattle.mdv_base.specs.Bytes
 pub mod Forms
 pub mod Replica

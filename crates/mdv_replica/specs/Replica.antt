@@ -1,11 +1,6 @@
 -- A replica at its place: what its head says, and what calls on it do at each moment.
 use Rattle.std.specs.Prelude.{◌≡◌, ◌⊎◌, ℕ, ◌+◌, ◌-◌, ◌/◌, ◌≤◌, ◌<◌, ◌^◌, List, [], ◌∷◌, length, slice_index_or}
-use Rattle.mdv_base.specs.declared.mark.Identity.{Identity}
-use Rattle.mdv_base.specs.declared.mark.Mark.{Mark}
-use Rattle.mdv_base.specs.declared.name.Key.{Key}
-use Rattle.mdv_shelf.specs.Tale.{Tale, MayLeave, told}
-use Rattle.mdv_shelf.specs.Area.{Area, range, joined, KeptOutside}
-use Rattle.mdv_shelf.specs.Settle.{Settling, IsSettled, IsFixed}
+use Rattle.mdv_replica.specs.Below.{Identity, Mark, Key, Tale, MayLeave, told, Area, range, joined, KeptOutside, Settling, IsSettled, IsFixed}
 use Rattle.mdv_replica.specs.declared.forms.Master.{Master}
 use Rattle.mdv_replica.specs.declared.forms.Gate.TheVariants.{Closed, Open}
 use Rattle.mdv_replica.specs.declared.replica.PlaceAt.{PlaceAt}

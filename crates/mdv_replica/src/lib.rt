@@ -9,10 +9,8 @@ mod looking;
 mod page;
 mod reading;
 mod replica;
-#[cfg(test)]
-mod tests;
 
-pub use forms::{Gate, Master};
+pub use forms::{Gate, Master, claim_block, gate_block, master_block};
 pub use law::{claims_show, formats_show, newest_stays, one_head, slots_show, wipes_show};
 pub use looking::{Seen, inspect};
 pub use page::Page;

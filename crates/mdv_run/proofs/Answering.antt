@@ -1,18 +1,8 @@
 -- One line, answered.
 use Rattle.std.proofs.Common.{◌≡◌, inl, inr, ℕ, List, ◌++◌, refl, sym, ◌∙◌, ap}
-use Rattle.mdv_port.specs.Script.{Script, line}
-use Rattle.mdv_shelf.specs.Tale.{Tale}
+use Rattle.mdv_run.specs.Below.{Script, line, Tale, replies_in, Command, Create, MakeStripe, Read, Write, Boot, IsCommand, Deed, Host, Memory, IsExecuted, Knows, IsAwake, Turned, Asks, RanTo, behind}
 use Rattle.mdv_shelf.proofs.Blocks.{both_ways}
-use Rattle.mdv_status.specs.Telling.{replies_in}
-use Rattle.mdv_words.specs.declared.command.Command.{Command}
-use Rattle.mdv_words.specs.declared.command.Command.TheVariants.{Create, MakeStripe, Read, Write, Boot}
-use Rattle.mdv_words.specs.Line.{IsCommand}
 use Rattle.mdv_words.proofs.Lines.{one_command}
-use Rattle.mdv_history.specs.History.{Deed}
-use Rattle.mdv_engine_law.specs.declared.host.Host.{Host}
-use Rattle.mdv_engine_law.specs.Line.{Memory, IsExecuted}
-use Rattle.mdv_engine_law.specs.Standing.{Knows, IsAwake, Turned}
-use Rattle.mdv_run_law.specs.Standing.{Asks, RanTo, behind}
 use Rattle.mdv_run_law.proofs.Coming.{behind_none}
 use Rattle.mdv_run_law.proofs.Turning.{line_ran}
 

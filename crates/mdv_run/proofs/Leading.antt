@@ -1,23 +1,9 @@
 -- How one turn of a run goes on from the script that is before it.
 use Rattle.std.proofs.Common.{◌≡◌, inl, inr, ℕ, Bool, true, false, List, [], ◌++◌, Option, Some, None, refl, sym, ◌∙◌, ap, subst}
-use Rattle.mdv_base.specs.declared.refusal.Refusal.TheVariants.{LineTooLong}
-use Rattle.mdv_port.specs.Reader.{Reader}
-use Rattle.mdv_port.specs.Script.{Script, at_end, spent, too_long, line, script_before, IsTurn}
-use Rattle.mdv_port.specs.declared.reader.LineEnd.TheVariants.{Line, TooLong, End, Spent}
-use Rattle.mdv_shelf.specs.Tale.{Tale, told}
-use Rattle.mdv_engine_law.specs.declared.answer.Answer.{Answer}
+use Rattle.mdv_run.specs.Below.{LineTooLong, Reader, Script, at_end, spent, too_long, line, script_before, IsTurn, Line, TooLong, End, Spent, Tale, told, Answer, Reply, Host, Memory, IsTold, IsReplied, Kept, IsTurnedDown, kept_at, Replied, RunStatus, Panic, ReadFault, WriteFault, NoMemory, NumbersSpent, Failures, Follows, Runs, IsAnswered, drive_failed, source_failed, replies_failed, status_of}
 use Rattle.mdv_engine_law.specs.declared.answer.Answer.TheVariants as outcome
-use Rattle.mdv_engine_law.specs.declared.answer.Reply.{Reply}
 use Rattle.mdv_engine_law.specs.declared.answer.Reply.TheVariants as reply
-use Rattle.mdv_engine_law.specs.declared.host.Host.{Host}
-use Rattle.mdv_engine_law.specs.Line.{Memory}
-use Rattle.mdv_engine_law.specs.Replies.{IsTold, IsReplied}
-use Rattle.mdv_engine_law.specs.Line.{Kept, IsTurnedDown, kept_at}
-use Rattle.mdv_engine_law.specs.Standing.{Replied}
 use Rattle.mdv_engine_law.proofs.Executing.{rose_within, carried_more}
-use Rattle.mdv_run_law.specs.declared.status.RunStatus.{RunStatus}
-use Rattle.mdv_run_law.specs.declared.status.RunStatus.TheVariants.{Panic, ReadFault, WriteFault, NoMemory, NumbersSpent}
-use Rattle.mdv_run_law.specs.Run.{Failures, Follows, Runs, IsAnswered, drive_failed, source_failed, replies_failed, status_of}
 use Rattle.mdv_run.specs.declared.session.Turn.{Turn}
 use Rattle.mdv_run.specs.declared.session.Turn.TheVariants.{Over}
 use Rattle.mdv_run.specs.Turns.{IsWithin, LineAnswered, Leads, Turns, turn_of, IsOn, IsLostStatus}

@@ -1,14 +1,9 @@
 -- The words and the table of drives that a run was given settle its host.
 use Rattle.std.proofs.Common.{◌≡◌, ◌<◌, ◌^◌, ℕ, List, subst}
-use Rattle.mdv_name.specs.declared.geometry.Geometry.{Geometry}
+use Rattle.mdv_run.specs.Below.{Geometry, Home, IsHome, Host, IsReady, IsUsed}
 use Rattle.mdv_name.proofs.OneTable.{one_table}
-use Rattle.mdv_home.specs.declared.geometry.Home.{Home}
-use Rattle.mdv_home.specs.Home.{IsHome}
 use Rattle.mdv_home.proofs.Homes.{one_home, small_home}
 use Rattle.mdv_table.proofs.Sound.{sound_geometry}
-use Rattle.mdv_engine_law.specs.declared.host.Host.{Host}
-use Rattle.mdv_engine_law.specs.Home.{IsReady}
-use Rattle.mdv_run_law.specs.Usage.{IsUsed}
 
 pub one_host : (words : List (List ℕ)) (text sizes : List ℕ) (fresh : ℕ) (a b : Geometry) (g h : Home) → IsUsed words text sizes a g → IsUsed words text sizes b h
     → let first : Host = record { drives = a; home = g; fresh = fresh } in let second : Host = record { drives = b; home = h; fresh = fresh } in first ≡ second

@@ -1,23 +1,11 @@
 -- How the turns of a run add up.
 use Rattle.std.proofs.Common.{◌≡◌, ◌≤◌, ℕ, Bool, false, List, [], ◌++◌, Option, Some, None, IfSome, refl, sym, ◌∙◌, ap, subst, append_assoc, arith}
 use Rattle.std.proofs.lemmas.List.{append-nil}
-use Rattle.mdv_port.specs.Reader.{Reader}
-use Rattle.mdv_port.specs.Script.{Script, script_before, script_of}
-use Rattle.mdv_shelf.specs.Tale.{Tale, told}
-use Rattle.mdv_shelf.specs.Calls.{Part, Keeps}
-use Rattle.mdv_shelf.specs.Moments.{Moments, Ends}
+use Rattle.mdv_run.specs.Below.{Reader, Script, script_before, script_of, Tale, told, Part, Keeps, Moments, Ends, Host, Memory, Kept, kept_at, Knows, RunStatus, Done, SomeRefused, Usage, NoQuorum, Panic, ReadFault, WriteFault, NoMemory, TwoDatabases, ScriptTooLong, NumbersSpent, Failures, Runs, IsLeft, HasStatusCause, LinesMoment, RanTo}
 use Rattle.mdv_shelf.proofs.Moments.{moments_none, moments_after, ends_more, some_is}
-use Rattle.mdv_engine_law.specs.declared.host.Host.{Host}
-use Rattle.mdv_engine_law.specs.Line.{Memory}
-use Rattle.mdv_engine_law.specs.Line.{Kept, kept_at}
-use Rattle.mdv_engine_law.specs.Standing.{Knows}
 use Rattle.mdv_engine_law.proofs.Executing.{rose_within}
 use Rattle.mdv_run.specs.declared.session.Turn.TheVariants.{On, Over}
-use Rattle.mdv_run_law.specs.declared.status.RunStatus.{RunStatus}
-use Rattle.mdv_run_law.specs.declared.status.RunStatus.TheVariants.{Done, SomeRefused, Usage, NoQuorum, Panic, ReadFault, WriteFault, NoMemory, TwoDatabases, ScriptTooLong, NumbersSpent}
-use Rattle.mdv_run_law.specs.Run.{Failures, Runs, IsLeft, HasStatusCause}
 use Rattle.mdv_run.specs.Turns.{IsWithin, IsLostStatus, Turns, LinesRun}
-use Rattle.mdv_run_law.specs.Standing.{LinesMoment, RanTo}
 use Rattle.mdv_run_law.proofs.Lining.{lines_start, ran_start, lines_more_moment, ran_more}
 
 -- the turns so far: what they told, and that what follows now follows there behind it

@@ -1,19 +1,10 @@
 -- A whole run: its boot, and the lines behind it.
 use Rattle.std.proofs.Common.{◌≡◌, ℕ, List, [], ◌++◌, Option, Some, None, Err, refl, sym, ◌∙◌, ap, false}
 use Rattle.std.proofs.lemmas.List.{append-nil}
-use Rattle.mdv_port.specs.Script.{Script}
-use Rattle.mdv_shelf.specs.Tale.{Tale, told}
-use Rattle.mdv_engine_law.specs.declared.answer.Answer.{Answer}
+use Rattle.mdv_run.specs.Below.{Script, Tale, told, Answer, BootRefusal, Host, Kept, Memory, IsRebooted, kept_at, unbooted, HasBootCause, boot_answer, RunStatus, Panic, Failures, IsWholeRun, RunsFrom, HasStatusCause, drive_failed}
 use Rattle.mdv_engine_law.specs.declared.answer.Answer.TheVariants as outcome
-use Rattle.mdv_engine_law.specs.declared.answer.BootRefusal.{BootRefusal}
 use Rattle.mdv_engine_law.specs.declared.answer.BootRefusal.TheVariants as refusal
-use Rattle.mdv_engine_law.specs.declared.host.Host.{Host}
-use Rattle.mdv_engine_law.specs.Line.{Kept, Memory, IsRebooted, kept_at, unbooted}
 use Rattle.mdv_engine_law.proofs.Executing.{rebooted_more}
-use Rattle.mdv_engine.specs.Engine.{HasBootCause, boot_answer}
-use Rattle.mdv_run_law.specs.declared.status.RunStatus.{RunStatus}
-use Rattle.mdv_run_law.specs.declared.status.RunStatus.TheVariants.{Panic}
-use Rattle.mdv_run_law.specs.Run.{Failures, IsWholeRun, RunsFrom, HasStatusCause, drive_failed}
 use Rattle.mdv_run.specs.Turns.{IsWithin, LinesRun, over_status}
 
 module _ (f : Failures) (failed : Type 0) (cause : failed → drive_failed f) (host : Host) (t : Tale) (script : Script) (tale : Option Tale) where

@@ -1,20 +1,10 @@
 -- How the lines of a run follow one another.
 use Rattle.std.specs.Prelude.{◌≡◌, ◌≤◌, ℕ, Bool, true, List, ◌++◌, Option, Some, IfSome}
-use Rattle.mdv_port.specs.Script.{Script}
-use Rattle.mdv_shelf.specs.Tale.{Tale, told}
-use Rattle.mdv_engine_law.specs.declared.answer.Answer.{Answer}
-use Rattle.mdv_engine_law.specs.declared.answer.BootRefusal.{BootRefusal}
+use Rattle.mdv_run.specs.Below.{Script, Tale, told, Answer, BootRefusal, Reply, Host, Kept, Memory, kept_at, Replied, RunStatus, Panic, WriteFault, NoMemory, NumbersSpent, Failures, Runs, IsAnswered, IsLeft, HasStatusCause}
 use Rattle.mdv_engine_law.specs.declared.answer.BootRefusal.TheVariants as refusal
-use Rattle.mdv_engine_law.specs.declared.answer.Reply.{Reply}
 use Rattle.mdv_engine_law.specs.declared.answer.Reply.TheVariants as reply
-use Rattle.mdv_engine_law.specs.declared.host.Host.{Host}
-use Rattle.mdv_engine_law.specs.Line.{Kept, Memory, kept_at}
-use Rattle.mdv_engine_law.specs.Standing.{Replied}
 use Rattle.mdv_run.specs.declared.session.Turn.{Turn}
 use Rattle.mdv_run.specs.declared.session.Turn.TheVariants.{On, Over}
-use Rattle.mdv_run_law.specs.declared.status.RunStatus.{RunStatus}
-use Rattle.mdv_run_law.specs.declared.status.RunStatus.TheVariants.{Panic, WriteFault, NoMemory, NumbersSpent}
-use Rattle.mdv_run_law.specs.Run.{Failures, Runs, IsAnswered, IsLeft, HasStatusCause}
 
 -- what counts of a longer stretch counts of this one
 pub record IsWithin (f here : Failures) : Type 0 where

@@ -1,22 +1,10 @@
 -- What a boot makes of a replica that it finds.
 use Rattle.std.proofs.Common.{◌≡◌, inl, inr, ℕ, ◌+◌, ◌≤◌, true, List, None, refl, sym, ◌∙◌, ap, subst, arith}
 use Rattle.std.proofs.lemmas.Bool.{cases_lt}
-use Rattle.mdv_base.specs.declared.mark.Mark.{Mark}
-use Rattle.mdv_record.specs.Text.{record_text}
+use Rattle.mdv_run_law.specs.Below.{Mark, record_text, Gate, Closed, Open, Head, Slot, First, Second, IsNewest, IsNewestGate, IsSpareSlot, boot_of, gate_of, greatest, other_slot, shows, text_of, Table, IsSound, Site, sized, HasTable, IsFound, IsReplica, Newest, IsNewestOf, adopted_newest, IsRewritten}
 use Rattle.mdv_record.proofs.Codes.{one_table}
-use Rattle.mdv_replica.specs.declared.forms.Gate.{Gate}
-use Rattle.mdv_replica.specs.declared.forms.Gate.TheVariants.{Closed, Open}
-use Rattle.mdv_replica.specs.declared.replica.Head.{Head}
-use Rattle.mdv_replica.specs.declared.replica.Slot.{Slot}
-use Rattle.mdv_replica.specs.declared.replica.Slot.TheVariants.{First, Second}
-use Rattle.mdv_replica.specs.Form.{IsNewest, IsNewestGate, IsSpareSlot, boot_of, gate_of, greatest, other_slot, shows, text_of}
-use Rattle.mdv_table.specs.declared.table.Table.{Table}
-use Rattle.mdv_table.specs.Slices.{IsSound}
-use Rattle.mdv_store_law.specs.Site.{Site, sized, HasTable, IsFound, IsReplica, Newest, IsNewestOf}
-use Rattle.mdv_store_law.specs.Steps.{adopted_newest}
 use Rattle.mdv_store_law.proofs.Replicas.{one_replica}
 use Rattle.mdv_store_law.proofs.Shown.{shown_slot}
-use Rattle.mdv_engine_law.specs.Line.{IsRewritten}
 
 -- the slot that a boot writes: the first of those that don't hold the newest table
 one_slot : (head : Head) (a b : Slot) → IsSpareSlot head a → IsSpareSlot head b → (a ≡ Second → IsSpareSlot head First → ⊥) → (b ≡ Second → IsSpareSlot head First → ⊥) → a ≡ b

@@ -1,20 +1,10 @@
 -- A boot, as a line of the script and as the start of a run.
 use Rattle.std.proofs.Common.{◌≡◌, inl, inr, ℕ, true, List, [], ◌++◌, Contains, refl, sym, ◌∙◌, ap, subst, arith}
 use Rattle.std.proofs.lemmas.List.{append-nil}
-use Rattle.mdv_port.specs.Script.{Script, line}
-use Rattle.mdv_shelf.specs.Tale.{Tale, told}
-use Rattle.mdv_status.specs.Telling.{replies_in}
-use Rattle.mdv_words.specs.declared.command.Command.TheVariants.{Boot}
-use Rattle.mdv_words.specs.Line.{IsCommand}
-use Rattle.mdv_history.specs.History.{History, Deed, Created, Event, NoDeed, history_after_all, HasWoken}
+use Rattle.mdv_run_law.specs.Below.{Script, line, Tale, told, replies_in, Boot, IsCommand, History, Deed, Created, Event, NoDeed, history_after_all, HasWoken, Host, site_of, Memory, IsFront, acked, StandsAt, IsMadeHere, Does, IsAsked, IsKnown, IsAwake, BootMoment, BootedTo, TurnMoment, Turned}
 use Rattle.mdv_history.proofs.Histories.{history_after_more, course_more, adds_more, adds_weaker, woken_first}
 use Rattle.mdv_engine_law.proofs.Plain.{nothing_answers}
-use Rattle.mdv_engine_law.specs.declared.host.Host.{Host}
-use Rattle.mdv_engine_law.specs.Home.{site_of}
-use Rattle.mdv_engine_law.specs.Line.{Memory}
-use Rattle.mdv_engine_law.specs.Replies.{IsFront, acked}
 use Rattle.mdv_engine_law.specs.Standing as turn
-use Rattle.mdv_engine_law.specs.Standing.{StandsAt, IsMadeHere, Does, IsAsked, IsKnown, IsAwake, BootMoment, BootedTo, TurnMoment, Turned}
 use Rattle.mdv_run_law.specs.Standing.{Asks, AreIdle, AreOfRun, ComeOf, InWork, IsTold, behind, LinesMoment, RanTo, RunMoment}
 use Rattle.mdv_run_law.proofs.Coming.{behind_none, told_none, in_work_none, idle_none}
 use Rattle.mdv_run_law.proofs.Turning.{none_acked, front_told, reply_come}

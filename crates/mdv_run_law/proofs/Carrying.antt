@@ -1,22 +1,9 @@
 -- Where nothing failed and memory wasn't wanting, a line comes to one answer.
 use Rattle.std.proofs.Common.{◌≡◌, inl, inr, ℕ, zero, suc, ◌+◌, ◌≤◌, ◌<◌, false, List, [], ◌∷◌, Some, refl, sym, ◌∙◌, ap, subst, arith}
-use Rattle.mdv_base.specs.declared.drive.SliceName.{SliceName}
-use Rattle.mdv_base.specs.declared.name.VolId.{VolId}
-use Rattle.mdv_base.specs.declared.refusal.Refusal.{Refusal}
-use Rattle.mdv_home.specs.Home.{IsHome}
-use Rattle.mdv_status.specs.Values.{values_reply}
-use Rattle.mdv_table.specs.Slices.{IsSound}
-use Rattle.mdv_words.specs.declared.command.Command.{Command}
-use Rattle.mdv_words.specs.declared.command.Command.TheVariants.{Create, Read, Write, Boot}
+use Rattle.mdv_run_law.specs.Below.{SliceName, VolId, Refusal, IsHome, values_reply, IsSound, Command, Create, Read, Write, Boot, Newest, area_of, next_newest, Answer, Host, site_of, Memory, Kept, IsTurnedDown, IsCarriedOut, IsCreation, IsCreated, IsNew, MayChange, IsChange, IsCommitted, AreBlocksAt, AreBlocksRefused, IsRead, IsWrite, ArePut, blocks_of}
 use Rattle.mdv_words.specs.declared.command.Command.TheVariants as command
 use Rattle.mdv_words.proofs.Lines.{one_command}
-use Rattle.mdv_store_law.specs.Site.{Newest, area_of}
-use Rattle.mdv_store_law.specs.Steps.{next_newest}
-use Rattle.mdv_engine_law.specs.declared.answer.Answer.{Answer}
 use Rattle.mdv_engine_law.specs.declared.answer.Answer.TheVariants as outcome
-use Rattle.mdv_engine_law.specs.declared.host.Host.{Host}
-use Rattle.mdv_engine_law.specs.Home.{site_of}
-use Rattle.mdv_engine_law.specs.Line.{Memory, Kept, IsTurnedDown, IsCarriedOut, IsCreation, IsCreated, IsNew, MayChange, IsChange, IsCommitted, AreBlocksAt, AreBlocksRefused, IsRead, IsWrite, ArePut, blocks_of}
 use Rattle.mdv_run_law.specs.Run.{IsAnswered}
 use Rattle.mdv_run_law.proofs.Changing.{stripe, one_change_cause, one_may, never_changed}
 use Rattle.mdv_run_law.proofs.Keeping.{IsSatisfied, Settled, held, Same, One, opening_of, stays_same, boot_same, put_same}

@@ -1,22 +1,8 @@
 -- A change comes to one table, or is refused for one cause.
 use Rattle.std.proofs.Common.{◌≡◌, ℕ, ◌<◌, length, Some, None, sym, ◌∙◌, ap, subst, arith}
-use Rattle.mdv_base.specs.declared.drive.SliceName.{SliceName}
-use Rattle.mdv_base.specs.declared.name.VolId.{VolId}
-use Rattle.mdv_base.specs.declared.refusal.Refusal.{Refusal}
-use Rattle.mdv_base.specs.declared.refusal.Refusal.TheVariants.{NoDatabase, ReplicaFull}
-use Rattle.mdv_name.specs.declared.slice_lines.SliceAt.{SliceAt}
-use Rattle.mdv_record.specs.Text.{record_text}
-use Rattle.mdv_table.specs.Change.{StripeRefused}
-use Rattle.mdv_table.specs.declared.change.Change.{Change}
+use Rattle.mdv_run_law.specs.Below.{SliceName, VolId, Refusal, NoDatabase, ReplicaFull, SliceAt, record_text, StripeRefused, Change, Table, IsSound, stripe_on, with_volume, Newest, Host, Memory, record_room, IsChanged, IsChangeRefused, MayChange}
 use Rattle.mdv_table.specs.declared.change.Change.TheVariants.{MakeStripe}
-use Rattle.mdv_table.specs.declared.table.Table.{Table}
-use Rattle.mdv_table.specs.Slices.{IsSound}
-use Rattle.mdv_table.specs.Volume.{stripe_on}
-use Rattle.mdv_table.specs.Volumes.{with_volume}
 use Rattle.mdv_table.proofs.Causes.{one_cause}
-use Rattle.mdv_store_law.specs.Site.{Newest}
-use Rattle.mdv_engine_law.specs.declared.host.Host.{Host}
-use Rattle.mdv_engine_law.specs.Line.{Memory, record_room, IsChanged, IsChangeRefused, MayChange}
 use Rattle.mdv_run_law.proofs.Refusing.{Opening, shut, wide, opened_twice, never_shut}
 
 module _ (host : Host) (sound : IsSound host.drives) (volume : VolId) (slice : SliceName) where

@@ -2,13 +2,9 @@
 use Rattle.std.proofs.Common.{◌≡◌, ◌⊎◌, inl, inr, ⊎_elim, ℕ, Bool, List, [], ◌∷◌, ◌++◌, refl, sym, ◌∙◌, ap, subst, append_assoc, Contains}
 use Rattle.std.proofs.lemmas.List.{append-nil}
 use Rattle.std.proofs.lemmas.List.Elements.{Contains-append_left, Contains-append_right}
-use Rattle.mdv_port.specs.Script.{Script, at_end, spent, too_long, line}
+use Rattle.mdv_run_law.specs.Below.{Script, at_end, spent, too_long, line, Deed, Event, told_by, Host, asked_by, acked_by}
 use Rattle.mdv_words.proofs.Lines.{one_command}
-use Rattle.mdv_history.specs.History.{Deed, Event, told_by}
 use Rattle.mdv_history.proofs.Histories.{told_more}
-use Rattle.mdv_engine_law.specs.declared.host.Host.{Host}
-use Rattle.mdv_engine_law.specs.Line.{asked_by}
-use Rattle.mdv_engine_law.specs.Replies.{acked_by}
 use Rattle.mdv_run_law.specs.Standing.{Asks, AreIdle, AreOfLine, ComeOf, InWork, NothingLeft, IsTold, behind}
 
 -- a line asks one list of deeds

@@ -1,21 +1,10 @@
 -- Where nothing failed and memory was never wanting, a run has one course.
 use Rattle.std.proofs.Common.{◌≡◌, ◌⊎◌, inl, inr, ℕ, Bool, false, true, List, [], ◌∷◌, ◌++◌, Option, Some, None, Contains, refl, sym, ◌∙◌, ap, subst, append_assoc, arith}
 use Rattle.std.proofs.lemmas.List.Elements.{Contains-append_right}
-use Rattle.mdv_base.specs.Refusal.{refusal_text}
-use Rattle.mdv_base.specs.declared.refusal.Refusal.{Refusal}
-use Rattle.mdv_base.specs.declared.refusal.Refusal.TheVariants.{BadLine, OutOfMemory}
-use Rattle.mdv_port.specs.Script.{Script, at_end, spent, too_long, line}
-use Rattle.mdv_status.specs.Telling.{begins_with_digit, replies_in}
+use Rattle.mdv_run_law.specs.Below.{refusal_text, Refusal, BadLine, OutOfMemory, Script, at_end, spent, too_long, line, begins_with_digit, replies_in, Command, Create, MakeStripe, Read, Write, Boot, Answer, Host, site_of, Kept, IsCarriedOut, IsRebooted, adopted, empty, down, lost, wanting, IsPlain, IsPlainAnswer, IsReply, ok_line, refusal_line}
 use Rattle.mdv_status.proofs.Replies.{lines_tell_once}
-use Rattle.mdv_words.specs.declared.command.Command.{Command}
-use Rattle.mdv_words.specs.declared.command.Command.TheVariants.{Create, MakeStripe, Read, Write, Boot}
-use Rattle.mdv_engine_law.specs.declared.answer.Answer.{Answer}
 use Rattle.mdv_engine_law.specs.declared.answer.Answer.TheVariants as outcome
-use Rattle.mdv_engine_law.specs.declared.host.Host.{Host}
-use Rattle.mdv_engine_law.specs.Home.{site_of}
-use Rattle.mdv_engine_law.specs.Line.{Kept, IsCarriedOut, IsRebooted, adopted, empty, down, lost, wanting}
 use Rattle.mdv_engine_law.specs.Line as boot
-use Rattle.mdv_engine_law.specs.Replies.{IsPlain, IsPlainAnswer, IsReply, ok_line, refusal_line}
 use Rattle.mdv_engine_law.proofs.Plain.{bad_line_plain, too_long_plain, memory_plain, create_plain, change_plain, blocks_plain, ok_reply, values_are_reply, refusal_reply}
 use Rattle.mdv_run_law.specs.declared.status.RunStatus.{RunStatus}
 use Rattle.mdv_run_law.specs.declared.status.RunStatus.TheVariants.{Panic, NoMemory, ScriptTooLong, NumbersSpent}

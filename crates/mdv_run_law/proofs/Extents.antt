@@ -4,26 +4,8 @@ use Rattle.std.proofs.lemmas.Bool.{cases_lt}
 use Rattle.std.proofs.lemmas.Bool.Decides.{nat_tests}
 use Rattle.std.proofs.lemmas.List.{get_or_default}
 use Rattle.std.proofs.lemmas.List.Elements.{All-contains}
-use Rattle.mdv_base.specs.declared.drive.SliceName.{SliceName}
-use Rattle.mdv_base.specs.declared.name.VolId.{VolId}
-use Rattle.mdv_home.specs.Home.{IsHome, line_of}
-use Rattle.mdv_name.specs.declared.slice_lines.SliceAt.{SliceAt}
-use Rattle.mdv_name.specs.declared.slice_lines.SliceLine.{SliceLine}
+use Rattle.mdv_run_law.specs.Below.{SliceName, VolId, IsHome, line_of, SliceAt, SliceLine, Plan, Base, Slice, Component, Volume, VolumeKind, Stripe, IsSound, HasBlock, IsPlanOf, IsKindOf, IsComponentOn, IsWholeSlice, HasVolume, IsAscending, Site, area_of, LiesOn, Host, site_of}
 use Rattle.mdv_shelf.proofs.Blocks.{both_ways}
-use Rattle.mdv_table.specs.declared.plan.Plan.{Plan}
-use Rattle.mdv_table.specs.declared.volume.Base.{Base}
-use Rattle.mdv_table.specs.declared.volume.Base.TheVariants.{Slice}
-use Rattle.mdv_table.specs.declared.volume.Component.{Component}
-use Rattle.mdv_table.specs.declared.volume.Volume.{Volume}
-use Rattle.mdv_table.specs.declared.volume.VolumeKind.{VolumeKind}
-use Rattle.mdv_table.specs.declared.volume.VolumeKind.TheVariants.{Stripe}
-use Rattle.mdv_table.specs.Slices.{IsSound, HasBlock}
-use Rattle.mdv_table.specs.Table.{IsPlanOf, IsKindOf, IsComponentOn, IsWholeSlice}
-use Rattle.mdv_table.specs.Volumes.{HasVolume, IsAscending}
-use Rattle.mdv_store_law.specs.Site.{Site, area_of}
-use Rattle.mdv_history.specs.History.{LiesOn}
-use Rattle.mdv_engine_law.specs.declared.host.Host.{Host}
-use Rattle.mdv_engine_law.specs.Home.{site_of}
 
 never_below : (vs : List Volume) (number : VolId) (v w : Volume) (k l : ℕ) → IsAscending vs → k < l → l < length vs → slice_index_or vs k v ≡ v → slice_index_or vs l w ≡ w → v.number ≡ number → w.number ≡ number → ⊥
 never_below vs number v w k l ascending below within first second one other =

@@ -1,19 +1,11 @@
 -- What two courses keep in common, as far as a boot and a line can tell.
 use Rattle.std.proofs.Common.{◌≡◌, inl, inr, ℕ, ◌+◌, ◌≤◌, ◌<◌, ◌^◌, true, false, List, [], ◌∷◌, Option, Some, None, sym, ◌∙◌, ap, subst, arith}
 use Rattle.std.proofs.lemmas.Bool.Decides.{nat_tests}
-use Rattle.mdv_base.specs.declared.refusal.Refusal.TheVariants.{OutOfMemory}
-use Rattle.mdv_replica.specs.declared.replica.Head.{Head}
-use Rattle.mdv_replica.specs.Form.{greatest, shows}
-use Rattle.mdv_shelf.specs.Tale.{covers}
+use Rattle.mdv_run_law.specs.Below.{OutOfMemory, Head, greatest, shows, covers, IsSound, area_of, IsFound, IsReplica, Newest, IsNewestOf, Answer, Host, site_of, Memory, Kept, Stays, ArePut, IsRebooted, adopted, empty, down, lost, wanting}
 use Rattle.mdv_shelf.proofs.Blocks.{both_ways}
-use Rattle.mdv_table.specs.Slices.{IsSound}
-use Rattle.mdv_store_law.specs.Site.{area_of, IsFound, IsReplica, Newest, IsNewestOf}
 use Rattle.mdv_store_law.proofs.Frame.{newest_there, none_there}
-use Rattle.mdv_engine_law.specs.declared.answer.Answer.{Answer}
 use Rattle.mdv_engine_law.specs.declared.answer.Answer.TheVariants as outcome
-use Rattle.mdv_engine_law.specs.declared.host.Host.{Host}
-use Rattle.mdv_engine_law.specs.Home.{site_of}
-use Rattle.mdv_engine_law.specs.Line.{Memory, Kept, Stays, ArePut, IsRebooted, adopted, empty, down, lost, spent, wanting}
+use Rattle.mdv_engine_law.specs.Line.{spent}
 use Rattle.mdv_run_law.proofs.Again.{Alike, neither, alike_opened, never_found, never_lost, same_number, same_adopted}
 use Rattle.mdv_run_law.proofs.Refusing.{Opening, shut, wide, opened_twice, never_shut}
 use Rattle.mdv_run_law.proofs.Waking.{IsHeard}

@@ -1,16 +1,9 @@
 -- How the moments of the lines add up.
 use Rattle.std.proofs.Common.{◌≡◌, ◌⊎◌, inl, inr, ⊎_elim, ℕ, Bool, List, [], ◌++◌, refl, sym, ◌∙◌, ap, subst, append_assoc}
 use Rattle.std.proofs.lemmas.List.{append-nil}
-use Rattle.mdv_port.specs.Script.{Script}
-use Rattle.mdv_shelf.specs.Tale.{Tale, told}
-use Rattle.mdv_status.specs.Telling.{replies_in}
-use Rattle.mdv_history.specs.History.{History, Deed, Created, Event, history_after_all}
+use Rattle.mdv_run_law.specs.Below.{Script, Tale, told, replies_in, History, Deed, Created, Event, history_after_all, Host, site_of, Memory, StandsAt, Reached, IsKnown}
 use Rattle.mdv_history.proofs.Histories.{history_after_more, course_more}
 use Rattle.mdv_engine_law.proofs.Plain.{nothing_answers}
-use Rattle.mdv_engine_law.specs.declared.host.Host.{Host}
-use Rattle.mdv_engine_law.specs.Home.{site_of}
-use Rattle.mdv_engine_law.specs.Line.{Memory}
-use Rattle.mdv_engine_law.specs.Standing.{StandsAt, Reached, IsKnown}
 use Rattle.mdv_run_law.specs.Standing.{ComeOf, InWork, NothingLeft, IsTold, Goes, behind, AreReplies, LinesMoment, RanTo}
 use Rattle.mdv_run_law.proofs.Coming.{behind_none, behind_more, told_none, told_either, in_work_none, come_more}
 use Rattle.mdv_run_law.proofs.Made.{ours_stays, shows_made}

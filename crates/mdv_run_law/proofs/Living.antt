@@ -1,33 +1,14 @@
 -- Standing over every life.
 use Rattle.std.proofs.Common.{◌≡◌, inl, inr, ◌≤◌, ℕ, List, [], ◌∷◌, ◌++◌, Option, Some, None, IfSome, Contains, refl, sym, ◌∙◌, ap, subst, arith}
 use Rattle.std.proofs.lemmas.List.Elements.{Contains-append_left, Contains-append_right}
-use Rattle.mdv_base.specs.declared.mark.Identity.{Identity}
-use Rattle.mdv_base.specs.declared.mark.Mark.{Mark}
-use Rattle.mdv_home.specs.declared.geometry.Home.{Home}
-use Rattle.mdv_name.specs.declared.geometry.Geometry.{Geometry}
-use Rattle.mdv_replica.specs.declared.replica.Head.{Head}
-use Rattle.mdv_replica.specs.declared.replica.Slot.{Slot}
-use Rattle.mdv_replica.specs.Form.{IsNewest}
-use Rattle.mdv_shelf.specs.Tale.{Tale, last}
-use Rattle.mdv_status.specs.Telling.{replies_in}
-use Rattle.mdv_table.specs.declared.change.Change.{Change}
-use Rattle.mdv_table.specs.declared.table.Table.{Table}
-use Rattle.mdv_table.specs.Slices.{IsSound}
+use Rattle.mdv_run_law.specs.Below.{Identity, Mark, Home, Geometry, Head, Slot, IsNewest, Tale, last, replies_in, Change, Table, IsSound, Log, IsLog, IsTellable, with_asked, empty_log, Extends, restarted, Site, HasTable, IsFound, IsReplica, nothing, replica, History, Deed, Created, Changed, Event, history_after_all, told_by, new_history, site_of, StandsAt}
 use Rattle.mdv_store_law.specs.Log as log
-use Rattle.mdv_store_law.specs.Log.{Log, IsLog, IsTellable, with_asked, empty_log, Extends}
-use Rattle.mdv_store_law.specs.Laws.{restarted}
-use Rattle.mdv_store_law.specs.Site.{Site, HasTable, IsFound, IsReplica}
-use Rattle.mdv_store_law.specs.Standing.{nothing, replica}
 use Rattle.mdv_store_law.proofs.Covering.{last_image}
 use Rattle.mdv_store_law.proofs.Lawful.{finds_hold, nothing_holds}
 use Rattle.mdv_store_law.proofs.Logs.{told_is_acknowledged, told_stays, newest_told, is_log_after}
-use Rattle.mdv_history.specs.History.{History, Deed, Created, Changed, Event, history_after_all, told_by}
-use Rattle.mdv_history.specs.Laws.{new_history}
 use Rattle.mdv_history.proofs.Histories.{history_after_more, course_more, told_more}
 use Rattle.mdv_history.proofs.Lawful.{crashes_stand, new_drives_stand, reads_hold}
 use Rattle.mdv_history.proofs.Parts.{of_database, database_after, database_course, told_of_database, database_told, told_created, told_changed, first_or_behind}
-use Rattle.mdv_engine_law.specs.Home.{site_of}
-use Rattle.mdv_engine_law.specs.Standing.{StandsAt}
 use Rattle.mdv_run_law.specs.Standing.{InWork}
 use Rattle.mdv_run_law.specs.Lives.{Ran, Life, new_drives, run_and_crash, AreOfRuns, IsSaid, IsHistoryOf, HasToldChanges, LivesStand, RunsHaveHome, DatabaseIsFound, BlocksHold, host_of}
 use Rattle.mdv_run_law.proofs.Coming.{come_told}

@@ -1,22 +1,12 @@
 -- What a run made, told by a history.
 use Rattle.std.proofs.Common.{◌≡◌, ℕ, true, false, List, [], ◌∷◌, Option, Some, None, IfSome, Contains, refl, sym, ◌∙◌, ap, subst, arith}
 use Rattle.std.specs.List.{list_any}
-use Rattle.mdv_base.specs.declared.mark.Identity.{Identity}
-use Rattle.mdv_name.specs.declared.geometry.Geometry.{Geometry}
-use Rattle.mdv_shelf.specs.Tale.{Tale, MayLeave, values, last}
+use Rattle.mdv_run_law.specs.Below.{Identity, Geometry, Tale, values, last, Version, Log, answered, empty_log, is_firm, IsLog, Newest, IsNewestIn, nothing, replica, History, Deed, Created, Event, history_after_all, IsCourse, told_by, ValuesHold, Host, site_of, identity_of, Memory, StandsAt, IsOfRun, IsMadeHere, Does, Knows, IsKnown}
+use Rattle.mdv_shelf.specs.Tale.{MayLeave}
 use Rattle.mdv_store_law.specs.Log as log
-use Rattle.mdv_store_law.specs.Log.{Version, Log, answered, empty_log, is_firm, IsLog}
-use Rattle.mdv_store_law.specs.Site.{Newest}
-use Rattle.mdv_store_law.specs.Standing.{IsNewestIn, nothing, replica}
 use Rattle.mdv_store_law.proofs.Covering.{last_image, nothing_covers}
 use Rattle.mdv_store_law.proofs.Logs.{told_acknowledges, told_firm, is_log_after_all}
-use Rattle.mdv_history.specs.History.{History, Deed, Created, Event, history_after_all, IsCourse, told_by}
-use Rattle.mdv_history.specs.Standing.{ValuesHold}
 use Rattle.mdv_history.proofs.Parts.{of_database, database_after, database_course, told_of_database, database_told, told_created, issued_has}
-use Rattle.mdv_engine_law.specs.declared.host.Host.{Host}
-use Rattle.mdv_engine_law.specs.Home.{site_of, identity_of}
-use Rattle.mdv_engine_law.specs.Line.{Memory}
-use Rattle.mdv_engine_law.specs.Standing.{StandsAt, IsOfRun, IsMadeHere, Does, Knows, IsKnown}
 use Rattle.mdv_run_law.specs.Standing.{ShowsMade}
 
 -- a history with a firm table, of the database of this run's creation of that number

@@ -1,21 +1,7 @@
 -- Each command is refused for one cause at most, and not where it may be carried out.
 use Rattle.std.proofs.Common.{◌≡◌, ◌≢◌, ℕ, ◌+◌, ◌≤◌, ◌<◌, Bool, true, false, Option, Some, None, Contains, refl, sym, ◌∙◌, ap, subst, arith}
-use Rattle.mdv_base.specs.declared.drive.SliceName.{SliceName}
-use Rattle.mdv_base.specs.declared.name.VolId.{VolId}
-use Rattle.mdv_base.specs.declared.refusal.Refusal.{Refusal}
-use Rattle.mdv_base.specs.declared.refusal.Refusal.TheVariants.{NoDatabase, NeedForce, NoSuchVolume, NoSuchSlice, SliceInUse, TooSmall, WrongKind, WrongState, OutOfRange}
-use Rattle.mdv_base.specs.declared.state_word.StateWord.{StateWord}
+use Rattle.mdv_run_law.specs.Below.{SliceName, VolId, Refusal, NoDatabase, NeedForce, NoSuchVolume, NoSuchSlice, SliceInUse, TooSmall, WrongKind, WrongState, OutOfRange, StateWord, IsHome, line_of, HasSlice, HasNoSlice, Volume, IsSound, IsPlanOf, Newest, area_of, LiesOn, Host, site_of, Memory, IsHomeSlice, IsOther, IsDownWord, IsCreateRefused, MayCreate, HasVolumeOn, AreBlocksRefused, AreBlocksAt}
 use Rattle.mdv_base.specs.declared.state_word.StateWord.TheVariants as word
-use Rattle.mdv_home.specs.Home.{IsHome, line_of}
-use Rattle.mdv_name.specs.SliceIndex.{HasSlice, HasNoSlice}
-use Rattle.mdv_table.specs.declared.volume.Volume.{Volume}
-use Rattle.mdv_table.specs.Slices.{IsSound}
-use Rattle.mdv_table.specs.Table.{IsPlanOf}
-use Rattle.mdv_store_law.specs.Site.{Newest, area_of}
-use Rattle.mdv_history.specs.History.{LiesOn}
-use Rattle.mdv_engine_law.specs.declared.host.Host.{Host}
-use Rattle.mdv_engine_law.specs.Home.{site_of}
-use Rattle.mdv_engine_law.specs.Line.{Memory, IsHomeSlice, IsOther, IsDownWord, IsCreateRefused, MayCreate, HasVolumeOn, AreBlocksRefused, AreBlocksAt}
 use Rattle.mdv_run_law.proofs.Extents.{one_place, lies_beside}
 
 never_other : (v : Bool) → v ≡ true → v ≡ false → ⊥

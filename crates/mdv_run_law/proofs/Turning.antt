@@ -1,17 +1,8 @@
 -- One turn, told by the script before it.
 use Rattle.std.proofs.Common.{◌≡◌, ◌≢◌, ◌⊎◌, inl, inr, ℕ, Bool, true, false, List, [], ◌∷◌, ◌++◌, None, Contains, refl, sym, ◌∙◌, ap, subst, arith}
-use Rattle.mdv_port.specs.Script.{Script, too_long, line}
-use Rattle.mdv_shelf.specs.Tale.{Tale}
-use Rattle.mdv_status.specs.Telling.{replies_in}
-use Rattle.mdv_words.specs.declared.command.Command.TheVariants.{Boot}
-use Rattle.mdv_words.specs.Line.{IsCommand}
-use Rattle.mdv_history.specs.History.{History, Deed, Created, Event, NoDeed, history_after_all, HasWoken}
+use Rattle.mdv_run_law.specs.Below.{Script, too_long, line, Tale, replies_in, Boot, IsCommand, History, Deed, Created, Event, NoDeed, history_after_all, HasWoken, Host, Memory, IsFront, IsReply, acked, acked_in, acked_by, StandsAt, IsMadeHere, Does, IsAsked, Knows, IsKnown, IsAwake, TurnMoment, Turned}
 use Rattle.mdv_history.proofs.Histories.{adds_weaker}
-use Rattle.mdv_engine_law.specs.declared.host.Host.{Host}
-use Rattle.mdv_engine_law.specs.Line.{Memory}
-use Rattle.mdv_engine_law.specs.Replies.{IsFront, IsReply, acked, acked_in, acked_by}
 use Rattle.mdv_engine_law.specs.Standing as turn
-use Rattle.mdv_engine_law.specs.Standing.{StandsAt, IsMadeHere, Does, IsAsked, Knows, IsKnown, IsAwake, TurnMoment, Turned}
 use Rattle.mdv_run_law.specs.Standing.{Asks, AreIdle, AreOfLine, ComeOf, InWork, NothingLeft, IsTold, behind, LinesMoment, RanTo}
 use Rattle.mdv_run_law.proofs.Coming.{one_asked, behind_none, told_none, in_work_none, come_line, come_long}
 use Rattle.mdv_run_law.proofs.Made.{IsOurs, began, began_known, made_ours, shows_made}

@@ -1,16 +1,8 @@
 -- A line that isn't `boot` leaves it as it was whether the last boot read the drive.
 use Rattle.std.proofs.Common.{◌≡◌, inl, inr, ℕ, List, sym, ◌∙◌, ap, subst}
-use Rattle.mdv_words.specs.declared.command.Command.{Command}
-use Rattle.mdv_words.specs.declared.command.Command.TheVariants.{Create, MakeStripe, Read, Write, Boot}
-use Rattle.mdv_shelf.specs.Tale.{Tale}
-use Rattle.mdv_engine_law.specs.declared.answer.Answer.{Answer}
+use Rattle.mdv_run_law.specs.Below.{Command, Create, MakeStripe, Read, Write, Boot, Tale, Answer, Reply, Host, Memory, Kept, kept_at, IsCarriedOut, IsExecuted, IsTold, IsReplied, Executed, IsAwake}
 use Rattle.mdv_engine_law.specs.declared.answer.Answer.TheVariants as outcome
-use Rattle.mdv_engine_law.specs.declared.answer.Reply.{Reply}
 use Rattle.mdv_engine_law.specs.declared.answer.Reply.TheVariants as reply
-use Rattle.mdv_engine_law.specs.declared.host.Host.{Host}
-use Rattle.mdv_engine_law.specs.Line.{Memory, Kept, kept_at, IsCarriedOut, IsExecuted}
-use Rattle.mdv_engine_law.specs.Replies.{IsTold, IsReplied}
-use Rattle.mdv_engine_law.specs.Standing.{Executed, IsAwake}
 
 -- an answer that is told
 abbrev pub IsHeard : Answer → Type 0

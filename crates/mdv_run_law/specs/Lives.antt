@@ -1,28 +1,6 @@
 -- Lives: any number of runs on the same drives, each but the first begun on what a crash in the one before left.
 use Rattle.std.specs.Prelude.{◌≡◌, ◌⊎◌, ℕ, false, List, [], ◌∷◌, ◌++◌, None, Contains}
-use Rattle.mdv_home.specs.Home.{IsHome}
-use Rattle.mdv_home.specs.declared.geometry.Home.{Home}
-use Rattle.mdv_name.specs.declared.geometry.Geometry.{Geometry}
-use Rattle.mdv_port.specs.Script.{Script}
-use Rattle.mdv_replica.specs.declared.replica.Head.{Head}
-use Rattle.mdv_replica.specs.declared.replica.Slot.{Slot}
-use Rattle.mdv_replica.specs.Form.{IsNewest}
-use Rattle.mdv_base.specs.declared.mark.Mark.{Mark}
-use Rattle.mdv_shelf.specs.MemHistory.{blank}
-use Rattle.mdv_shelf.specs.Tale.{Tale, Among, last, IsImage}
-use Rattle.mdv_table.specs.declared.change.Change.{Change}
-use Rattle.mdv_table.specs.declared.table.Table.{Table}
-use Rattle.mdv_table.specs.Slices.{IsSound}
-use Rattle.mdv_store_law.specs.Laws.{restarted}
-use Rattle.mdv_store_law.specs.Log.{AreMade}
-use Rattle.mdv_store_law.specs.Site.{HasTable, IsFound, IsReplica, area_of}
-use Rattle.mdv_history.specs.History.{Deed, Created, Changed, Event, history_after_all, IsCourse}
-use Rattle.mdv_history.specs.Laws.{new_history}
-use Rattle.mdv_engine_law.specs.declared.host.Host.{Host}
-use Rattle.mdv_engine_law.specs.Home.{site_of}
-use Rattle.mdv_engine_law.specs.Line.{drive_content}
-use Rattle.mdv_engine_law.specs.Standing.{StandsAt}
-use Rattle.mdv_status.specs.Telling.{replies_in}
+use Rattle.mdv_run_law.specs.Below.{IsHome, Home, Geometry, Script, Head, Slot, IsNewest, Mark, blank, Tale, Among, last, IsImage, Change, Table, IsSound, restarted, AreMade, HasTable, IsFound, IsReplica, area_of, Deed, Created, Changed, Event, history_after_all, IsCourse, new_history, Host, site_of, drive_content, StandsAt, replies_in}
 use Rattle.mdv_run_law.specs.Run.{HasHome}
 use Rattle.mdv_run_law.specs.Standing.{RunMoment, AreOfRun, IsTold}
 

@@ -1,24 +1,7 @@
 -- The run of one host, told by what its script asks.
 use Rattle.std.specs.Prelude.{◌≡◌, ◌≢◌, ◌⊎◌, ◌≤◌, ℕ, Bool, true, false, List, [], ◌++◌, take, Option, Some, None, IfSome, Contains, if◌then◌else◌}
-use Rattle.mdv_base.specs.Causes.{Rose}
-use Rattle.mdv_base.specs.declared.refusal.Refusal.TheVariants.{BadLine, LineTooLong, OutOfMemory}
-use Rattle.mdv_home.specs.Home.{IsHome}
-use Rattle.mdv_port.specs.Script.{Script, at_end, spent, too_long, line}
-use Rattle.mdv_replica.specs.declared.replica.Head.{Head}
-use Rattle.mdv_shelf.specs.Calls.{Part, OnDrive, OnReplies}
-use Rattle.mdv_shelf.specs.Tale.{Tale, told}
-use Rattle.mdv_status.specs.Telling.{replies_in}
-use Rattle.mdv_table.specs.Slices.{IsSound}
-use Rattle.mdv_words.specs.declared.command.Command.{Command}
-use Rattle.mdv_words.specs.Line.{IsCommand}
-use Rattle.mdv_store_law.specs.Site.{IsFound}
-use Rattle.mdv_store_law.specs.Standing.{IsOpened}
-use Rattle.mdv_engine_law.specs.declared.answer.Answer.{Answer}
+use Rattle.mdv_run_law.specs.Below.{Rose, BadLine, LineTooLong, OutOfMemory, IsHome, Script, at_end, spent, too_long, line, Head, Part, OnDrive, OnReplies, Tale, told, replies_in, IsSound, Command, IsCommand, IsFound, IsOpened, Answer, Host, site_of, Kept, IsSame, IsSameBeside, IsCarriedOut, IsRebooted, IsTurnedDown, drive_content, unbooted, ok_line, refusal_line}
 use Rattle.mdv_engine_law.specs.declared.answer.Answer.TheVariants as outcome
-use Rattle.mdv_engine_law.specs.declared.host.Host.{Host}
-use Rattle.mdv_engine_law.specs.Home.{site_of}
-use Rattle.mdv_engine_law.specs.Line.{Kept, IsSame, IsSameBeside, IsCarriedOut, IsRebooted, IsTurnedDown, drive_content, unbooted}
-use Rattle.mdv_engine_law.specs.Replies.{ok_line, refusal_line}
 use Rattle.mdv_run_law.specs.declared.status.RunStatus.{RunStatus}
 use Rattle.mdv_run_law.specs.declared.status.RunStatus.TheVariants.{Done, SomeRefused, Usage, NoQuorum, Panic, ReadFault, WriteFault, NoMemory, TwoDatabases, ScriptTooLong, NumbersSpent}
 

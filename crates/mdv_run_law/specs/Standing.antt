@@ -1,21 +1,6 @@
 -- How the drive stands with its history at each moment of a run.
 use Rattle.std.specs.Prelude.{◌≡◌, ◌≢◌, ◌⊎◌, ℕ, Bool, true, false, List, [], ◌∷◌, ◌++◌, Some, Contains}
-use Rattle.mdv_port.specs.Script.{Script, at_end, spent, too_long, line}
-use Rattle.mdv_replica.specs.declared.replica.Head.{Head}
-use Rattle.mdv_replica.specs.Form.{shows}
-use Rattle.mdv_shelf.specs.Tale.{Tale, told, IsImage}
-use Rattle.mdv_status.specs.Telling.{replies_in}
-use Rattle.mdv_words.specs.declared.command.Command.{Command}
-use Rattle.mdv_words.specs.declared.command.Command.TheVariants.{Boot}
-use Rattle.mdv_words.specs.Line.{IsCommand}
-use Rattle.mdv_store_law.specs.Log.{is_firm}
-use Rattle.mdv_store_law.specs.Site.{IsReplica}
-use Rattle.mdv_history.specs.History.{History, Deed, Created, Event, HasWoken, IsCourse, NoDeed, history_after_all}
-use Rattle.mdv_engine_law.specs.declared.host.Host.{Host}
-use Rattle.mdv_engine_law.specs.Home.{site_of, identity_of}
-use Rattle.mdv_engine_law.specs.Line.{Memory, asked_by}
-use Rattle.mdv_engine_law.specs.Replies.{acked_by}
-use Rattle.mdv_engine_law.specs.Standing.{StandsAt, Does, IsAsked, Reached, Knows, IsKnown}
+use Rattle.mdv_run_law.specs.Below.{Script, at_end, spent, too_long, line, Head, shows, Tale, told, IsImage, replies_in, Command, Boot, IsCommand, is_firm, IsReplica, History, Deed, Created, Event, HasWoken, IsCourse, NoDeed, history_after_all, Host, site_of, identity_of, Memory, asked_by, acked_by, StandsAt, Does, IsAsked, Reached, Knows, IsKnown}
 use Rattle.mdv_run_law.specs.Run.{IsNoCommand}
 
 -- what the `ok` of a line acknowledges: nothing, where the grammar doesn't have the line

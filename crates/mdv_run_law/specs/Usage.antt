@@ -1,9 +1,6 @@
 -- The words and the table of drives that a run is given.
 use Rattle.std.specs.Prelude.{◌≡◌, ℕ, List, [], ◌∷◌}
-use Rattle.mdv_home.specs.Home.{IsHome}
-use Rattle.mdv_home.specs.declared.geometry.Home.{Home}
-use Rattle.mdv_name.specs.declared.geometry.Geometry.{Geometry}
-use Rattle.mdv_name.specs.Geometry.{IsGeometry as IsTable}
+use Rattle.mdv_run_law.specs.Below.{IsHome, Home, Geometry, IsGeometry as IsTable}
 
 -- the words are the host's name alone, the text is a table of drives where the host has this home, and the shelf has the one drive
 pub record IsUsed (words : List (List ℕ)) (text : List ℕ) (sizes : List ℕ) (drives : Geometry) (home : Home) : Type 0 where

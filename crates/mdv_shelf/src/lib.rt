@@ -3,8 +3,6 @@
 #![tactic(auto)]
 
 mod mem_shelf;
-#[cfg(test)]
-mod mem_tests;
 mod settling;
 mod shelf;
 

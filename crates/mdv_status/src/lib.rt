@@ -2,8 +2,6 @@
 #![tactic(auto)]
 
 mod law;
-#[cfg(test)]
-mod tests;
 mod values;
 
 pub use law::{lines_tell_once, values_are_lines, values_tell_ok};

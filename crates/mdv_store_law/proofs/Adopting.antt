@@ -1,19 +1,8 @@
 -- What a boot that adopts leaves of a log.
 use Rattle.std.proofs.Common.{◌≡◌, inl, inr, ⊎_elim, ℕ, ◌+◌, ◌≤◌, ◌<◌, true, false, List, [], ◌∷◌, length, refl, sym, ap, subst, None, All, arith, lit<}
 use Rattle.std.proofs.lemmas.List.Elements.{All-weaker}
-use Rattle.mdv_base.specs.Mark.{IsBelow}
-use Rattle.mdv_base.specs.declared.mark.Mark.{Mark}
-use Rattle.mdv_record.specs.Text.{record_text}
-use Rattle.mdv_replica.specs.declared.forms.Gate.TheVariants.{Open}
-use Rattle.mdv_replica.specs.declared.replica.Head.{Head}
-use Rattle.mdv_replica.specs.declared.replica.Slot.{Slot}
-use Rattle.mdv_replica.specs.declared.replica.Slot.TheVariants.{First, Second}
-use Rattle.mdv_replica.specs.Form.{greatest, boot_of, IsSpareSlot, gate_of, other_slot, with_claim}
-use Rattle.mdv_replica.specs.Forms.{IsMark}
-use Rattle.mdv_replica.specs.Images.{Image, Leaves, Claims, MayClaim}
+use Rattle.mdv_store_law.specs.Below.{IsBelow, Mark, record_text, Open, Head, Slot, First, Second, greatest, boot_of, IsSpareSlot, gate_of, other_slot, with_claim, IsMark, Image, Leaves, Claims, MayClaim, Tale, IsImage, last, Table}
 use Rattle.mdv_replica.proofs.Leaving.{image_synced}
-use Rattle.mdv_shelf.specs.Tale.{Tale, IsImage, last}
-use Rattle.mdv_table.specs.declared.table.Table.{Table}
 use Rattle.mdv_store_law.specs.Going.{Adopts, AdoptionsGo, drawn}
 use Rattle.mdv_store_law.specs.Log.{Version, Log, Writing, Written, IsAbove, IsNotOlder, IsNext, NoCreation}
 use Rattle.mdv_store_law.specs.Site.{Site, sized, IsTableAt, IsReplica, IsNewestOf}

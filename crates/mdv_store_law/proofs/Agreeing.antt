@@ -2,19 +2,8 @@
 use Rattle.std.proofs.Common.{◌≡◌, inl, inr, ℕ, ◌≤◌, ◌<◌, max, Bool, true, false, List, ◌∷◌, refl, sym, ◌∙◌, ap, subst, slice_index_or, Option, Some, All, arith}
 use Rattle.std.proofs.lemmas.List.Elements.{All-cons, All-weaker}
 use Rattle.std.proofs.Math.Nat.{le-max_left}
-use Rattle.mdv_base.specs.declared.mark.Mark.{Mark}
-use Rattle.mdv_record.specs.Text.{record_text}
-use Rattle.mdv_replica.specs.declared.forms.Gate.{Gate}
-use Rattle.mdv_replica.specs.declared.forms.Gate.TheVariants.{Closed, Open}
-use Rattle.mdv_replica.specs.declared.forms.Master.{Master}
-use Rattle.mdv_replica.specs.declared.replica.Head.{Head}
-use Rattle.mdv_replica.specs.declared.replica.Slot.{Slot}
-use Rattle.mdv_replica.specs.declared.replica.Slot.TheVariants.{First, Second}
-use Rattle.mdv_replica.specs.Form.{shows, greatest, boot_of, text_of, IsNewest, IsNewestGate, IsSpareSlot, gate_of, other_slot, with_slot, with_claim}
-use Rattle.mdv_replica.specs.Replica.{with_blocks}
+use Rattle.mdv_store_law.specs.Below.{Mark, record_text, Gate, Closed, Open, Master, Head, Slot, First, Second, shows, greatest, boot_of, text_of, IsNewest, IsNewestGate, IsSpareSlot, gate_of, other_slot, with_slot, with_claim, with_blocks, Change, Table}
 use Rattle.mdv_replica.proofs.Newest.{newest_stays}
-use Rattle.mdv_table.specs.declared.change.Change.{Change}
-use Rattle.mdv_table.specs.declared.table.Table.{Table}
 use Rattle.mdv_store_law.specs.Log.{Version, Log, IsNotOlder, with_asked}
 use Rattle.mdv_store_law.specs.Site.{Site, sized, IsTableAt, IsReplica}
 use Rattle.mdv_store_law.specs.Standing.{IsOfFamily, IsAtLeast, ShowsAtLeast, Agrees}

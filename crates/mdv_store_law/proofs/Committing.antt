@@ -2,21 +2,7 @@
 use Rattle.std.proofs.Common.{◌≡◌, inr, ⊎_elim, ℕ, ◌≤◌, ◌<◌, ◌^◌, true, false, List, [], ◌∷◌, length, refl, sym, ◌∙◌, ap, subst, Option, Some, None, All, arith}
 use Rattle.std.proofs.lemmas.List.Elements.{All-cons, All-weaker}
 use Rattle.std.specs.Prelude.{Contains}
-use Rattle.mdv_base.specs.Mark.{IsBelow}
-use Rattle.mdv_base.specs.declared.mark.Mark.{Mark}
-use Rattle.mdv_record.specs.Text.{record_text}
-use Rattle.mdv_replica.specs.declared.forms.Gate.{Gate}
-use Rattle.mdv_replica.specs.declared.forms.Gate.TheVariants.{Closed, Open}
-use Rattle.mdv_replica.specs.declared.replica.Head.{Head}
-use Rattle.mdv_replica.specs.declared.replica.Slot.{Slot}
-use Rattle.mdv_replica.specs.declared.replica.Slot.TheVariants.{First, Second}
-use Rattle.mdv_replica.specs.Form.{shows, IsNewest, IsNewestGate, IsSpare, IsSpareSlot, gate_of, other_slot, with_slot}
-use Rattle.mdv_replica.specs.Forms.{IsMark}
-use Rattle.mdv_replica.specs.Images.{Image, Leaves}
-use Rattle.mdv_replica.specs.Replica.{with_blocks}
-use Rattle.mdv_shelf.specs.Tale.{Tale, IsImage, last}
-use Rattle.mdv_table.specs.declared.change.Change.{Change}
-use Rattle.mdv_table.specs.declared.table.Table.{Table}
+use Rattle.mdv_store_law.specs.Below.{IsBelow, Mark, record_text, Gate, Closed, Open, Head, Slot, First, Second, shows, IsNewest, IsNewestGate, IsSpare, IsSpareSlot, gate_of, other_slot, with_slot, IsMark, Image, Leaves, with_blocks, Tale, IsImage, last, Change, Table}
 use Rattle.mdv_store_law.specs.Going.{Commits, CommitsGo, IsWithNewest, next_mark}
 use Rattle.mdv_store_law.specs.Log.{Version, Log, Writing, Written, IsAbove, IsAsked, IsMade, IsNext, IsNotOlder, IsRising, IsTellable, with_asked, IsThisChange, NoCreation}
 use Rattle.mdv_store_law.specs.Site.{Site, sized, IsTableAt, Newest, IsNewestOf}

@@ -1,23 +1,8 @@
 -- What the writing of a table leaves of a log.
 use Rattle.std.proofs.Common.{◌≡◌, ℕ, ◌≤◌, Bool, true, false, List, [], ◌∷◌, length, refl, sym, subst, Option, All, arith}
-use Rattle.mdv_base.specs.Mark.{IsBelow}
-use Rattle.mdv_base.specs.declared.mark.Identity.{Identity}
-use Rattle.mdv_base.specs.declared.mark.Mark.{Mark}
-use Rattle.mdv_record.specs.Text.{record_text}
-use Rattle.mdv_replica.specs.declared.forms.Gate.{Gate}
-use Rattle.mdv_replica.specs.declared.forms.Gate.TheVariants.{Closed, Open}
-use Rattle.mdv_replica.specs.declared.replica.Head.{Head}
-use Rattle.mdv_replica.specs.declared.replica.Slot.{Slot}
-use Rattle.mdv_replica.specs.declared.replica.Slot.TheVariants.{First, Second}
-use Rattle.mdv_replica.specs.Form.{text_of, IsSpare, IsSpareSlot, gate_of, other_slot, with_slot}
-use Rattle.mdv_replica.specs.Forms.{IsMark}
-use Rattle.mdv_replica.specs.Images.{Image, untouched, closed, filled}
+use Rattle.mdv_store_law.specs.Below.{IsBelow, Identity, Mark, record_text, Gate, Closed, Open, Head, Slot, First, Second, text_of, IsSpare, IsSpareSlot, gate_of, other_slot, with_slot, IsMark, Image, untouched, closed, filled, KeptOutside, nowhere, Tale, IsImage, last, Change, Table}
 use Rattle.mdv_replica.proofs.Newest.{newest_stays}
-use Rattle.mdv_shelf.specs.Area.{KeptOutside, nowhere}
-use Rattle.mdv_shelf.specs.Tale.{Tale, IsImage, last}
 use Rattle.mdv_shelf.proofs.Blocks.{last_may_be_left}
-use Rattle.mdv_table.specs.declared.change.Change.{Change}
-use Rattle.mdv_table.specs.declared.table.Table.{Table}
 use Rattle.mdv_store_law.specs.Log.{Log, is_firm, with_asked}
 use Rattle.mdv_store_law.specs.Site.{Site, sized, IsTableAt, IsReplica, IsNewestOf}
 use Rattle.mdv_store_law.specs.Standing.{IsOfFamily, IsAtLeast, Agrees, Holds, nothing, replica, Covers, ShowsNothing, GoesFrom, GoesOn}

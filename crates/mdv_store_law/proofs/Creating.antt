@@ -3,22 +3,9 @@ use Rattle.std.proofs.Common.{◌≡◌, ◌⊎◌, inl, ℕ, ◌+◌, ◌≤◌
 use Rattle.std.proofs.lemmas.Bool.Decides.{nat_tests}
 use Rattle.std.proofs.lemmas.List.Elements.{All-cons, All-nil}
 use Rattle.std.proofs.Math.Nat.{le-max_left}
-use Rattle.mdv_base.specs.Mark.{IsBelow}
-use Rattle.mdv_base.specs.declared.mark.Identity.{Identity}
-use Rattle.mdv_record.specs.Text.{record_text}
-use Rattle.mdv_replica.specs.declared.forms.Gate.TheVariants.{Closed, Open}
-use Rattle.mdv_replica.specs.declared.forms.Master.{Master}
-use Rattle.mdv_replica.specs.declared.replica.Head.{Head}
-use Rattle.mdv_replica.specs.declared.replica.PlaceAt.{PlaceAt}
-use Rattle.mdv_replica.specs.declared.replica.Slot.TheVariants.{First}
-use Rattle.mdv_replica.specs.Form.{boot_of, formatted_head, greatest}
-use Rattle.mdv_replica.specs.Forms.{gate_text, block_of, IsMark}
-use Rattle.mdv_replica.specs.Images.{Image, SameOutside, Leaves, Formats, MayFormat, untouched, blanked, formatted, closed, filled}
-use Rattle.mdv_replica.specs.Replica.{Formatting, IsFormatted, formatted_blocks, master_of, slot_area}
+use Rattle.mdv_store_law.specs.Below.{IsBelow, Identity, record_text, Closed, Open, Master, Head, PlaceAt, First, boot_of, formatted_head, greatest, gate_text, block_of, IsMark, Image, SameOutside, Leaves, Formats, MayFormat, untouched, blanked, formatted, closed, filled, Formatting, IsFormatted, formatted_blocks, master_of, slot_area, Tale, IsImage, Table}
 use Rattle.mdv_replica.proofs.Leaving.{leaves_formatting, settled_here}
 use Rattle.mdv_replica.proofs.Showing.{head_formatted}
-use Rattle.mdv_shelf.specs.Tale.{Tale, IsImage}
-use Rattle.mdv_table.specs.declared.table.Table.{Table}
 use Rattle.mdv_store_law.specs.Going.{Creates, CreationsGo, IsCreated, created_head, created_newest, created_version, first_mark}
 use Rattle.mdv_store_law.specs.Log.{Version, Log, Issued, Writing, Written, IsFirst, IsThis, is_firm, log_after}
 use Rattle.mdv_store_law.specs.Site.{Site, IsFound, IsNewestOf, IsReplica, IsTableAt}

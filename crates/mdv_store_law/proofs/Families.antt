@@ -2,10 +2,7 @@
 use Rattle.std.proofs.Common.{◌≡◌, ◌⊎◌, inl, inr, ◌||◌, ℕ, zero, suc, ◌<◌, Bool, true, false, List, [], ◌∷◌, ◌++◌, length, slice_index_or, refl, sym, ◌∙◌, ap, subst, append_assoc, Option, Some, None, All, Contains, arith}
 use Rattle.std.proofs.lemmas.List.Elements.{All-cons, All-head, All-tail, All-contains}
 use Rattle.std.specs.List.{list_any}
-use Rattle.mdv_base.specs.Mark.{IsBelow}
-use Rattle.mdv_name.specs.declared.geometry.Geometry.{Geometry}
-use Rattle.mdv_table.specs.declared.change.Change.{Change}
-use Rattle.mdv_table.specs.declared.table.Table.{Table}
+use Rattle.mdv_store_law.specs.Below.{IsBelow, Geometry, Change, Table}
 use Rattle.mdv_store_law.specs.Log.{Version, with_asked, answered, Extends, IsMade, AreMade, IsRising, IsDescended, IsHeld}
 
 pub extends_itself : (changes : List Change) → Extends changes changes

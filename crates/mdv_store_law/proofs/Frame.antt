@@ -1,14 +1,8 @@
 -- What is done outside the place leaves what is known of it.
 use Rattle.std.proofs.Common.{◌≡◌, inl, inr, ℕ, ◌+◌, ◌≤◌, ◌<◌, true, List, sym, ◌∙◌, None, if◌then◌else◌, arith}
 use Rattle.std.proofs.lemmas.Bool.Decides.{nat_tests}
-use Rattle.mdv_shelf.specs.Area.{Area, AreApart, KeptOutside}
-use Rattle.mdv_shelf.specs.Tale.{Tale, last, IsImage}
+use Rattle.mdv_store_law.specs.Below.{Area, AreApart, KeptOutside, Tale, last, IsImage, Gate, Head, Slot, First, Second, Image}
 use Rattle.mdv_shelf.proofs.Blocks.{both_ways, last_may_be_left}
-use Rattle.mdv_replica.specs.declared.forms.Gate.{Gate}
-use Rattle.mdv_replica.specs.declared.replica.Head.{Head}
-use Rattle.mdv_replica.specs.declared.replica.Slot.{Slot}
-use Rattle.mdv_replica.specs.declared.replica.Slot.TheVariants.{First, Second}
-use Rattle.mdv_replica.specs.Images.{Image}
 use Rattle.mdv_replica.proofs.Readable.{readable_kept}
 use Rattle.mdv_store_law.specs.Laws.{Frames}
 use Rattle.mdv_store_law.specs.Log.{Version, Log}

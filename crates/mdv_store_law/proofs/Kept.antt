@@ -1,17 +1,9 @@
 -- The texts of slots that are kept, and of one that is written.
 use Rattle.std.proofs.Common.{◌≡◌, ℕ, ◌+◌, ◌≤◌, ◌<◌, List, length, take, sym, ◌∙◌, ap, subst, arith}
-use Rattle.mdv_base.specs.declared.mark.Mark.{Mark}
-use Rattle.mdv_record.specs.Text.{record_text}
-use Rattle.mdv_replica.specs.declared.replica.PlaceAt.{PlaceAt}
-use Rattle.mdv_replica.specs.declared.replica.Slot.{Slot}
-use Rattle.mdv_replica.specs.declared.replica.Slot.TheVariants.{First, Second}
-use Rattle.mdv_replica.specs.Form.{other_slot, text_of}
-use Rattle.mdv_replica.specs.Images.{Image, IsSame, SameOutside, Claims}
-use Rattle.mdv_replica.specs.Replica.{body_at, gate_at, slot_area, slot_blocks}
+use Rattle.mdv_store_law.specs.Below.{Mark, record_text, PlaceAt, Slot, First, Second, other_slot, text_of, Image, IsSame, SameOutside, Claims, body_at, gate_at, slot_area, slot_blocks, Table}
 use Rattle.mdv_replica.proofs.Bodies.{bytes_of_same, take-bytes_of_written}
 use Rattle.mdv_replica.proofs.Showing.{apart_range}
 use Rattle.mdv_shelf.proofs.Frame.{before_range, behind_range}
-use Rattle.mdv_table.specs.declared.table.Table.{Table}
 use Rattle.mdv_store_law.specs.Steps.{Takes}
 
 -- however many bytes count, the slot's text is as it was

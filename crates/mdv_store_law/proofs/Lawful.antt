@@ -1,22 +1,11 @@
 -- Standing over crashes, on new drives, and what a boot finds.
 use Rattle.std.proofs.Common.{◌≡◌, ◌⊎◌, inl, inr, ⊎_elim, ℕ, ◌+◌, ◌<◌, ◌≤◌, Bool, true, false, List, [], refl, sym, ◌∙◌, ap, subst, Option, Some, None, nat_lt, cond, slice_index, arith}
 use Rattle.std.proofs.lemmas.List.Elements.{All-nil, All-contains, All-weaker}
-use Rattle.mdv_base.specs.Mark.{IsBelow}
-use Rattle.mdv_base.specs.declared.mark.Mark.{Mark}
-use Rattle.mdv_shelf.specs.MemHistory.{zero_block, blank_block}
-use Rattle.mdv_shelf.specs.Tale.{Begun, Start, MayLeave, values, IsImage}
+use Rattle.mdv_store_law.specs.Below.{IsBelow, Mark, zero_block, blank_block, Begun, Start, IsImage, Master, Head, Slot, IsNewest, greatest, master_text, block_of, Image, Change, Table, IsSound}
+use Rattle.mdv_shelf.specs.Tale.{MayLeave, values}
 use Rattle.mdv_shelf.proofs.Blocks.{both_ways}
-use Rattle.mdv_replica.specs.declared.forms.Master.{Master}
-use Rattle.mdv_replica.specs.declared.replica.Head.{Head}
-use Rattle.mdv_replica.specs.declared.replica.Slot.{Slot}
-use Rattle.mdv_replica.specs.Form.{IsNewest, greatest}
-use Rattle.mdv_replica.specs.Forms.{master_text, block_of}
-use Rattle.mdv_replica.specs.Images.{Image}
 use Rattle.mdv_replica.proofs.Heads.{no_blank_master}
 use Rattle.mdv_replica.proofs.Parts.{master_parts}
-use Rattle.mdv_table.specs.declared.change.Change.{Change}
-use Rattle.mdv_table.specs.declared.table.Table.{Table}
-use Rattle.mdv_table.specs.Slices.{IsSound}
 use Rattle.mdv_store_law.specs.Laws.{CrashesStand, NewDrivesStand, FoundHolds, FindsHold, NothingHolds}
 use Rattle.mdv_store_law.specs.Log.{Version, Log, is_firm, Extends, AreMade, IsLog}
 use Rattle.mdv_store_law.specs.Site.{Site, HasTable}

@@ -1,23 +1,9 @@
 -- Replicas of the database whose claim or table is written.
 use Rattle.std.proofs.Common.{◌≡◌, ℕ, ◌+◌, ◌≤◌, ◌<◌, ◌^◌, Bool, false, ◌||◌, List, [], length, sym, ◌∙◌, ap, subst, None}
-use Rattle.mdv_base.specs.declared.mark.Mark.{Mark}
-use Rattle.mdv_name.specs.declared.geometry.Geometry.{Geometry}
-use Rattle.mdv_record.specs.Text.{record_text}
-use Rattle.mdv_replica.specs.declared.forms.Gate.{Gate}
-use Rattle.mdv_replica.specs.declared.forms.Gate.TheVariants.{Closed, Open}
-use Rattle.mdv_replica.specs.declared.replica.PlaceAt.{PlaceAt}
-use Rattle.mdv_replica.specs.declared.replica.Head.{Head}
-use Rattle.mdv_replica.specs.declared.replica.Slot.{Slot}
-use Rattle.mdv_replica.specs.declared.replica.Slot.TheVariants.{First, Second}
-use Rattle.mdv_replica.specs.Forms.{gate_text, block_of, IsMark}
-use Rattle.mdv_replica.specs.Replica.{gate_at, slot_area, slot_blocks}
-use Rattle.mdv_replica.specs.Form.{IsReadable, IsTable, is_open, shows, with_slot, with_claim}
-use Rattle.mdv_replica.specs.Images.{Image, IsSame, SameOutside, Leaves, Claims}
+use Rattle.mdv_store_law.specs.Below.{Mark, Geometry, record_text, Gate, Closed, Open, PlaceAt, Head, Slot, First, Second, gate_text, block_of, IsMark, gate_at, slot_area, slot_blocks, IsReadable, IsTable, is_open, shows, with_slot, with_claim, Image, IsSame, SameOutside, Leaves, Claims, Tale, Table}
 use Rattle.mdv_replica.proofs.Heads.{closed_only, one_head}
 use Rattle.mdv_replica.proofs.Leaving.{leaves_more}
 use Rattle.mdv_replica.proofs.Showing.{no_head_blank, readable_same, readable_with_claim, readable_closed, readable_filled}
-use Rattle.mdv_shelf.specs.Tale.{Tale}
-use Rattle.mdv_table.specs.declared.table.Table.{Table}
 use Rattle.mdv_store_law.specs.Site.{Site, sized, IsTableAt, IsRecordAt, IsReplica, IsFound}
 use Rattle.mdv_store_law.specs.Steps.{IsBody, Takes, MayTake, Rewritten, Rewriting}
 

@@ -1,17 +1,8 @@
 -- What a replica shows of a log that it agrees with.
 use Rattle.std.proofs.Common.{◌≡◌, ◌⊎◌, inl, inr, ⊎_elim, ℕ, true, ◌||◌, List, sym, ◌∙◌, ap, subst, arith}
 use Rattle.std.proofs.lemmas.List.Elements.{All-contains}
-use Rattle.mdv_base.specs.Mark.{IsBelow}
-use Rattle.mdv_base.specs.declared.mark.Mark.{Mark}
+use Rattle.mdv_store_law.specs.Below.{IsBelow, Mark, Gate, Closed, Open, Head, Slot, First, Second, IsNewest, IsNewestGate, gate_of, is_open, shows, text_of, Table, IsSound}
 use Rattle.mdv_record.proofs.Codes.{one_table}
-use Rattle.mdv_replica.specs.declared.forms.Gate.{Gate}
-use Rattle.mdv_replica.specs.declared.forms.Gate.TheVariants.{Closed, Open}
-use Rattle.mdv_replica.specs.declared.replica.Head.{Head}
-use Rattle.mdv_replica.specs.declared.replica.Slot.{Slot}
-use Rattle.mdv_replica.specs.declared.replica.Slot.TheVariants.{First, Second}
-use Rattle.mdv_replica.specs.Form.{IsNewest, IsNewestGate, gate_of, is_open, shows, text_of}
-use Rattle.mdv_table.specs.declared.table.Table.{Table}
-use Rattle.mdv_table.specs.Slices.{IsSound}
 use Rattle.mdv_store_law.specs.Log.{Version, Log}
 use Rattle.mdv_store_law.specs.Site.{Site, sized, IsTableAt, IsReplica, HasTable}
 use Rattle.mdv_store_law.specs.Standing.{IsVersion, IsOfFamily, IsAtLeast, ShowsAtLeast, Agrees, Holds, nothing, replica}

@@ -1,21 +1,6 @@
 -- How a log goes on while a boot, a commit or a creation writes.
 use Rattle.std.specs.Prelude.{◌≡◌, ◌+◌, ◌<◌, ◌^◌, true, false, [], length, Option, Some, None}
-use Rattle.mdv_base.specs.declared.mark.Identity.{Identity}
-use Rattle.mdv_base.specs.declared.mark.Mark.{Mark}
-use Rattle.mdv_record.specs.Text.{record_text}
-use Rattle.mdv_replica.specs.declared.forms.Gate.TheVariants.{Open}
-use Rattle.mdv_replica.specs.declared.replica.Head.{Head}
-use Rattle.mdv_replica.specs.declared.replica.Slot.{Slot}
-use Rattle.mdv_replica.specs.declared.replica.Slot.TheVariants.{First}
-use Rattle.mdv_replica.specs.Form.{IsSpareSlot, formatted_head, greatest, other_slot, with_slot}
-use Rattle.mdv_replica.specs.Forms.{IsMaster}
-use Rattle.mdv_replica.specs.Images.{Image, Leaves}
-use Rattle.mdv_replica.specs.Replica.{Formatting, IsFormatted, LiesAt, master_of, with_blocks}
-use Rattle.mdv_shelf.specs.Settle.{IsSynced}
-use Rattle.mdv_shelf.specs.Tale.{Tale, IsImage, last}
-use Rattle.mdv_table.specs.declared.change.Change.{Change}
-use Rattle.mdv_table.specs.declared.table.Table.{Table}
-use Rattle.mdv_table.specs.Slices.{IsSound}
+use Rattle.mdv_store_law.specs.Below.{Identity, Mark, record_text, Open, Head, Slot, First, IsSpareSlot, formatted_head, greatest, other_slot, with_slot, IsMaster, Image, Leaves, Formatting, IsFormatted, LiesAt, master_of, with_blocks, IsSynced, Tale, IsImage, last, Change, Table, IsSound}
 use Rattle.mdv_store_law.specs.Log.{Version, Log, IsLog, IsMade, IsTellable, IsThis, IsThisChange, NoCreation, is_firm}
 use Rattle.mdv_store_law.specs.Site.{Site, sized, IsNewestOf, IsTableAt, Newest}
 use Rattle.mdv_store_law.specs.Standing.{IsOpened, IsNewestIn, Anything, GoesFrom, GoesOnTo, GoesOn, ShowsNothing, created_log}

@@ -1,16 +1,6 @@
 -- Laws of standing: over crashes, over new drives, and over what a boot finds.
 use Rattle.std.specs.Prelude.{◌≡◌, ℕ, ◌+◌, ◌<◌, List, Some, None, All, Contains}
-use Rattle.mdv_base.specs.declared.mark.Mark.{Mark}
-use Rattle.mdv_replica.specs.declared.replica.Head.{Head}
-use Rattle.mdv_replica.specs.declared.replica.Slot.{Slot}
-use Rattle.mdv_replica.specs.Form.{IsNewest, greatest}
-use Rattle.mdv_replica.specs.Images.{Image}
-use Rattle.mdv_shelf.specs.Area.{Area, AreApart, KeptOutside}
-use Rattle.mdv_shelf.specs.MemHistory.{blank}
-use Rattle.mdv_shelf.specs.Tale.{Tale, Begun, IsImage}
-use Rattle.mdv_table.specs.declared.change.Change.{Change}
-use Rattle.mdv_table.specs.declared.table.Table.{Table}
-use Rattle.mdv_table.specs.Slices.{IsSound}
+use Rattle.mdv_store_law.specs.Below.{Mark, Head, Slot, IsNewest, greatest, Image, Area, AreApart, KeptOutside, blank, Tale, Begun, IsImage, Change, Table, IsSound}
 use Rattle.mdv_store_law.specs.Log.{Version, Log, Event, empty_log, log_after_all, AreMade, Extends, IsCourse, IsLog}
 use Rattle.mdv_store_law.specs.Site.{Site, area_of, IsReplica, IsFound, HasTable, Newest}
 use Rattle.mdv_store_law.specs.Standing.{Holds, Covers, Stands, ShowsNothing, IsOpened}

@@ -1,20 +1,6 @@
 -- Where a database with one place lies, what counts there as a record, and what a replica there has.
 use Rattle.std.specs.Prelude.{◌≡◌, ℕ, true, List, [], ◌∷◌, Option, Some, None}
-use Rattle.mdv_base.specs.declared.mark.Mark.{Mark}
-use Rattle.mdv_base.specs.declared.name.Key.{Key}
-use Rattle.mdv_base.specs.declared.place.Place.{Place}
-use Rattle.mdv_name.specs.declared.geometry.Geometry.{Geometry}
-use Rattle.mdv_record.specs.Text.{record_text}
-use Rattle.mdv_replica.specs.declared.forms.Gate.TheVariants.{Open}
-use Rattle.mdv_replica.specs.declared.replica.Head.{Head}
-use Rattle.mdv_replica.specs.declared.replica.PlaceAt.{PlaceAt}
-use Rattle.mdv_replica.specs.declared.replica.Slot.{Slot}
-use Rattle.mdv_replica.specs.Form.{IsReadable, IsNewest, IsSpareSlot, gate_of, shows, text_of}
-use Rattle.mdv_replica.specs.Replica.{with_blocks}
-use Rattle.mdv_shelf.specs.Area.{Area, range}
-use Rattle.mdv_table.specs.declared.plan.Lists.TheVariants.{One}
-use Rattle.mdv_table.specs.declared.table.Table.{Table}
-use Rattle.mdv_table.specs.Table.{IsOfGeometry}
+use Rattle.mdv_store_law.specs.Below.{Mark, Key, Place, Geometry, record_text, Open, Head, PlaceAt, Slot, IsReadable, IsNewest, IsSpareSlot, gate_of, shows, text_of, with_blocks, Area, range, One, Table, IsOfGeometry}
 
 -- the table of drives, whose database it is, its one place with the most blocks that it may have, and the drive's blocks
 pub record Site : Type 0 where

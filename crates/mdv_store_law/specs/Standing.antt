@@ -1,18 +1,6 @@
 -- What a crash may leave of a database with one place, told by its log.
 use Rattle.std.specs.Prelude.{◌≡◌, ◌⊎◌, ℕ, ◌≤◌, true, false, List, [], ◌∷◌, Some, None, All, Contains}
-use Rattle.mdv_base.specs.Mark.{IsBelow}
-use Rattle.mdv_base.specs.declared.mark.Identity.{Identity}
-use Rattle.mdv_base.specs.declared.mark.Mark.{Mark}
-use Rattle.mdv_record.specs.Text.{record_text}
-use Rattle.mdv_replica.specs.declared.forms.Gate.{Gate}
-use Rattle.mdv_replica.specs.declared.forms.Gate.TheVariants.{Closed, Open}
-use Rattle.mdv_replica.specs.declared.replica.Head.{Head}
-use Rattle.mdv_replica.specs.declared.replica.Slot.{Slot}
-use Rattle.mdv_replica.specs.declared.replica.Slot.TheVariants.{First, Second}
-use Rattle.mdv_replica.specs.Form.{greatest, shows, text_of}
-use Rattle.mdv_replica.specs.Images.{Image}
-use Rattle.mdv_shelf.specs.Tale.{Tale, IsImage}
-use Rattle.mdv_table.specs.declared.change.Change.{Change}
+use Rattle.mdv_store_law.specs.Below.{IsBelow, Identity, Mark, record_text, Gate, Closed, Open, Head, Slot, First, Second, greatest, shows, text_of, Image, Tale, IsImage, Change}
 use Rattle.mdv_store_law.specs.Log.{Version, Log, Event, log_after_all, is_firm, IsCourse, Adds, IsLog, NoChange}
 use Rattle.mdv_store_law.specs.Site.{Site, sized, IsTableAt, IsReplica, IsFound, Newest, IsNewestOf}
 

@@ -1,17 +1,7 @@
 -- What a boot, a commit and a creation write, told from what a crash might have left before.
 use Rattle.std.specs.Prelude.{◌≡◌, ◌⊎◌, ℕ, ◌+◌, ◌≤◌, true, List, length, take}
 use Rattle.std.specs.List.{concat}
-use Rattle.mdv_base.specs.declared.mark.Mark.{Mark}
-use Rattle.mdv_record.specs.Text.{record_text}
-use Rattle.mdv_replica.specs.declared.forms.Gate.TheVariants.{Open}
-use Rattle.mdv_replica.specs.declared.replica.Head.{Head}
-use Rattle.mdv_replica.specs.declared.replica.PlaceAt.{PlaceAt}
-use Rattle.mdv_replica.specs.declared.replica.Slot.{Slot}
-use Rattle.mdv_replica.specs.Form.{IsNewest, IsSpareSlot, greatest, other_slot, room_of, shows, with_claim, with_slot}
-use Rattle.mdv_replica.specs.Images.{Image, Leaves, Claims, MayClaim, Fills, MayFill}
-use Rattle.mdv_replica.specs.Replica.{slot_blocks}
-use Rattle.mdv_shelf.specs.Tale.{Tale, IsImage}
-use Rattle.mdv_table.specs.declared.table.Table.{Table}
+use Rattle.mdv_store_law.specs.Below.{Mark, record_text, Open, Head, PlaceAt, Slot, IsNewest, IsSpareSlot, greatest, other_slot, room_of, shows, with_claim, with_slot, Image, Leaves, Claims, MayClaim, Fills, MayFill, slot_blocks, Tale, IsImage, Table}
 use Rattle.mdv_store_law.specs.Site.{Site, IsReplica, HasTable, Newest, IsNewestOf}
 
 -- a body that begins with the record of the table, of which so many bytes count, and fits a slot of the place

@@ -5,15 +5,12 @@ use Rattle.std.proofs.lemmas.List.Concat.{flat_map-append}
 use Rattle.std.proofs.lemmas.List.Elements.{All-nil, All-push, All-contains, Contains-get_or, Contains-append_left, Contains-append_right, Contains-append_cases}
 use Rattle.std.proofs.lemmas.List.Quantifiers.{all_pairs_push}
 use Rattle.std.specs.Prelude.{All, Any}
-use Rattle.mdv_base.specs.declared.drive.SliceName.{SliceName}
-use Rattle.mdv_base.specs.declared.place.Place.{Place}
-use Rattle.mdv_name.specs.declared.geometry.Geometry.{Geometry}
+use Rattle.mdv_table.specs.Below.{SliceName, Place, Geometry, SliceLine}
 use Rattle.mdv_table.specs.declared.volume.Base.{Base}
 use Rattle.mdv_table.specs.declared.volume.Base.TheVariants.{Slice}
 use Rattle.mdv_table.specs.declared.volume.Volume.{Volume}
 use Rattle.mdv_table.specs.declared.volume.VolumeKind.{VolumeKind}
 use Rattle.mdv_table.specs.declared.volume.VolumeKind.TheVariants.{Stripe}
-use Rattle.mdv_name.specs.declared.slice_lines.SliceLine.{SliceLine}
 use Rattle.mdv_table.specs.Marks.{IsMarked}
 use Rattle.mdv_table.specs.Plan.{IsInUse, place_slices, component_slices}
 use Rattle.mdv_table.specs.Slices.{Overlaps}

@@ -1,12 +1,6 @@
 -- A change has one cause at most for which it is refused.
 use Rattle.std.proofs.Common.{◌≡◌, refl, sym, ◌∙◌, ap}
-use Rattle.mdv_base.specs.declared.drive.SliceName.{SliceName}
-use Rattle.mdv_base.specs.declared.name.VolId.{VolId}
-use Rattle.mdv_base.specs.declared.refusal.Refusal.{Refusal}
-use Rattle.mdv_base.specs.declared.refusal.Refusal.TheVariants.{NoSuchSlice, NameTaken, WrongKind, SliceInUse}
-use Rattle.mdv_name.specs.declared.geometry.Geometry.{Geometry}
-use Rattle.mdv_name.specs.declared.slice_lines.SliceAt.{SliceAt}
-use Rattle.mdv_name.specs.SliceIndex.{HasNoSlice}
+use Rattle.mdv_table.specs.Below.{SliceName, VolId, Refusal, NoSuchSlice, NameTaken, WrongKind, SliceInUse, Geometry, SliceAt, HasNoSlice}
 use Rattle.mdv_table.specs.declared.plan.Plan.{Plan}
 use Rattle.mdv_table.specs.Change.{StripeRefused, RefusesName, RefusesKind, RefusesUse, AllowsStripe}
 use Rattle.mdv_table.specs.Slices.{IsSound}

@@ -2,12 +2,7 @@
 use Rattle.std.proofs.Common.{◌≡◌, ◌<◌, ◌+◌, ◌*◌, ℕ, zero, suc, Bool, true, false, refl, sym, ◌∙◌, ap, subst, List, [], ◌∷◌, ◌++◌, length, get_or, set, replicate, inl, inr, Contains, arith, get_or-set_same, get_or-set_other}
 use Rattle.std.proofs.lemmas.Bool.{cases_eq}
 use Rattle.std.proofs.lemmas.List.Elements.{Contains-append_left, Contains-push, Contains-push_cases}
-use Rattle.mdv_base.specs.declared.drive.DriveNo.{DriveNo}
-use Rattle.mdv_base.specs.declared.drive.SliceName.{SliceName}
-use Rattle.mdv_name.specs.declared.geometry.Geometry.{Geometry}
-use Rattle.mdv_name.specs.declared.slice_lines.SliceAt.{SliceAt}
-use Rattle.mdv_name.specs.declared.slice_lines.SliceLine.{SliceLine}
-use Rattle.mdv_name.specs.SliceIndex.{HasSlice, HasNoSlice}
+use Rattle.mdv_table.specs.Below.{DriveNo, SliceName, Geometry, SliceAt, SliceLine, HasSlice, HasNoSlice}
 use Rattle.mdv_table.specs.Marks.{IsMarked, mark_place, mark_at}
 use Rattle.mdv_table.specs.Plan.{IsInUse}
 use Rattle.mdv_table.specs.Slices.{IsSound, Overlap, OverlapsAt}

@@ -1,12 +1,6 @@
 -- The plan after each change, and why a change is refused.
 use Rattle.std.specs.Prelude.{◌≡◌, ◌<◌, true, false}
-use Rattle.mdv_base.specs.declared.drive.SliceName.{SliceName}
-use Rattle.mdv_base.specs.declared.name.VolId.{VolId}
-use Rattle.mdv_base.specs.declared.refusal.Refusal.{Refusal}
-use Rattle.mdv_base.specs.declared.refusal.Refusal.TheVariants.{NoSuchSlice, NameTaken, WrongKind, SliceInUse}
-use Rattle.mdv_name.specs.declared.geometry.Geometry.{Geometry}
-use Rattle.mdv_name.specs.declared.slice_lines.SliceAt.{SliceAt}
-use Rattle.mdv_name.specs.SliceIndex.{HasSlice, HasNoSlice}
+use Rattle.mdv_table.specs.Below.{SliceName, VolId, Refusal, NoSuchSlice, NameTaken, WrongKind, SliceInUse, Geometry, SliceAt, HasSlice, HasNoSlice}
 use Rattle.mdv_table.specs.declared.change.ApplyFault.{ApplyFault}
 use Rattle.mdv_table.specs.declared.change.ApplyFault.TheVariants.{Refused, Memory}
 use Rattle.mdv_table.specs.declared.change.Change.{Change}

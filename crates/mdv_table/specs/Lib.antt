@@ -1,3 +1,4 @@
+pub mod Below
 pub use Rattle.mdv_name.specs.SliceIndex
 pub mod Change
 pub mod Marks

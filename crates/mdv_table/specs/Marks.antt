@@ -1,9 +1,6 @@
 -- The marks of the slices in use, eight for each drive.
 use Rattle.std.specs.Prelude.{◌≡◌, ◌+◌, ◌*◌, ℕ, Bool, true, false, List, Contains, slice_index_or}
-use Rattle.mdv_base.specs.declared.drive.SliceName.{SliceName}
-use Rattle.mdv_name.specs.declared.slice_lines.SliceAt.{SliceAt}
-use Rattle.mdv_name.specs.declared.slice_lines.SliceLine.{SliceLine}
-use Rattle.mdv_name.specs.SliceIndex.{HasSlice}
+use Rattle.mdv_table.specs.Below.{SliceName, SliceAt, SliceLine, HasSlice}
 
 -- where the mark of the n-th slice of a drive is
 abbrev pub mark_place : SliceAt → ℕ → ℕ

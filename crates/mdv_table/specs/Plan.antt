@@ -1,8 +1,6 @@
 -- The slices that a plan uses.
 use Rattle.std.specs.Prelude.{List, ◌++◌, map, flat_map, Contains}
-use Rattle.mdv_base.specs.declared.drive.SliceName.{SliceName}
-use Rattle.mdv_base.specs.declared.place.Place.{Place}
-use Rattle.mdv_name.specs.declared.slice_lines.SliceLine.{SliceLine}
+use Rattle.mdv_table.specs.Below.{SliceName, Place, SliceLine}
 use Rattle.mdv_table.specs.declared.plan.Lists.{Lists}
 use Rattle.mdv_table.specs.declared.plan.Lists.TheVariants.{One}
 use Rattle.mdv_table.specs.declared.plan.Plan.{Plan}

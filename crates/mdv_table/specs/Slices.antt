@@ -1,11 +1,6 @@
 -- What a table of drives says of its slices.
 use Rattle.std.specs.Prelude.{◌≡◌, ◌<◌, ◌≤◌, ◌+◌, ◌^◌, ℕ, List}
-use Rattle.mdv_base.specs.declared.drive.SliceName.{SliceName}
-use Rattle.mdv_name.specs.declared.geometry.Geometry.{Geometry}
-use Rattle.mdv_name.specs.declared.slice_lines.SliceAt.{SliceAt}
-use Rattle.mdv_name.specs.declared.slice_lines.SliceLine.{SliceLine}
-use Rattle.mdv_name.specs.Drive.{IsSliceName}
-use Rattle.mdv_name.specs.SliceIndex.{HasSlice}
+use Rattle.mdv_table.specs.Below.{SliceName, Geometry, SliceAt, SliceLine, IsSliceName, HasSlice}
 
 -- a slice of the first 256 drives, of one block at least, that ends within 2 ^ 40 blocks
 pub record IsSoundSlice (slice : SliceName) (at : SliceAt) : Type 0 where

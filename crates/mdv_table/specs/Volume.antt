@@ -1,7 +1,6 @@
 -- What a volume is, and the slices that it lies on.
 use Rattle.std.specs.Prelude.{ℕ, List, [], ◌∷◌}
-use Rattle.mdv_base.specs.declared.drive.SliceName.{SliceName}
-use Rattle.mdv_base.specs.declared.name.VolId.{VolId}
+use Rattle.mdv_table.specs.Below.{SliceName, VolId}
 use Rattle.mdv_table.specs.declared.volume.Base.{Base}
 use Rattle.mdv_table.specs.declared.volume.Base.TheVariants.{Slice}
 use Rattle.mdv_table.specs.declared.volume.Volume.{Volume}

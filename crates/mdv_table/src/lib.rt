@@ -7,8 +7,6 @@ mod law;
 mod of_geometry;
 mod plan;
 mod table;
-#[cfg(test)]
-mod tests;
 mod uses;
 mod volume;
 mod volumes;

@@ -2,8 +2,6 @@
 #![tactic(auto)]
 
 mod numeral;
-#[cfg(test)]
-mod tests;
 mod token;
 mod unit;
 mod words;

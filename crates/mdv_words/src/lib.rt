@@ -5,8 +5,6 @@ mod command;
 mod fields;
 mod hex;
 mod law;
-#[cfg(test)]
-mod tests;
 
 pub use command::{Command, MAX_READ, read_line};
 pub use law::reads_one_command;

@@ -1,7 +1,6 @@
 use Rattle.std.proofs.Common.{◌/◌, arith, take, length, length-take}
 use Rattle.mdv_shelf.proofs.Moments.{moments_weaker, moments_end, ends_both}
-use Rattle.mdv_replica.specs.Images.{Leaves}
-use Rattle.mdv_store_law.specs.Steps.{IsBody, MayTake}
+use Rattle.mdv_database.specs.Below.{Leaves, IsBody, MayTake}
 use Rattle.mdv_database.specs.Database.{IsQuiet}
 use Rattle.mdv_database.proofs.Bodies.{body_is, taking, taken}
 use Rattle.mdv_database.proofs.Quiet.{quiet_slot}

@@ -1,17 +1,6 @@
 use Rattle.std.proofs.Common.{◌≡◌, ◌<◌, ◌+◌, ◌^◌, ℕ, ap, subst, arith}
-use Rattle.mdv_base.specs.declared.mark.Mark.{Mark}
-use Rattle.mdv_base.specs.declared.name.Key.{Key}
-use Rattle.mdv_name.specs.declared.geometry.Geometry.{Geometry}
-use Rattle.mdv_shelf.specs.Moments.{Moments}
+use Rattle.mdv_database.specs.Below.{Mark, Key, Geometry, Moments, PlaceAt, greatest, with_blocks, drawn, NoCreation, Newest, GoesOn, adopted_newest}
 use Rattle.mdv_shelf.proofs.Moments.{moments_weaker, moments_end}
-use Rattle.mdv_replica.specs.declared.replica.PlaceAt.{PlaceAt}
-use Rattle.mdv_replica.specs.Form.{greatest}
-use Rattle.mdv_replica.specs.Replica.{with_blocks}
-use Rattle.mdv_store_law.specs.Going.{drawn}
-use Rattle.mdv_store_law.specs.Log.{NoCreation}
-use Rattle.mdv_store_law.specs.Site.{Newest}
-use Rattle.mdv_store_law.specs.Standing.{GoesOn}
-use Rattle.mdv_store_law.specs.Steps.{adopted_newest}
 use Rattle.mdv_database.specs.Database.{IsFoundIn, IsQuiet, site_of}
 use Rattle.mdv_database.proofs.Booting.{adopting_goes, adoption_ends, adoption_stands}
 use Rattle.mdv_database.proofs.Quiet.{quiet_sized}

@@ -1,12 +1,6 @@
 use Rattle.std.proofs.Common.{None, Some, sym}
-use Rattle.mdv_shelf.specs.Area.{KeptOutside, nowhere}
-use Rattle.mdv_shelf.specs.Moments.{Ends, Moments}
-use Rattle.mdv_shelf.specs.Tale.{last}
+use Rattle.mdv_database.specs.Below.{KeptOutside, nowhere, Ends, Moments, last, NoChange, NoCreation, Site, Anything, GoesOn, GoesOnTo, IsOpened, IsAdopted}
 use Rattle.mdv_shelf.proofs.Moments.{moments_more, moments_after, moments_weaker, moments_end, ends_more}
-use Rattle.mdv_store_law.specs.Log.{NoChange, NoCreation}
-use Rattle.mdv_store_law.specs.Site.{Site}
-use Rattle.mdv_store_law.specs.Standing.{Anything, GoesOn, GoesOnTo, IsOpened}
-use Rattle.mdv_store_law.specs.Steps.{IsAdopted}
 use Rattle.mdv_store_law.proofs.Covering.{kept_goes_on, goes_from_more}
 use Rattle.mdv_database.specs.Database.{IsBootedTo, IsQuiet, site_of}
 use Rattle.mdv_database.proofs.Booting.{HasLooked, looked_from, adopted_from, found_in, if_adopted_weaker, nothing_found, empty_goes_on}

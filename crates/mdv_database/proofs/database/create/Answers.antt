@@ -1,12 +1,8 @@
 use Rattle.std.proofs.Common.{◌≡◌, length, ◌∙◌, ap, arith}
-use Rattle.mdv_name.specs.declared.geometry.Geometry.{Geometry}
-use Rattle.mdv_record.specs.Text.{record_text}
+use Rattle.mdv_database.specs.Below.{Geometry, record_text, Table, IsPlaceOf, Creates}
 use Rattle.mdv_record.proofs.Lengths.{record_lengths}
 use Rattle.mdv_shelf.proofs.Counts.{took_more}
 use Rattle.mdv_shelf.proofs.Moments.{moments_end, moments_weaker}
-use Rattle.mdv_table.specs.declared.table.Table.{Table}
-use Rattle.mdv_table.specs.Table.{IsPlaceOf}
-use Rattle.mdv_store_law.specs.Going.{Creates}
 use Rattle.mdv_database.specs.Database.{IsQuiet, site_of}
 use Rattle.mdv_database.proofs.Making.{creates, format_ends, format_nothing, format_stays, made_ends, made_opens, made_safe, made_stays, quiet_made}
 use Rattle.mdv_database.proofs.Quiet.{quiet_format}

@@ -1,11 +1,7 @@
 use Rattle.std.proofs.Common.{inl, inr, ◌+◌, arith}
-use Rattle.mdv_shelf.specs.Moments.{Moments, Ends}
+use Rattle.mdv_database.specs.Below.{Moments, Ends, claim_text, block_of, claim_blocks, Leaves, Claims, Rewrites}
 use Rattle.mdv_shelf.proofs.Moments.{moments_weaker, moments_more, moments_after, moments_end, ends_both, ends_more}
-use Rattle.mdv_replica.specs.Forms.{claim_text, block_of}
-use Rattle.mdv_replica.specs.Replica.{claim_blocks}
-use Rattle.mdv_replica.specs.Images.{Leaves, Claims}
 use Rattle.mdv_replica.proofs.Leaving.{leaves_settling, leaves_settled}
-use Rattle.mdv_store_law.specs.Steps.{Rewrites}
 use Rattle.mdv_database.specs.Database.{IsQuiet}
 use Rattle.mdv_database.proofs.Quiet.{quiet_settling, quiet_more}
 use Rattle.mdv_database.proofs.Booting.{rewriting, rewritten}

@@ -1,6 +1,5 @@
 use Rattle.std.proofs.Common.{◌≡◌, ◌∙◌, ℕ, List, Option, ap, subst, refl}
-use Rattle.mdv_shelf.specs.Tale.{Tale, Then, Synced, last}
-use Rattle.mdv_shelf.specs.Calls.{and_then}
+use Rattle.mdv_database.specs.Below.{Tale, Then, Synced, last, and_then}
 use Rattle.mdv_shelf.proofs.Blocks.{last_unwritten}
 use Rattle.mdv_database.specs.Database.{IsLookedAt, site_of}
 use Rattle.mdv_database.proofs.Quiet.{moments_synced, ends_synced, unwritten_synced}

@@ -1,10 +1,5 @@
 use Rattle.std.proofs.Common.{sym, subst, refl, ◌∙◌}
-use Rattle.mdv_base.specs.Causes.{Rose}
-use Rattle.mdv_replica.specs.declared.replica.PlaceAt.{PlaceAt}
-use Rattle.mdv_shelf.specs.Calls.{OnDrive}
-use Rattle.mdv_engine_law.specs.Line.{Memory, lost, spent, wanting}
-use Rattle.mdv_shelf.specs.Moments.{Ends}
-use Rattle.mdv_engine_law.specs.Standing.{BootedTo}
+use Rattle.mdv_engine.specs.Below.{Rose, PlaceAt, OnDrive, Memory, lost, spent, wanting, Ends, BootedTo}
 use Rattle.mdv_shelf.proofs.Moments.{moments_end}
 use Rattle.mdv_engine.proofs.Booting.{boot_moments, adopted_rebooted, adopted_booted, empty_rebooted, empty_booted, down_rebooted, down_booted, spent_here, adopted_well}
 use Rattle.mdv_engine.proofs.Sites.{on_drive}

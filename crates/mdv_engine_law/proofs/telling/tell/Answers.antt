@@ -1,6 +1,5 @@
 use Rattle.std.proofs.Common.{◌≡◌, ◌∙◌, sym, subst, refl, take, length, ap, []}
-use Rattle.mdv_base.specs.Causes.{Rose}
-use Rattle.mdv_shelf.specs.Calls.{OnReplies}
+use Rattle.mdv_engine_law.specs.Below.{Rose, OnReplies}
 use Rattle.mdv_engine_law.specs.Replies.{IsTold, ok_line, refusal_line, text_of}
 use Rattle.mdv_engine_law.specs.declared.answer.Answer.{Answer}
 use Rattle.mdv_engine_law.specs.declared.answer.Reply.TheVariants as reply

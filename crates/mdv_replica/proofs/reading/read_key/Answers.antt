@@ -1,7 +1,5 @@
 use Rattle.std.proofs.Common.{◌≡◌, ◌∙◌, ℕ, List, take, sym, ap, subst, Some, arith}
-use Rattle.mdv_base.specs.Name.{IsName}
-use Rattle.mdv_base.specs.declared.name.Key.{Key}
-use Rattle.mdv_base.specs.declared.name.Key.TheVariants.{Local, Set}
+use Rattle.mdv_replica.specs.Below.{IsName, Key, Local, Set}
 use Rattle.mdv_replica.specs.Forms.{name_of_key}
 use Rattle.mdv_replica.proofs.Parts.{key_read, kind_of}
 use Rattle.mdv_replica.proofs.reading.read_key.Goals as goal

@@ -1,16 +1,7 @@
 use Rattle.std.proofs.Common.{[], refl, inl, inr, subst, sym}
-use Rattle.mdv_base.specs.Causes.{Rose}
-use Rattle.mdv_port.specs.Script.{line}
-use Rattle.mdv_shelf.specs.Calls.{OnDrive, OnReplies}
-use Rattle.mdv_shelf.specs.Moments.{Ends}
+use Rattle.mdv_run.specs.Below.{Rose, line, OnDrive, OnReplies, Ends, Boot, IsCommand, asked_by, Executed, TurnMoment, Turned, Knows, Engine, LinesMoment, RanTo}
 use Rattle.mdv_shelf.proofs.Moments.{moments_weaker, ends_both}
-use Rattle.mdv_words.specs.declared.command.Command.TheVariants.{Boot}
-use Rattle.mdv_words.specs.Line.{IsCommand}
-use Rattle.mdv_engine_law.specs.Line.{asked_by}
-use Rattle.mdv_engine_law.specs.Standing.{Executed, TurnMoment, Turned, Knows}
 use Rattle.mdv_engine_law.proofs.Plain.{bad_line_plain}
-use Rattle.mdv_engine.specs.declared.engine.Engine.{Engine}
-use Rattle.mdv_run_law.specs.Standing.{LinesMoment, RanTo}
 use Rattle.mdv_run_law.proofs.Turning.{line_moment, line_ran}
 use Rattle.mdv_run_law.proofs.Waking.{executed_awake}
 use Rattle.mdv_run.proofs.Answering.{executed_line, no_boot, known_ran}

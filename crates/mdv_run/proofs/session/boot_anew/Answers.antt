@@ -1,20 +1,10 @@
 use Rattle.std.proofs.Common.{[], refl, sym, ◌∙◌, ap, subst, arith}
 use Rattle.std.proofs.lemmas.List.{append-nil}
-use Rattle.mdv_base.specs.Causes.{Rose}
-use Rattle.mdv_port.specs.Script.{line}
-use Rattle.mdv_shelf.specs.Calls.{OnDrive, OnReplies}
-use Rattle.mdv_shelf.specs.Moments.{Moments, Ends}
-use Rattle.mdv_shelf.specs.Tale.{told}
+use Rattle.mdv_run.specs.Below.{Rose, line, OnDrive, OnReplies, Moments, Ends, told, Boot, Host, StaysHome, Executed, BootMoment, BootedTo, TurnMoment, Turned, Knows, Engine, RanTo}
 use Rattle.mdv_shelf.proofs.Moments.{moments_after, moments_weaker, moments_end, ends_more, some_is}
-use Rattle.mdv_words.specs.declared.command.Command.TheVariants.{Boot}
 use Rattle.mdv_engine_law.specs.declared.answer.Answer.TheVariants as outcome
-use Rattle.mdv_engine_law.specs.declared.host.Host.{Host}
-use Rattle.mdv_engine_law.specs.Home.{StaysHome}
-use Rattle.mdv_engine_law.specs.Standing.{Executed, BootMoment, BootedTo, TurnMoment, Turned, Knows}
 use Rattle.mdv_engine_law.proofs.Executing.{executed, rose_within}
 use Rattle.mdv_engine_law.proofs.Staying.{both_stay, boot_stays}
-use Rattle.mdv_engine.specs.declared.engine.Engine.{Engine}
-use Rattle.mdv_run_law.specs.Standing.{RanTo}
 use Rattle.mdv_run_law.proofs.Booting.{boot_turn, booted_turn, booted_ran}
 use Rattle.mdv_run.proofs.session.boot_anew.Goals as goal
 

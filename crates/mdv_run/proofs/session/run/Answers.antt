@@ -1,12 +1,7 @@
 use Rattle.std.proofs.Common.{refl, ap, subst, inl, inr, Err}
-use Rattle.mdv_port.specs.Script.{script_of}
-use Rattle.mdv_shelf.specs.Moments.{Moments}
+use Rattle.mdv_run.specs.Below.{script_of, Moments, Host, StaysHome, failures, IsWholeRun, RunMoment}
 use Rattle.mdv_shelf.proofs.Moments.{moments_none}
-use Rattle.mdv_engine_law.specs.declared.host.Host.{Host}
-use Rattle.mdv_engine_law.specs.Home.{StaysHome}
 use Rattle.mdv_engine_law.proofs.Staying.{nothing_stays}
-use Rattle.mdv_run_law.specs.Run.{failures, IsWholeRun}
-use Rattle.mdv_run_law.specs.Standing.{RunMoment}
 use Rattle.mdv_run_law.proofs.Booting.{nothing_run}
 use Rattle.mdv_run.proofs.Used.{one_host, ready_host}
 use Rattle.mdv_run.proofs.session.run.Goals as goal

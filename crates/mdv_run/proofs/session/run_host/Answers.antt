@@ -1,22 +1,11 @@
 use Rattle.std.proofs.Common.{false, refl, sym, ◌∙◌, ap, subst, arith}
-use Rattle.mdv_port.specs.Script.{script_of}
-use Rattle.mdv_shelf.specs.Tale.{Tale, told}
-use Rattle.mdv_shelf.specs.Calls.{OnDrive, OnReplies}
-use Rattle.mdv_shelf.specs.Moments.{Moments}
+use Rattle.mdv_run.specs.Below.{script_of, Tale, told, OnDrive, OnReplies, Moments, Host, kept_at, unbooted, BootMoment, BootedTo, Knows, RunStatus, failures, IsWholeRun, RunMoment, LinesMoment, Engine, StaysHome}
 use Rattle.mdv_shelf.proofs.Moments.{moments_after, moments_weaker, moments_end, some_is}
-use Rattle.mdv_engine_law.specs.declared.host.Host.{Host}
-use Rattle.mdv_engine_law.specs.Line.{kept_at, unbooted}
-use Rattle.mdv_engine_law.specs.Standing.{BootMoment, BootedTo, Knows}
 use Rattle.mdv_engine_law.proofs.Executing.{rose_within}
-use Rattle.mdv_run_law.specs.declared.status.RunStatus.{RunStatus}
-use Rattle.mdv_run_law.specs.Run.{failures, IsWholeRun}
 use Rattle.mdv_run.specs.Turns.{LinesRun}
-use Rattle.mdv_run_law.specs.Standing.{RunMoment, LinesMoment}
 use Rattle.mdv_run_law.proofs.Booting.{boot_run, lines_run}
-use Rattle.mdv_engine.specs.declared.engine.Engine.{Engine}
 use Rattle.mdv_run.proofs.Whole.{whole_over, whole_lines}
 use Rattle.mdv_engine_law.proofs.Staying.{both_stay, boot_stays}
-use Rattle.mdv_engine_law.specs.Home.{StaysHome}
 use Rattle.mdv_run.proofs.session.run_host.Goals as goal
 
 pub returns-in-Ok-clause-runs : goal.returns-in-Ok-clause-runs

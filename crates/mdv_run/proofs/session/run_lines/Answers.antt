@@ -1,18 +1,8 @@
 use Rattle.std.proofs.Common.{◌≤◌, false, refl, sym, ◌∙◌, subst, arith}
-use Rattle.mdv_port.specs.Reader.{Reader}
-use Rattle.mdv_port.specs.Script.{script_of, script_before}
-use Rattle.mdv_shelf.specs.Calls.{OnDrive, OnReplies}
-use Rattle.mdv_shelf.specs.Moments.{Moments, Ends}
-use Rattle.mdv_engine_law.specs.declared.host.Host.{Host}
-use Rattle.mdv_engine_law.specs.Home.{IsReady}
-use Rattle.mdv_engine_law.specs.Standing.{Knows}
-use Rattle.mdv_engine.specs.Engine.{IsWell}
-use Rattle.mdv_run_law.specs.Run.{failures}
+use Rattle.mdv_run.specs.Below.{Reader, script_of, script_before, OnDrive, OnReplies, Moments, Ends, Host, IsReady, Knows, IsWell, failures, LinesMoment, StaysHome}
 use Rattle.mdv_run.specs.Turns.{LinesRun}
-use Rattle.mdv_run_law.specs.Standing.{LinesMoment}
 use Rattle.mdv_run.proofs.Went.{SoFar, so_far_start, so_far_more, moments_over, over_ends, both_within, script_at_start, keeps_more}
 use Rattle.mdv_engine_law.proofs.Staying.{nothing_stays, both_stay}
-use Rattle.mdv_engine_law.specs.Home.{StaysHome}
 use Rattle.mdv_run.proofs.session.run_lines.Goals as goal
 
 pub loop-refused-init : goal.loop-refused-init

@@ -1,10 +1,5 @@
 use Rattle.std.proofs.Common.{◌≡◌, ◌≤◌, ◌-◌, ℕ, List, Some}
-use Rattle.mdv_shelf.specs.Calls.{Keeps}
-use Rattle.mdv_port.specs.Script.{script_before}
-use Rattle.mdv_shelf.specs.Moments.{Moments}
-use Rattle.mdv_engine_law.specs.Home.{IsReady, StaysHome}
-use Rattle.mdv_engine.specs.Engine.{IsWell}
-use Rattle.mdv_run_law.specs.Run.{failures}
+use Rattle.mdv_run.specs.Below.{Keeps, script_before, Moments, IsReady, StaysHome, IsWell, failures}
 use Rattle.mdv_run.proofs.Went.{SoFar}
 use Rattle.mdv_run.proofs.session.run_lines.Given as goal
 

@@ -1,18 +1,10 @@
 use Rattle.std.proofs.Common.{inr, [], Some, refl, sym, subst}
-use Rattle.mdv_port.specs.Script.{Script, line, too_long, script_before, IsTurn}
-use Rattle.mdv_port.specs.declared.reader.LineEnd.TheVariants.{Line, TooLong, End, Spent}
-use Rattle.mdv_shelf.specs.Moments.{Moments, Ends}
+use Rattle.mdv_run.specs.Below.{Script, line, too_long, script_before, IsTurn, Line, TooLong, End, Spent, Moments, Ends, kept_at, TurnMoment, Engine, ScriptTooLong, ReadFault, failures, Runs, LinesMoment, RanTo}
 use Rattle.mdv_shelf.proofs.Moments.{moments_none, moments_weaker}
-use Rattle.mdv_engine_law.specs.Line.{kept_at}
-use Rattle.mdv_engine_law.specs.Standing.{TurnMoment}
-use Rattle.mdv_engine.specs.declared.engine.Engine.{Engine}
 use Rattle.mdv_engine_law.proofs.Executing.{rose_within}
 use Rattle.mdv_engine_law.proofs.Plain.{too_long_plain}
 use Rattle.mdv_run.specs.declared.session.Turn.{Turn}
-use Rattle.mdv_run_law.specs.declared.status.RunStatus.TheVariants.{ScriptTooLong, ReadFault}
-use Rattle.mdv_run_law.specs.Run.{failures, Runs}
 use Rattle.mdv_run.specs.Turns.{Turns, turn_of}
-use Rattle.mdv_run_law.specs.Standing.{LinesMoment, RanTo}
 use Rattle.mdv_run_law.proofs.Lining.{lines_start}
 use Rattle.mdv_run_law.proofs.Turning.{long_moment, long_ran}
 use Rattle.mdv_run.proofs.Leading.{end_is, spent_is, long_is, line_is, leads_line, leads_long, read_fault, on_replied, over_turn, ended_known}

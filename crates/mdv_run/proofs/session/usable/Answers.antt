@@ -1,9 +1,7 @@
 use Rattle.std.proofs.Common.{rules, ◌≡◌, sym, ◌∙◌, ap, subst, [], ◌∷◌, map, string_bytes, ℕ, List}
 use Rattle.std.specs.Bool.{IsTrue}
-use Rattle.mdv_name.specs.declared.geometry.Geometry.{Geometry}
+use Rattle.mdv_run.specs.Below.{Geometry, Home, IsHome}
 use Rattle.mdv_name.proofs.OneTable.{one_table}
-use Rattle.mdv_home.specs.declared.geometry.Home.{Home}
-use Rattle.mdv_home.specs.Home.{IsHome}
 use Rattle.mdv_home.proofs.Homes.{one_home}
 use Rattle.mdv_home.proofs.OneItem.{one_item}
 use Rattle.mdv_run.proofs.session.usable.Goals as goal

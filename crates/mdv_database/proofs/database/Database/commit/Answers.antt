@@ -1,8 +1,5 @@
 use Rattle.std.proofs.Common.{◌+◌, ◌<◌, ◌^◌, subst, ap, ◌∙◌, arith}
-use Rattle.mdv_replica.specs.Form.{other_slot}
-use Rattle.mdv_replica.specs.Replica.{with_blocks}
-use Rattle.mdv_store_law.specs.Going.{next_mark}
-use Rattle.mdv_store_law.specs.Site.{Newest}
+use Rattle.mdv_database.specs.Below.{other_slot, with_blocks, next_mark, Newest}
 use Rattle.mdv_database.proofs.Committing.{IsNextPlace, commit_quiet, commit_stays, commit_opens, commit_ends}
 use Rattle.mdv_database.proofs.database.Database.commit.Goals as goal
 use Rattle.mdv_database.proofs.database.Database.commit.Goals.{After-write}

@@ -1,16 +1,6 @@
 use Rattle.std.proofs.Common.{◌≡◌, ◌≤◌, ◌<◌, ◌∙◌, ⊎_elim, Some, Err, ap, sym, subst, length}
-use Rattle.mdv_base.specs.Causes.{Rose}
-use Rattle.mdv_base.specs.declared.name.Key.TheVariants.{Local}
-use Rattle.mdv_home.specs.Home.{place_of}
-use Rattle.mdv_record.specs.Text.{record_text}
-use Rattle.mdv_replica.specs.declared.replica.PlaceAt.{PlaceAt}
-use Rattle.mdv_replica.specs.Form.{room_of}
-use Rattle.mdv_shelf.specs.Calls.{OnDrive}
-use Rattle.mdv_database.specs.declared.database.CommitFault.{CommitFault}
-use Rattle.mdv_database.specs.Database.{HasCommitCause, IsCommitRefusal}
-use Rattle.mdv_store_law.specs.Site.{Newest}
+use Rattle.mdv_engine.specs.Below.{Rose, Local, place_of, record_text, PlaceAt, room_of, OnDrive, CommitFault, HasCommitCause, IsCommitRefusal, Newest, IsPlainAnswer}
 use Rattle.mdv_engine_law.specs.declared.answer.Answer.TheVariants as outcome
-use Rattle.mdv_engine_law.specs.Replies.{IsPlainAnswer}
 use Rattle.mdv_engine_law.proofs.Plain.{no_database_plain, numbers_plain}
 use Rattle.mdv_engine_law.proofs.Refusing.{opened_has}
 use Rattle.mdv_engine.specs.Engine.{IsTableOf}

@@ -1,10 +1,6 @@
 use Rattle.std.proofs.Common.{◌∙◌, ap, arith}
-use Rattle.mdv_shelf.specs.Tale.{told}
-use Rattle.mdv_shelf.specs.Calls.{OnDrive, OnReplies}
+use Rattle.mdv_engine.specs.Below.{told, OnDrive, OnReplies, asked_by, text_of, CarryMoment, OnlyReplied, TellMoment, TurnMoment, Turned, Knows}
 use Rattle.mdv_shelf.proofs.Moments.{moments_after, moments_end, ends_more, some_is}
-use Rattle.mdv_engine_law.specs.Line.{asked_by}
-use Rattle.mdv_engine_law.specs.Replies.{text_of}
-use Rattle.mdv_engine_law.specs.Standing.{CarryMoment, OnlyReplied, TellMoment, TurnMoment, Turned, Knows}
 use Rattle.mdv_engine_law.proofs.Executing.{executed, told_cause, rose_within}
 use Rattle.mdv_engine_law.proofs.Turning.{Carried, carried_ends, turn_carry, turn_tell, turned, knows_after}
 use Rattle.mdv_engine_law.proofs.Staying.{both_stay, tell_stays}

@@ -1,26 +1,7 @@
 use Rattle.std.proofs.Common.{◌≡◌, ◌∙◌, ◌+◌, ◌≤◌, ◌∷◌, [], List, ℕ, false, Option, Some, None, Err, sym, ap, subst}
-use Rattle.mdv_base.specs.Causes.{Rose}
-use Rattle.mdv_base.specs.declared.name.Key.TheVariants.{Local}
-use Rattle.mdv_base.specs.declared.refusal.Refusal.TheVariants.{IoFault, OutOfMemory}
-use Rattle.mdv_shelf.specs.Calls.{OnDrive}
-use Rattle.mdv_shelf.specs.Moments.{Ends, Moments}
-use Rattle.mdv_shelf.specs.Tale.{Tale}
-use Rattle.mdv_home.specs.Home.{place_of}
-use Rattle.mdv_replica.specs.declared.replica.PlaceAt.{PlaceAt}
-use Rattle.mdv_table.specs.Table.{IsPlaceOf}
-use Rattle.mdv_name.specs.declared.geometry.Geometry.{Geometry}
-use Rattle.mdv_store_law.specs.Going.{IsCreated}
-use Rattle.mdv_store_law.specs.Log.{Log, IsThis, is_firm}
-use Rattle.mdv_store_law.specs.Site.{Site, Newest}
-use Rattle.mdv_store_law.specs.Standing.{Anything, GoesOnTo, IsOpened, ShowsNothing}
-use Rattle.mdv_history.specs.History.{Created}
+use Rattle.mdv_engine.specs.Below.{Rose, Local, IoFault, OutOfMemory, OnDrive, Ends, Moments, Tale, place_of, PlaceAt, IsPlaceOf, Geometry, IsCreated, Log, IsThis, is_firm, Site, Newest, Anything, GoesOnTo, IsOpened, ShowsNothing, Created, IsQuiet, IsSafe, first_newest, Answer, IsReady, StaysHome, identity_of, Memory, IsCreation, kept_at, CarriedTo, CarryMoment, Knows}
 use Rattle.mdv_database.specs.Database as database
-use Rattle.mdv_database.specs.Database.{IsQuiet, IsSafe, first_newest}
-use Rattle.mdv_engine_law.specs.declared.answer.Answer.{Answer}
 use Rattle.mdv_engine_law.specs.declared.answer.Answer.TheVariants as outcome
-use Rattle.mdv_engine_law.specs.Home.{IsReady, StaysHome, identity_of}
-use Rattle.mdv_engine_law.specs.Line.{Memory, IsCreation, kept_at}
-use Rattle.mdv_engine_law.specs.Standing.{CarriedTo, CarryMoment, Knows}
 use Rattle.mdv_engine_law.proofs.Plain.{fault_plain, memory_plain}
 use Rattle.mdv_engine.specs.declared.engine.Engine.{Engine}
 use Rattle.mdv_engine.proofs.Creating.{begun, lost_carried, made_carried, made_creation, making_moments, new_memory, unbegun_carried, unmade_carried, unmade_creation, with_new}

@@ -1,6 +1,5 @@
 use Rattle.std.proofs.Common.{◌∙◌, arith}
-use Rattle.mdv_base.specs.Causes.{Rose}
-use Rattle.mdv_shelf.specs.Calls.{OnDrive}
+use Rattle.mdv_engine.specs.Below.{Rose, OnDrive}
 use Rattle.mdv_engine_law.proofs.Transfer.{saw}
 use Rattle.mdv_engine.proofs.Blocks.{unread_plain}
 use Rattle.mdv_engine.proofs.engine.Engine.read.Goals as goal

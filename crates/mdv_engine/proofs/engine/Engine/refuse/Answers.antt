@@ -1,7 +1,6 @@
 use Rattle.std.proofs.Common.{refl}
 use Rattle.mdv_shelf.proofs.Moments.{moments_weaker}
-use Rattle.mdv_engine_law.specs.Replies.{text_of}
-use Rattle.mdv_engine_law.specs.Standing.{TellMoment, TurnMoment}
+use Rattle.mdv_engine.specs.Below.{text_of, TellMoment, TurnMoment}
 use Rattle.mdv_engine_law.specs.declared.answer.Answer.TheVariants as outcome
 use Rattle.mdv_engine_law.proofs.Turning.{carry_none, refused_none, turn_tell, turned}
 use Rattle.mdv_engine_law.proofs.Knowing.{knows_kept}

@@ -1,10 +1,6 @@
 use Rattle.std.proofs.Common.{◌≡◌, ◌∙◌, ℕ, length, take, ◌++◌, drop, sym, subst, ap}
 use Rattle.std.proofs.Math.Seq.{take-append_seam}
-use Rattle.mdv_base.specs.Causes.{Rose}
-use Rattle.mdv_shelf.specs.Calls.{OnDrive}
-use Rattle.mdv_shelf.specs.Tale.{last}
-use Rattle.mdv_status.specs.Values.{values_reply}
-use Rattle.mdv_engine_law.specs.Line.{AreBlocksAt, blocks_of}
+use Rattle.mdv_engine.specs.Below.{Rose, OnDrive, last, values_reply, AreBlocksAt, blocks_of}
 use Rattle.mdv_engine.specs.Engine.{HasBlocksCause}
 use Rattle.mdv_engine.proofs.Blocks.{as_read_cause}
 use Rattle.mdv_engine.proofs.engine.Engine.values.Goals as goal

@@ -1,6 +1,5 @@
 use Rattle.std.proofs.Common.{Err, ap}
-use Rattle.mdv_base.specs.Causes.{Rose}
-use Rattle.mdv_shelf.specs.Calls.{OnDrive}
+use Rattle.mdv_engine.specs.Below.{Rose, OnDrive}
 use Rattle.mdv_engine.proofs.Blocks.{unwritten, unwritten_plain, write_home, write_moments, written_carried, written_line}
 use Rattle.mdv_engine.proofs.engine.Engine.write.Goals as goal
 

@@ -1,8 +1,5 @@
 use Rattle.std.proofs.Common.{sym, ◌∙◌, ap, subst, ◌≡◌, ◌<◌, ◌+◌, ◌^◌, List, None, Some}
-use Rattle.mdv_votes.specs.declared.spot.Spot.{Spot}
-use Rattle.mdv_votes.specs.declared.version.Version.{Version}
-use Rattle.mdv_votes.specs.declared.version.SpotState.{SpotState}
-use Rattle.mdv_votes.specs.Family.{newest_of, greatest_of}
+use Rattle.mdv_quorum.specs.Below.{Spot, Version, SpotState, newest_of, greatest_of}
 use Rattle.mdv_quorum.proofs.Limits.{claim_fits}
 use Rattle.mdv_quorum.proofs.machine.Core.claim.Goals as goal
 

@@ -1,10 +1,6 @@
 use Rattle.std.proofs.Common.{sym, ◌∙◌, ap, List, ◌&&◌, ◌≡◌, ◌+◌, ◌^◌, Bool}
 use Rattle.std.specs.Prelude.{nat_lt}
-use Rattle.mdv_votes.specs.declared.version.Version.{Version}
-use Rattle.mdv_votes.specs.declared.version.SpotState.{SpotState}
-use Rattle.mdv_votes.specs.Spots.{is_in}
-use Rattle.mdv_votes.specs.Quorum.{is_read}
-use Rattle.mdv_votes.specs.Family.{knows_above, greatest_of}
+use Rattle.mdv_quorum.specs.Below.{Version, SpotState, is_in, is_read, knows_above, greatest_of}
 use Rattle.mdv_quorum.specs.May.{is_target}
 use Rattle.mdv_quorum.proofs.machine.Core.may_adopt.Goals as goal
 use Rattle.mdv_quorum.proofs.machine.Core.may_adopt.Goals.{After-is_read}

@@ -1,10 +1,6 @@
 use Rattle.std.proofs.Common.{sym, ◌∙◌, ap, List, ◌&&◌, ◌≡◌, ◌+◌, ◌^◌, None, Some}
 use Rattle.std.specs.Prelude.{nat_lt}
-use Rattle.mdv_votes.specs.declared.version.Version.{Version}
-use Rattle.mdv_votes.specs.declared.version.SpotState.{SpotState}
-use Rattle.mdv_votes.specs.Spots.{is_in}
-use Rattle.mdv_votes.specs.Quorum.{is_read}
-use Rattle.mdv_votes.specs.Family.{newest_of, knows_above, greatest_of, table_at}
+use Rattle.mdv_quorum.specs.Below.{Version, SpotState, is_in, is_read, newest_of, knows_above, greatest_of, table_at}
 use Rattle.mdv_quorum.specs.May.{may_choose, is_target}
 use Rattle.mdv_quorum.proofs.machine.Core.may_choose.Goals as goal
 

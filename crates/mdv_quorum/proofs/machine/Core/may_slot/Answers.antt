@@ -1,7 +1,5 @@
 use Rattle.std.proofs.Common.{sym, ◌∙◌, ap, List, ◌&&◌}
-use Rattle.mdv_votes.specs.declared.spot.Spot.{Spot}
-use Rattle.mdv_votes.specs.Spots.{is_in}
-use Rattle.mdv_votes.specs.Quorum.{is_claimed}
+use Rattle.mdv_quorum.specs.Below.{Spot, is_in, is_claimed}
 use Rattle.mdv_quorum.specs.May.{may_slot, is_target}
 use Rattle.mdv_quorum.proofs.machine.Core.may_slot.Goals as goal
 

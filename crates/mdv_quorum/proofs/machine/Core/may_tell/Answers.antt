@@ -1,7 +1,5 @@
 use Rattle.std.proofs.Common.{sym, ◌∙◌, ap, List}
-use Rattle.mdv_votes.specs.declared.spot.Spot.{Spot}
-use Rattle.mdv_votes.specs.Spots.{is_in}
-use Rattle.mdv_votes.specs.Quorum.{is_written}
+use Rattle.mdv_quorum.specs.Below.{Spot, is_in, is_written}
 use Rattle.mdv_quorum.specs.World.{last_table}
 use Rattle.mdv_quorum.specs.May.{may_tell}
 use Rattle.mdv_quorum.proofs.machine.Core.may_tell.Goals as goal

@@ -1,9 +1,5 @@
 use Rattle.std.proofs.Common.{◌∙◌, ap, ◌≡◌, ◌-◌, ◌++◌, ◌∷◌, [], List, length}
-use Rattle.mdv_votes.specs.declared.spot.Spot.{Spot}
-use Rattle.mdv_votes.specs.declared.version.Version.{Version}
-use Rattle.mdv_votes.specs.Spots.{is_in}
-use Rattle.mdv_votes.specs.Quorum.{is_written}
-use Rattle.mdv_votes.specs.Family.{table_at}
+use Rattle.mdv_quorum.specs.Below.{Spot, Version, is_in, is_written, table_at}
 use Rattle.mdv_quorum.specs.declared.machine.Core.{Core}
 use Rattle.mdv_quorum.specs.declared.machine.Stage.TheVariants.{Writing}
 use Rattle.mdv_quorum.specs.World.{settled, places_after, taken_after}

@@ -1,0 +1,57 @@
+-- The words of the crates below in which this crate speaks, so that a file of it needs one line of import.
+pub use Rattle.mdv_base.specs.Causes.{Rose}
+pub use Rattle.mdv_base.specs.Refusal.{refusal_text}
+pub use Rattle.mdv_base.specs.declared.drive.SliceName.{SliceName}
+pub use Rattle.mdv_base.specs.declared.mark.Identity.{Identity}
+pub use Rattle.mdv_base.specs.declared.mark.Mark.{Mark}
+pub use Rattle.mdv_base.specs.declared.name.Key.TheVariants.{Local}
+pub use Rattle.mdv_base.specs.declared.name.VolId.{VolId}
+pub use Rattle.mdv_base.specs.declared.place.Place.{Place}
+pub use Rattle.mdv_base.specs.declared.refusal.Refusal.{Refusal}
+pub use Rattle.mdv_base.specs.declared.refusal.Refusal.TheVariants.{BadLine, IoFault, LineTooLong, NameTaken, NeedForce, NoDatabase, NoSuchSlice}
+pub use Rattle.mdv_base.specs.declared.refusal.Refusal.TheVariants.{NoSuchVolume, OutOfMemory, OutOfRange, ReplicaFull, SliceInUse, TooSmall}
+pub use Rattle.mdv_base.specs.declared.refusal.Refusal.TheVariants.{WrongKind, WrongState}
+pub use Rattle.mdv_base.specs.declared.state_word.StateWord.{StateWord}
+pub use Rattle.mdv_base.specs.declared.state_word.StateWord.TheVariants.{Down}
+pub use Rattle.mdv_history.specs.History.{Acknowledges, Adds, Changed, Created, Deed, Event, Extent, HasExtent, HasWoken, History, IsChangeOf}
+pub use Rattle.mdv_history.specs.History.{IsCourse, IsIssue, Issues, IssuesOnly, LiesOn, MayHappen, NoDeed, OfDatabase, Saw, Shows, Woke, Wrote}
+pub use Rattle.mdv_history.specs.History.{history_after, history_after_all, told_by}
+pub use Rattle.mdv_history.specs.Laws.{CanTell}
+pub use Rattle.mdv_history.specs.Standing.{Stands}
+pub use Rattle.mdv_home.specs.Home.{IsHome, IsSmall, line_of, place_of}
+pub use Rattle.mdv_home.specs.Placed.{IsHomeTable}
+pub use Rattle.mdv_name.specs.SliceIndex.{HasNoSlice, HasSlice}
+pub use Rattle.mdv_name.specs.declared.slice_lines.SliceAt.{SliceAt}
+pub use Rattle.mdv_name.specs.declared.slice_lines.SliceLine.{SliceLine}
+pub use Rattle.mdv_record.specs.Text.{record_text}
+pub use Rattle.mdv_replica.specs.Form.{IsSpareSlot, greatest, other_slot, room_of, shows, text_of}
+pub use Rattle.mdv_replica.specs.Images.{Image}
+pub use Rattle.mdv_replica.specs.Replica.{with_blocks}
+pub use Rattle.mdv_replica.specs.declared.replica.Head.{Head}
+pub use Rattle.mdv_replica.specs.declared.replica.PlaceAt.{PlaceAt}
+pub use Rattle.mdv_replica.specs.declared.replica.Slot.{Slot}
+pub use Rattle.mdv_replica.specs.declared.replica.Slot.TheVariants.{First, Second}
+pub use Rattle.mdv_shelf.specs.Area.{AreApart, Area, KeptOutside, joined, nowhere, range}
+pub use Rattle.mdv_shelf.specs.Calls.{OnReplies, and_then}
+pub use Rattle.mdv_shelf.specs.Moments.{Ends, Grew, Moments}
+pub use Rattle.mdv_shelf.specs.Settle.{IsSettled, IsSynced, Settling}
+pub use Rattle.mdv_shelf.specs.Tale.{Gave, IsImage, Tale, Then, covers, last, told}
+pub use Rattle.mdv_status.specs.Telling.{begins_with_digit, lacks, replies_in}
+pub use Rattle.mdv_status.specs.Values.{block_text, values_reply}
+pub use Rattle.mdv_store_law.specs.Going.{IsCreated, IsWithNewest, created_head, created_newest}
+pub use Rattle.mdv_store_law.specs.Log.{IsMade, IsTellable, IsThis, IsThisChange, Log, NoChange, NoCreation, Version, is_firm}
+pub use Rattle.mdv_store_law.specs.Site.{HasTable, IsFound, IsNewestOf, IsRecordAt, IsReplica, IsTableAt, Newest, Site, area_of, sized}
+pub use Rattle.mdv_store_law.specs.Standing.{Anything, GoesFrom, GoesOn, GoesOnTo, IsNewestIn, IsOpened, ShowsNothing, nothing, replica}
+pub use Rattle.mdv_store_law.specs.Steps.{IsAdopted, IsTheReplica, adopted_newest, next_newest, rewritten}
+pub use Rattle.mdv_table.specs.Slices.{HasBlock, IsSound}
+pub use Rattle.mdv_table.specs.Table.{IsComponentOn, IsKindOf, IsListsOf, IsPlaceOf, IsStripeOf, IsWholeSlice}
+pub use Rattle.mdv_table.specs.Volumes.{HasNoVolume}
+pub use Rattle.mdv_table.specs.declared.change.Change.{Change}
+pub use Rattle.mdv_table.specs.declared.change.Change.TheVariants.{MakeStripe}
+pub use Rattle.mdv_table.specs.declared.plan.Lists.TheVariants.{One}
+pub use Rattle.mdv_table.specs.declared.table.Table.{Table}
+pub use Rattle.mdv_table.specs.declared.volume.Base.{Base}
+pub use Rattle.mdv_table.specs.declared.volume.Volume.{Volume}
+pub use Rattle.mdv_table.specs.declared.volume.VolumeKind.{VolumeKind}
+pub use Rattle.mdv_words.specs.declared.command.Command.{Command}
+pub use Rattle.mdv_words.specs.declared.command.Command.TheVariants.{Boot, Create, Read, Write}

@@ -1,0 +1,104 @@
+ghost use Rattle.std.specs.Prelude.{IfOk};
+ghost use Rattle.mdv_home.specs.Home.{IsSmall};
+
+use mdv_base::{DriveNo, Place};
+use mdv_home::*;
+use mdv_name::{Geometry, parse_slice};
+use mdv_replica::PlaceAt;
+use std::alloc::Global;
+use std::test::Fail;
+
+const ONE: &[u8] = b"host hostA\ndrive c0t0d0 40000 hostA d0.img\n";
+
+const TWO_HOSTS: &[u8] = b"host hostA\nhost hostB\ndrive c0t0d0 40000 hostA d0.img\n";
+
+const TWO_DRIVES: &[u8] =
+    b"host hostA\ndrive c0t0d0 40000 hostA d0.img\ndrive c0t1d0 40000 hostA d1.img\n";
+
+const OTHER_HOST: &[u8] = b"host hostB\ndrive c0t0d0 40000 hostB d0.img\n";
+
+const SHARED: &[u8] = b"host hostA\ndrive c0t0d0 40000 shared d0.img\n";
+
+fn table(alloc: Global, head: &[u8], slices: &[u8]) -> Result<Geometry, Fail> {
+    let mut text = Vec::from_slice(alloc, head)?;
+    text.extend_from_slice(slices)?;
+    Ok(Geometry::read(alloc, text.as_slice())?)
+}
+
+// How many blocks hostA's home has.
+#[test]
+fn tells_homes(rt: HostRuntime) -> Result<(), Fail> {
+    let cases: [(&[u8], &[u8], Option<u64>); 12] = [
+        (ONE, b"slice c0t0d0s7 12000 28000 db\n", Some(28000)),
+        (
+            ONE,
+            b"slice c0t0d0s7 12000 100 db\nslice c0t0d0s0 0 12000\nslice c0t0d0s1 12100 9\n",
+            Some(100),
+        ),
+        (
+            ONE,
+            b"slice c0t0d0s2 0 9000\nslice c0t0d0s0 0 12000\nslice c0t0d0s7 12000 1 db\n",
+            Some(1),
+        ),
+        (TWO_HOSTS, b"slice c0t0d0s7 12000 28000 db\n", None),
+        (TWO_DRIVES, b"slice c0t0d0s7 12000 28000 db\n", None),
+        (OTHER_HOST, b"slice c0t0d0s7 12000 28000 db\n", None),
+        (SHARED, b"slice c0t0d0s7 12000 28000 db\n", None),
+        (ONE, b"slice c0t0d0s7 12000 28000\n", None),
+        (
+            ONE,
+            b"slice c0t0d0s7 12000 28000 db\nslice c0t0d0s6 0 12000 db\n",
+            None,
+        ),
+        (
+            ONE,
+            b"slice c0t0d0s7 12000 100 db\nslice c0t0d0s0 0 12001\n",
+            None,
+        ),
+        (
+            ONE,
+            b"slice c0t0d0s7 12000 100 db\nslice c0t0d0s1 12099 9\n",
+            None,
+        ),
+        (
+            ONE,
+            b"slice c0t0d0s7 12000 100 db\nslice c0t0d0s2 0 40000\n",
+            None,
+        ),
+    ];
+    for (head, slices, expected) in cases {
+        let table = table(rt.alloc(), head, slices)?;
+        let blocks = home_in(&table, b"hostA").map(|home| home.blocks);
+        assert_eq!(rt; blocks, expected, "{head:?}{slices:?}");
+    }
+    Ok(())
+}
+
+fn small_home(alloc: Global, text: &[u8]) -> Result<Home, Fail>
+    ensures { IfOk result IsSmall }
+{
+    let table = Geometry::read(alloc, text)?;
+    homes_are_small();
+    let home = home_in(&table, b"hostA").ok_or("a home")?;
+    Ok(home)
+}
+
+#[test]
+fn places_the_replica(rt: HostRuntime) -> Result<(), Fail> {
+    let text = b"host hostA\ndrive c0t0d0 40000 hostA d0.img\nslice c0t0d0s7 12000 28000 db\n";
+    let home = small_home(rt.alloc(), text)?;
+    assert_eq!(rt; home.drive_blocks, 40000);
+    let expected = PlaceAt {
+        place: Place {
+            slice: parse_slice(b"c0t0d0s7").ok_or("a slice")?,
+            start: 16,
+            blocks: 8192,
+        },
+        drive: DriveNo(0),
+        first: 12016,
+        index: 0,
+        count: 1,
+    };
+    assert_eq!(rt; place_at(&home), expected);
+    Ok(())
+}

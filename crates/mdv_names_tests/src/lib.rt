@@ -1,0 +1,17 @@
+//! Tests of names and lines, of the table of drives, and of a database's table and its text.
+#![tactic(auto)]
+
+#[cfg(test)]
+mod base_tests;
+#[cfg(test)]
+mod home_tests;
+#[cfg(test)]
+mod name_tests;
+#[cfg(test)]
+mod record_tests;
+#[cfg(test)]
+mod table_tests;
+#[cfg(test)]
+mod text_tests;
+#[cfg(test)]
+mod words_tests;

@@ -1,0 +1,34 @@
+-- The words of the crates below in which this crate speaks, so that a file of it needs one line of import.
+pub use Rattle.mdv_base.specs.Causes.{Rose}
+pub use Rattle.mdv_base.specs.declared.refusal.Refusal.TheVariants.{LineTooLong}
+pub use Rattle.mdv_engine.specs.Engine.{HasBootCause, IsWell, boot_answer}
+pub use Rattle.mdv_engine.specs.declared.engine.Engine.{Engine}
+pub use Rattle.mdv_engine_law.specs.Home.{IsReady, StaysHome}
+pub use Rattle.mdv_engine_law.specs.Line.{IsExecuted, IsRebooted, IsTurnedDown, Kept, Memory, asked_by, kept_at, unbooted}
+pub use Rattle.mdv_engine_law.specs.Replies.{IsReplied, IsTold}
+pub use Rattle.mdv_engine_law.specs.Standing.{BootMoment, BootedTo, Executed, IsAwake, Knows, Replied, TurnMoment, Turned}
+pub use Rattle.mdv_engine_law.specs.declared.answer.Answer.{Answer}
+pub use Rattle.mdv_engine_law.specs.declared.answer.BootRefusal.{BootRefusal}
+pub use Rattle.mdv_engine_law.specs.declared.answer.Reply.{Reply}
+pub use Rattle.mdv_engine_law.specs.declared.host.Host.{Host}
+pub use Rattle.mdv_history.specs.History.{Deed}
+pub use Rattle.mdv_home.specs.Home.{IsHome}
+pub use Rattle.mdv_home.specs.declared.geometry.Home.{Home}
+pub use Rattle.mdv_name.specs.declared.geometry.Geometry.{Geometry}
+pub use Rattle.mdv_port.specs.Reader.{Reader}
+pub use Rattle.mdv_port.specs.Script.{IsTurn, Script, at_end, line, script_before, script_of, spent, too_long}
+pub use Rattle.mdv_port.specs.declared.reader.LineEnd.TheVariants.{End, Line, Spent, TooLong}
+pub use Rattle.mdv_run_law.specs.Run.{Failures, Follows, HasStatusCause, IsAnswered, IsLeft, IsWholeRun, Runs, RunsFrom, drive_failed, failures}
+pub use Rattle.mdv_run_law.specs.Run.{replies_failed, source_failed, status_of}
+pub use Rattle.mdv_run_law.specs.Standing.{Asks, LinesMoment, RanTo, RunMoment, behind}
+pub use Rattle.mdv_run_law.specs.Usage.{IsUsed}
+pub use Rattle.mdv_run_law.specs.declared.status.RunStatus.{RunStatus}
+pub use Rattle.mdv_run_law.specs.declared.status.RunStatus.TheVariants.{Done, NoMemory, NoQuorum, NumbersSpent, Panic, ReadFault, ScriptTooLong}
+pub use Rattle.mdv_run_law.specs.declared.status.RunStatus.TheVariants.{SomeRefused, TwoDatabases, Usage, WriteFault}
+pub use Rattle.mdv_shelf.specs.Calls.{Keeps, OnDrive, OnReplies, Part}
+pub use Rattle.mdv_shelf.specs.Moments.{Ends, Moments}
+pub use Rattle.mdv_shelf.specs.Tale.{Tale, told}
+pub use Rattle.mdv_status.specs.Telling.{replies_in}
+pub use Rattle.mdv_words.specs.Line.{IsCommand}
+pub use Rattle.mdv_words.specs.declared.command.Command.{Command}
+pub use Rattle.mdv_words.specs.declared.command.Command.TheVariants.{Boot, Create, MakeStripe, Read, Write}

@@ -1,0 +1,70 @@
+-- The words of the crates below in which this crate speaks, so that a file of it needs one line of import.
+pub use Rattle.mdv_base.specs.Causes.{Rose}
+pub use Rattle.mdv_base.specs.Refusal.{refusal_text}
+pub use Rattle.mdv_base.specs.declared.drive.SliceName.{SliceName}
+pub use Rattle.mdv_base.specs.declared.mark.Identity.{Identity}
+pub use Rattle.mdv_base.specs.declared.mark.Mark.{Mark}
+pub use Rattle.mdv_base.specs.declared.name.VolId.{VolId}
+pub use Rattle.mdv_base.specs.declared.refusal.Refusal.{Refusal}
+pub use Rattle.mdv_base.specs.declared.refusal.Refusal.TheVariants.{BadLine, LineTooLong, NeedForce, NoDatabase, NoSuchSlice, NoSuchVolume}
+pub use Rattle.mdv_base.specs.declared.refusal.Refusal.TheVariants.{OutOfMemory, OutOfRange, ReplicaFull, SliceInUse, TooSmall, WrongKind}
+pub use Rattle.mdv_base.specs.declared.refusal.Refusal.TheVariants.{WrongState}
+pub use Rattle.mdv_base.specs.declared.state_word.StateWord.{StateWord}
+pub use Rattle.mdv_engine_law.specs.Home.{identity_of, site_of}
+pub use Rattle.mdv_engine_law.specs.Line.{AreBlocksAt, AreBlocksRefused, ArePut, HasVolumeOn, IsCarriedOut, IsChange, IsChangeRefused, IsChanged}
+pub use Rattle.mdv_engine_law.specs.Line.{IsCommitted, IsCreateRefused, IsCreated, IsCreation, IsDownWord, IsExecuted, IsHomeSlice, IsNew, IsOther}
+pub use Rattle.mdv_engine_law.specs.Line.{IsRead, IsRebooted, IsRewritten, IsSame, IsSameBeside, IsTurnedDown, IsWrite, Kept, MayChange, MayCreate}
+pub use Rattle.mdv_engine_law.specs.Line.{Memory, Stays, adopted, asked_by, blocks_of, down, drive_content, empty, kept_at, lost, record_room}
+pub use Rattle.mdv_engine_law.specs.Line.{unbooted, wanting}
+pub use Rattle.mdv_engine_law.specs.Replies.{IsFront, IsPlain, IsPlainAnswer, IsReplied, IsReply, IsTold, acked, acked_by, acked_in, ok_line}
+pub use Rattle.mdv_engine_law.specs.Replies.{refusal_line}
+pub use Rattle.mdv_engine_law.specs.Standing.{BootMoment, BootedTo, Does, Executed, IsAsked, IsAwake, IsKnown, IsMadeHere, IsOfRun, Knows, Reached}
+pub use Rattle.mdv_engine_law.specs.Standing.{StandsAt, TurnMoment, Turned}
+pub use Rattle.mdv_engine_law.specs.declared.answer.Answer.{Answer}
+pub use Rattle.mdv_engine_law.specs.declared.answer.Reply.{Reply}
+pub use Rattle.mdv_engine_law.specs.declared.host.Host.{Host}
+pub use Rattle.mdv_history.specs.History.{Changed, Created, Deed, Event, HasWoken, History, IsCourse, LiesOn, NoDeed, history_after_all, told_by}
+pub use Rattle.mdv_history.specs.Laws.{new_history}
+pub use Rattle.mdv_history.specs.Standing.{ValuesHold}
+pub use Rattle.mdv_home.specs.Home.{IsHome, line_of}
+pub use Rattle.mdv_home.specs.declared.geometry.Home.{Home}
+pub use Rattle.mdv_name.specs.Geometry.{IsGeometry}
+pub use Rattle.mdv_name.specs.SliceIndex.{HasNoSlice, HasSlice}
+pub use Rattle.mdv_name.specs.declared.geometry.Geometry.{Geometry}
+pub use Rattle.mdv_name.specs.declared.slice_lines.SliceAt.{SliceAt}
+pub use Rattle.mdv_name.specs.declared.slice_lines.SliceLine.{SliceLine}
+pub use Rattle.mdv_port.specs.Script.{Script, at_end, line, spent, too_long}
+pub use Rattle.mdv_record.specs.Text.{record_text}
+pub use Rattle.mdv_replica.specs.Form.{IsNewest, IsNewestGate, IsSpareSlot, boot_of, gate_of, greatest, other_slot, shows, text_of}
+pub use Rattle.mdv_replica.specs.declared.forms.Gate.{Gate}
+pub use Rattle.mdv_replica.specs.declared.forms.Gate.TheVariants.{Closed, Open}
+pub use Rattle.mdv_replica.specs.declared.replica.Head.{Head}
+pub use Rattle.mdv_replica.specs.declared.replica.Slot.{Slot}
+pub use Rattle.mdv_replica.specs.declared.replica.Slot.TheVariants.{First, Second}
+pub use Rattle.mdv_shelf.specs.Calls.{OnDrive, OnReplies, Part}
+pub use Rattle.mdv_shelf.specs.MemHistory.{blank}
+pub use Rattle.mdv_shelf.specs.Tale.{Among, IsImage, MayLeave, Tale, covers, last, told, values}
+pub use Rattle.mdv_status.specs.Telling.{begins_with_digit, replies_in}
+pub use Rattle.mdv_status.specs.Values.{values_reply}
+pub use Rattle.mdv_store_law.specs.Laws.{restarted}
+pub use Rattle.mdv_store_law.specs.Log.{AreMade, Extends, IsLog, IsTellable, Log, Version, answered, empty_log, is_firm, with_asked}
+pub use Rattle.mdv_store_law.specs.Site.{HasTable, IsFound, IsNewestOf, IsReplica, Newest, Site, area_of, sized}
+pub use Rattle.mdv_store_law.specs.Standing.{IsNewestIn, IsOpened, nothing, replica}
+pub use Rattle.mdv_store_law.specs.Steps.{adopted_newest, next_newest}
+pub use Rattle.mdv_table.specs.Change.{StripeRefused}
+pub use Rattle.mdv_table.specs.Slices.{HasBlock, IsSound}
+pub use Rattle.mdv_table.specs.Table.{IsComponentOn, IsKindOf, IsPlanOf, IsWholeSlice}
+pub use Rattle.mdv_table.specs.Volume.{stripe_on}
+pub use Rattle.mdv_table.specs.Volumes.{HasVolume, IsAscending, with_volume}
+pub use Rattle.mdv_table.specs.declared.change.Change.{Change}
+pub use Rattle.mdv_table.specs.declared.plan.Plan.{Plan}
+pub use Rattle.mdv_table.specs.declared.table.Table.{Table}
+pub use Rattle.mdv_table.specs.declared.volume.Base.{Base}
+pub use Rattle.mdv_table.specs.declared.volume.Base.TheVariants.{Slice}
+pub use Rattle.mdv_table.specs.declared.volume.Component.{Component}
+pub use Rattle.mdv_table.specs.declared.volume.Volume.{Volume}
+pub use Rattle.mdv_table.specs.declared.volume.VolumeKind.{VolumeKind}
+pub use Rattle.mdv_table.specs.declared.volume.VolumeKind.TheVariants.{Stripe}
+pub use Rattle.mdv_words.specs.Line.{IsCommand}
+pub use Rattle.mdv_words.specs.declared.command.Command.{Command}
+pub use Rattle.mdv_words.specs.declared.command.Command.TheVariants.{Boot, Create, MakeStripe, Read, Write}
