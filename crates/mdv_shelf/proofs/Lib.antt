@@ -1,5 +1,6 @@
 pub mod Blocks
 pub mod Counts
+pub mod Between
 pub mod Frame
 pub mod Moments
 pub mod Settled
