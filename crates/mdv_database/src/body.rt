@@ -3,7 +3,8 @@ ghost use Rattle.std.specs.Prelude.{◌≡◌, ◌↔◌, ◌<◌, ◌≤◌, �
 ghost use Rattle.std.specs.List.{concat, flat_map};
 ghost use Rattle.mdv_base.specs.Causes.{HasCause, Rose};
 ghost use Rattle.mdv_shelf.specs.Tale.{Tale, last};
-ghost use Rattle.mdv_shelf.specs.Calls.{OnDrive, Keeps, Took};
+ghost use Rattle.mdv_shelf.specs.Between.{TookBetween};
+ghost use Rattle.mdv_shelf.specs.Calls.{OnDrive, Keeps, Took, TookAtMost};
 ghost use Rattle.mdv_shelf.specs.Moments.{Moments, Ends};
 ghost use Rattle.mdv_shelf.specs.Settle.{IsSynced};
 ghost use Rattle.mdv_replica.specs.Forms.{IsMark};
@@ -15,6 +16,7 @@ ghost use Rattle.mdv_table.specs.declared.plan.Lists.TheVariants.{One};
 ghost use Rattle.mdv_table.specs.Slices.{IsSound};
 ghost use Rattle.mdv_store_law.specs.Site.{IsRecordAt, IsTableAt};
 ghost use Rattle.mdv_store_law.specs.Steps.{MayTake, Takes};
+ghost use Rattle.mdv_database.specs.Counts.{if_found};
 ghost use Rattle.mdv_database.specs.Database.{IsQuiet};
 ghost use Rattle.mdv_database.specs.Slots.{blocks_for as spec_blocks_for, HasReadCause, IsFitting, IsRead};
 
@@ -88,6 +90,7 @@ impl Body {
         ensures read { (t : Tale) → S.tale shelf.old ≡ Some t → IfOk result (IsRead drives.now at slot bytes (last t at.drive.0)) }
         ensures same { S.tale shelf.new ≡ S.tale shelf.old }
         ensures cause { IfErr result (HasReadCause (Rose (S.faults shelf.old (OnDrive at.drive.0)) (S.faults shelf.new (OnDrive at.drive.0)))) }
+        ensures counted { TookBetween S.calls S.written shelf.old shelf.new (if_found 1 result) 1 0 }
         ensures keeps { Keeps S.sizes S.faults S.rest S.held shelf.old shelf.new }
     {
         let count = blocks_for(bytes);
@@ -126,6 +129,7 @@ impl Body {
         ensures moments { Moments (IsQuiet at) (S.tale shelf.old) (S.tale shelf.new) }
         ensures cause { HasCause (S.faults shelf.old (OnDrive at.drive.0)) (S.faults shelf.new (OnDrive at.drive.0)) result }
         ensures counted { OnOk result (Took S.calls S.written shelf.old shelf.new 6 (2 + spec_blocks_for (length (record_text table.now)))) }
+        ensures counted_at_most { TookAtMost S.calls S.written shelf.old shelf.new 6 (2 + spec_blocks_for (length (record_text table.now))) }
         ensures keeps { Keeps S.sizes S.faults S.rest S.held shelf.old shelf.new }
     {
         write_table(shelf, at, slot, mark, table, self.blocks.as_mut_slice())
@@ -163,6 +167,7 @@ fn read_table<S: Shelf>(
     ensures read { (t : Tale) → S.tale shelf.old ≡ Some t → IfOk result (IsRead drives.now at slot bytes (last t at.drive.0)) }
     ensures same { S.tale shelf.new ≡ S.tale shelf.old }
     ensures cause { IfErr result (HasReadCause (Rose (S.faults shelf.old (OnDrive at.drive.0)) (S.faults shelf.new (OnDrive at.drive.0)))) }
+    ensures counted { TookBetween S.calls S.written shelf.old shelf.new (if_found 1 result) 1 0 }
     ensures keeps { Keeps S.sizes S.faults S.rest S.held shelf.old shelf.new }
 {
     match read_body(shelf, at, slot, body) {
@@ -229,6 +234,7 @@ fn write_table<S: Shelf>(
     ensures moments { Moments (IsQuiet at) (S.tale shelf.old) (S.tale shelf.new) }
     ensures cause { HasCause (S.faults shelf.old (OnDrive at.drive.0)) (S.faults shelf.new (OnDrive at.drive.0)) result }
     ensures counted { OnOk result (Took S.calls S.written shelf.old shelf.new 6 (2 + spec_blocks_for (length (record_text table.now)))) }
+    ensures counted_at_most { TookAtMost S.calls S.written shelf.old shelf.new 6 (2 + spec_blocks_for (length (record_text table.now))) }
     ensures keeps { Keeps S.sizes S.faults S.rest S.held shelf.old shelf.new }
 {
     let text = body.as_flattened_mut();

@@ -4,7 +4,7 @@ ghost use Rattle.mdv_base.specs.declared.name.Key.{Key as AnyKey};
 ghost use Rattle.mdv_name.specs.declared.geometry.Geometry.{Geometry as Drives};
 ghost use Rattle.mdv_record.specs.Text.{record_text};
 ghost use Rattle.mdv_shelf.specs.Area.{KeptOutside, nowhere};
-ghost use Rattle.mdv_shelf.specs.Calls.{OnDrive, Keeps, Took};
+ghost use Rattle.mdv_shelf.specs.Calls.{OnDrive, Keeps, Took, TookAtMost};
 ghost use Rattle.mdv_shelf.specs.Moments.{Moments, Ends};
 ghost use Rattle.mdv_shelf.specs.Settle.{IsSynced};
 ghost use Rattle.mdv_shelf.specs.Tale.{Tale, last};
@@ -20,6 +20,7 @@ ghost use Rattle.mdv_store_law.specs.Log.{IsThis, IsThisChange, NoCreation};
 ghost use Rattle.mdv_store_law.specs.Site.{IsTableAt};
 ghost use Rattle.mdv_store_law.specs.Standing.{Anything, GoesFrom, GoesOn, GoesOnTo, IsOpened, ShowsNothing};
 ghost use Rattle.mdv_store_law.specs.Steps.{IsAdopted, Rewrites, Rewritten, adopted_newest, next_newest};
+ghost use Rattle.mdv_database.specs.Counts.{IsAdoptionCounted, IsBootCounted, IsCreationCounted};
 ghost use Rattle.mdv_database.specs.Database.{IsOnDrive, IsQuiet, IsInHand, IsFoundIn, IsBooted, IsBootedTo, IsRefusal, IsCertain, IfAdopted, site_of};
 ghost use Rattle.mdv_database.specs.Database.{IsSafe, IsCreatedTo, HasCreateCause, MayCommit, IsCommitted, HasCommitCause, IsCommitRefusal, first_newest, first_table as spec_first_table};
 ghost use Rattle.mdv_database.specs.Slots.{blocks_for};
@@ -142,6 +143,7 @@ pub fn boot<S: Shelf>(
     ensures refuses { IsRefusal result → Ends (KeptOutside nowhere) (S.tale shelf.old) (S.tale shelf.new) }
     ensures down { result ≡ BootEnd.Down → Rose (S.faults shelf.old (OnDrive at.drive.0)) (S.faults shelf.new (OnDrive at.drive.0)) }
     ensures lost { result ≡ BootEnd.Lost → Rose (S.faults shelf.old (OnDrive at.drive.0)) (S.faults shelf.new (OnDrive at.drive.0)) }
+    ensures counted { IsBootCounted S.calls S.written shelf.old shelf.new result }
     ensures keeps { Keeps S.sizes S.faults S.rest S.held shelf.old shelf.new }
 {
     match look(shelf, alloc, drives, at, key) {
@@ -160,7 +162,7 @@ fn adopt<S: Shelf>(shelf: &mut S, at: PlaceAt, found: Found) -> BootEnd
     ensures drawn { IfAdopted result (λ newest. (newest ≡ adopted_newest found.head found.spare found.table) × (greatest found.head + 1 < 2 ^ 63)) }
     ensures placed { IfAdopted result (λ newest. IsPlaced (S.sizes shelf.old) (with_blocks at newest.blocks)) }
     ensures spent { result ≡ BootEnd.Spent ↔ (2 ^ 63 ≤ greatest found.head + 1) }
-    ensures lost { result ≡ BootEnd.Lost → Rose (S.faults shelf.old (OnDrive at.drive.0)) (S.faults shelf.new (OnDrive at.drive.0)) }
+    ensures lost { result ≡ BootEnd.Lost → Rose (S.faults shelf.old (OnDrive at.drive.0)) (S.faults shelf.new (OnDrive at.drive.0)) × (greatest found.head + 1 < 2 ^ 63) }
     ensures looked { (result ≡ BootEnd.Empty → ⊥) × (result ≡ BootEnd.Down → ⊥) × (result ≡ BootEnd.Memory → ⊥) }
     ensures adopted { IfAdopted result (λ newest. Ends (λ t u. (drives : Drives) (key : AnyKey) → let site = site_of drives key at (S.sizes shelf.old) in IsFoundIn site found t → IsAdopted site (last t at.drive.0) newest u × IsOpened site newest u) (S.tale shelf.old) (S.tale shelf.new)) }
     ensures synced { IfAdopted result (λ _. Ends (λ _ u. IsSynced at.drive.0 u) (S.tale shelf.old) (S.tale shelf.new)) }
@@ -168,6 +170,7 @@ fn adopt<S: Shelf>(shelf: &mut S, at: PlaceAt, found: Found) -> BootEnd
     ensures ends { Ends (λ t u. (drives : Drives) (key : AnyKey) → let site = site_of drives key at (S.sizes shelf.old) in IsFoundIn site found t → GoesOnTo site NoCreation (IsBootedTo result) t u) (S.tale shelf.old) (S.tale shelf.new) }
     ensures refuses { IsRefusal result → S.tale shelf.new ≡ S.tale shelf.old }
     ensures moments { Moments (IsQuiet at) (S.tale shelf.old) (S.tale shelf.new) }
+    ensures counted { IsAdoptionCounted S.calls S.written shelf.old shelf.new (3 + blocks_for (length (record_text found.table))) result }
     ensures keeps { Keeps S.sizes S.faults S.rest S.held shelf.old shelf.new }
 {
     let Found {
@@ -216,6 +219,8 @@ fn rewrite<S: Shelf>(
     ensures synced { OnOk result (Ends (λ _ u. IsSynced at.drive.0 u) (S.tale shelf.old) (S.tale shelf.new)) }
     ensures moments { Moments (IsQuiet at) (S.tale shelf.old) (S.tale shelf.new) }
     ensures cause { HasCause (S.faults shelf.old (OnDrive at.drive.0)) (S.faults shelf.new (OnDrive at.drive.0)) result }
+    ensures counted { OnOk result (Took S.calls S.written shelf.old shelf.new 8 (3 + blocks_for (length (record_text table.now)))) }
+    ensures counted_at_most { TookAtMost S.calls S.written shelf.old shelf.new 8 (3 + blocks_for (length (record_text table.now))) }
     ensures keeps { Keeps S.sizes S.faults S.rest S.held shelf.old shelf.new }
 {
     write_claim(shelf, at, mark.boot)?;
@@ -251,7 +256,7 @@ pub fn create<S: Shelf>(
     ensures failed { result ≡ Err CreateFault.Failed → (drives : Drives) → let site = site_of drives key.now at (S.sizes shelf.old) in Ends (λ t u. ShowsNothing site t → ShowsNothing site u) (S.tale shelf.old) (S.tale shelf.new) }
     ensures memory { result ≡ Err CreateFault.Memory → shelf.new ≡ shelf.old }
     ensures cause { IfErr result (HasCreateCause (Rose (S.faults shelf.old (OnDrive at.drive.0)) (S.faults shelf.new (OnDrive at.drive.0)))) }
-    ensures counted { OnOk result (Took S.calls S.written shelf.old shelf.new 12 8) }
+    ensures counted { IsCreationCounted S.calls S.written shelf.old shelf.new result }
     ensures keeps { Keeps S.sizes S.faults S.rest S.held shelf.old shelf.new }
 {
     let mut body = Body::new(alloc, at.place.blocks)?;
@@ -320,6 +325,7 @@ impl Database {
         ensures cause { IfErr result (HasCommitCause (Rose (S.faults shelf.old (OnDrive at.drive.0)) (S.faults shelf.new (OnDrive at.drive.0))) self.old next) }
         ensures refuses { IfErr result (λ fault. IsCommitRefusal fault → shelf.new ≡ shelf.old) }
         ensures counted { OnOk result (Took S.calls S.written shelf.old shelf.new 6 (2 + blocks_for (length (record_text next)))) }
+        ensures counted_at_most { TookAtMost S.calls S.written shelf.old shelf.new 6 4096 }
         ensures keeps { Keeps S.sizes S.faults S.rest S.held shelf.old shelf.new }
     {
         self.check_room(&next)?;

@@ -2,6 +2,7 @@
 ghost use Rattle.std.specs.Prelude.{◌≡◌, ◌≤◌, true, slice_index_or, IfOk, IfErr, IfSome, OnOk, Some};
 ghost use Rattle.mdv_base.specs.Causes.{HasCause, Rose};
 ghost use Rattle.mdv_shelf.specs.Area.{KeptOutside, nowhere};
+ghost use Rattle.mdv_shelf.specs.Between.{TookBetween};
 ghost use Rattle.mdv_shelf.specs.Calls.{OnDrive, Keeps};
 ghost use Rattle.mdv_shelf.specs.Moments.{Moments, Ends};
 ghost use Rattle.mdv_shelf.specs.Settle.{IsSynced};
@@ -10,6 +11,7 @@ ghost use Rattle.mdv_replica.specs.Form.{IsSpareSlot, shows};
 ghost use Rattle.mdv_replica.specs.Replica.{IsFormed, IsHead, IsPlaced, slot_blocks, with_blocks};
 ghost use Rattle.mdv_table.specs.Slices.{IsSound};
 ghost use Rattle.mdv_store_law.specs.Site.{IsTableAt};
+ghost use Rattle.mdv_database.specs.Counts.{if_found, if_kept, looked};
 ghost use Rattle.mdv_database.specs.Database.{IsInHand, IsLookedAt, IsOnDrive, IsQuiet, site_of};
 ghost use Rattle.mdv_database.specs.Slots.{AreHeld, HasReadCause, IfKept, IsFitting, IsHeld, IsTableOf};
 
@@ -58,6 +60,7 @@ pub(crate) fn look<S: Shelf>(
     ensures unwritten { Moments (KeptOutside nowhere) (S.tale shelf.old) (S.tale shelf.new) }
     ensures moments { Moments (IsQuiet at) (S.tale shelf.old) (S.tale shelf.new) }
     ensures cause { IfErr result (HasReadCause (Rose (S.faults shelf.old (OnDrive at.drive.0)) (S.faults shelf.new (OnDrive at.drive.0)))) }
+    ensures counted { TookBetween S.calls S.written shelf.old shelf.new (looked result) 5 0 }
     ensures keeps { Keeps S.sizes S.faults S.rest S.held shelf.old shelf.new }
 {
     let mut first = [ZERO_BLOCK];
@@ -87,6 +90,7 @@ fn find<S: Shelf>(
     ensures found { (t : Tale) → S.tale shelf.old ≡ Some t → IfOk result (IsLookedAt (site_of drives.now key.now at (S.sizes shelf.old)) (last t at.drive.0)) }
     ensures same { S.tale shelf.new ≡ S.tale shelf.old }
     ensures cause { IfErr result (HasReadCause (Rose (S.faults shelf.old (OnDrive at.drive.0)) (S.faults shelf.new (OnDrive at.drive.0)))) }
+    ensures counted { TookBetween S.calls S.written shelf.old shelf.new (if_found 2 result) 3 0 }
     ensures keeps { Keeps S.sizes S.faults S.rest S.held shelf.old shelf.new }
 {
     match head_at(shelf, at) {
@@ -110,6 +114,7 @@ fn head_at<S: Shelf>(shelf: &mut S, at: PlaceAt) -> Result<Option<Head>, Failed>
     ensures spelled { IfOk result (λ seen. (t : Tale) → S.tale shelf.old ≡ Some t → (head : Head) → IsHead at (slice_index_or (S.sizes shelf.old) at.drive.0 0) (last t at.drive.0) head → seen ≡ Some head) }
     ensures same { S.tale shelf.new ≡ S.tale shelf.old }
     ensures cause { HasCause (S.faults shelf.old (OnDrive at.drive.0)) (S.faults shelf.new (OnDrive at.drive.0)) result }
+    ensures counted { TookBetween S.calls S.written shelf.old shelf.new (if_found 1 result) 1 0 }
     ensures keeps { Keeps S.sizes S.faults S.rest S.held shelf.old shelf.new }
 {
     if shelf.blocks(at.drive) <= at.first {
@@ -138,6 +143,7 @@ fn find_table<S: Shelf>(
     ensures found { (t : Tale) → S.tale shelf.old ≡ Some t → IfOk result (IsTableOf drives.now at head (last t at.drive.0)) }
     ensures same { S.tale shelf.new ≡ S.tale shelf.old }
     ensures cause { IfErr result (HasReadCause (Rose (S.faults shelf.old (OnDrive at.drive.0)) (S.faults shelf.new (OnDrive at.drive.0)))) }
+    ensures counted { TookBetween S.calls S.written shelf.old shelf.new (if_found 1 result) 2 0 }
     ensures keeps { Keeps S.sizes S.faults S.rest S.held shelf.old shelf.new }
 {
     let sized = at_length(at, head.master.blocks);
@@ -175,6 +181,7 @@ fn newest_table<S: Shelf>(
     ensures found { (t : Tale) → S.tale shelf.old ≡ Some t → IfOk result (AreHeld drives.now at head.now spare (last t at.drive.0)) }
     ensures same { S.tale shelf.new ≡ S.tale shelf.old }
     ensures cause { IfErr result (HasReadCause (Rose (S.faults shelf.old (OnDrive at.drive.0)) (S.faults shelf.new (OnDrive at.drive.0)))) }
+    ensures counted { TookBetween S.calls S.written shelf.old shelf.new (if_found 1 result) 2 0 }
     ensures keeps { Keeps S.sizes S.faults S.rest S.held shelf.old shelf.new }
 {
     let older = read_slot(
@@ -221,6 +228,7 @@ fn read_slot<S: Shelf>(
     ensures held { (t : Tale) → S.tale shelf.old ≡ Some t → IfOk result (IsHeld drives.now at slot gate (last t at.drive.0)) }
     ensures same { S.tale shelf.new ≡ S.tale shelf.old }
     ensures cause { IfErr result (HasReadCause (Rose (S.faults shelf.old (OnDrive at.drive.0)) (S.faults shelf.new (OnDrive at.drive.0)))) }
+    ensures counted { TookBetween S.calls S.written shelf.old shelf.new (if_kept result) 1 0 }
     ensures keeps { Keeps S.sizes S.faults S.rest S.held shelf.old shelf.new }
 {
     match gate {

@@ -1,5 +1,6 @@
 -- What a boot of the host's database leaves, told of the host.
 use Rattle.std.proofs.Common.{◌≡◌, ℕ, false, List, Option, Some, None, refl, sym, subst, ap, ◌∙◌}
+use Rattle.mdv_store_law.specs.Adoptable.{IsAdoptable}
 use Rattle.mdv_engine.specs.Below.{place_of, PlaceAt, with_blocks, other_slot, KeptOutside, nowhere, Moments, Ends, IsSynced, Tale, last, NoCreation, is_firm, Site, Newest, IsFound, IsTableAt, GoesOn, GoesOnTo, IsNewestIn, IsOpened, ShowsNothing, IsAdopted, IsDrawn, IsQuiet, IsSpent, Host, IsReady, site_of, Memory, IsRebooted, IsUsedUp, adopted, empty, down, kept_at, unbooted, BootMoment, BootedTo}
 use Rattle.mdv_shelf.proofs.Moments.{moments_both, moments_weaker, moments_end, ends_both}
 use Rattle.mdv_engine_law.specs.declared.answer.Answer.TheVariants as outcome
@@ -69,6 +70,10 @@ module _ (host : Host) (sizes : List ℕ) (ready : IsReady host sizes) (at : Pla
   spent_here t spent =
       let of = to_host (λ s. IsSpent s (last t s.at.drive.0)) spent in
       record { head = of.head; replica = of.replica; shown = of.shown; spent = of.spent }
+
+  -- one that was there to be adopted
+  pub adoptable_here : (t : Tale) → IsAdoptable site (last t at.drive.0) → IsAdoptable (site_of host) (last t 0)
+  adoptable_here t found = to_host (λ s. IsAdoptable s (last t s.at.drive.0)) found
 
 -- an adopted database is in order
 pub adopted_well : (host : Host) (begun : ℕ) (newest : Newest) (at : PlaceAt) → at ≡ place_of host.home → IsTableAt host.drives (with_blocks at newest.blocks).place newest.table → IsWell host (booted (Some newest) begun) × (begun ≡ begun)

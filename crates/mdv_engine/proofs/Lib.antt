@@ -5,3 +5,4 @@ pub mod Committing
 pub mod Commits
 pub mod Places
 pub mod Blocks
+pub mod Counting

@@ -14,6 +14,7 @@ ghost use Rattle.mdv_engine_law.specs.Home.{IsReady, StaysHome};
 ghost use Rattle.mdv_engine_law.specs.Line.{IsCarriedOut, kept_at};
 ghost use Rattle.mdv_engine_law.specs.Replies.{HasAnswerCause, IsAccepted, IsPlainAnswer};
 ghost use Rattle.mdv_engine_law.specs.Standing.{CarriedTo, CarryMoment, IsAwake, Knows};
+ghost use Rattle.mdv_engine.specs.Counts.{IsCommandCounted};
 ghost use Rattle.mdv_engine.specs.Engine.{HasChangeCause, IsCommit, IsNextTable, IsTableOf, IsWell};
 
 use crate::engine::Engine;
@@ -48,6 +49,7 @@ impl Engine {
         ensures host { self.new.host ≡ self.old.host }
         ensures well { IsWell self.old.host self.new.state }
         ensures begun { self.new.state.begun ≡ self.old.state.begun }
+        ensures counted { IsCommandCounted S.tale S.calls S.written shelf.old shelf.new 6 4096 result }
         ensures keeps { Keeps S.sizes S.faults S.rest S.held shelf.old shelf.new }
     {
         let change = Change::MakeStripe { volume, slice };
@@ -90,6 +92,7 @@ impl Engine {
         ensures host { self.new.host ≡ self.old.host }
         ensures well { IsWell self.old.host self.new.state }
         ensures begun { self.new.state.begun ≡ self.old.state.begun }
+        ensures counted { IsCommandCounted S.tale S.calls S.written shelf.old shelf.new 6 4096 result }
         ensures keeps { Keeps S.sizes S.faults S.rest S.held shelf.old shelf.new }
     {
         let at = place_at(&self.host.home);

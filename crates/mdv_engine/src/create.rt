@@ -8,6 +8,7 @@ ghost use Rattle.mdv_engine_law.specs.Home.{IsReady, StaysHome};
 ghost use Rattle.mdv_engine_law.specs.Line.{IsCarriedOut, IsCreateRefused, IsCreation, MayCreate, kept_at};
 ghost use Rattle.mdv_engine_law.specs.Replies.{HasAnswerCause, IsAccepted, IsPlainAnswer};
 ghost use Rattle.mdv_engine_law.specs.Standing.{CarriedTo, CarryMoment, IsAwake, Knows};
+ghost use Rattle.mdv_engine.specs.Counts.{IsCommandCounted};
 ghost use Rattle.mdv_engine.specs.Engine.{IsWell};
 
 use crate::engine::Engine;
@@ -44,6 +45,7 @@ impl Engine {
         ensures host { self.new.host ≡ self.old.host }
         ensures well { IsWell self.old.host self.new.state }
         ensures begun { self.new.state.begun ≤ self.old.state.begun + 1 }
+        ensures counted { IsCommandCounted S.tale S.calls S.written shelf.old shelf.new 12 8 result }
         ensures keeps { Keeps S.sizes S.faults S.rest S.held shelf.old shelf.new }
     {
         match self.creation_refusal(slice, force) {
@@ -96,6 +98,7 @@ impl Engine {
         ensures host { self.new.host ≡ self.old.host }
         ensures well { IsWell self.old.host self.new.state }
         ensures begun { self.new.state.begun ≡ self.old.state.begun + 1 }
+        ensures counted { IsCommandCounted S.tale S.calls S.written shelf.old shelf.new 12 8 result }
         ensures keeps { Keeps S.sizes S.faults S.rest S.held shelf.old shelf.new }
     {
         let identity = Identity {

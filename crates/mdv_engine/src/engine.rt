@@ -1,12 +1,14 @@
 ghost use Rattle.std.specs.Prelude.{◌≡◌, ◌<◌, ◌≤◌, ◌+◌, ◌^◌, [], List, None, IfOk, Contains};
 ghost use Rattle.mdv_base.specs.Causes.{Rose};
-ghost use Rattle.mdv_shelf.specs.Calls.{OnDrive, OnReplies, Keeps};
+ghost use Rattle.mdv_shelf.specs.Area.{KeptOutside, nowhere};
+ghost use Rattle.mdv_shelf.specs.Calls.{OnDrive, OnReplies, Keeps, TookAtMost};
 ghost use Rattle.mdv_shelf.specs.Moments.{Moments, Ends};
 ghost use Rattle.mdv_history.specs.History.{Created, Deed};
 ghost use Rattle.mdv_engine_law.specs.Home.{IsReady, StaysHome};
 ghost use Rattle.mdv_engine_law.specs.Replies.{IsAccepted, IsPlain, IsPlainAnswer, IsReplied, IsLost, HasAnswerCause, HasReplyCause};
 ghost use Rattle.mdv_engine_law.specs.Line.{Memory, IsCarriedOut, IsRebooted, IsExecuted, asked_by, kept_at, unbooted};
 ghost use Rattle.mdv_engine_law.specs.Standing.{OnlyReplied, Executed, IsAwake, Knows, BootMoment, BootedTo, CarryMoment, CarriedTo, TurnMoment, Turned};
+ghost use Rattle.mdv_engine.specs.Counts.{IsCommandCounted, IsQuietRefusal, IsUnlooked, blocks_of, calls_of};
 ghost use Rattle.mdv_engine.specs.Engine.{IsWell, boot_answer, HasBootCause};
 
 use crate::state::State;
@@ -35,6 +37,7 @@ impl Engine {
         ensures booted { IfOk result (λ engine. Ends (BootedTo host engine.state) (S.tale shelf.old) (S.tale shelf.new)) }
         ensures host { IfOk result (λ engine. (engine.host ≡ host) × IsWell host engine.state × (engine.state.begun ≡ 0)) }
         ensures cause { HasBootCause (Rose (S.faults shelf.old (OnDrive 0)) (S.faults shelf.new (OnDrive 0))) result }
+        ensures counted { TookAtMost S.calls S.written shelf.old shelf.new 13 4097 }
         ensures keeps { Keeps S.sizes S.faults S.rest S.held shelf.old shelf.new }
     {
         match boot_from(shelf, alloc, &host, 0) {
@@ -53,6 +56,7 @@ impl Engine {
         ensures well { IsWell self.old.host self.new.state }
         ensures begun { self.new.state.begun ≡ self.old.state.begun }
         ensures cause { HasBootCause (Rose (S.faults shelf.old (OnDrive 0)) (S.faults shelf.new (OnDrive 0))) result }
+        ensures counted { TookAtMost S.calls S.written shelf.old shelf.new 13 4097 }
         ensures keeps { Keeps S.sizes S.faults S.rest S.held shelf.old shelf.new }
     {
         let begun = self.state.begun;
@@ -81,6 +85,12 @@ impl Engine {
         ensures host { self.new.host ≡ self.old.host }
         ensures well { IsWell self.old.host self.new.state }
         ensures begun { self.new.state.begun ≤ self.old.state.begun + 1 }
+
+        // The calls on the drive, and one to tell the reply. A refused command writes nothing, unless a call failed, and makes no
+        // call on the drive, unless memory was wanting behind it.
+        ensures counted { TookAtMost B.calls B.written bench.old bench.new (1 + calls_of command.now) (blocks_of command.now) }
+        ensures unlooked { IsUnlooked result → TookAtMost B.calls B.written bench.old bench.new 1 0 }
+        ensures quiet { IsQuietRefusal result → Ends (KeptOutside nowhere) (B.tale bench.old) (B.tale bench.new) }
         ensures keeps { Keeps B.sizes B.faults B.rest B.held bench.old bench.new }
     {
         let answer = self.carry_out(bench, alloc, command);
@@ -133,6 +143,7 @@ impl Engine {
         ensures host { self.new.host ≡ self.old.host }
         ensures well { IsWell self.old.host self.new.state }
         ensures begun { self.new.state.begun ≤ self.old.state.begun + 1 }
+        ensures counted { IsCommandCounted S.tale S.calls S.written shelf.old shelf.new (calls_of command.now) (blocks_of command.now) result }
         ensures keeps { Keeps S.sizes S.faults S.rest S.held shelf.old shelf.new }
     {
         match command {
@@ -160,6 +171,7 @@ fn boot_from<S: Shelf>(
     ensures booted { IfOk result (λ state. Ends (BootedTo host.now state) (S.tale shelf.old) (S.tale shelf.new)) }
     ensures well { IfOk result (λ state. IsWell host.now state × (state.begun ≡ begun)) }
     ensures cause { HasBootCause (Rose (S.faults shelf.old (OnDrive 0)) (S.faults shelf.new (OnDrive 0))) result }
+    ensures counted { TookAtMost S.calls S.written shelf.old shelf.new 13 4097 }
     ensures keeps { Keeps S.sizes S.faults S.rest S.held shelf.old shelf.new }
 {
     let key = Key::Local(host.home.host);

@@ -17,6 +17,7 @@ ghost use Rattle.mdv_engine_law.specs.Home.{IsReady, StaysHome, site_of};
 ghost use Rattle.mdv_engine_law.specs.Line.{AreBlocksAt, AreBlocksRefused, IsCarriedOut, blocks_of, kept_at};
 ghost use Rattle.mdv_engine_law.specs.Replies.{AreValues, HasAnswerCause, IsAccepted, IsPlainAnswer};
 ghost use Rattle.mdv_engine_law.specs.Standing.{CarriedTo, CarryMoment, IsAwake, Knows};
+ghost use Rattle.mdv_engine.specs.Counts.{HasReadCounts, IsCommandCounted};
 ghost use Rattle.mdv_engine.specs.Engine.{HasBlocksCause, HasReadCause, IsCount, IsWell};
 
 use crate::engine::Engine;
@@ -105,6 +106,7 @@ impl Engine {
         ensures awake { IsAccepted result → IsAwake self.now.state }
         ensures plain { IsPlainAnswer result }
         ensures cause { HasAnswerCause (Rose (S.faults shelf.old (OnDrive 0)) (S.faults shelf.new (OnDrive 0))) result }
+        ensures counted { IsCommandCounted S.tale S.calls S.written shelf.old shelf.new 1 0 result }
         ensures keeps { Keeps S.sizes S.faults S.rest S.held shelf.old shelf.new }
     {
         match self.values(shelf, alloc, volume, at, count) {
@@ -128,6 +130,7 @@ impl Engine {
         ensures values { IfOk result AreValues }
         ensures err { IfErr result (HasReadCause (Rose (S.faults shelf.old (OnDrive 0)) (S.faults shelf.new (OnDrive 0))) self.now.host self.now.state volume at count) }
         ensures same { S.tale shelf.new ≡ S.tale shelf.old }
+        ensures counted { HasReadCounts S.tale S.calls S.written shelf.old shelf.new result }
         ensures keeps { Keeps S.sizes S.faults S.rest S.held shelf.old shelf.new }
     {
         let _first = self.place_of(volume, at, u64::from(count))?;
@@ -160,6 +163,7 @@ impl Engine {
         ensures plain { IsPlainAnswer result }
         ensures cause { HasAnswerCause (Rose (S.faults shelf.old (OnDrive 0)) (S.faults shelf.new (OnDrive 0))) result }
         ensures same { self.new ≡ self.old }
+        ensures counted { IsCommandCounted S.tale S.calls S.written shelf.old shelf.new 2 1 result }
         ensures keeps { Keeps S.sizes S.faults S.rest S.held shelf.old shelf.new }
     {
         match self.write_blocks(shelf, volume, at, &[*block]) {

@@ -30,7 +30,7 @@ module _ (failed more : Type 0) (cause : failed → more) (host : Host) (kept ne
   rebooted_more (adopted newest ok memory is) = adopted newest ok memory is
   rebooted_more (empty ok memory is same) = empty ok memory is same
   rebooted_more (down so ok memory same) = down (cause so) ok memory same
-  rebooted_more (lost so panic) = lost (cause so) panic
+  rebooted_more (lost so found panic) = lost (cause so) found panic
   rebooted_more (spent is used) = spent is used
   rebooted_more (wanting is) = wanting is
 

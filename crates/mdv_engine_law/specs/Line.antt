@@ -3,6 +3,7 @@ use Rattle.std.specs.Prelude.{◌≡◌, ◌≢◌, ◌⊎◌, ◌+◌, ◌<◌,
 use Rattle.std.specs.List.{range_with_len}
 use Rattle.mdv_engine_law.specs.Below.{SliceName, Mark, VolId, Refusal, NoDatabase, NeedForce, NoSuchVolume, NoSuchSlice, SliceInUse, TooSmall, WrongKind, WrongState, OutOfRange, ReplicaFull, IoFault, OutOfMemory, StateWord, HasNoSlice, record_text, Head, First, Second, IsSpareSlot, greatest, other_slot, room_of, shows, Tale, covers, last, values_reply, Change, MakeStripe, One, Table, HasNoVolume, Command, Create, Read, Write, Boot, IsMade, Site, Newest, IsReplica, IsFound, HasTable, IsNewestOf, area_of, adopted_newest, next_newest, rewritten, Deed, Created, Changed, Wrote, Saw, LiesOn}
 use Rattle.mdv_base.specs.declared.state_word.StateWord.TheVariants as word
+use Rattle.mdv_store_law.specs.Adoptable.{IsAdoptable}
 use Rattle.mdv_table.specs.Change as table
 use Rattle.mdv_words.specs.declared.command.Command.TheVariants as command
 use Rattle.mdv_engine_law.specs.declared.answer.Answer.{Answer}
@@ -222,14 +223,15 @@ pub record IsUsedUp (site : Site) (content : ℕ → List ℕ) : Type 0 where
   pub spent : 2 ^ 63 ≤ greatest head + 1
 
 -- What a boot comes to, from what the drive's blocks hold: nothing else in memory than what it found and how many creations
--- were begun before. Where a call on the drive failed it may end otherwise; want of memory is free.
+-- were begun before. Where a call on the drive failed it may be down instead, or lost, if there was a replica to adopt; want of
+-- memory is free.
 pub data IsRebooted (failed : Type 0) (host : Host) (kept : Kept) (answer : Answer) (next : Kept) : Type 0 where
   adopted : (newest : Newest) → answer ≡ outcome.Ok → next.memory ≡ record { opened = Some newest; down = false; begun = kept.memory.begun } → IsRewritten (site_of host) kept.content next.content newest
       → IsRebooted failed host kept answer next
   empty : answer ≡ outcome.Ok → next.memory ≡ record { opened = None; down = false; begun = kept.memory.begun } → IsFound (site_of host) kept.content None → IsSame kept.content next.content
       → IsRebooted failed host kept answer next
   down : failed → answer ≡ outcome.Ok → next.memory ≡ record { opened = None; down = true; begun = kept.memory.begun } → IsSame kept.content next.content → IsRebooted failed host kept answer next
-  lost : failed → answer ≡ outcome.Panic → IsRebooted failed host kept answer next
+  lost : failed → IsAdoptable (site_of host) kept.content → answer ≡ outcome.Panic → IsRebooted failed host kept answer next
   spent : answer ≡ outcome.Spent → IsUsedUp (site_of host) kept.content → IsRebooted failed host kept answer next
   wanting : answer ≡ outcome.NoMemory → IsRebooted failed host kept answer next
 

@@ -26,7 +26,7 @@ module _ (failed : Type 0) (calm : failed → ⊥) (host : Host) (kept next : Ke
   booted_plain (adopted newest ok memory is) = ok_plain ok
   booted_plain (empty ok memory none same) = ok_plain ok
   booted_plain (down so ok memory same) = absurd (calm so)
-  booted_plain (lost so panic) = absurd (calm so)
+  booted_plain (lost so found panic) = absurd (calm so)
   booted_plain (boot.spent is used) = subst IsPlainAnswer (sym is) tt
   booted_plain (wanting is) = subst IsPlainAnswer (sym is) tt
 
@@ -154,7 +154,7 @@ module _ (f : Failures) (calm : IsUndisturbed f) (host : Host) (content : ℕ �
   alike_start kept next answer enough (adopted newest ok memory is) = alike_itself (site_of host) has.sound kept.content is.head is.replica is.shown
   alike_start kept next answer enough (empty ok memory none same) = neither none none
   alike_start kept next answer enough (down so ok memory same) = absurd (calm.drive so)
-  alike_start kept next answer enough (lost so panic) = absurd (calm.drive so)
+  alike_start kept next answer enough (lost so found panic) = absurd (calm.drive so)
   alike_start kept next answer enough (boot.spent is used) = alike_itself (site_of host) has.sound kept.content used.head used.replica used.shown
   alike_start kept next answer enough (wanting is) = absurd (enough.not_wanting is)
 

@@ -105,9 +105,9 @@ module _ (host : Host) where
       one_boot (wanting is) second = absurd (sated.not_wanting is)
       one_boot first (wanting is) = absurd (sated_too.not_wanting is)
       one_boot (down so ok memory same) second = absurd (calm so)
-      one_boot (lost so panic) second = absurd (calm so)
+      one_boot (lost so found panic) second = absurd (calm so)
       one_boot first (down so ok memory same) = absurd (calm so)
-      one_boot first (lost so panic) = absurd (calm so)
+      one_boot first (lost so found panic) = absurd (calm so)
 
     -- a line `boot`
     pub boot_same : (failed : Type 0) → (failed → ⊥) → (k j n m : Kept) (a b : Answer) → Same k j → IsSatisfied a → IsSatisfied b → IsRebooted failed host k a n → IsRebooted failed host j b m → One n m a b

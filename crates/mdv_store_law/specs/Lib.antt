@@ -4,5 +4,6 @@ pub mod Site
 pub mod Log
 pub mod Standing
 pub mod Steps
+pub mod Adoptable
 pub mod Going
 pub mod Laws

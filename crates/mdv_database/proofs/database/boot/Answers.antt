@@ -4,6 +4,7 @@ use Rattle.mdv_shelf.proofs.Moments.{moments_more, moments_after, moments_weaker
 use Rattle.mdv_store_law.proofs.Covering.{kept_goes_on, goes_from_more}
 use Rattle.mdv_database.specs.Database.{IsBootedTo, IsQuiet, site_of}
 use Rattle.mdv_database.proofs.Booting.{HasLooked, looked_from, adopted_from, found_in, if_adopted_weaker, nothing_found, empty_goes_on}
+use Rattle.mdv_database.proofs.Counting.{boot_counted, few_blocks}
 use Rattle.mdv_database.proofs.Quiet.{quiet_more}
 use Rattle.mdv_database.proofs.database.boot.Goals as goal
 use Rattle.mdv_database.proofs.database.boot.Goals.{After-look, In-Ok-Some, In-Ok-None}
@@ -90,3 +91,9 @@ returns-in-Ok-Some-clause-adopted g c =
     (adopted_from here t u v (Some c.in-Ok-Some.found) newest seen is.0, is.1))
     (some_looked g (goal.at.returns-in-Ok-Some-clause-adopted g c).In-Ok-Some))
     (rw c.look.ensures.keeps.same_sizes at c.adopt.ensures.adopted)
+
+pub returns-in-Ok-Some-clause-counted : goal.returns-in-Ok-Some-clause-counted
+returns-in-Ok-Some-clause-counted g c =
+    let hand = rw c.in-Ok-Some.field-0-is at c.in-Ok-Some.ensures.in_hand in
+    let before = rw c.in-Ok-Some.field-0-is at c.in-Ok-Some.ensures.counted in
+    boot_counted g.S.Shelf.calls g.S.Shelf.written _ _ _ _ (few_blocks _ _ hand.in_room hand.form.of_place.most) before c.adopt.result c.adopt.ensures.counted

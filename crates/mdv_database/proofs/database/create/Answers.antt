@@ -1,7 +1,7 @@
 use Rattle.std.proofs.Common.{◌≡◌, length, ◌∙◌, ap, arith}
 use Rattle.mdv_database.specs.Below.{Geometry, record_text, Table, IsPlaceOf, Creates}
 use Rattle.mdv_record.proofs.Lengths.{record_lengths}
-use Rattle.mdv_shelf.proofs.Counts.{took_more}
+use Rattle.mdv_shelf.proofs.Counts.{took_more, at_most_then}
 use Rattle.mdv_shelf.proofs.Moments.{moments_end, moments_weaker}
 use Rattle.mdv_database.specs.Database.{IsQuiet, site_of}
 use Rattle.mdv_database.proofs.Making.{creates, format_ends, format_nothing, format_stays, made_ends, made_opens, made_safe, made_stays, quiet_made}
@@ -54,6 +54,10 @@ returns-in-Ok-write-clause-ends g c = λ drives lies.
 pub returns-in-Ok-write-clause-counted : goal.returns-in-Ok-write-clause-counted
 returns-in-Ok-write-clause-counted g c =
     took_more g.S.Shelf.calls g.S.Shelf.written _ _ _ 6 6 5 _ 12 8 (omega arith) (omega (arith, short g (goal.at.returns-in-Ok-write-clause-counted g c).After-format)) c.in-Ok.ensures.counted c.in-Ok-write.ensures.counted
+
+pub returns-in-Err-write-clause-counted : goal.returns-in-Err-write-clause-counted
+returns-in-Err-write-clause-counted g c =
+    at_most_then g.S.Shelf.calls g.S.Shelf.written _ _ _ 6 6 5 _ 12 8 (omega arith) (omega (arith, short g (goal.at.returns-in-Err-write-clause-counted g c).After-format)) c.format.ensures.counted_at_most c.write.ensures.counted_at_most
 
 pub returns-in-Err-write-clause-moments : goal.returns-in-Err-write-clause-moments
 returns-in-Err-write-clause-moments g c = quiet_made c.args.at _ _ _ _ _ c.format.ensures.moments c.write.ensures.moments

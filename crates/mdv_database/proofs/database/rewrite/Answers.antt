@@ -1,5 +1,6 @@
 use Rattle.std.proofs.Common.{inl, inr, ◌+◌, arith}
 use Rattle.mdv_database.specs.Below.{Moments, Ends, claim_text, block_of, claim_blocks, Leaves, Claims, Rewrites}
+use Rattle.mdv_shelf.proofs.Counts.{took_more}
 use Rattle.mdv_shelf.proofs.Moments.{moments_weaker, moments_more, moments_after, moments_end, ends_both, ends_more}
 use Rattle.mdv_replica.proofs.Leaving.{leaves_settling, leaves_settled}
 use Rattle.mdv_database.specs.Database.{IsQuiet}
@@ -47,3 +48,6 @@ returns-clause-leaves g c = leaves_both g (goal.at.returns-clause-leaves g c).Af
 pub returns-clause-written : goal.returns-clause-written
 returns-clause-written g c =
     ends_more (Leaves (Claims c.args.at c.args.mark.boot)) _ _ _ _ _ (λ t u v. rewritten c.args.at c.args.slot c.args.mark c.args.table.now t u v) (claimed g (goal.at.returns-clause-written g c).In_ok-write_claim) c.in_ok-write.ensures.written
+
+pub returns-clause-counted : goal.returns-clause-counted
+returns-clause-counted g c = took_more g.S.Shelf.calls g.S.Shelf.written _ _ _ 2 6 1 _ 8 _ (omega arith) (omega arith) c.in_ok-write_claim.ensures.counted c.in_ok-write.ensures.counted

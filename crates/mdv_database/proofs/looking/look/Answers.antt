@@ -1,6 +1,10 @@
-use Rattle.std.proofs.Common.{◌≡◌, ◌∙◌, ℕ, List, Option, ap, subst, refl}
+use Rattle.std.proofs.Common.{◌≡◌, ◌∙◌, ℕ, List, Option, Ok, ap, subst, refl, arith}
 use Rattle.mdv_database.specs.Below.{Tale, Then, Synced, last, and_then}
+use Rattle.mdv_shelf.specs.Between.{TookBetween}
+use Rattle.mdv_shelf.proofs.Between.{between_of, between_one, between_then}
 use Rattle.mdv_shelf.proofs.Blocks.{last_unwritten}
+use Rattle.mdv_shelf.proofs.Counts.{took_one}
+use Rattle.mdv_database.proofs.Counting.{looked_err, looked_few}
 use Rattle.mdv_database.specs.Database.{IsLookedAt, site_of}
 use Rattle.mdv_database.proofs.Quiet.{moments_synced, ends_synced, unwritten_synced}
 use Rattle.mdv_database.proofs.looking.look.Goals as goal
@@ -33,3 +37,25 @@ returns-clause-found g c = λ t is.
     let sizes : g.S.Shelf.sizes c.sync.new.self ≡ g.S.Shelf.sizes c.args.shelf.now = c.sync.ensures.keeps.same_sizes ∙ c.read.ensures.keeps.same_sizes in
     subst (λ (s : List ℕ). IsLookedAt (site_of c.args.drives.now c.args.key.now c.args.at s) (last t c.args.at.drive.0) c.in_ok-found.found) sizes
     (subst (λ (f : ℕ → List ℕ). IsLookedAt (site_of c.args.drives.now c.args.key.now c.args.at (g.S.Shelf.sizes c.sync.new.self)) f c.in_ok-found.found) content now)
+
+-- the read and the sync
+two : (g : _) (c : After-find g) → TookBetween g.S.Shelf.calls g.S.Shelf.written c.args.shelf.now c.sync.new.self 2 2 0
+two g c =
+    between_then g.S.Shelf.calls g.S.Shelf.written _ _ _ 1 1 0 1 1 0 2 2 0 (omega arith) (omega arith) (omega arith)
+    (between_one g.S.Shelf.calls g.S.Shelf.written _ _ 0 c.read.ensures.counted) (between_one g.S.Shelf.calls g.S.Shelf.written _ _ 0 c.sync.ensures.counted)
+
+pub returns-in-Err-clause-counted : goal.returns-in-Err-clause-counted
+returns-in-Err-clause-counted g c = between_of g.S.Shelf.calls g.S.Shelf.written _ _ 1 0 1 5 0 (omega arith) (omega arith) (omega arith) (took_one g.S.Shelf.calls g.S.Shelf.written _ _ 0 c.read.ensures.counted)
+
+pub returns-in-Err-sync-clause-counted : goal.returns-in-Err-sync-clause-counted
+returns-in-Err-sync-clause-counted g c =
+    between_then g.S.Shelf.calls g.S.Shelf.written _ _ _ 1 1 0 1 1 0 1 5 0 (omega arith) (omega arith) (omega arith)
+    (between_one g.S.Shelf.calls g.S.Shelf.written _ _ 0 c.read.ensures.counted) (between_one g.S.Shelf.calls g.S.Shelf.written _ _ 0 c.sync.ensures.counted)
+
+pub returns-in_err-found-clause-counted : goal.returns-in_err-found-clause-counted
+returns-in_err-found-clause-counted g c =
+    between_then g.S.Shelf.calls g.S.Shelf.written _ _ _ 2 2 0 0 3 0 _ 5 0 (looked_err c.from_residual.result c.from_residual.ensures.0) (omega arith) (omega arith) (two g (goal.at.returns-in_err-found-clause-counted g c).After-find) c.in_err-found.ensures.counted
+
+pub returns-clause-counted : goal.returns-clause-counted
+returns-clause-counted g c =
+    between_then g.S.Shelf.calls g.S.Shelf.written _ _ _ 2 2 0 _ 3 0 _ 5 0 (looked_few (Ok c.in_ok-found.found)) (omega arith) (omega arith) (two g (goal.at.returns-clause-counted g c).After-find) c.in_ok-found.ensures.counted

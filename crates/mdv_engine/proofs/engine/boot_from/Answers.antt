@@ -1,8 +1,9 @@
 use Rattle.std.proofs.Common.{sym, subst, refl, ◌∙◌}
 use Rattle.mdv_engine.specs.Below.{Rose, PlaceAt, OnDrive, Memory, lost, spent, wanting, Ends, BootedTo}
 use Rattle.mdv_shelf.proofs.Moments.{moments_end}
-use Rattle.mdv_engine.proofs.Booting.{boot_moments, adopted_rebooted, adopted_booted, empty_rebooted, empty_booted, down_rebooted, down_booted, spent_here, adopted_well}
+use Rattle.mdv_engine.proofs.Booting.{boot_moments, adopted_rebooted, adopted_booted, empty_rebooted, empty_booted, down_rebooted, down_booted, spent_here, adoptable_here, adopted_well}
 use Rattle.mdv_engine.proofs.Sites.{on_drive}
+use Rattle.mdv_engine.proofs.Counting.{boot_most}
 use Rattle.mdv_engine.proofs.engine.boot_from.Goals as goal
 
 pub boot-requires-clause-on_drive : goal.boot-requires-clause-on_drive
@@ -65,9 +66,27 @@ returns-in-Spent-clause-rebooted g c = λ t start.
 pub returns-in-Lost-clause-rebooted : goal.returns-in-Lost-clause-rebooted
 returns-in-Lost-clause-rebooted g c = λ t start.
     let end = moments_end _ _ _ c.boot.ensures.moments t start in
-    (end.0, end.1, λ old new same now. lost (subst (λ (p : PlaceAt). Rose (g.S.Shelf.faults c.args.shelf.now (OnDrive p.drive.0)) (g.S.Shelf.faults c.boot.new.shelf (OnDrive p.drive.0))) c.place_at.ensures (c.in-Lost.ensures.lost refl)) refl)
+    (end.0, end.1, λ old new same now. lost (subst (λ (p : PlaceAt). Rose (g.S.Shelf.faults c.args.shelf.now (OnDrive p.drive.0)) (g.S.Shelf.faults c.boot.new.shelf (OnDrive p.drive.0))) c.place_at.ensures (c.in-Lost.ensures.lost refl)) (adoptable_here c.args.host.now (g.S.Shelf.sizes c.args.shelf.now) c.requires c.place_at.result c.place_at.ensures t (c.in-Lost.ensures.booted t start).1) refl)
 
 pub returns-in-Memory-clause-rebooted : goal.returns-in-Memory-clause-rebooted
 returns-in-Memory-clause-rebooted g c = λ t start.
     let end = moments_end _ _ _ c.boot.ensures.moments t start in
     (end.0, end.1, λ old new same now. wanting refl)
+
+pub returns-in-Adopted-clause-counted : goal.returns-in-Adopted-clause-counted
+returns-in-Adopted-clause-counted g c = boot_most g.S.Shelf.tale g.S.Shelf.calls g.S.Shelf.written _ _ c.boot.result c.boot.ensures.counted
+
+pub returns-in-Empty-clause-counted : goal.returns-in-Empty-clause-counted
+returns-in-Empty-clause-counted g c = boot_most g.S.Shelf.tale g.S.Shelf.calls g.S.Shelf.written _ _ c.boot.result c.boot.ensures.counted
+
+pub returns-in-Down-clause-counted : goal.returns-in-Down-clause-counted
+returns-in-Down-clause-counted g c = boot_most g.S.Shelf.tale g.S.Shelf.calls g.S.Shelf.written _ _ c.boot.result c.boot.ensures.counted
+
+pub returns-in-Lost-clause-counted : goal.returns-in-Lost-clause-counted
+returns-in-Lost-clause-counted g c = boot_most g.S.Shelf.tale g.S.Shelf.calls g.S.Shelf.written _ _ c.boot.result c.boot.ensures.counted
+
+pub returns-in-Spent-clause-counted : goal.returns-in-Spent-clause-counted
+returns-in-Spent-clause-counted g c = boot_most g.S.Shelf.tale g.S.Shelf.calls g.S.Shelf.written _ _ c.boot.result c.boot.ensures.counted
+
+pub returns-in-Memory-clause-counted : goal.returns-in-Memory-clause-counted
+returns-in-Memory-clause-counted g c = boot_most g.S.Shelf.tale g.S.Shelf.calls g.S.Shelf.written _ _ c.boot.result c.boot.ensures.counted

@@ -1,4 +1,5 @@
 use Rattle.std.proofs.Common.{◌≡◌, ◌∙◌, sym, subst, refl, take, length, ap, []}
+use Rattle.mdv_shelf.proofs.Between.{at_most_one}
 use Rattle.mdv_engine_law.specs.Below.{Rose, OnReplies}
 use Rattle.mdv_engine_law.specs.Replies.{IsTold, ok_line, refusal_line, text_of}
 use Rattle.mdv_engine_law.specs.declared.answer.Answer.{Answer}
@@ -104,3 +105,22 @@ pub returns-in-Err-give-2-clause-fronts : goal.returns-in-Err-give-2-clause-fron
 returns-in-Err-give-2-clause-fronts g c = λ t is.
     let text : c.as_bytes-in-Refused.result.now ≡ text_of c.args.answer.now = c.as_bytes-in-Refused.ensures.value ∙ c.deref.ensures.0 ∙ c.line_of.ensures ∙ ap text_of (sym c.in-Refused.is) in
     telling_some (text_of c.args.answer.now) t c.as_bytes-in-Refused.result.now _ _ text is c.in-Err-give-2.ensures.gives
+
+-- one call tells it
+pub returns-in-Ok-give-clause-counted : goal.returns-in-Ok-give-clause-counted
+returns-in-Ok-give-clause-counted g c = at_most_one g.B.Shelf.calls g.B.Shelf.written _ _ 0 c.give.ensures.counted
+
+pub returns-in-Err-clause-counted : goal.returns-in-Err-clause-counted
+returns-in-Err-clause-counted g c = at_most_one g.B.Shelf.calls g.B.Shelf.written _ _ 0 c.give.ensures.counted
+
+pub returns-in-Ok-give-2-clause-counted : goal.returns-in-Ok-give-2-clause-counted
+returns-in-Ok-give-2-clause-counted g c = at_most_one g.B.Shelf.calls g.B.Shelf.written _ _ 0 c.give-in-Values.ensures.counted
+
+pub returns-in-Err-give-clause-counted : goal.returns-in-Err-give-clause-counted
+returns-in-Err-give-clause-counted g c = at_most_one g.B.Shelf.calls g.B.Shelf.written _ _ 0 c.give-in-Values.ensures.counted
+
+pub returns-in-Ok-give-3-clause-counted : goal.returns-in-Ok-give-3-clause-counted
+returns-in-Ok-give-3-clause-counted g c = at_most_one g.B.Shelf.calls g.B.Shelf.written _ _ 0 c.give-in-Refused.ensures.counted
+
+pub returns-in-Err-give-2-clause-counted : goal.returns-in-Err-give-2-clause-counted
+returns-in-Err-give-2-clause-counted g c = at_most_one g.B.Shelf.calls g.B.Shelf.written _ _ 0 c.give-in-Refused.ensures.counted

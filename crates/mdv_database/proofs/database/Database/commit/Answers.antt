@@ -1,6 +1,9 @@
-use Rattle.std.proofs.Common.{◌+◌, ◌<◌, ◌^◌, subst, ap, ◌∙◌, arith}
-use Rattle.mdv_database.specs.Below.{other_slot, with_blocks, next_mark, Newest}
+use Rattle.std.proofs.Common.{ℕ, ◌+◌, ◌<◌, ◌≤◌, ◌^◌, length, subst, ap, ◌∙◌, arith}
+use Rattle.mdv_replica.proofs.Counted.{took_wider}
+use Rattle.mdv_database.specs.Below.{other_slot, with_blocks, next_mark, Newest, record_text}
+use Rattle.mdv_database.specs.Slots.{blocks_for}
 use Rattle.mdv_database.proofs.Committing.{IsNextPlace, commit_quiet, commit_stays, commit_opens, commit_ends}
+use Rattle.mdv_database.proofs.Counting.{few_text}
 use Rattle.mdv_database.proofs.database.Database.commit.Goals as goal
 use Rattle.mdv_database.proofs.database.Database.commit.Goals.{After-write}
 
@@ -33,3 +36,13 @@ returns-in-Err-clause-moments g c = commit_quiet c.args.at c.args.self.now c.arg
 pub returns-in-Err-clause-stays : goal.returns-in-Err-clause-stays
 returns-in-Err-clause-stays g c = λ drives key asked.
     commit_stays c.args.at c.args.self.now c.args.next _ _ _ (next g (goal.at.returns-in-Err-clause-stays g c).After-write) drives key _ asked _ _ c.write.ensures.leaves
+
+-- its text has 4094 blocks at most
+few : (g : _) (c : After-write g) → 2 + blocks_for (length (record_text c.args.next)) ≤ 4096
+few g c = few_text _ c.args.self.now.blocks c.in_ok-check_room.ensures.ok (subst (λ (n : ℕ). n ≤ 8192) (ap (λ (n : Newest). n.blocks) c.self.view_is) c.self.invariant.most)
+
+pub returns-in-Ok-clause-counted_at_most : goal.returns-in-Ok-clause-counted_at_most
+returns-in-Ok-clause-counted_at_most g c = took_wider g.S.Shelf.calls g.S.Shelf.written _ _ 6 _ 6 4096 (omega arith) (few g (goal.at.returns-in-Ok-clause-counted_at_most g c).After-write) c.write.ensures.counted_at_most
+
+pub returns-in-Err-clause-counted_at_most : goal.returns-in-Err-clause-counted_at_most
+returns-in-Err-clause-counted_at_most g c = took_wider g.S.Shelf.calls g.S.Shelf.written _ _ 6 _ 6 4096 (omega arith) (few g (goal.at.returns-in-Err-clause-counted_at_most g c).After-write) c.write.ensures.counted_at_most

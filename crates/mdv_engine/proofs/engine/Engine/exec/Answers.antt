@@ -4,6 +4,9 @@ use Rattle.mdv_shelf.proofs.Moments.{moments_after, moments_end, ends_more, some
 use Rattle.mdv_engine_law.proofs.Executing.{executed, told_cause, rose_within}
 use Rattle.mdv_engine_law.proofs.Turning.{Carried, carried_ends, turn_carry, turn_tell, turned, knows_after}
 use Rattle.mdv_engine_law.proofs.Staying.{both_stay, tell_stays}
+use Rattle.mdv_shelf.proofs.Counts.{at_most_then}
+use Rattle.mdv_engine.specs.Counts.{blocks_of, calls_of}
+use Rattle.mdv_engine.proofs.Counting.{command_most, quiet_told, unlooked_told}
 use Rattle.mdv_engine.proofs.engine.Engine.exec.Goals as goal
 
 pub returns-clause-answered : goal.returns-clause-answered
@@ -68,3 +71,21 @@ returns-clause-cause g c =
 pub returns-clause-home : goal.returns-clause-home
 returns-clause-home g c =
     both_stay c.args.self.now.host _ _ _ c.carry_out-answer.ensures.home (tell_stays c.args.self.now.host (text_of c.carry_out-answer.result) _ _ c.tell.ensures.fronts)
+
+pub returns-clause-counted : goal.returns-clause-counted
+returns-clause-counted g c =
+    let count = calls_of c.args.command.now in
+    let blocks = blocks_of c.args.command.now in
+    at_most_then g.B.Shelf.calls g.B.Shelf.written _ _ _ count 1 blocks 0 _ _ (omega arith) (omega arith)
+    (command_most g.B.Shelf.tale g.B.Shelf.calls g.B.Shelf.written _ _ count blocks c.carry_out-answer.result c.carry_out-answer.ensures.counted) c.tell.ensures.counted
+
+pub returns-clause-unlooked : goal.returns-clause-unlooked
+returns-clause-unlooked g c = λ is.
+    let same = unlooked_told g.B.Shelf.tale g.B.Shelf.calls g.B.Shelf.written _ _ _ _ _ c.carry_out-answer.result c.tell.result _ c.tell.ensures.answers.1 is c.carry_out-answer.ensures.counted in
+    rw same at c.tell.ensures.counted
+
+pub returns-clause-quiet : goal.returns-clause-quiet
+returns-clause-quiet g c = λ is t start.
+    let same = quiet_told g.B.Shelf.tale g.B.Shelf.calls g.B.Shelf.written _ _ _ _ _ c.carry_out-answer.result c.tell.result _ c.tell.ensures.answers.1 is c.carry_out-answer.ensures.counted in
+    let end = c.tell.ensures.told t (same ∙ start) in
+    (end.0, end.1, end.2.kept)

@@ -1,4 +1,4 @@
-use Rattle.std.proofs.Common.{◌≡◌, ◌∙◌, ◌+◌, ◌≤◌, ◌∷◌, [], List, ℕ, false, Option, Some, None, Err, sym, ap, subst}
+use Rattle.std.proofs.Common.{◌≡◌, ◌∙◌, ◌+◌, ◌≤◌, ◌∷◌, [], List, ℕ, false, Option, Some, None, Err, sym, ap, subst, arith}
 use Rattle.mdv_engine.specs.Below.{Rose, Local, IoFault, OutOfMemory, OnDrive, Ends, Moments, Tale, place_of, PlaceAt, IsPlaceOf, Geometry, IsCreated, Log, IsThis, is_firm, Site, Newest, Anything, GoesOnTo, IsOpened, ShowsNothing, Created, IsQuiet, IsSafe, first_newest, Answer, IsReady, StaysHome, identity_of, Memory, IsCreation, kept_at, CarriedTo, CarryMoment, Knows}
 use Rattle.mdv_database.specs.Database as database
 use Rattle.mdv_engine_law.specs.declared.answer.Answer.TheVariants as outcome
@@ -6,6 +6,9 @@ use Rattle.mdv_engine_law.proofs.Plain.{fault_plain, memory_plain}
 use Rattle.mdv_engine.specs.declared.engine.Engine.{Engine}
 use Rattle.mdv_engine.proofs.Creating.{begun, lost_carried, made_carried, made_creation, making_moments, new_memory, unbegun_carried, unmade_carried, unmade_creation, with_new}
 use Rattle.mdv_engine.proofs.Sites.{place_is, quiet_stays}
+use Rattle.mdv_shelf.proofs.Between.{between_of}
+use Rattle.mdv_replica.proofs.Counted.{took_wider}
+use Rattle.mdv_engine.proofs.Counting.{refused_counted}
 use Rattle.mdv_engine.proofs.engine.Engine.make_database.Goals as goal
 
 -- what a creation that came to this answer, and left this in memory, is to be
@@ -133,3 +136,16 @@ returns-in-Err-Failed-clause-plain g c = fault_plain
 
 pub returns-in-Err-Memory-clause-plain : goal.returns-in-Err-Memory-clause-plain
 returns-in-Err-Memory-clause-plain g c = memory_plain
+
+pub returns-in-Ok-clause-counted : goal.returns-in-Ok-clause-counted
+returns-in-Ok-clause-counted g c = between_of g.S.Shelf.calls g.S.Shelf.written _ _ 12 8 12 12 8 (omega arith) (omega arith) (omega arith) c.in-Ok.ensures.counted
+
+pub returns-in-Err-Failed-clause-counted : goal.returns-in-Err-Failed-clause-counted
+returns-in-Err-Failed-clause-counted g c = took_wider g.S.Shelf.calls g.S.Shelf.written _ _ 6 5 12 8 (omega arith) (omega arith) (rw (c.in-Err-Failed.is ∙ ap Err c.in-Err-Failed.field-0-is) at c.create.ensures.counted)
+
+pub returns-in-Err-Lost-clause-counted : goal.returns-in-Err-Lost-clause-counted
+returns-in-Err-Lost-clause-counted g c = rw (c.in-Err-Lost.is ∙ ap Err c.in-Err-Lost.field-0-is) at c.create.ensures.counted
+
+pub returns-in-Err-Memory-clause-counted : goal.returns-in-Err-Memory-clause-counted
+returns-in-Err-Memory-clause-counted g c =
+    refused_counted g.S.Shelf.tale g.S.Shelf.calls g.S.Shelf.written _ _ 12 8 OutOfMemory (c.create.ensures.memory (c.in-Err-Memory.is ∙ ap Err c.in-Err-Memory.field-0-is))

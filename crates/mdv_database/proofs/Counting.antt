@@ -1,0 +1,54 @@
+-- How the calls of a look, an adoption and a boot add up.
+use Rattle.std.proofs.Common.{◌≡◌, ℕ, ◌+◌, ◌*◌, ◌≤◌, Option, Some, None, Result, Ok, Err, IsErr, arith}
+use Rattle.mdv_shelf.specs.Calls.{Took, TookAtMost}
+use Rattle.mdv_shelf.specs.Between.{TookBetween}
+use Rattle.mdv_shelf.proofs.Counts.{took_at_most, at_most_then}
+use Rattle.mdv_shelf.proofs.Between.{between_of, between_then, between_none}
+use Rattle.mdv_replica.specs.Form.{room_of}
+use Rattle.mdv_database.specs.declared.body.ReadFault.{ReadFault}
+use Rattle.mdv_database.specs.declared.body.ReadFault.TheVariants.{Failed, Memory}
+use Rattle.mdv_database.specs.declared.database.BootEnd.{BootEnd}
+use Rattle.mdv_database.specs.declared.database.BootEnd.TheVariants as end
+use Rattle.mdv_database.specs.declared.looking.Found.{Found}
+use Rattle.mdv_database.specs.Counts.{if_found, looked, IsAdoptionCounted, IsBootCounted}
+use Rattle.mdv_database.specs.Slots.{blocks_for}
+
+pub found_few : {T E : Type 0} (count : ℕ) (found : Result (Option T) E) → if_found count found ≤ count
+found_few count (Ok (Some found)) = omega arith
+found_few count (Ok None) = omega arith
+found_few count (Err fault) = omega arith
+
+-- a look makes two calls before it looks at the place, unless one fails
+pub looked_few : (found : Result (Option Found) ReadFault) → looked found ≤ 2 + if_found 2 found
+looked_few (Ok (Some found)) = omega arith
+looked_few (Ok None) = omega arith
+looked_few (Err Failed) = omega arith
+looked_few (Err Memory) = omega arith
+
+pub looked_err : (found : Result (Option Found) ReadFault) → IsErr found → looked found ≤ 2
+looked_err (Ok found) is = cc (is)
+looked_err (Err Failed) is = omega arith
+looked_err (Err Memory) is = omega arith
+
+-- the blocks that an adoption writes: the claim, two gates, and the text
+pub few_blocks : (bytes blocks : ℕ) → bytes ≤ room_of blocks → blocks ≤ 8192 → 3 + blocks_for bytes ≤ 4097
+few_blocks bytes blocks fits few = omega (arith, fits, few)
+
+-- those that a commit writes: two gates, and the text
+pub few_text : (bytes blocks : ℕ) → bytes ≤ room_of blocks → blocks ≤ 8192 → 2 + blocks_for bytes ≤ 4096
+few_text bytes blocks fits few = omega (arith, fits, few)
+
+module _ {S : Type 0} (calls written : S → Option ℕ) (old mid new : S) (blocks : ℕ) (few : blocks ≤ 4097) (before : TookBetween calls written old mid 4 5 0) where
+  nothing_more : (least : ℕ) → least ≤ 4 → new ≡ mid → TookBetween calls written old new least 5 0
+  nothing_more least low same =
+      between_then calls written old mid new 4 5 0 0 0 0 least 5 0 (omega (arith, low)) (omega arith) (omega arith) before (between_none calls written mid new 0 0 same)
+
+  pub boot_counted : (what : BootEnd) → IsAdoptionCounted calls written mid new blocks what → IsBootCounted calls written old new what
+  boot_counted (end.Adopted newest) took =
+      between_then calls written old mid new 4 5 0 8 8 blocks 12 13 4097 (omega arith) (omega arith) (omega (arith, few)) before
+      (between_of calls written mid new 8 blocks 8 8 blocks (omega arith) (omega arith) (omega arith) took)
+  boot_counted end.Empty same = nothing_more 2 (omega arith) same
+  boot_counted end.Down same = nothing_more 1 (omega arith) same
+  boot_counted end.Lost took = at_most_then calls written old mid new 5 8 0 blocks 13 4097 (omega arith) (omega (arith, few)) before.at_most took
+  boot_counted end.Spent same = nothing_more 4 (omega arith) same
+  boot_counted end.Memory same = nothing_more 2 (omega arith) same

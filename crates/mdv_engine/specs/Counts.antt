@@ -1,0 +1,67 @@
+-- How many calls on the drive a command makes, and how many blocks it writes.
+use Rattle.std.specs.Prelude.{◌≡◌, ℕ, Option, Result, Ok, Err}
+use Rattle.mdv_base.specs.declared.refusal.Refusal.{Refusal}
+use Rattle.mdv_base.specs.declared.refusal.Refusal.TheVariants.{IoFault, OutOfMemory}
+use Rattle.mdv_shelf.specs.Calls.{TookAtMost}
+use Rattle.mdv_shelf.specs.Between.{TookBetween}
+use Rattle.mdv_shelf.specs.Tale.{Tale}
+use Rattle.mdv_words.specs.declared.command.Command.{Command}
+use Rattle.mdv_words.specs.declared.command.Command.TheVariants.{Create, MakeStripe, Read, Write, Boot}
+use Rattle.mdv_engine_law.specs.declared.answer.Answer.{Answer}
+use Rattle.mdv_engine_law.specs.declared.answer.Answer.TheVariants as outcome
+use Rattle.mdv_engine_law.specs.declared.answer.Reply.{Reply}
+use Rattle.mdv_engine_law.specs.declared.answer.Reply.TheVariants as reply
+
+-- the calls on the drive that a command makes: a creation formats a replica and writes its table, a change writes a table
+abbrev pub calls_of : Command → ℕ
+calls_of (Create slice force) = 12
+calls_of (MakeStripe volume slice) = 6
+calls_of (Read volume at count) = 1
+calls_of (Write volume at block) = 2
+calls_of Boot = 13
+
+-- the blocks that it writes at most; a table has 4094 blocks at most, and two gates
+abbrev pub blocks_of : Command → ℕ
+blocks_of (Create slice force) = 8
+blocks_of (MakeStripe volume slice) = 4096
+blocks_of (Read volume at count) = 0
+blocks_of (Write volume at block) = 1
+blocks_of Boot = 4097
+
+-- The calls of a command, by what it came to: exactly so many where it was done, and no more where one failed. Without memory
+-- nothing is written. A command that is refused for another cause does nothing at all: it doesn't even read.
+abbrev pub IsCommandCounted : {S : Type 0} → (S → Option Tale) → (S → Option ℕ) → (S → Option ℕ) → S → S → ℕ → ℕ → Answer → Type 0
+IsCommandCounted tale calls written old new count blocks outcome.Ok = TookBetween calls written old new count count blocks
+IsCommandCounted tale calls written old new count blocks (outcome.Values text) = TookBetween calls written old new count count blocks
+IsCommandCounted tale calls written old new count blocks (outcome.Refused IoFault) = TookAtMost calls written old new count blocks
+IsCommandCounted tale calls written old new count blocks (outcome.Refused OutOfMemory) = TookAtMost calls written old new count 0 × (tale new ≡ tale old)
+IsCommandCounted tale calls written old new count blocks (outcome.Refused other) = new ≡ old
+IsCommandCounted tale calls written old new count blocks outcome.Panic = TookAtMost calls written old new count blocks
+IsCommandCounted tale calls written old new count blocks outcome.Spent = new ≡ old
+IsCommandCounted tale calls written old new count blocks outcome.NoMemory = new ≡ old
+
+-- the same of a read, before its answer is made
+abbrev pub HasReadCounts : {S T : Type 0} → (S → Option Tale) → (S → Option ℕ) → (S → Option ℕ) → S → S → Result T Refusal → Type 0
+HasReadCounts tale calls written old new (Ok text) = TookBetween calls written old new 1 1 0
+HasReadCounts tale calls written old new (Err refusal) = IsCommandCounted tale calls written old new 1 0 (outcome.Refused refusal)
+
+-- a refusal that no call on the drive came before
+abbrev pub IsUnlooked : Reply → Type 0
+IsUnlooked reply.Ok = ⊥
+IsUnlooked (reply.Refused IoFault) = ⊥
+IsUnlooked (reply.Refused OutOfMemory) = ⊥
+IsUnlooked (reply.Refused other) = Unit {0}
+IsUnlooked (reply.Panic active listed) = ⊥
+IsUnlooked reply.Spent = ⊥
+IsUnlooked reply.NoMemory = ⊥
+IsUnlooked reply.Told = ⊥
+
+-- a refusal behind which nothing was written
+abbrev pub IsQuietRefusal : Reply → Type 0
+IsQuietRefusal reply.Ok = ⊥
+IsQuietRefusal (reply.Refused IoFault) = ⊥
+IsQuietRefusal (reply.Refused other) = Unit {0}
+IsQuietRefusal (reply.Panic active listed) = ⊥
+IsQuietRefusal reply.Spent = ⊥
+IsQuietRefusal reply.NoMemory = ⊥
+IsQuietRefusal reply.Told = ⊥
