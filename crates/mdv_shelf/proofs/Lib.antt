@@ -3,8 +3,11 @@ pub mod Counts
 pub mod Between
 pub mod Frame
 pub mod Moments
+pub mod Noted
 pub mod Settled
+pub mod Stories
 pub mod MemCrash
 pub mod MemFaults
 pub mod MemLaws
 pub mod MemScan
+pub mod MemStory

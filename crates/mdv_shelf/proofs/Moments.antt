@@ -135,7 +135,7 @@ same_then : (t u : Tale) (c d : Call) → Then t c ≡ Then u d → (t ≡ u) ×
 same_then t u c d is = (cc (is), cc (is))
 
 -- calls that lead from one tale to another are the same calls
-same_calls : (t : Tale) (xs ys : List Call) → extended t xs ≡ extended t ys → xs ≡ ys
+pub same_calls : (t : Tale) (xs ys : List Call) → extended t xs ≡ extended t ys → xs ≡ ys
 same_calls t [] [] is = refl
 same_calls t [] (c ∷ ys) is = absurd (let one = size_then (extended t ys) c t (sym is) in let two = size_extended t ys in omega arith)
 same_calls t (c ∷ xs) [] is = absurd (let one = size_then (extended t xs) c t is in let two = size_extended t xs in omega arith)
@@ -143,7 +143,7 @@ same_calls t (c ∷ xs) (d ∷ ys) is =
     let same = same_then (extended t xs) (extended t ys) c d is in
     let behind = same_calls t xs ys same.0 in cc (same.1, behind)
 
-during_both : (P Q : Tale → Type 0) (t : Tale) (c : Call) → During P t c → During Q t c → During (λ m. P m × Q m) t c
+pub during_both : (P Q : Tale → Type 0) (t : Tale) (c : Call) → During P t c → During Q t c → During (λ m. P m × Q m) t c
 during_both P Q t (Wrote drive at blocks) one other = (one, other)
 during_both P Q t (Tore drive at blocks took) one other = (one, other)
 during_both P Q t (Synced drive) one other = (one, other)

@@ -5,5 +5,8 @@ pub mod Calls
 pub mod Between
 pub mod Area
 pub mod Settle
+pub mod Story
+pub mod Shelves
 pub mod MemHistory
+pub mod MemStory
 pub mod MemShelf

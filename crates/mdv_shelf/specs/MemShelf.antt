@@ -1,10 +1,13 @@
 -- What a shelf in memory tells, and which of its calls are asked to fail.
-use Rattle.std.specs.Prelude.{◌≡◌, ◌≢◌, ◌⊎◌, ℕ, ◌+◌, ◌-◌, ◌^◌, ◌≤◌, min, Bool, false, ◌&&◌, ◌||◌, ◌==◌, not, nat_le, nat_lt, List, [], map, filter, slice_index, slice_index_or, if◌then◌else◌, Option, Some, None, Result, is_err, IsErr, OnErr, IsTrue}
+use Rattle.std.specs.Prelude.{◌≡◌, ◌≢◌, ◌⊎◌, ℕ, ◌+◌, ◌-◌, ◌^◌, ◌≤◌, min, Bool, false, ◌&&◌, ◌||◌, ◌==◌, not, nat_le, nat_lt, List, [], map, filter, reverse, slice_index, slice_index_or, if◌then◌else◌, Option, Some, None, Result, is_err, IsErr, OnErr, IsTrue}
 use Rattle.std.specs.List.{list_any}
 use Rattle.std.specs.Option.{option_map_or}
 use Rattle.mdv_shelf.specs.Tale.{Tale}
 use Rattle.mdv_shelf.specs.Calls.{Part, OnDrive, OnReplies}
+use Rattle.mdv_shelf.specs.Story.{Story}
 use Rattle.mdv_shelf.specs.MemHistory.{tale_from, latest_blocks, lengths, blank}
+use Rattle.mdv_shelf.specs.MemStory.{with_counts}
+use Rattle.mdv_shelf.specs.declared.mem_shelf.counts.Counts.{Counts}
 use Rattle.mdv_shelf.specs.declared.mem_shelf.history.History.{History}
 use Rattle.mdv_shelf.specs.declared.mem_shelf.plan.Plan.{Plan}
 use Rattle.mdv_shelf.specs.declared.mem_shelf.plan.Loss.{Loss}
@@ -45,6 +48,16 @@ abbrev pub faults_in : List Health → ℕ → Part → ℕ
 faults_in health replies (OnDrive drive) = slice_index (map (λ h. h.faults) health) drive
 faults_in health replies OnReplies = replies
 
+-- the counts as a call was made
+abbrev pub counts_of : Counts → Part → ℕ
+counts_of counts = faults_in counts.drives.items counts.replies
+
+abbrev pub history_story : History → Story
+history_story h = with_counts (history_tale h) (reverse (map counts_of h.counts.items))
+
+abbrev pub shelf_story : MemShelf → Story
+shelf_story s = history_story s.history
+
 abbrev pub fault_count : MemShelf → Part → ℕ
 fault_count s part = faults_in s.health.items s.reply_faults part
 
@@ -54,6 +67,9 @@ is_short s = s.short
 -- what the shelf tells of itself
 abbrev pub told_tale : MemShelf → Option Tale
 told_tale s = Some (shelf_tale s)
+
+abbrev pub told_story : MemShelf → Option Story
+told_story s = Some (shelf_story s)
 
 abbrev pub told_calls : MemShelf → Option ℕ
 told_calls s = Some (call_count s)
@@ -102,14 +118,16 @@ pub record KeepsCounts (old new : MemShelf) : Type 0 where
   pub same_faults : (part : Part) → fault_count new part ≡ fault_count old part
   pub same_short : is_short new ≡ is_short old
 
--- no call was made: the tale and the counts stay
+-- no call was made: the tale, its story and the counts stay
 pub record IsUntouched (old new : MemShelf) : Type 0 where
   pub same_tale : shelf_tale new ≡ shelf_tale old
+  pub same_story : shelf_story new ≡ shelf_story old
   pub counts : KeepsCounts old new
 
 -- a call on that part, a write of so many blocks, failed: no drive was changed and nothing told
 pub record HasFailed (part : Part) (blocks : ℕ) (old new : MemShelf) : Type 0 where
   pub same_tale : shelf_tale new ≡ shelf_tale old
+  pub same_story : shelf_story new ≡ shelf_story old
   pub same_told : told_bytes new ≡ told_bytes old
   pub same_sizes : shelf_sizes new ≡ shelf_sizes old
   pub plan : KeepsPlan old new

@@ -1,6 +1,7 @@
 // A shelf whose drives are in memory. It keeps a record of its calls, and so can crash.
 ghost use Rattle.std.specs.Prelude.{◌≡◌, ◌≤◌, ◌+◌, ◌-◌, ◌^◌, min, length};
 
+mod counts;
 mod crash;
 mod disk;
 mod history;
@@ -211,16 +212,20 @@ impl MemShelf {
 }
 
 impl Shelf for MemShelf {
-    ghost use Rattle.std.specs.Prelude.{◌⊎◌, ◌<◌, ◌≤◌, IsTrue, IsErr};
+    ghost use Rattle.std.specs.Prelude.{◌⊎◌, ◌<◌, ◌≤◌, IsTrue, IsErr, map, reverse};
     ghost use Rattle.mdv_base.specs.Causes.{HasCause};
+    ghost use Rattle.mdv_shelf.specs.Story.{IsNoted};
+    ghost use Rattle.mdv_shelf.specs.MemStory.{tells_tale};
     ghost use Rattle.mdv_shelf.specs.Calls.{OnDrive, InDrive, Reads, Writes, Syncs, Keeps, IsCounted};
-    ghost use Rattle.mdv_shelf.specs.MemShelf.{shelf_sizes, call_count, fault_count, is_asked, AnswersAsAsked, told_tale, told_calls, told_blocks, nothing};
+    ghost use Rattle.mdv_shelf.specs.MemShelf.{shelf_sizes, shelf_tale, counts_of, call_count, fault_count, is_asked, AnswersAsAsked, told_tale, told_story, told_calls, told_blocks, nothing};
 
     ghost sizes = { shelf_sizes };
 
     ghost faults = { fault_count };
 
     ghost tale = { told_tale };
+
+    ghost story = { told_story };
 
     ghost calls = { told_calls };
 
@@ -248,6 +253,7 @@ impl Shelf for MemShelf {
         ensures cause { HasCause (fault_count self.old (OnDrive drive.0)) (fault_count self.new (OnDrive drive.0)) result }
         ensures counted { IsCounted told_calls told_blocks self.old self.new 0 }
         ensures keeps { Keeps shelf_sizes fault_count nothing nothing self.old self.new }
+        ensures noted { IsNoted told_story fault_count self.old self.new }
         ensures answers { AnswersAsAsked (OnDrive drive.0) result self.old self.new }
         ensures only_asked_or_spent { IsErr result → IsTrue (is_asked self.old (OnDrive drive.0)) ⊎ (2 ^ 62 ≤ call_count self.old) }
     {
@@ -266,13 +272,21 @@ impl Shelf for MemShelf {
         ensures cause { HasCause (fault_count self.old (OnDrive drive.0)) (fault_count self.new (OnDrive drive.0)) result }
         ensures counted { IsCounted told_calls told_blocks self.old self.new (length from.now) }
         ensures keeps { Keeps shelf_sizes fault_count nothing nothing self.old self.new }
+        ensures noted { IsNoted told_story fault_count self.old self.new }
         ensures answers { AnswersAsAsked (OnDrive drive.0) result self.old self.new }
     {
         let blocks = from.len() as u64;
         if !self.may_call_on(drive.0) {
             return Err(self.fail_on(drive.0, blocks));
         }
-        match self.history.write(self.alloc, drive.0, at, from) {
+        match self.history.write(
+            self.alloc,
+            drive.0,
+            at,
+            from,
+            &self.health,
+            self.reply_faults,
+        ) {
             Err(_) => Err(self.fail_on(drive.0, blocks)),
             Ok(()) => {
                 count(&mut self.plan.calls, 1);
@@ -288,12 +302,16 @@ impl Shelf for MemShelf {
         ensures cause { HasCause (fault_count self.old (OnDrive drive.0)) (fault_count self.new (OnDrive drive.0)) result }
         ensures counted { IsCounted told_calls told_blocks self.old self.new 0 }
         ensures keeps { Keeps shelf_sizes fault_count nothing nothing self.old self.new }
+        ensures noted { IsNoted told_story fault_count self.old self.new }
         ensures answers { AnswersAsAsked (OnDrive drive.0) result self.old self.new }
     {
         if !self.may_call_on(drive.0) {
             return Err(self.fail_on(drive.0, 0));
         }
-        match self.history.sync(drive.0) {
+        match self
+            .history
+            .sync(self.alloc, drive.0, &self.health, self.reply_faults)
+        {
             Err(_) => Err(self.fail_on(drive.0, 0)),
             Ok(()) => {
                 count(&mut self.plan.calls, 1);
@@ -302,26 +320,33 @@ impl Shelf for MemShelf {
             }
         }
     }
+
+    ghost telling = { λ s. tells_tale (shelf_tale s) (reverse (map counts_of s.history.counts.items)) };
 }
 
 impl Bench for MemShelf {
     ghost use Rattle.std.specs.Prelude.{◌++◌, OnOk};
     ghost use Rattle.mdv_base.specs.Causes.{HasCause};
+    ghost use Rattle.mdv_shelf.specs.Story.{IsNoted};
     ghost use Rattle.mdv_shelf.specs.Calls.{OnReplies, Gives, Keeps, IsCounted};
-    ghost use Rattle.mdv_shelf.specs.MemShelf.{shelf_sizes, told_bytes, fault_count, AnswersAsAsked, told_tale, told_calls, told_blocks, nothing};
+    ghost use Rattle.mdv_shelf.specs.MemShelf.{shelf_sizes, told_bytes, fault_count, AnswersAsAsked, told_tale, told_story, told_calls, told_blocks, nothing};
 
     fn give(&mut self, piece: &[u8]) -> Result<(), Failed>
         ensures gives { Gives (told_tale self.old) piece.now result (told_tale self.new) }
         ensures cause { HasCause (fault_count self.old OnReplies) (fault_count self.new OnReplies) result }
         ensures counted { IsCounted told_calls told_blocks self.old self.new 0 }
         ensures keeps { Keeps shelf_sizes fault_count nothing nothing self.old self.new }
+        ensures noted { IsNoted told_story fault_count self.old self.new }
         ensures answers { AnswersAsAsked OnReplies result self.old self.new }
         ensures told { OnOk result (told_bytes self.new ≡ told_bytes self.old ++ piece.now) }
     {
         if !self.may_give() {
             return Err(self.fail_giving());
         }
-        match self.history.give(self.alloc, piece) {
+        match self
+            .history
+            .give(self.alloc, piece, &self.health, self.reply_faults)
+        {
             Err(_) => Err(self.fail_giving()),
             Ok(()) => {
                 count(&mut self.plan.calls, 1);

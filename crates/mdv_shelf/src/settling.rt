@@ -1,8 +1,10 @@
 ghost use Rattle.std.specs.Prelude.{◌≡◌, length, OnOk};
 ghost use Rattle.mdv_base.specs.Causes.{HasCause};
-ghost use Rattle.mdv_shelf.specs.Calls.{OnDrive, InDrive, Keeps, Took, TookAtMost};
+ghost use Rattle.mdv_shelf.specs.Calls.{OnDrive, InDrive, Took, TookAtMost};
 ghost use Rattle.mdv_shelf.specs.Moments.{Moments, Ends};
 ghost use Rattle.mdv_shelf.specs.Settle.{Settling, IsSettled};
+ghost use Rattle.mdv_shelf.specs.Story.{OfTales};
+ghost use Rattle.mdv_shelf.specs.Shelves.{AtEachMoment, Keeps};
 
 use crate::Shelf;
 use mdv_base::{Block, DriveNo, Failed};
@@ -16,11 +18,12 @@ pub fn settle<S: Shelf>(
 ) -> Result<(), Failed>
     requires { InDrive (S.sizes shelf.old) drive.0 at (length from.now) }
     ensures moments { Moments (Settling drive.0 at from.now) (S.tale shelf.old) (S.tale shelf.new) }
+    ensures each { AtEachMoment S.Shelf (OfTales (Settling drive.0 at from.now)) shelf.old shelf.new }
     ensures settled { OnOk result (Ends (λ _ u. IsSettled drive.0 at from.now u) (S.tale shelf.old) (S.tale shelf.new)) }
     ensures cause { HasCause (S.faults shelf.old (OnDrive drive.0)) (S.faults shelf.new (OnDrive drive.0)) result }
     ensures counted { OnOk result (Took S.calls S.written shelf.old shelf.new 2 (length from.now)) }
     ensures counted_at_most { TookAtMost S.calls S.written shelf.old shelf.new 2 (length from.now) }
-    ensures keeps { Keeps S.sizes S.faults S.rest S.held shelf.old shelf.new }
+    ensures keeps { Keeps S.Shelf shelf.old shelf.new }
 {
     shelf.write(drive, at, from)?;
     shelf.sync(drive)?;

@@ -1,7 +1,9 @@
 ghost use Rattle.std.specs.Prelude.{◌≡◌, ◌<◌, ◌≤◌, ◌+◌, ℕ, List, Option, length, slice_index};
+ghost use Rattle.std.specs.Option.{option_map};
 ghost use Rattle.mdv_base.specs.Causes.{HasCause};
 ghost use Rattle.mdv_shelf.specs.Tale.{Tale};
 ghost use Rattle.mdv_shelf.specs.Calls.{Part, OnDrive, OnReplies, InDrive, Reads, Writes, Syncs, Gives, Keeps, IsCounted};
+ghost use Rattle.mdv_shelf.specs.Story.{Story, tale_of, IsNoted};
 
 use mdv_base::{Block, DriveNo, Failed};
 
@@ -16,6 +18,9 @@ pub trait Shelf {
 
     /// What was done and told since a start, where the shelf tells it.
     ghost tale: { Self → Option Tale };
+
+    /// The tale, with the counts of failures as each of its calls was made.
+    ghost story: { Self → Option Story };
 
     /// How many calls were made, where the shelf tells it.
     ghost calls: { Self → Option ℕ };
@@ -46,7 +51,8 @@ pub trait Shelf {
         ensures reads { Reads (tale self.old) drive.0 at result out.new (tale self.new) }
         ensures cause { HasCause (faults self.old (OnDrive drive.0)) (faults self.new (OnDrive drive.0)) result }
         ensures counted { IsCounted calls written self.old self.new 0 }
-        ensures keeps { Keeps sizes faults rest held self.old self.new };
+        ensures keeps { Keeps sizes faults rest held self.old self.new }
+        ensures noted { IsNoted story faults self.old self.new };
 
     /// Writes the blocks from that one on. Until a sync a crash may leave any of them as it was.
     fn write(&mut self, drive: DriveNo, at: u64, from: &[Block]) -> Result<(), Failed>
@@ -54,7 +60,8 @@ pub trait Shelf {
         ensures writes { Writes (tale self.old) drive.0 at from.now result (tale self.new) }
         ensures cause { HasCause (faults self.old (OnDrive drive.0)) (faults self.new (OnDrive drive.0)) result }
         ensures counted { IsCounted calls written self.old self.new (length from.now) }
-        ensures keeps { Keeps sizes faults rest held self.old self.new };
+        ensures keeps { Keeps sizes faults rest held self.old self.new }
+        ensures noted { IsNoted story faults self.old self.new };
 
     /// Puts all that the drive was given on the disk: a crash then leaves what a read gives.
     fn sync(&mut self, drive: DriveNo) -> Result<(), Failed>
@@ -62,7 +69,11 @@ pub trait Shelf {
         ensures syncs { Syncs (tale self.old) drive.0 result (tale self.new) }
         ensures cause { HasCause (faults self.old (OnDrive drive.0)) (faults self.new (OnDrive drive.0)) result }
         ensures counted { IsCounted calls written self.old self.new 0 }
-        ensures keeps { Keeps sizes faults rest held self.old self.new };
+        ensures keeps { Keeps sizes faults rest held self.old self.new }
+        ensures noted { IsNoted story faults self.old self.new };
+
+    // the tale is that of the story, and only a shelf that has one tells one
+    ghost telling: { (s : Self) → tale s ≡ option_map tale_of (story s) };
 }
 
 /// A shelf that also takes the bytes of replies.
@@ -72,5 +83,6 @@ pub trait Bench: Shelf {
         ensures gives { Gives (Self.tale self.old) piece.now result (Self.tale self.new) }
         ensures cause { HasCause (Self.faults self.old OnReplies) (Self.faults self.new OnReplies) result }
         ensures counted { IsCounted Self.calls Self.written self.old self.new 0 }
-        ensures keeps { Keeps Self.sizes Self.faults Self.rest Self.held self.old self.new };
+        ensures keeps { Keeps Self.sizes Self.faults Self.rest Self.held self.old self.new }
+        ensures noted { IsNoted Self.story Self.faults self.old self.new };
 }

@@ -29,7 +29,7 @@ impl<W: Write + Drop> FileBench<W> {
 }
 
 impl<W: Write + Drop> Shelf for FileBench<W> {
-    ghost use Rattle.std.specs.Prelude.{None};
+    ghost use Rattle.std.specs.Prelude.{None, refl};
     ghost use Rattle.metad.specs.Bench.{sizes_of, faults_of};
 
     ghost sizes = { λ b. sizes_of b.images.items };
@@ -37,6 +37,8 @@ impl<W: Write + Drop> Shelf for FileBench<W> {
     ghost faults = { λ b. faults_of b.images.items b.reply_faults };
 
     ghost tale = { λ _. None };
+
+    ghost story = { λ _. None };
 
     ghost calls = { λ _. None };
 
@@ -69,6 +71,8 @@ impl<W: Write + Drop> Shelf for FileBench<W> {
     fn sync(&mut self, drive: DriveNo) -> Result<(), Failed> {
         self.images[drive.0 as usize].sync()
     }
+
+    ghost telling = { λ _. refl };
 }
 
 impl<W: Write + Drop> Bench for FileBench<W> {

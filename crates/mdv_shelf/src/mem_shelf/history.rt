@@ -4,6 +4,8 @@ ghost use Rattle.mdv_shelf.specs.Tale.{Then, Wrote, Synced, Gave, told as told_i
 ghost use Rattle.mdv_shelf.specs.Calls.{InDrive, Shows};
 ghost use Rattle.mdv_shelf.specs.MemHistory.{tale_from, start_blocks, latest_blocks, zero_block, lengths, ShowsLast, KeepsWithin};
 
+use crate::mem_shelf::Health;
+use crate::mem_shelf::counts::Counts;
 use crate::mem_shelf::crash::{crash_disks, settle_disks};
 use crate::mem_shelf::disk::{Disk, MemCall};
 use mdv_base::Block;
@@ -14,6 +16,8 @@ pub struct History {
     pub disks: Vec<Disk>,
     /// The oldest call first.
     pub calls: Vec<MemCall>,
+    /// The counts as each of them was made.
+    pub counts: Vec<Counts>,
     pub told: Vec<u8>,
     /// How many bytes had been told when the tale began.
     pub told_before: usize,
@@ -25,7 +29,8 @@ pub struct History {
 }
 
 impl History {
-    ghost use Rattle.mdv_shelf.specs.MemShelf.{history_tale, history_sizes};
+    ghost use Rattle.mdv_shelf.specs.Story.{Next};
+    ghost use Rattle.mdv_shelf.specs.MemShelf.{history_tale, history_sizes, history_story, faults_in};
     ghost use Rattle.mdv_shelf.specs.MemHistory.{blank, crashed, brought_back};
 
     /// Drives of so many zero blocks each. More drives than 2^32 - 1 are refused like want of memory.
@@ -40,6 +45,7 @@ impl History {
         Ok(History {
             disks: blank_disks(alloc, sizes)?,
             calls: Vec::new(alloc),
+            counts: Vec::new(alloc),
             told: Vec::new(alloc),
             told_before: 0,
         })
@@ -59,43 +65,69 @@ impl History {
         drive: u32,
         at: u64,
         from: &[Block],
+        health: &[Health],
+        reply_faults: u64,
     ) -> Result<(), AllocError>
         requires { InDrive (history_sizes self.old) drive at (length from.now) }
         ensures ok { OnOk result (history_tale self.new ≡ Then (history_tale self.old) (Wrote drive at from.now)) }
         ensures err { OnErr result (history_tale self.new ≡ history_tale self.old) }
+        ensures noted { OnOk result (history_story self.new ≡ Next (history_story self.old) (Wrote drive at from.now) (faults_in health.now reply_faults)) }
+        ensures not_noted { OnErr result (history_story self.new ≡ history_story self.old) }
         ensures sizes { history_sizes self.new ≡ history_sizes self.old }
         ensures told { self.new.told.items ≡ self.old.told.items }
     {
         let blocks = Vec::from_slice(alloc, from)?;
+        let counts = Counts::with_room(alloc, health, reply_faults, &mut self.counts)?;
         self.calls.reserve(1)?;
         self.calls
             .push_reserved(MemCall::Write { drive, at, blocks });
+        self.counts.push_reserved(counts);
         self.disks[drive as usize].put(at as usize, from);
         Ok(())
     }
 
-    pub fn sync(&mut self, drive: u32) -> Result<(), AllocError>
+    pub fn sync(
+        &mut self,
+        alloc: Global,
+        drive: u32,
+        health: &[Health],
+        reply_faults: u64,
+    ) -> Result<(), AllocError>
         ensures ok { OnOk result (history_tale self.new ≡ Then (history_tale self.old) (Synced drive)) }
         ensures err { OnErr result (history_tale self.new ≡ history_tale self.old) }
+        ensures noted { OnOk result (history_story self.new ≡ Next (history_story self.old) (Synced drive) (faults_in health.now reply_faults)) }
+        ensures not_noted { OnErr result (history_story self.new ≡ history_story self.old) }
         ensures sizes { history_sizes self.new ≡ history_sizes self.old }
         ensures told { self.new.told.items ≡ self.old.told.items }
     {
+        let counts = Counts::with_room(alloc, health, reply_faults, &mut self.counts)?;
         self.calls.reserve(1)?;
         self.calls.push_reserved(MemCall::Sync { drive });
+        self.counts.push_reserved(counts);
         Ok(())
     }
 
-    pub fn give(&mut self, alloc: Global, piece: &[u8]) -> Result<(), AllocError>
+    pub fn give(
+        &mut self,
+        alloc: Global,
+        piece: &[u8],
+        health: &[Health],
+        reply_faults: u64,
+    ) -> Result<(), AllocError>
         ensures ok { OnOk result (history_tale self.new ≡ Then (history_tale self.old) (Gave piece.now (length piece.now))) }
         ensures told { OnOk result (self.new.told.items ≡ self.old.told.items ++ piece.now) }
         ensures err { OnErr result (history_tale self.new ≡ history_tale self.old) }
         ensures not_told { OnErr result (self.new.told.items ≡ self.old.told.items) }
+        ensures noted { OnOk result (history_story self.new ≡ Next (history_story self.old) (Gave piece.now (length piece.now)) (faults_in health.now reply_faults)) }
+        ensures not_noted { OnErr result (history_story self.new ≡ history_story self.old) }
         ensures sizes { history_sizes self.new ≡ history_sizes self.old }
     {
         let copy = Vec::from_slice(alloc, piece)?;
+        let counts = Counts::with_room(alloc, health, reply_faults, &mut self.counts)?;
         self.calls.reserve(1)?;
         self.told.extend_from_slice(piece)?;
         self.calls.push_reserved(MemCall::Give { piece: copy });
+        self.counts.push_reserved(counts);
         Ok(())
     }
 
@@ -106,6 +138,7 @@ impl History {
         ensures told { self.new.told.items ≡ self.old.told.items }
     {
         crash_disks(&mut self.disks, &self.calls, choice);
+        self.counts.clear();
         begin_anew(&mut self.calls, &mut self.told_before, &self.told);
     }
 
@@ -119,6 +152,7 @@ impl History {
     {
         let _ = self.disks[drive as usize].crash(drive, &self.calls, &[]);
         settle_disks(&mut self.disks);
+        self.counts.clear();
         begin_anew(&mut self.calls, &mut self.told_before, &self.told);
     }
 }

@@ -1,6 +1,8 @@
 use Rattle.std.proofs.Common.{length, ◌∙◌, arith}
 use Rattle.mdv_shelf.proofs.Settled.{moments_tore, moments_wrote, moments_settled, ends_settled}
 use Rattle.mdv_shelf.proofs.Counts.{took_one, took_more, took_at_most}
+use Rattle.mdv_shelf.specs.Settle.{Settling}
+use Rattle.mdv_shelf.proofs.Noted.{goes_on_call, goes_on_more, moments_of_tales}
 use Rattle.mdv_shelf.proofs.settling.settle.Goals as goal
 
 pub returns-in_err-write-clause-moments : goal.returns-in_err-write-clause-moments
@@ -40,3 +42,20 @@ returns-clause-counted_at_most g c =
     took_more g.S.Shelf.calls g.S.Shelf.written _ _ _ 1 1 (length c.args.from.now) 0 2 (length c.args.from.now) (omega arith) (omega arith)
     (took_one g.S.Shelf.calls g.S.Shelf.written _ _ _ c.write.ensures.counted) (took_one g.S.Shelf.calls g.S.Shelf.written _ _ _ c.sync.ensures.counted)
     )
+
+pub returns-in_err-write-clause-each : goal.returns-in_err-write-clause-each
+returns-in_err-write-clause-each g c =
+    moments_of_tales g.S.Shelf g.met.S.Shelf.telling c.args.shelf.now c.write.new.self (Settling c.args.drive.0 c.args.at c.args.from.now)
+    (goes_on_call g.S.Shelf c.args.shelf.now c.write.new.self c.write.ensures.noted c.write.ensures.keeps) (returns-in_err-write-clause-moments g c)
+
+pub returns-in_err-sync-clause-each : goal.returns-in_err-sync-clause-each
+returns-in_err-sync-clause-each g c =
+    moments_of_tales g.S.Shelf g.met.S.Shelf.telling c.args.shelf.now c.sync.new.self (Settling c.args.drive.0 c.args.at c.args.from.now)
+    (goes_on_more g.S.Shelf c.args.shelf.now c.write.new.self c.sync.new.self (goes_on_call g.S.Shelf c.args.shelf.now c.write.new.self c.write.ensures.noted c.write.ensures.keeps)
+    (goes_on_call g.S.Shelf c.write.new.self c.sync.new.self c.sync.ensures.noted c.sync.ensures.keeps)) (returns-in_err-sync-clause-moments g c)
+
+pub returns-clause-each : goal.returns-clause-each
+returns-clause-each g c =
+    moments_of_tales g.S.Shelf g.met.S.Shelf.telling c.args.shelf.now c.sync.new.self (Settling c.args.drive.0 c.args.at c.args.from.now)
+    (goes_on_more g.S.Shelf c.args.shelf.now c.write.new.self c.sync.new.self (goes_on_call g.S.Shelf c.args.shelf.now c.write.new.self c.write.ensures.noted c.write.ensures.keeps)
+    (goes_on_call g.S.Shelf c.write.new.self c.sync.new.self c.sync.ensures.noted c.sync.ensures.keeps)) (returns-clause-moments g c)

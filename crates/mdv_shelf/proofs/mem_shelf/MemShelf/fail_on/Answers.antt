@@ -13,6 +13,7 @@ returns c =
     let is = c.index_mut.ensures.value in
     record {
       same_tale = refl;
+      same_story = refl;
       same_told = refl;
       same_sizes = refl;
       plan = record { same_failing = refl; same_losses = refl; same_stop = refl; same_lost = same_lost health c.args.drive h after is refl };

@@ -12,6 +12,7 @@ returns-clause-untouched c =
     let after : Health = record { lost = true; faults = c.index_mut.result.now.faults } in
     record {
       same_tale = refl;
+      same_story = refl;
       counts = record {
         same_told = refl;
         same_sizes = refl;

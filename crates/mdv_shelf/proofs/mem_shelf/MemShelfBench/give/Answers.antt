@@ -1,6 +1,8 @@
-use Rattle.std.proofs.Common.{refl}
+use Rattle.std.proofs.Common.{inr, refl, length}
+use Rattle.mdv_shelf.specs.Tale.{Gave}
 use Rattle.mdv_shelf.specs.Calls.{OnReplies}
 use Rattle.mdv_shelf.proofs.MemFaults.{failed_cause, failed_keeps}
+use Rattle.mdv_shelf.proofs.MemStory.{noted_call}
 use Rattle.mdv_shelf.proofs.mem_shelf.MemShelfBench.give.Goals as goal
 
 pub returns-then-not-may_give-clause-cause : goal.returns-then-not-may_give-clause-cause
@@ -14,3 +16,6 @@ returns-in-Err-clause-cause c = failed_cause c.args.self.now _ c.fail_giving-in-
 
 pub returns-in-Err-clause-keeps : goal.returns-in-Err-clause-keeps
 returns-in-Err-clause-keeps c = failed_keeps c.args.self.now _ c.fail_giving-in-Err.new.self OnReplies 0 c.fail_giving-in-Err.ensures (λ p. refl) c.give.ensures.sizes
+
+pub returns-in-Ok-clause-noted : goal.returns-in-Ok-clause-noted
+returns-in-Ok-clause-noted c = inr (noted_call c.args.self.now c.give.new.self (Gave c.args.piece.now (length c.args.piece.now)) c.deref.result.now c.deref.ensures.value c.in-Ok.ensures.noted)

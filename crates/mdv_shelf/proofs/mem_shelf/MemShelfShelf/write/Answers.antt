@@ -1,6 +1,8 @@
-use Rattle.std.proofs.Common.{refl, length}
+use Rattle.std.proofs.Common.{inr, refl, length}
+use Rattle.mdv_shelf.specs.Tale.{Wrote}
 use Rattle.mdv_shelf.specs.Calls.{OnDrive}
 use Rattle.mdv_shelf.proofs.MemFaults.{failed_cause, failed_keeps}
+use Rattle.mdv_shelf.proofs.MemStory.{noted_call}
 use Rattle.mdv_shelf.proofs.mem_shelf.MemShelfShelf.write.Goals as goal
 
 pub returns-then-not-may_call_on-clause-cause : goal.returns-then-not-may_call_on-clause-cause
@@ -14,3 +16,6 @@ returns-in-Err-clause-cause c = failed_cause c.args.self.now _ c.fail_on-in-Err.
 
 pub returns-in-Err-clause-keeps : goal.returns-in-Err-clause-keeps
 returns-in-Err-clause-keeps c = failed_keeps c.args.self.now _ c.fail_on-in-Err.new.self (OnDrive c.args.drive.0) (length c.args.from.now) c.fail_on-in-Err.ensures (λ p. refl) c.write.ensures.sizes
+
+pub returns-in-Ok-clause-noted : goal.returns-in-Ok-clause-noted
+returns-in-Ok-clause-noted c = inr (noted_call c.args.self.now c.write.new.self (Wrote c.args.drive.0 c.args.at c.args.from.now) c.deref.result.now c.deref.ensures.value c.in-Ok.ensures.noted)

@@ -4,7 +4,7 @@ use Rattle.mdv_shelf.proofs.mem_shelf.history.History.new.Goals as goal
 
 pub invariant_of-result : goal.invariant_of-result
 invariant_of-result c =
-    let done = after_new c.in_ok-blank_disks.field-0.items c.args.sizes.now c.new.result.items c.new-2.result.items c.new.ensures.items c.new-2.ensures.items
+    let done = after_new c.in_ok-blank_disks.field-0.items c.args.sizes.now c.new.result.items c.new-3.result.items c.new.ensures.items c.new-3.ensures.items
     c.in_ok-blank_disks.ensures.start c.in_ok-blank_disks.ensures.latest in
     record {
       few = omega (arith, done.number, c.if-sizes.false);
@@ -15,9 +15,9 @@ invariant_of-result c =
     }
 
 pub returns-clause-tale : goal.returns-clause-tale
-returns-clause-tale c = (after_new c.in_ok-blank_disks.field-0.items c.args.sizes.now c.new.result.items c.new-2.result.items c.new.ensures.items c.new-2.ensures.items
+returns-clause-tale c = (after_new c.in_ok-blank_disks.field-0.items c.args.sizes.now c.new.result.items c.new-3.result.items c.new.ensures.items c.new-3.ensures.items
     c.in_ok-blank_disks.ensures.start c.in_ok-blank_disks.ensures.latest).tale
 
 pub returns-clause-sizes : goal.returns-clause-sizes
-returns-clause-sizes c = (after_new c.in_ok-blank_disks.field-0.items c.args.sizes.now c.new.result.items c.new-2.result.items c.new.ensures.items c.new-2.ensures.items
+returns-clause-sizes c = (after_new c.in_ok-blank_disks.field-0.items c.args.sizes.now c.new.result.items c.new-3.result.items c.new.ensures.items c.new-3.ensures.items
     c.in_ok-blank_disks.ensures.start c.in_ok-blank_disks.ensures.latest).sizes_are

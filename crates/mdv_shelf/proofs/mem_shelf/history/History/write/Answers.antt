@@ -3,6 +3,9 @@ use Rattle.mdv_shelf.specs.Tale.{Wrote}
 use Rattle.mdv_shelf.specs.declared.mem_shelf.disk.MemCall.{MemCall}
 use Rattle.mdv_shelf.specs.declared.mem_shelf.disk.MemCall.TheVariants.{Write}
 use Rattle.mdv_shelf.proofs.MemLaws.{range_fits, after_write}
+use Rattle.mdv_shelf.specs.MemShelf.{history_tale}
+use Rattle.mdv_shelf.specs.declared.mem_shelf.counts.Counts.{Counts}
+use Rattle.mdv_shelf.proofs.MemStory.{noted_more}
 use Rattle.mdv_shelf.proofs.mem_shelf.history.History.write.Goals as goal
 
 pub put-requires : goal.put-requires
@@ -34,3 +37,8 @@ returns-clause-sizes c = (after_write c.args.self.now.disks.items c.args.self.no
     c.args.drive c.args.at (Write c.args.drive c.args.at c.in_ok-blocks.blocks) c.args.from.now c.index_mut.result.now c.put.new.self c.requires
     (c.push_reserved.ensures.items ∙ ap (λ (cs : List MemCall). cs ++ Write c.args.drive c.args.at c.in_ok-blocks.blocks ∷ []) c.reserve.ensures.items)
     (ap (λ (l : List (List ℕ)). Wrote c.args.drive c.args.at l) c.in_ok-blocks.ensures.items) c.index_mut.ensures.value c.put.ensures.start c.put.ensures.latest).sizes
+
+pub returns-clause-noted : goal.returns-clause-noted
+returns-clause-noted c =
+    noted_more (history_tale c.args.self.now) _ (Wrote c.args.drive c.args.at c.args.from.now) c.args.self.now.counts.items c.push_reserved-2.new.self.items c.in_ok-counts.counts _
+    (returns-clause-ok c) (c.push_reserved-2.ensures.items ∙ ap (λ (l : List Counts). l ++ c.in_ok-counts.counts ∷ []) c.with_room.ensures.same) c.in_ok-counts.ensures.counts

@@ -1,0 +1,30 @@
+-- What one more call does to the story that drives in memory tell.
+use Rattle.std.proofs.Common.{◌≡◌, ℕ, List, [], ◌∷◌, ◌++◌, map, reverse, Some, ◌∙◌, ap}
+use Rattle.std.proofs.lemmas.List.{map_push, reverse-append}
+use Rattle.mdv_shelf.specs.Tale.{Tale, Then, Call}
+use Rattle.mdv_shelf.specs.Calls.{Part}
+use Rattle.mdv_shelf.specs.Story.{Next, and_next}
+use Rattle.mdv_shelf.specs.MemStory.{with_counts}
+use Rattle.mdv_shelf.specs.MemShelf.{counts_of, faults_in, told_story, fault_count, shelf_story, history_story}
+use Rattle.mdv_shelf.specs.declared.mem_shelf.counts.Counts.{Counts}
+use Rattle.mdv_shelf.specs.declared.mem_shelf.Health.{Health}
+use Rattle.mdv_shelf.specs.declared.mem_shelf.history.History.{History}
+use Rattle.mdv_shelf.specs.declared.mem_shelf.MemShelf.{MemShelf}
+
+-- the newest counts come first
+newest_first : (counts : List Counts) (k : Counts) → reverse (map counts_of (counts ++ k ∷ [])) ≡ counts_of k ∷ reverse (map counts_of counts)
+newest_first counts k = ap reverse (map_push counts_of counts k) ∙ reverse-append (map counts_of counts) (counts_of k ∷ [])
+
+-- one more call, with its counts
+pub noted_more : (t u : Tale) (c : Call) (counts new : List Counts) (k : Counts) (faults : Part → ℕ) → u ≡ Then t c → new ≡ counts ++ k ∷ [] → counts_of k ≡ faults
+    → with_counts u (reverse (map counts_of new)) ≡ Next (with_counts t (reverse (map counts_of counts))) c faults
+noted_more t u c counts new k faults tale pushed are =
+    ap (λ (v : Tale). with_counts v (reverse (map counts_of new))) tale
+    ∙ ap (λ (l : List Counts). with_counts (Then t c) (reverse (map counts_of l))) pushed
+    ∙ ap (λ (l : List (Part → ℕ)). with_counts (Then t c) l) (newest_first counts k)
+    ∙ ap (λ (f : Part → ℕ). Next (with_counts t (reverse (map counts_of counts))) c f) are
+
+-- it is noted with the counts of the shelf, of which a slice was lent
+pub noted_call : (old : MemShelf) (after : History) (c : Call) (lent : List Health) → lent ≡ old.health.items → history_story after ≡ Next (shelf_story old) c (faults_in lent old.reply_faults)
+    → (d : Call) × (Some (history_story after) ≡ and_next (told_story old) d (fault_count old))
+noted_call old after c lent same is = (c, ap Some (is ∙ ap (λ (l : List Health). Next (shelf_story old) c (faults_in l old.reply_faults)) same))

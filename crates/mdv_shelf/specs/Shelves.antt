@@ -1,0 +1,44 @@
+-- Words over a whole shelf: the ghosts of its bound are passed as one, as `S.Shelf`.
+use Rattle.std.specs.Prelude.{ℕ}
+use Rattle.mdv_base.specs.Causes.{Rose}
+use Rattle.mdv_shelf.specs.Tale.{Tale}
+use Rattle.mdv_shelf.specs.Calls.{OnDrive, OnReplies, Took, TookAtMost, Keeps as KeepsOf}
+use Rattle.mdv_shelf.specs.Moments.{Moments, Ends}
+use Rattle.mdv_shelf.specs.Story.{Moment, AtEach}
+use Rattle.mdv_shelf.specs.declared.shelf.Shelf.{Ghosts}
+
+-- the sizes, what no call on a drive changes and the references held stay, and no count of failures fell
+abbrev pub Keeps : {S : Type 0} → Ghosts S → S → S → Type 0
+Keeps shelf old new = KeepsOf shelf.sizes shelf.faults shelf.rest shelf.held old new
+
+-- a call on the drive failed
+abbrev pub DriveFailed : {S : Type 0} → Ghosts S → S → S → ℕ → Type 0
+DriveFailed shelf old new drive = Rose (shelf.faults old (OnDrive drive)) (shelf.faults new (OnDrive drive))
+
+-- a giving of replies failed
+abbrev pub GivingFailed : {S : Type 0} → Ghosts S → S → S → Type 0
+GivingFailed shelf old new = Rose (shelf.faults old OnReplies) (shelf.faults new OnReplies)
+
+-- R holds, relative to the start, at each moment: of what was done and told by then, and of the counts
+abbrev pub AtEachMoment : {S : Type 0} → Ghosts S → (Moment → Moment → Type 0) → S → S → Type 0
+AtEachMoment shelf R old new = AtEach R (shelf.story old) (shelf.faults old) (shelf.story new) (shelf.faults new)
+
+-- the story goes on: each call that changed something is told with the counts as it was made, and none fell
+abbrev pub GoesOn : {S : Type 0} → Ghosts S → S → S → Type 0
+GoesOn shelf old new = AtEachMoment shelf (λ _ _. Unit {0}) old new
+
+-- R holds, relative to the start, of what was done and told by each moment, whatever had failed
+abbrev pub AtEachTale : {S : Type 0} → Ghosts S → (Tale → Tale → Type 0) → S → S → Type 0
+AtEachTale shelf R old new = Moments R (shelf.tale old) (shelf.tale new)
+
+-- Q holds in the end, relative to the start
+abbrev pub AtEnd : {S : Type 0} → Ghosts S → (Tale → Tale → Type 0) → S → S → Type 0
+AtEnd shelf Q old new = Ends Q (shelf.tale old) (shelf.tale new)
+
+-- it took so many calls, with so many blocks written
+abbrev pub MadeCalls : {S : Type 0} → Ghosts S → S → S → ℕ → ℕ → Type 0
+MadeCalls shelf old new calls blocks = Took shelf.calls shelf.written old new calls blocks
+
+-- it took at most so many
+abbrev pub MadeCallsAtMost : {S : Type 0} → Ghosts S → S → S → ℕ → ℕ → Type 0
+MadeCallsAtMost shelf old new calls blocks = TookAtMost shelf.calls shelf.written old new calls blocks

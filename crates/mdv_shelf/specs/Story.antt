@@ -1,0 +1,79 @@
+-- A story is a tale of which each call has the counts of failures as it was made, and a moment of it is a
+-- tale and the counts by then.
+use Rattle.std.specs.Prelude.{◌≡◌, ◌⊎◌, ℕ, ◌≤◌, List, [], ◌∷◌, Option, Some}
+use Rattle.std.specs.Option.{option_map}
+use Rattle.mdv_base.specs.Causes.{Rose}
+use Rattle.mdv_shelf.specs.Tale.{Start, Tale, Begun, Then, Call}
+use Rattle.mdv_shelf.specs.Calls.{Part}
+use Rattle.mdv_shelf.specs.Moments.{During}
+
+-- the newest call outermost
+pub data Story : Type 0 where
+  Opened : Start → Story
+  Next : Story → Call → (Part → ℕ) → Story
+
+-- what was done and told, without the counts
+abbrev pub tale_of : Story → Tale
+tale_of (Opened start) = Begun start
+tale_of (Next s c faults) = Then (tale_of s) c
+
+-- a story with one more call
+abbrev pub and_next : Option Story → Call → (Part → ℕ) → Option Story
+and_next old c faults = option_map (λ s. Next s c faults) old
+
+-- A call on a shelf: the story stays, or has one call more, with the counts as that was made. Which call
+-- it is, the tale says.
+abbrev pub IsNoted : {S : Type 0} → (S → Option Story) → (S → Part → ℕ) → S → S → Type 0
+IsNoted story faults old new = (story new ≡ story old) ⊎ ((c : Call) × (story new ≡ and_next (story old) c (faults old)))
+
+-- a call, and how often each part had failed as it was made
+pub record Mark : Type 0 where
+  pub call : Call
+  pub faults : Part → ℕ
+
+-- a story with more calls, the newest of them first
+abbrev pub marked : Story → List Mark → Story
+marked s [] = s
+marked s (m ∷ ms) = Next (marked s ms) m.call m.faults
+
+-- what was done and told by a moment, and how often each part had failed
+pub record Moment : Type 0 where
+  pub tale : Tale
+  pub faults : Part → ℕ
+
+-- a call on the part failed between two moments
+abbrev pub FailedBy : Moment → Moment → Part → Type 0
+FailedBy t m part = Rose (t.faults part) (m.faults part)
+
+-- P at each moment of these calls, each with the counts as it was made
+abbrev pub AtMarks : (Moment → Type 0) → Story → List Mark → Type 0
+AtMarks P s [] = Unit {0}
+AtMarks P s (m ∷ ms) = AtMarks P s ms × During (λ t. P (record { tale = t; faults = m.faults })) (tale_of (marked s ms)) m.call
+
+-- no part failed less often
+abbrev pub NoFewer : (Part → ℕ) → (Part → ℕ) → Type 0
+NoFewer before after = (part : Part) → before part ≤ after part
+
+-- no count falls from the first ones, over these calls, to the last ones
+abbrev pub NeverFall : (Part → ℕ) → List Mark → (Part → ℕ) → Type 0
+NeverFall first [] last = NoFewer first last
+NeverFall first (m ∷ ms) last = NeverFall first ms m.faults × NoFewer m.faults last
+
+-- calls led from s to u, and P held at the first moment, at each of these calls, and at the last moment
+pub record Passed (P : Moment → Type 0) (s : Story) (before : Part → ℕ) (u : Story) (after : Part → ℕ) : Type 0 where
+  pub marks : List Mark
+  pub led : u ≡ marked s marks
+  pub rising : NeverFall before marks after
+  pub first : P (record { tale = tale_of s; faults = before })
+  pub each : AtMarks P s marks
+  pub last : P (record { tale = tale_of u; faults = after })
+
+-- From what a shelf told and counted to what it tells and counts: R holds, relative to the start, at each
+-- moment. It says nothing of a shelf that tells nothing.
+abbrev pub AtEach : (Moment → Moment → Type 0) → Option Story → (Part → ℕ) → Option Story → (Part → ℕ) → Type 0
+AtEach R old before new after =
+    (s : Story) → old ≡ Some s → (u : Story) × (new ≡ Some u) × Passed (R (record { tale = tale_of s; faults = before })) s before u after
+
+-- R of the tales alone
+abbrev pub OfTales : (Tale → Tale → Type 0) → Moment → Moment → Type 0
+OfTales R t m = R t.tale m.tale
