@@ -1,6 +1,7 @@
 #!/usr/bin/env bash
-# Makes a blank drive image, builds metad, and runs one script with a line `boot`. Ends with status 0 where
-# the run told what it must, and the boot wrote its number on the drive.
+# Makes a blank drive image, and runs one script with a line `boot`. With --proved it proves and builds metad
+# first. Ends with status 0 where the run told what it must, and the boot wrote its number on the drive.
+# shellcheck source=../begin.sh source-path=SCRIPTDIR
 . "$(dirname "$0")/../begin.sh"
 begin d0.img 40000
 

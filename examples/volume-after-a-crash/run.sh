@@ -1,6 +1,7 @@
 #!/usr/bin/env bash
-# Makes a blank drive image, builds metad, and kills it right behind the `ok` of a write. A second run on the same
-# image reads the block again. Ends with status 0 where both runs told what they must, and the block is on the drive.
+# Makes a blank drive image, and kills metad right behind the `ok` of a write. A second run on the same image reads
+# the block again. With --proved it proves and builds metad first. Ends with status 0 where both runs told what they must, and the block is on the drive.
+# shellcheck source=../begin.sh source-path=SCRIPTDIR
 . "$(dirname "$0")/../begin.sh"
 begin d0.img 40000
 
