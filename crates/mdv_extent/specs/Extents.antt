@@ -1,0 +1,29 @@
+-- The extents of soft partitions on one base.
+use Rattle.std.specs.Prelude.{◌≡◌, ◌≤◌, ℕ, true, false, List, [], ◌∷◌, length, All, sum_by, map}
+use Rattle.mdv_extent.specs.declared.run.Run.{Run}
+use Rattle.mdv_extent.specs.Runs.{end_of, has, covers, takes, with_header, IsInOrder}
+
+-- no block has two of the extents, with their headers
+abbrev pub IsApart : List Run → Type 0
+IsApart [] = Unit {0}
+IsApart (r ∷ extents) = ((k : ℕ) → has (with_header r) k ≡ true → takes extents k ≡ false) × IsApart extents
+
+-- an extent has a block, and one before it for its header, and ends within the base
+pub record IsExtent (blocks : ℕ) (r : Run) : Type 0 where
+  pub header : 1 ≤ r.at
+  pub whole : 1 ≤ r.blocks
+  pub within : end_of r ≤ blocks
+
+-- the extents that one soft partition may have on a base of so many blocks
+pub record IsExtents (blocks : ℕ) (extents : List Run) : Type 0 where
+  pub few : length extents ≤ 16
+  pub lie : All (IsExtent blocks) extents
+  pub apart : IsApart extents
+
+-- extents that so many blocks of free runs are made: they lie, with their headers, in the runs and in their order
+pub record IsAllotment (low high : ℕ) (free : List Run) (need : ℕ) (extents : List Run) : Type 0 where
+  pub few : length extents ≤ 16
+  pub sum : sum_by (λ (r : Run). r.blocks) extents ≡ need
+  pub whole : All (λ (r : Run). (1 ≤ r.at) × (1 ≤ r.blocks)) extents
+  pub order : IsInOrder low high (map with_header extents)
+  pub free_before : (k : ℕ) → takes extents k ≡ true → covers free k ≡ true
