@@ -6,3 +6,4 @@ pub mod Sharing
 pub mod Releasing
 pub mod Allotting
 pub mod Taking
+pub mod Standing

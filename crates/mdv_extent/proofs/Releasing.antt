@@ -1,10 +1,10 @@
 -- What stays used once extents are given back.
 use Rattle.std.proofs.Common.{◌≡◌, ◌&&◌, ◌||◌, inl, inr, ℕ, Bool, true, false, not, eqb, ltb, List, [], ◌∷◌, refl, sym, subst, ◌∙◌, ap, arith, All}
-use Rattle.std.proofs.lemmas.List.Elements.{All-tail}
+use Rattle.std.proofs.lemmas.List.Elements.{All-tail, All-filter}
 use Rattle.std.proofs.lemmas.Bool.{cases_Bool, or_cases, or_parts, or_from, or_left, or_right, and_parts, and_from, cond-true, cond-false, eqb-true, eq-eqb, not_from_true, not_from_false, false≢true, false_from_ne_true}
 use Rattle.mdv_extent.specs.declared.run.Run.{Run}
 use Rattle.mdv_extent.specs.Runs.{has, takes, with_header, same_run, is_one_of, released}
-use Rattle.mdv_extent.specs.Extents.{IsApart}
+use Rattle.mdv_extent.specs.Extents.{IsApart, IsExtent, LieApart}
 use Rattle.mdv_extent.specs.Laws.{IsGivenBack}
 use Rattle.mdv_extent.proofs.Covering.{covers-free_of}
 
@@ -111,12 +111,15 @@ more_free true true false = refl
 more_free true false g = refl
 more_free false u g = refl
 
-pub given_back : (blocks : ℕ) (used gone : List Run) → IsApart used → All (λ (r : Run). is_one_of used r ≡ true) gone → IsGivenBack blocks used gone
-given_back blocks used gone apart all =
-    let kept : (k : ℕ) → takes (released used gone) k ≡ (takes used k && not (takes gone k)) = λ k. released_blocks used gone k apart (among_all used gone k all) in
+pub given_back : (blocks : ℕ) (used gone : List Run) → LieApart blocks used → All (λ (r : Run). is_one_of used r ≡ true) gone → IsGivenBack blocks used gone
+given_back blocks used gone on_base all =
+    let kept : (k : ℕ) → takes (released used gone) k ≡ (takes used k && not (takes gone k)) = λ k. released_blocks used gone k on_base.apart (among_all used gone k all) in
     record {
       kept = kept;
       freed = λ k. covers-free_of blocks (released used gone) k ∙ ap (λ (b : Bool). ltb k blocks && not b) (kept k) ∙ more_free (ltb k blocks) (takes used k) (takes gone k)
           ∙ ap (λ (b : Bool). b || (ltb k blocks && takes gone k)) (sym (covers-free_of blocks used k));
-      apart = released_apart used gone apart;
+      others = record {
+        lie = All-filter (λ (r : Run). not (is_one_of gone r)) (IsExtent blocks) used on_base.lie;
+        apart = released_apart used gone on_base.apart;
+      };
     }

@@ -3,7 +3,6 @@ use Rattle.std.proofs.Common.{◌≡◌, ◌≤◌, ◌<◌, ◌+◌, ◌-◌, �
 use Rattle.std.specs.List.Sorted.{IsNonDecreasingBy, IsPermutation}
 use Rattle.std.proofs.lemmas.List.Sorted.{All-permutation, IsPermutation-sym}
 use Rattle.std.proofs.Math.ListN.{drop_of_length-le}
-use Rattle.std.proofs.lemmas.List.{append-nil}
 use Rattle.std.proofs.lemmas.List.Elements.{All-cons, All-tail}
 use Rattle.std.proofs.lemmas.Bool.{cases_lt, cases_Bool, or_parts, or_from, false≢true}
 use Rattle.std.proofs.lemmas.Bool.Decides.{nat_tests}
@@ -61,14 +60,8 @@ gaps_are_free blocks used row = record {
 }
 
 -- behind the last used run: what is left of the base
-last_gap : (next blocks i : ℕ) (used free swept : List Run) → free ++ gaps_from next blocks (drop i used) ≡ swept → length used ≤ i → free ++ between next blocks ≡ swept
+pub last_gap : (next blocks i : ℕ) (used free swept : List Run) → free ++ gaps_from next blocks (drop i used) ≡ swept → length used ≤ i → free ++ between next blocks ≡ swept
 last_gap next blocks i used free swept so_far end = ap (λ (l : List Run). free ++ gaps_from next blocks l) (sym (drop_of_length-le used end)) ∙ so_far
-
-pub swept_some : (next blocks i : ℕ) (used free swept : List Run) → free ++ gaps_from next blocks (drop i used) ≡ swept → length used ≤ i → next < blocks → free ++ (record { at = next; blocks = blocks - next } ∷ []) ≡ swept
-swept_some next blocks i used free swept so_far end lt = ap (λ (l : List Run). free ++ l) (sym (between-some next blocks lt)) ∙ last_gap next blocks i used free swept so_far end
-
-pub swept_none : (next blocks i : ℕ) (used free swept : List Run) → free ++ gaps_from next blocks (drop i used) ≡ swept → length used ≤ i → blocks ≤ next → free ≡ swept
-swept_none next blocks i used free swept so_far end le = sym (append-nil free) ∙ ap (λ (l : List Run). free ++ l) (sym (between-none next blocks le)) ∙ last_gap next blocks i used free swept so_far end
 
 -- used runs that a sort put in order
 pub row_from_sorted : (blocks : ℕ) (used : List Run) → All (IsUsed blocks) used → IsNonDecreasingBy (λ (r : Run). r.at) used → IsRow blocks used

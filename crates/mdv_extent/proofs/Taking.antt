@@ -1,12 +1,12 @@
 -- What stays used and what is free once extents are given out.
 use Rattle.std.proofs.Common.{◌≡◌, ◌≤◌, ◌<◌, ◌&&◌, ◌||◌, ℕ, Bool, true, false, not, ltb, List, [], ◌∷◌, ◌++◌, map, refl, sym, ◌∙◌, ap, arith, All, Ok}
-use Rattle.std.proofs.lemmas.List.Elements.{All-cons, All-tail, All-nil}
+use Rattle.std.proofs.lemmas.List.Elements.{All-cons, All-tail, All-nil, All-append}
 use Rattle.std.proofs.lemmas.Bool.{or_parts, or_from, and_parts, not-true, false≢true, false_from_ne_true}
 use Rattle.mdv_extent.specs.declared.run.Run.{Run}
 use Rattle.mdv_extent.specs.Runs.{end_of, has, covers, takes, with_header, IsInOrder}
 use Rattle.mdv_extent.specs.Free.{free_of}
 use Rattle.mdv_extent.specs.Share.{allotted}
-use Rattle.mdv_extent.specs.Extents.{IsApart, IsExtent, IsAllotment}
+use Rattle.mdv_extent.specs.Extents.{IsApart, IsExtent, LieApart, IsAllotment}
 use Rattle.mdv_extent.specs.Laws.{IsTaken}
 use Rattle.mdv_extent.proofs.Covering.{covers-free_of}
 use Rattle.mdv_extent.proofs.Spreading.{has_none_before, has_parts, free_of_is_free, order_of_free}
@@ -58,11 +58,12 @@ pub taken_from_free : (blocks need : ℕ) (used taken : List Run) → 1 ≤ need
 taken_from_free blocks need used taken some is =
     let lies : IsAllotment 0 blocks (free_of blocks used) need taken =
     allotted_lie_free 0 blocks need (free_of blocks used) taken (order_of_free blocks blocks used (free_of blocks used) (free_of_is_free blocks used) (omega arith)) some is in
+    let on_base : LieApart blocks taken = record { lie = lie_in_order 0 blocks taken lies.whole lies.order; apart = apart_in_order 0 blocks taken lies.order } in
     let unused : (k : ℕ) → takes taken k ≡ true → takes used k ≡ false =
     λ k on. not-true (takes used k) (and_parts (ltb k blocks) (not (takes used k)) (sym (covers-free_of blocks used k) ∙ lies.free_before k on)).1 in
     record {
-      extents = record { few = lies.few; lie = lie_in_order 0 blocks taken lies.whole lies.order; apart = apart_in_order 0 blocks taken lies.order };
+      extents = record { few = lies.few; on_base = on_base };
       unused = unused;
-      apart = λ apart. apart-append used taken apart (apart_in_order 0 blocks taken lies.order) unused;
+      together = λ before. record { lie = All-append (IsExtent blocks) used taken before.lie on_base.lie; apart = apart-append used taken before.apart on_base.apart unused };
       rest = λ k. covers-free_of blocks (used ++ taken) k ∙ ap (λ (b : Bool). ltb k blocks && not b) (takes-append used taken k) ∙ less_taken (ltb k blocks) (takes used k) (takes taken k) ∙ ap (λ (b : Bool). b && not (takes taken k)) (sym (covers-free_of blocks used k));
     }

@@ -14,11 +14,15 @@ pub record IsExtent (blocks : ℕ) (r : Run) : Type 0 where
   pub whole : 1 ≤ r.blocks
   pub within : end_of r ≤ blocks
 
+-- the extents of soft partitions on one base
+pub record LieApart (blocks : ℕ) (extents : List Run) : Type 0 where
+  pub lie : All (IsExtent blocks) extents
+  pub apart : IsApart extents
+
 -- the extents that one soft partition may have on a base of so many blocks
 pub record IsExtents (blocks : ℕ) (extents : List Run) : Type 0 where
   pub few : length extents ≤ 16
-  pub lie : All (IsExtent blocks) extents
-  pub apart : IsApart extents
+  pub on_base : LieApart blocks extents
 
 -- extents that so many blocks of free runs are made: they lie, with their headers, in the runs and in their order
 pub record IsAllotment (low high : ℕ) (free : List Run) (need : ℕ) (extents : List Run) : Type 0 where

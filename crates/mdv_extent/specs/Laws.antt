@@ -4,7 +4,7 @@ use Rattle.mdv_extent.specs.declared.run.Run.{Run}
 use Rattle.mdv_extent.specs.Runs.{covers, takes, released, is_one_of, IsInOrder}
 use Rattle.mdv_extent.specs.Free.{IsFree, free_of}
 use Rattle.mdv_extent.specs.Share.{allotted}
-use Rattle.mdv_extent.specs.Extents.{IsApart, IsExtents, IsAllotment}
+use Rattle.mdv_extent.specs.Extents.{LieApart, IsExtents, IsAllotment}
 
 -- what is left of a base is free, and lies in it in order
 abbrev pub FreeRunsAreFree : Type 0
@@ -24,8 +24,8 @@ pub record IsTaken (blocks : ℕ) (used taken : List Run) : Type 0 where
   pub extents : IsExtents blocks taken
   -- have no block that was used, nor do their headers
   pub unused : (k : ℕ) → takes taken k ≡ true → takes used k ≡ false
-  -- keep all extents of the base apart
-  pub apart : IsApart used → IsApart (used ++ taken)
+  -- lie apart from all others of the base
+  pub together : LieApart blocks used → LieApart blocks (used ++ taken)
   -- and leave free exactly the other blocks that were
   pub rest : (k : ℕ) → covers (free_of blocks (used ++ taken)) k ≡ (covers (free_of blocks used) k && not (takes taken k))
 
@@ -38,8 +38,8 @@ pub record IsGivenBack (blocks : ℕ) (used gone : List Run) : Type 0 where
   pub kept : (k : ℕ) → takes (released used gone) k ≡ (takes used k && not (takes gone k))
   -- and become free
   pub freed : (k : ℕ) → covers (free_of blocks (released used gone)) k ≡ (covers (free_of blocks used) k || (nat_lt k blocks && takes gone k))
-  -- those that stay are apart
-  pub apart : IsApart (released used gone)
+  -- those that stay lie apart
+  pub others : LieApart blocks (released used gone)
 
 abbrev pub ReleasesGiveBack : Type 0
-ReleasesGiveBack = (blocks : ℕ) (used gone : List Run) → IsApart used → All (λ (r : Run). is_one_of used r ≡ true) gone → IsGivenBack blocks used gone
+ReleasesGiveBack = (blocks : ℕ) (used gone : List Run) → LieApart blocks used → All (λ (r : Run). is_one_of used r ≡ true) gone → IsGivenBack blocks used gone

@@ -1,8 +1,8 @@
 //! Which blocks of a base are free, and which stay used once extents are given back.
-ghost use Rattle.std.specs.Prelude.{◌≡◌, ◌≤◌, ℕ, All, IfOk};
+ghost use Rattle.std.specs.Prelude.{◌≡◌, ◌≤◌, ◌++◌, ℕ, All, IfOk, OnOk};
 ghost use Rattle.std.specs.List.Sorted.{IsNonDecreasingBy};
 ghost use Rattle.mdv_extent.specs.Runs.{released, IsInOrder};
-ghost use Rattle.mdv_extent.specs.Free.{IsUsed, IsFree, free_of};
+ghost use Rattle.mdv_extent.specs.Free.{IsUsed, IsFree, between, free_of};
 
 use crate::Run;
 use std::alloc::{AllocError, Global};
@@ -32,18 +32,22 @@ fn gaps(alloc: Global, blocks: u64, used: &[Run]) -> Result<Vec<Run>, AllocError
     let mut free = Vec::new(alloc);
     let mut next = 0;
     for run in used {
-        let header = run.at - 1;
-        if next < header {
-            let blocks = header - next;
-            free.push(Run { at: next, blocks })?;
-        }
+        push_between(&mut free, next, run.at - 1)?;
         next = next.max(run.at + run.blocks);
     }
-    if next < blocks {
-        let blocks = blocks - next;
-        free.push(Run { at: next, blocks })?;
-    }
+    push_between(&mut free, next, blocks)?;
     Ok(free)
+}
+
+/// Adds the blocks from one up to another as a run, where there are any.
+fn push_between(free: &mut Vec<Run>, low: u64, high: u64) -> Result<(), AllocError>
+    ensures { OnOk result (free.new.items ≡ free.old.items ++ between low high) }
+{
+    if low < high {
+        let blocks = high - low;
+        free.push(Run { at: low, blocks })?;
+    }
+    Ok(())
 }
 
 /// The used runs that aren't among those that go, in their order.

@@ -2,6 +2,7 @@
 //! found in them and given back, and the header before each extent.
 #![tactic(auto)]
 
+mod apart;
 mod cursor;
 mod form;
 mod free;
@@ -12,6 +13,7 @@ mod share;
 #[cfg(test)]
 mod tests;
 
+pub use apart::lie_apart;
 pub use form::{Header, header_block, read_header};
 pub use free::{free_runs, release};
 pub use law::{

@@ -1,4 +1,6 @@
-use crate::{Header, Run, SpaceFault, allocate, free_runs, header_block, read_header, release};
+use crate::{
+    Header, Run, SpaceFault, allocate, free_runs, header_block, lie_apart, read_header, release,
+};
 use mdv_base::{Identity, VolId, ZERO_BLOCK};
 use std::test::Fail;
 
@@ -18,6 +20,19 @@ fn soft_partitions_stand_one_behind_another(rt: HostRuntime) -> Result<(), Fail>
     let free = free_runs(rt.alloc(), 1000, &[D1])?;
     let second = allocate(rt.alloc(), free.as_slice(), 300).ok().ok_or("d2")?;
     assert!(rt; second.as_slice() == [D2].as_slice());
+    Ok(())
+}
+
+#[test]
+fn a_block_is_left_for_each_header(rt: HostRuntime) -> Result<(), Fail> {
+    let tight = Run {
+        at: 401,
+        blocks: 300,
+    };
+    assert!(rt; lie_apart(rt.alloc(), 702, &[D2, D1])?);
+    assert!(rt; !lie_apart(rt.alloc(), 701, &[D2, D1])?);
+    assert!(rt; !lie_apart(rt.alloc(), 1000, &[D1, tight])?);
+    assert!(rt; !lie_apart(rt.alloc(), 1000, &[Run { at: 0, blocks: 1 }])?);
     Ok(())
 }
 
