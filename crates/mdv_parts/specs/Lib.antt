@@ -1,0 +1,4 @@
+pub mod Names
+pub mod Options
+pub mod Part
+pub mod Runs

@@ -1,0 +1,5 @@
+pub mod Form
+pub mod Gather
+pub mod Options
+pub mod Stripe
+pub mod Text

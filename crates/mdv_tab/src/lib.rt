@@ -1,0 +1,19 @@
+//! The entries of an md.tab, read from its text.
+#![tactic(auto)]
+
+mod entry;
+mod form;
+mod group;
+mod law;
+mod lines;
+mod options;
+mod read;
+mod stripe;
+#[cfg(test)]
+mod tests;
+
+pub use entry::{Entry, Extent, MirrorOptions, RaidOptions, ReadFrom, Room, Row};
+pub use form::read_entry;
+pub use group::MAX_TEXT;
+pub use law::reads_as_one_tab;
+pub use read::{MAX_ENTRIES, TabFault, read_tab};
