@@ -1,13 +1,9 @@
 -- How the calls of a command add up, and what a refusal says of them.
-use Rattle.std.proofs.Common.{◌≡◌, ◌∙◌, ℕ, ◌+◌, ◌≤◌, List, Option, sym, subst, ap, arith}
-use Rattle.mdv_shelf.specs.Calls.{Took, TookAtMost}
+use Rattle.std.proofs.Common.{◌≡◌, ℕ, List, Option, sym, subst, ap, arith}
+use Rattle.mdv_shelf.specs.Calls.{TookAtMost}
 use Rattle.mdv_shelf.specs.Between.{TookBetween}
-use Rattle.mdv_shelf.proofs.Counts.{at_most_then}
-use Rattle.mdv_shelf.proofs.Between.{between_none, between_of}
+use Rattle.mdv_shelf.proofs.Between.{between_none}
 use Rattle.mdv_replica.proofs.Counted.{took_wider}
-use Rattle.mdv_database.specs.Counts.{IsBootCounted}
-use Rattle.mdv_database.specs.declared.database.BootEnd.{BootEnd}
-use Rattle.mdv_database.specs.declared.database.BootEnd.TheVariants as end
 use Rattle.mdv_engine.specs.Below.{Refusal, IoFault, OutOfMemory, VolId, Tale, Answer, Host, Memory, AreBlocksRefused}
 use Rattle.mdv_engine_law.specs.declared.answer.Answer.TheVariants as outcome
 use Rattle.mdv_engine_law.specs.declared.answer.Reply.{Reply}
@@ -29,14 +25,6 @@ module _ {S : Type 0} (tale : S → Option Tale) (calls written : S → Option �
   -- nothing was done
   pub none_at_most : (old new : S) (count blocks : ℕ) → new ≡ old → TookAtMost calls written old new count blocks
   none_at_most old new count blocks same = (between_none calls written old new count blocks same).at_most
-
-  pub boot_most : (old new : S) (what : BootEnd) → IsBootCounted calls written old new what → TookAtMost calls written old new 13 4097
-  boot_most old new (end.Adopted newest) took = took.at_most
-  boot_most old new end.Empty took = took_wider calls written old new 5 0 13 4097 (omega arith) (omega arith) took.at_most
-  boot_most old new end.Down took = took_wider calls written old new 5 0 13 4097 (omega arith) (omega arith) took.at_most
-  boot_most old new end.Lost took = took
-  boot_most old new end.Spent took = took_wider calls written old new 5 0 13 4097 (omega arith) (omega arith) took.at_most
-  boot_most old new end.Memory took = took_wider calls written old new 5 0 13 4097 (omega arith) (omega arith) took.at_most
 
   module _ (old new : S) (count blocks : ℕ) where
     -- a refusal before any call
@@ -90,3 +78,26 @@ module _ {S : Type 0} (tale : S → Option Tale) (calls written : S → Option �
     quiet_told failed answer reply.Spent piece told is counted = absurd is
     quiet_told failed answer reply.NoMemory piece told is counted = absurd is
     quiet_told failed answer reply.Told piece told is counted = absurd is
+
+    unwritten : (refusal : Refusal) → IsQuietRefusal (reply.Refused refusal) → IsCommandCounted tale calls written old new count blocks (outcome.Refused refusal) → TookAtMost calls written old new count 0
+    unwritten IoFault is counted = absurd is
+    unwritten OutOfMemory is counted = counted.0
+    unwritten other is counted = none_at_most old new count 0 counted
+
+    pub unwritten_told : (failed : Type 0) (answer : Answer) (given : Reply) (piece : List ℕ) → IsTold failed answer given piece → IsQuietRefusal given → IsCommandCounted tale calls written old new count blocks answer → TookAtMost calls written old new count 0
+    unwritten_told failed answer reply.Ok piece told is counted = absurd is
+    unwritten_told failed answer (reply.Refused refusal) piece told is counted =
+        unwritten refusal is (subst (IsCommandCounted tale calls written old new count blocks) (told_refusal failed answer refusal piece told) counted)
+    unwritten_told failed answer (reply.Panic active listed) piece told is counted = absurd is
+    unwritten_told failed answer reply.Spent piece told is counted = absurd is
+    unwritten_told failed answer reply.NoMemory piece told is counted = absurd is
+    unwritten_told failed answer reply.Told piece told is counted = absurd is
+
+    -- a command that was done
+    pub done_told : (failed : Type 0) (answer : Answer) (piece : List ℕ) → IsTold failed answer reply.Ok piece → IsCommandCounted tale calls written old new count blocks answer → TookBetween calls written old new count count blocks
+    done_told failed outcome.Ok piece told counted = counted
+    done_told failed (outcome.Values text) piece told counted = counted
+    done_told failed (outcome.Refused refusal) piece told counted = absurd told
+    done_told failed outcome.Panic piece told counted = absurd told
+    done_told failed outcome.Spent piece told counted = absurd told
+    done_told failed outcome.NoMemory piece told counted = absurd told

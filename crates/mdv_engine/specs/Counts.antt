@@ -1,5 +1,5 @@
 -- How many calls on the drive a command makes, and how many blocks it writes.
-use Rattle.std.specs.Prelude.{◌≡◌, ℕ, Option, Result, Ok, Err}
+use Rattle.std.specs.Prelude.{◌≡◌, ℕ, Option, Some, None, Result, Ok, Err}
 use Rattle.mdv_base.specs.declared.refusal.Refusal.{Refusal}
 use Rattle.mdv_base.specs.declared.refusal.Refusal.TheVariants.{IoFault, OutOfMemory}
 use Rattle.mdv_shelf.specs.Calls.{TookAtMost}
@@ -7,6 +7,8 @@ use Rattle.mdv_shelf.specs.Between.{TookBetween}
 use Rattle.mdv_shelf.specs.Tale.{Tale}
 use Rattle.mdv_words.specs.declared.command.Command.{Command}
 use Rattle.mdv_words.specs.declared.command.Command.TheVariants.{Create, MakeStripe, Read, Write, Boot}
+use Rattle.mdv_store_law.specs.Site.{Newest}
+use Rattle.mdv_engine_law.specs.Line.{Memory}
 use Rattle.mdv_engine_law.specs.declared.answer.Answer.{Answer}
 use Rattle.mdv_engine_law.specs.declared.answer.Answer.TheVariants as outcome
 use Rattle.mdv_engine_law.specs.declared.answer.Reply.{Reply}
@@ -65,3 +67,17 @@ IsQuietRefusal (reply.Panic active listed) = ⊥
 IsQuietRefusal reply.Spent = ⊥
 IsQuietRefusal reply.NoMemory = ⊥
 IsQuietRefusal reply.Told = ⊥
+
+-- A boot that opened a database took twelve calls or thirteen, one that found none or was down at most five, and wrote nothing
+-- then; no more than these where it is lost, or ends for another reason.
+abbrev pub IsOpenedCounted : {S : Type 0} → (S → Option ℕ) → (S → Option ℕ) → S → S → Option Newest → Type 0
+IsOpenedCounted calls written old new (Some newest) = TookBetween calls written old new 12 13 4097
+IsOpenedCounted calls written old new None = TookBetween calls written old new 1 5 0
+
+abbrev pub IsBootedCounted : {S : Type 0} → (S → Option ℕ) → (S → Option ℕ) → S → S → Answer → Memory → Type 0
+IsBootedCounted calls written old new outcome.Ok memory = IsOpenedCounted calls written old new memory.opened
+IsBootedCounted calls written old new (outcome.Values text) memory = TookAtMost calls written old new 13 4097
+IsBootedCounted calls written old new (outcome.Refused refusal) memory = TookAtMost calls written old new 13 4097
+IsBootedCounted calls written old new outcome.Panic memory = TookAtMost calls written old new 13 4097
+IsBootedCounted calls written old new outcome.Spent memory = TookAtMost calls written old new 5 0
+IsBootedCounted calls written old new outcome.NoMemory memory = TookAtMost calls written old new 5 0

@@ -1,6 +1,7 @@
 ghost use Rattle.std.specs.Prelude.{◌≡◌, ◌<◌, ◌≤◌, ◌+◌, ◌^◌, [], List, None, IfOk, Contains};
 ghost use Rattle.mdv_base.specs.Causes.{Rose};
 ghost use Rattle.mdv_shelf.specs.Area.{KeptOutside, nowhere};
+ghost use Rattle.mdv_shelf.specs.Between.{TookBetween};
 ghost use Rattle.mdv_shelf.specs.Calls.{OnDrive, OnReplies, Keeps, TookAtMost};
 ghost use Rattle.mdv_shelf.specs.Moments.{Moments, Ends};
 ghost use Rattle.mdv_history.specs.History.{Created, Deed};
@@ -8,7 +9,7 @@ ghost use Rattle.mdv_engine_law.specs.Home.{IsReady, StaysHome};
 ghost use Rattle.mdv_engine_law.specs.Replies.{IsAccepted, IsPlain, IsPlainAnswer, IsReplied, IsLost, HasAnswerCause, HasReplyCause};
 ghost use Rattle.mdv_engine_law.specs.Line.{Memory, IsCarriedOut, IsRebooted, IsExecuted, asked_by, kept_at, unbooted};
 ghost use Rattle.mdv_engine_law.specs.Standing.{OnlyReplied, Executed, IsAwake, Knows, BootMoment, BootedTo, CarryMoment, CarriedTo, TurnMoment, Turned};
-ghost use Rattle.mdv_engine.specs.Counts.{IsCommandCounted, IsQuietRefusal, IsUnlooked, blocks_of, calls_of};
+ghost use Rattle.mdv_engine.specs.Counts.{IsBootedCounted, IsCommandCounted, IsQuietRefusal, IsUnlooked, blocks_of, calls_of};
 ghost use Rattle.mdv_engine.specs.Engine.{IsWell, boot_answer, HasBootCause};
 
 use crate::state::State;
@@ -37,7 +38,7 @@ impl Engine {
         ensures booted { IfOk result (λ engine. Ends (BootedTo host engine.state) (S.tale shelf.old) (S.tale shelf.new)) }
         ensures host { IfOk result (λ engine. (engine.host ≡ host) × IsWell host engine.state × (engine.state.begun ≡ 0)) }
         ensures cause { HasBootCause (Rose (S.faults shelf.old (OnDrive 0)) (S.faults shelf.new (OnDrive 0))) result }
-        ensures counted { TookAtMost S.calls S.written shelf.old shelf.new 13 4097 }
+        ensures counted { (memory : Memory) → IfOk result (λ engine. memory ≡ engine.state) → IsBootedCounted S.calls S.written shelf.old shelf.new (boot_answer result) memory }
         ensures keeps { Keeps S.sizes S.faults S.rest S.held shelf.old shelf.new }
     {
         match boot_from(shelf, alloc, &host, 0) {
@@ -56,7 +57,7 @@ impl Engine {
         ensures well { IsWell self.old.host self.new.state }
         ensures begun { self.new.state.begun ≡ self.old.state.begun }
         ensures cause { HasBootCause (Rose (S.faults shelf.old (OnDrive 0)) (S.faults shelf.new (OnDrive 0))) result }
-        ensures counted { TookAtMost S.calls S.written shelf.old shelf.new 13 4097 }
+        ensures counted { IsBootedCounted S.calls S.written shelf.old shelf.new (boot_answer result) self.new.state }
         ensures keeps { Keeps S.sizes S.faults S.rest S.held shelf.old shelf.new }
     {
         let begun = self.state.begun;
@@ -89,7 +90,9 @@ impl Engine {
         // The calls on the drive, and one to tell the reply. A refused command writes nothing, unless a call failed, and makes no
         // call on the drive, unless memory was wanting behind it.
         ensures counted { TookAtMost B.calls B.written bench.old bench.new (1 + calls_of command.now) (blocks_of command.now) }
+        ensures done { result ≡ Reply.Ok → TookBetween B.calls B.written bench.old bench.new (1 + calls_of command.now) (1 + calls_of command.now) (blocks_of command.now) }
         ensures unlooked { IsUnlooked result → TookAtMost B.calls B.written bench.old bench.new 1 0 }
+        ensures unwritten { IsQuietRefusal result → TookAtMost B.calls B.written bench.old bench.new (1 + calls_of command.now) 0 }
         ensures quiet { IsQuietRefusal result → Ends (KeptOutside nowhere) (B.tale bench.old) (B.tale bench.new) }
         ensures keeps { Keeps B.sizes B.faults B.rest B.held bench.old bench.new }
     {
@@ -107,6 +110,7 @@ impl Engine {
         ensures knows { Ends (λ t u. Knows self.old.host self.old.state t → Knows self.old.host self.old.state u) (B.tale bench.old) (B.tale bench.new) }
         ensures cause { HasReplyCause (Rose (B.faults bench.old (OnDrive 0)) (B.faults bench.new (OnDrive 0))) (Rose (B.faults bench.old OnReplies) (B.faults bench.new OnReplies)) result }
         ensures same { self.new ≡ self.old }
+        ensures counted { TookAtMost B.calls B.written bench.old bench.new 1 0 }
         ensures keeps { Keeps B.sizes B.faults B.rest B.held bench.old bench.new }
     {
         tell(bench, &Answer::Refused(*refusal))
@@ -121,6 +125,7 @@ impl Engine {
         ensures knows { Ends (λ t u. Knows self.old.host self.old.state t → Knows self.old.host self.old.state u) (B.tale bench.old) (B.tale bench.new) }
         ensures cause { HasReplyCause (Rose (B.faults bench.old (OnDrive 0)) (B.faults bench.new (OnDrive 0))) (Rose (B.faults bench.old OnReplies) (B.faults bench.new OnReplies)) result }
         ensures same { self.new ≡ self.old }
+        ensures counted { TookAtMost B.calls B.written bench.old bench.new 1 0 }
         ensures keeps { Keeps B.sizes B.faults B.rest B.held bench.old bench.new }
     {
         tell(bench, &Answer::Ok)
@@ -171,7 +176,7 @@ fn boot_from<S: Shelf>(
     ensures booted { IfOk result (λ state. Ends (BootedTo host.now state) (S.tale shelf.old) (S.tale shelf.new)) }
     ensures well { IfOk result (λ state. IsWell host.now state × (state.begun ≡ begun)) }
     ensures cause { HasBootCause (Rose (S.faults shelf.old (OnDrive 0)) (S.faults shelf.new (OnDrive 0))) result }
-    ensures counted { TookAtMost S.calls S.written shelf.old shelf.new 13 4097 }
+    ensures counted { (memory : Memory) → IfOk result (λ state. memory ≡ state) → IsBootedCounted S.calls S.written shelf.old shelf.new (boot_answer result) memory }
     ensures keeps { Keeps S.sizes S.faults S.rest S.held shelf.old shelf.new }
 {
     let key = Key::Local(host.home.host);

@@ -1,8 +1,8 @@
 ghost use Rattle.std.specs.Prelude.{◌≡◌, ℕ, List};
 ghost use Rattle.mdv_base.specs.Causes.{Rose};
-ghost use Rattle.mdv_shelf.specs.Calls.{OnReplies, Keeps, TookAtMost};
+ghost use Rattle.mdv_shelf.specs.Calls.{OnReplies, Keeps, Took, TookAtMost};
 ghost use Rattle.mdv_shelf.specs.Moments.{Moments, Ends};
-ghost use Rattle.mdv_engine_law.specs.Replies.{refusal_line, IsTold, text_of};
+ghost use Rattle.mdv_engine_law.specs.Replies.{refusal_line, IsReplied, IsTold, text_of};
 ghost use Rattle.mdv_engine_law.specs.Standing.{OnlyReplied, TellMoment};
 
 use crate::answer::{Answer, Reply};
@@ -17,6 +17,7 @@ pub fn tell<B: Bench>(bench: &mut B, answer: &Answer) -> Reply
     ensures fronts { Moments (TellMoment (text_of answer.now)) (B.tale bench.old) (B.tale bench.new) }
     ensures answers { (piece : List ℕ) × IsTold (Rose (B.faults bench.old OnReplies) (B.faults bench.new OnReplies)) answer.now result piece }
     ensures counted { TookAtMost B.calls B.written bench.old bench.new 1 0 }
+    ensures given { IsReplied result → Took B.calls B.written bench.old bench.new 1 0 }
     ensures keeps { Keeps B.sizes B.faults B.rest B.held bench.old bench.new }
 {
     match answer {

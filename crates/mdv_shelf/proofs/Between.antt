@@ -1,5 +1,5 @@
 -- How counts that are told from both sides add up.
-use Rattle.std.proofs.Common.{◌≡◌, ℕ, ◌+◌, ◌-◌, ◌^◌, ◌≤◌, min, Option, Some, ap, ◌∙◌, arith}
+use Rattle.std.proofs.Common.{◌≡◌, ℕ, ◌+◌, ◌-◌, ◌^◌, ◌≤◌, min, Option, Some, refl, ap, ◌∙◌, arith}
 use Rattle.mdv_shelf.specs.Calls.{RoseBy, RoseByAtMost, Took, TookAtMost, IsCounted}
 use Rattle.mdv_shelf.specs.Between.{RoseByAtLeast, TookBetween}
 use Rattle.mdv_shelf.proofs.Counts.{took_one, took_at_most, at_most_then}
@@ -57,3 +57,7 @@ module _ {S : Type 0} (calls written : S → Option ℕ) where
       in_blocks = still_most blocks (written old) (written new) (ap written same);
     };
   }
+
+  pub between_wider : (old new : S) (j k l least most blocks : ℕ) → least ≤ j → k ≤ most → l ≤ blocks → TookBetween calls written old new j k l → TookBetween calls written old new least most blocks
+  between_wider old new j k l least most blocks low high in_blocks took =
+      between_then old new new j k l 0 0 0 least most blocks (omega (arith, low)) (omega (arith, high)) (omega (arith, in_blocks)) took (between_none new new 0 0 refl)

@@ -1,9 +1,10 @@
-use Rattle.std.proofs.Common.{sym, subst, refl, ◌∙◌}
+use Rattle.std.proofs.Common.{sym, subst, refl, ap, ◌∙◌, arith}
 use Rattle.mdv_engine.specs.Below.{Rose, PlaceAt, OnDrive, Memory, lost, spent, wanting, Ends, BootedTo}
 use Rattle.mdv_shelf.proofs.Moments.{moments_end}
+use Rattle.mdv_engine.specs.Counts.{IsOpenedCounted}
 use Rattle.mdv_engine.proofs.Booting.{boot_moments, adopted_rebooted, adopted_booted, empty_rebooted, empty_booted, down_rebooted, down_booted, spent_here, adoptable_here, adopted_well}
 use Rattle.mdv_engine.proofs.Sites.{on_drive}
-use Rattle.mdv_engine.proofs.Counting.{boot_most}
+use Rattle.mdv_shelf.proofs.Between.{between_wider}
 use Rattle.mdv_engine.proofs.engine.boot_from.Goals as goal
 
 pub boot-requires-clause-on_drive : goal.boot-requires-clause-on_drive
@@ -74,19 +75,22 @@ returns-in-Memory-clause-rebooted g c = λ t start.
     (end.0, end.1, λ old new same now. wanting refl)
 
 pub returns-in-Adopted-clause-counted : goal.returns-in-Adopted-clause-counted
-returns-in-Adopted-clause-counted g c = boot_most g.S.Shelf.tale g.S.Shelf.calls g.S.Shelf.written _ _ c.boot.result c.boot.ensures.counted
+returns-in-Adopted-clause-counted g c = λ memory same. subst (IsOpenedCounted g.S.Shelf.calls g.S.Shelf.written _ _) (sym (ap (λ (m : Memory). m.opened) same)) c.in-Adopted.ensures.counted
 
 pub returns-in-Empty-clause-counted : goal.returns-in-Empty-clause-counted
-returns-in-Empty-clause-counted g c = boot_most g.S.Shelf.tale g.S.Shelf.calls g.S.Shelf.written _ _ c.boot.result c.boot.ensures.counted
+returns-in-Empty-clause-counted g c = λ memory same.
+    subst (IsOpenedCounted g.S.Shelf.calls g.S.Shelf.written _ _) (sym (ap (λ (m : Memory). m.opened) (same ∙ c.without_database.ensures)))
+    (between_wider g.S.Shelf.calls g.S.Shelf.written _ _ 2 5 0 1 5 0 (omega arith) (omega arith) (omega arith) c.in-Empty.ensures.counted)
 
 pub returns-in-Down-clause-counted : goal.returns-in-Down-clause-counted
-returns-in-Down-clause-counted g c = boot_most g.S.Shelf.tale g.S.Shelf.calls g.S.Shelf.written _ _ c.boot.result c.boot.ensures.counted
+returns-in-Down-clause-counted g c = λ memory same.
+    subst (IsOpenedCounted g.S.Shelf.calls g.S.Shelf.written _ _) (sym (ap (λ (m : Memory). m.opened) (same ∙ c.without_database-in-Down.ensures))) c.in-Down.ensures.counted
 
 pub returns-in-Lost-clause-counted : goal.returns-in-Lost-clause-counted
-returns-in-Lost-clause-counted g c = boot_most g.S.Shelf.tale g.S.Shelf.calls g.S.Shelf.written _ _ c.boot.result c.boot.ensures.counted
+returns-in-Lost-clause-counted g c = λ memory same. c.in-Lost.ensures.counted
 
 pub returns-in-Spent-clause-counted : goal.returns-in-Spent-clause-counted
-returns-in-Spent-clause-counted g c = boot_most g.S.Shelf.tale g.S.Shelf.calls g.S.Shelf.written _ _ c.boot.result c.boot.ensures.counted
+returns-in-Spent-clause-counted g c = λ memory same. c.in-Spent.ensures.counted.at_most
 
 pub returns-in-Memory-clause-counted : goal.returns-in-Memory-clause-counted
-returns-in-Memory-clause-counted g c = boot_most g.S.Shelf.tale g.S.Shelf.calls g.S.Shelf.written _ _ c.boot.result c.boot.ensures.counted
+returns-in-Memory-clause-counted g c = λ memory same. c.in-Memory.ensures.counted.at_most

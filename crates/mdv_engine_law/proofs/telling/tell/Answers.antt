@@ -1,5 +1,6 @@
 use Rattle.std.proofs.Common.{◌≡◌, ◌∙◌, sym, subst, refl, take, length, ap, []}
 use Rattle.mdv_shelf.proofs.Between.{at_most_one}
+use Rattle.mdv_shelf.proofs.Counts.{took_one}
 use Rattle.mdv_engine_law.specs.Below.{Rose, OnReplies}
 use Rattle.mdv_engine_law.specs.Replies.{IsTold, ok_line, refusal_line, text_of}
 use Rattle.mdv_engine_law.specs.declared.answer.Answer.{Answer}
@@ -124,3 +125,12 @@ returns-in-Ok-give-3-clause-counted g c = at_most_one g.B.Shelf.calls g.B.Shelf.
 
 pub returns-in-Err-give-2-clause-counted : goal.returns-in-Err-give-2-clause-counted
 returns-in-Err-give-2-clause-counted g c = at_most_one g.B.Shelf.calls g.B.Shelf.written _ _ 0 c.give-in-Refused.ensures.counted
+
+pub returns-in-Ok-give-clause-given : goal.returns-in-Ok-give-clause-given
+returns-in-Ok-give-clause-given g c = λ told. took_one g.B.Shelf.calls g.B.Shelf.written _ _ 0 c.give.ensures.counted
+
+pub returns-in-Ok-give-2-clause-given : goal.returns-in-Ok-give-2-clause-given
+returns-in-Ok-give-2-clause-given g c = λ told. took_one g.B.Shelf.calls g.B.Shelf.written _ _ 0 c.give-in-Values.ensures.counted
+
+pub returns-in-Ok-give-3-clause-given : goal.returns-in-Ok-give-3-clause-given
+returns-in-Ok-give-3-clause-given g c = λ told. took_one g.B.Shelf.calls g.B.Shelf.written _ _ 0 c.give-in-Refused.ensures.counted

@@ -4,9 +4,10 @@ use Rattle.mdv_shelf.proofs.Moments.{moments_after, moments_end, ends_more, some
 use Rattle.mdv_engine_law.proofs.Executing.{executed, told_cause, rose_within}
 use Rattle.mdv_engine_law.proofs.Turning.{Carried, carried_ends, turn_carry, turn_tell, turned, knows_after}
 use Rattle.mdv_engine_law.proofs.Staying.{both_stay, tell_stays}
+use Rattle.mdv_shelf.proofs.Between.{between_of, between_then}
 use Rattle.mdv_shelf.proofs.Counts.{at_most_then}
 use Rattle.mdv_engine.specs.Counts.{blocks_of, calls_of}
-use Rattle.mdv_engine.proofs.Counting.{command_most, quiet_told, unlooked_told}
+use Rattle.mdv_engine.proofs.Counting.{command_most, done_told, quiet_told, unlooked_told, unwritten_told}
 use Rattle.mdv_engine.proofs.engine.Engine.exec.Goals as goal
 
 pub returns-clause-answered : goal.returns-clause-answered
@@ -89,3 +90,17 @@ returns-clause-quiet g c = λ is t start.
     let same = quiet_told g.B.Shelf.tale g.B.Shelf.calls g.B.Shelf.written _ _ _ _ _ c.carry_out-answer.result c.tell.result _ c.tell.ensures.answers.1 is c.carry_out-answer.ensures.counted in
     let end = c.tell.ensures.told t (same ∙ start) in
     (end.0, end.1, end.2.kept)
+
+pub returns-clause-unwritten : goal.returns-clause-unwritten
+returns-clause-unwritten g c = λ is.
+    let count = calls_of c.args.command.now in
+    at_most_then g.B.Shelf.calls g.B.Shelf.written _ _ _ count 1 0 0 _ _ (omega arith) (omega arith)
+    (unwritten_told g.B.Shelf.tale g.B.Shelf.calls g.B.Shelf.written _ _ count _ _ c.carry_out-answer.result c.tell.result _ c.tell.ensures.answers.1 is c.carry_out-answer.ensures.counted) c.tell.ensures.counted
+
+pub returns-clause-done : goal.returns-clause-done
+returns-clause-done g c = λ is.
+    let count = calls_of c.args.command.now in
+    let blocks = blocks_of c.args.command.now in
+    between_then g.B.Shelf.calls g.B.Shelf.written _ _ _ count count blocks 1 1 0 _ _ _ (omega arith) (omega arith) (omega arith)
+    (done_told g.B.Shelf.tale g.B.Shelf.calls g.B.Shelf.written _ _ count blocks _ c.carry_out-answer.result c.tell.ensures.answers.0 (rw is at c.tell.ensures.answers.1) c.carry_out-answer.ensures.counted)
+    (between_of g.B.Shelf.calls g.B.Shelf.written _ _ 1 0 1 1 0 (omega arith) (omega arith) (omega arith) (c.tell.ensures.given (rw is tt)))
