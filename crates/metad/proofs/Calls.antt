@@ -1,13 +1,35 @@
 -- A call on the image of one drive, told of the whole bench.
-use Rattle.std.proofs.Common.{◌≡◌, ◌≢◌, ◌⊎◌, ℕ, Ok, Err, Result, ◌<◌, ◌≤◌, List, length, get_or, set, sym, ◌∙◌, ap, inl, inr, arith}
+use Rattle.std.proofs.Common.{◌≡◌, ◌≢◌, ◌⊎◌, ℕ, Ok, Err, Result, OnErr, ◌<◌, ◌≤◌, List, length, get_or, set, sym, ◌∙◌, ap, inl, inr, arith}
 use Rattle.std.proofs.lemmas.List.{map-set, get_or-map, get_or-set_same, get_or-set_other, length-map}
 use Rattle.std.proofs.lemmas.Bool.{cases_eq}
 use Rattle.std.proofs.Math.Seq.{map-set_same}
 use Rattle.mdv_base.specs.Causes.{HasCause}
 use Rattle.mdv_shelf.specs.Calls.{Part, OnDrive, OnReplies}
 use Rattle.metad.specs.declared.image.Image.{Image}
-use Rattle.metad.specs.Image.{IsCall}
+use Rattle.metad.specs.Image.{IsRead, IsChange, one_more}
 use Rattle.metad.specs.Bench.{fault_counts, faults_of, sizes_of}
+
+-- what any call leaves: the blocks, and a count that rises exactly with a failure
+pub record IsCounted {T E : Type 0} (old : Image) (result : Result T E) (new : Image) : Type 0 where
+  pub blocks : new.blocks ≡ old.blocks
+  pub failed : OnErr result (new.faults ≡ one_more old.faults)
+  pub no_fewer : old.faults ≤ new.faults
+
+pub of_read : {T E : Type 0} (old : Image) (result : Result T E) (new : Image) → IsRead old result new → IsCounted old result new
+of_read old (Ok value) new call = record { blocks = ap (λ (x : Image). x.blocks) call.done; failed = tt; no_fewer = call.no_fewer }
+of_read old (Err error) new call = record {
+  blocks = ap (λ (x : Image). x.blocks) call.failed;
+  failed = ap (λ (x : Image). x.faults) call.failed;
+  no_fewer = call.no_fewer;
+}
+
+pub of_change : {T E : Type 0} (old : Image) (result : Result T E) (new : Image) → IsChange old result new → IsCounted old result new
+of_change old (Ok value) new call = record { blocks = ap (λ (x : Image). x.blocks) call.done; failed = tt; no_fewer = call.no_fewer }
+of_change old (Err error) new call = record {
+  blocks = ap (λ (x : Image). x.blocks) call.failed;
+  failed = ap (λ (x : Image). x.faults) call.failed;
+  no_fewer = call.no_fewer;
+}
 
 module _ (images : List Image) (i : ℕ) (inside : i < length images) (was now : Image) (found : was ≡ get_or images i was) where
   count_was : get_or (fault_counts images) i 0 ≡ was.faults
@@ -23,14 +45,10 @@ module _ (images : List Image) (i : ℕ) (inside : i < length images) (was now :
       ap (λ (l : List ℕ). get_or l k 0) (map-set (λ (x : Image). x.faults) images i now)
       ∙ get_or-set_other (fault_counts images) i k now.faults 0 other
 
-  same_blocks : {T E : Type 0} (result : Result T E) → IsCall was result now → now.blocks ≡ was.blocks
-  same_blocks (Ok value) call = ap (λ (x : Image). x.blocks) call.done
-  same_blocks (Err error) call = ap (λ (x : Image). x.blocks) call.failed
+  pub call_sizes : {T E : Type 0} (result : Result T E) → IsCounted was result now → sizes_of (set images i now) ≡ sizes_of images
+  call_sizes result call = map-set_same (λ (x : Image). x.blocks) images i now was (call.blocks ∙ ap (λ (x : Image). x.blocks) found)
 
-  pub call_sizes : {T E : Type 0} (result : Result T E) → IsCall was result now → sizes_of (set images i now) ≡ sizes_of images
-  call_sizes result call = map-set_same (λ (x : Image). x.blocks) images i now was (same_blocks result call ∙ ap (λ (x : Image). x.blocks) found)
-
-  pub call_no_fewer : {T E : Type 0} (result : Result T E) → IsCall was result now → (replies : ℕ) (part : Part) → faults_of images replies part ≤ faults_of (set images i now) replies part
+  pub call_no_fewer : {T E : Type 0} (result : Result T E) → IsCounted was result now → (replies : ℕ) (part : Part) → faults_of images replies part ≤ faults_of (set images i now) replies part
   call_no_fewer result call replies OnReplies = omega arith
   call_no_fewer result call replies (OnDrive k) = at k (cases_eq k i)
     where
@@ -45,9 +63,9 @@ module _ (images : List Image) (i : ℕ) (inside : i < length images) (was now :
       )
       at k (inr other) = omega (arith, count_other k other)
 
-  pub call_cause : {T E : Type 0} (result : Result T E) → IsCall was result now → HasCause {T = T} {E = E} (get_or (fault_counts images) i 0) (get_or (fault_counts (set images i now)) i 0) result
+  pub call_cause : {T E : Type 0} (result : Result T E) → IsCounted was result now → HasCause {T = T} {E = E} (get_or (fault_counts images) i 0) (get_or (fault_counts (set images i now)) i 0) result
   call_cause (Ok value) call = record { later = omega (arith, call.no_fewer, count_was, count_now); failed = tt }
   call_cause (Err error) call = record {
     later = omega (arith, call.no_fewer, count_was, count_now);
-    failed = omega (arith, ap (λ (x : Image). x.faults) call.failed, count_was, count_now);
+    failed = omega (arith, call.failed, count_was, count_now);
   }

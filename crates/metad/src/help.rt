@@ -14,10 +14,19 @@ in the working folder:
     slice cCtTdDsN START BLOCKS db
     slice cCtTdDsN START BLOCKS
 
-HOST is that H. FILE is an image of BLOCKS * 512 bytes; make one, say, with
-truncate -s 8388608 disk0.img for 16384 blocks. One slice is marked db: there a state
-database may lie, from block START of the drive on; it needs 8208 blocks. Others, as many
-as there are, are for volumes, and share no block with it.
+HOST is that H. FILE is an image of BLOCKS * 512 bytes, or a block device of that length;
+make an image, say, with truncate -s 8388608 disk0.img for 16384 blocks. One slice is marked
+db: there a state database may lie, from block START of the drive on; it needs 8208 blocks.
+Others, as many as there are, are for volumes, and share no block with it.
+
+An image is locked while the program runs, and synced when it is opened. One that can't be
+opened for reading and writing, has another length, is in use by another run or is the file
+of a drive before it is a lost drive: each call on it fails.
+
+Once a write or a sync on an image failed, no later call of that run reaches it, and the file
+drives.failed beside drives.tab remembers it: until the system starts anew, what the system
+has of it in memory may differ from the disk, so it is a lost drive. bin/metad drops what the
+system has in memory, takes the image out of drives.failed, and starts this program.
 
 The host boots. Then SCRIPT is read, on standard input, with a command on each line:
 
@@ -32,5 +41,7 @@ name, as refused E7 SliceInUse. A read tells a line for each block before its ok
 and the bytes up to the last that isn't zero, or - for a block of zeros.
 
 Exit status: 0 Done, 1 SomeRefused, 2 Usage, 3 NoQuorum, 4 Panic, 5 ReadFault, 6 WriteFault,
-7 NoMemory, 8 TwoDatabases, 9 ScriptTooLong, 10 NumbersSpent. From 2 on standard error tells the name.
+7 NoMemory, 8 TwoDatabases, 9 ScriptTooLong, 10 NumbersSpent. From 2 on standard error tells the name,
+behind Usage what doesn't fit, and then, whatever the status is, a line for each drive that was
+lost from the start, as c0t0d0 disk0.img: missing.
 ";

@@ -1,18 +1,30 @@
-ghost use Rattle.std.specs.Prelude.{◌≡◌, ◌↔◌, ◌≤◌, ◌*◌, ◌^◌, IsNone, IsSome};
+ghost use Rattle.std.specs.Prelude.{◌≡◌, ◌↔◌, ◌≤◌, ◌*◌, ◌^◌};
 
+use crate::disk::{Disk, FileId};
+use crate::held::Held;
 use mdv_base::{Block, Failed};
-use std::fs::{File, OpenOptions};
-use std::io::{Seek, SeekFrom};
+use std::mem;
 use std::os::unix::fs::FileExt;
 
 /// How many bytes a block has.
-const BLOCK_BYTES: u64 = 512;
+pub const BLOCK_BYTES: u64 = 512;
 
-/// A drive that lies in a file or on a block device, and how often a call on it failed. Without a
-/// file it is lost: each call on it fails.
+/// Whether the calls on a drive reach its file.
+#[derive(Drop)]
+pub enum State {
+    /// They do.
+    Open(Disk),
+    /// A write or a sync of this run failed, so what the file's pages in memory hold may differ from what
+    /// the disk has, and the system tells it once only. No call reaches the file any more.
+    Shut(Held),
+    /// It was never opened. The file is kept where no other name of it may be opened either.
+    Lost(Option<FileId>),
+}
+
+/// A drive that lies in a file or on a block device, and how often a call on it failed.
 #[derive(Drop)]
 pub struct Image {
-    file: Option<File>,
+    state: State,
     blocks: u64,
     faults: u64,
     ghost few: { blocks ≤ 2 ^ 40 },
@@ -20,18 +32,32 @@ pub struct Image {
 
 impl Image {
     ghost use Rattle.std.specs.Prelude.{IsTrue, OnOk, OnErr, IsOk};
-    ghost use Rattle.metad.specs.Image.{IsCall, one_more};
+    ghost use Rattle.metad.specs.Image.{IsRead, IsChange, one_more, shut, id_of};
+    ghost use Rattle.metad.specs.declared.image.State.{State};
 
-    /// The drive of so many blocks in the file. Where the file is missing, can't be opened, or has
-    /// another length, the drive is lost.
-    pub fn open(rt: &HostRuntime, path: Option<&str>, blocks: u64) -> Image
+    /// The drive of so many blocks in the file.
+    pub fn open(disk: Disk, blocks: u64) -> Image
         requires { blocks ≤ 2 ^ 40 }
+        ensures state { result.state ≡ State.Open disk }
         ensures blocks { result.blocks ≡ blocks }
         ensures fresh { result.faults ≡ 0 }
-        ensures lost { IsNone path.entry → IsNone result.file }
     {
         Image {
-            file: open_file(rt, path, blocks),
+            state: State::Open(disk),
+            blocks,
+            faults: 0,
+        }
+    }
+
+    /// A drive of so many blocks that is lost: each call on it fails.
+    pub fn lost(blocks: u64, id: Option<FileId>) -> Image
+        requires { blocks ≤ 2 ^ 40 }
+        ensures state { result.state ≡ State.Lost id }
+        ensures blocks { result.blocks ≡ blocks }
+        ensures fresh { result.faults ≡ 0 }
+    {
+        Image {
+            state: State::Lost(id),
             blocks,
             faults: 0,
         }
@@ -43,40 +69,79 @@ impl Image {
         self.blocks
     }
 
+    /// Which file calls on it reach, or may reach under no other name.
+    pub fn id(&self) -> Option<FileId>
+        ensures { result ≡ id_of self.now }
+    {
+        match &self.state {
+            State::Open(disk) => Some(disk.id()),
+            State::Lost(id) => *id,
+            State::Shut(_) => None,
+        }
+    }
+
     pub fn read(&mut self, at: u64, out: &mut [Block]) -> Result<(), Failed>
         requires { at ≤ self.old.blocks }
-        ensures { IsCall self.old result self.new }
+        ensures { IsRead self.old result self.new }
     {
-        let done = match &self.file {
-            Some(file) => file
+        let done = match &self.state {
+            State::Open(disk) => disk
+                .file()
                 .read_exact_at(out.as_flattened_mut(), at * BLOCK_BYTES)
                 .is_ok(),
-            None => false,
+            State::Shut(_) | State::Lost(_) => false,
         };
         self.answer(done)
     }
 
     pub fn write(&mut self, at: u64, from: &[Block]) -> Result<(), Failed>
         requires { at ≤ self.old.blocks }
-        ensures { IsCall self.old result self.new }
+        ensures { IsChange self.old result self.new }
     {
-        let done = match &self.file {
-            Some(file) => file
+        let done = match &self.state {
+            State::Open(disk) => disk
+                .file()
                 .write_all_at(from.as_flattened(), at * BLOCK_BYTES)
                 .is_ok(),
-            None => false,
+            State::Shut(_) | State::Lost(_) => false,
         };
-        self.answer(done)
+        self.answer_change(done)
     }
 
     pub fn sync(&mut self) -> Result<(), Failed>
-        ensures { IsCall self.old result self.new }
+        ensures { IsChange self.old result self.new }
     {
-        let done = match &self.file {
-            Some(file) => file.sync_data().is_ok(),
-            None => false,
+        let done = match &self.state {
+            State::Open(disk) => disk.file().sync_data().is_ok(),
+            State::Shut(_) | State::Lost(_) => false,
         };
+        self.answer_change(done)
+    }
+
+    // The answer of a write or a sync that was done or not. One that wasn't shuts the drive.
+    fn answer_change(&mut self, done: bool) -> Result<(), Failed>
+        ensures which { IsOk result ↔ IsTrue done }
+        ensures ok { OnOk result (self.new ≡ self.old) }
+        ensures err { OnErr result (self.new ≡ record self.old { state = shut self.old.state; faults = one_more self.old.faults }) }
+        ensures no_fewer { self.old.faults ≤ self.new.faults }
+    {
+        if !done {
+            self.shut();
+        }
         self.answer(done)
+    }
+
+    // Notes an open drive in `drives.failed`, and lets no call reach its file any more.
+    fn shut(&mut self)
+        ensures { self.new ≡ record self.old { state = shut self.old.state } }
+    {
+        self.state = match mem::replace(&mut self.state, State::Lost(None)) {
+            State::Open(disk) => {
+                disk.note().write();
+                State::Shut(Held::new(disk))
+            }
+            other => other,
+        };
     }
 
     // The answer of a call that was done or not, which counts it where it wasn't.
@@ -91,28 +156,5 @@ impl Image {
         }
         self.faults = self.faults.saturating_add(1);
         Err(Failed)
-    }
-}
-
-fn open_file(rt: &HostRuntime, path: Option<&str>, blocks: u64) -> Option<File>
-    requires { blocks ≤ 2 ^ 40 }
-    ensures { IsNone path.entry → IsNone result }
-{
-    let mut options = OpenOptions::new();
-    options.read(true).write(true);
-    let mut file = options.open(rt, path?).ok()?;
-    let bytes = file.seek(SeekFrom::End(0)).ok()?;
-    of_length(file, bytes, blocks)
-}
-
-// The file, where its bytes are those of the blocks.
-fn of_length(file: File, bytes: u64, blocks: u64) -> Option<File>
-    requires { blocks ≤ 2 ^ 40 }
-    ensures { IsSome result ↔ (bytes ≡ blocks * 512) }
-{
-    if bytes == blocks * BLOCK_BYTES {
-        Some(file)
-    } else {
-        None
     }
 }

@@ -2,26 +2,27 @@
 //! tells a reply to each line.
 #![tactic(auto)]
 
-ghost use Rattle.std.specs.Prelude.{◌≡◌, ◌≤◌, ◌^◌, All, IfOk, vec_len};
-ghost use Rattle.mdv_name.specs.declared.geometry.Geometry.{Geometry};
-ghost use Rattle.mdv_name.specs.Geometry.{IsGeometry as IsTable};
-ghost use Rattle.metad.specs.Bench.{sizes_of, sizes_in};
-
 mod bench;
+mod disk;
+mod held;
 mod help;
 mod image;
+mod journal;
+mod lines;
+mod misfit;
+mod opening;
+mod reason;
 mod source;
 mod status;
 #[cfg(test)]
 mod tests;
 
 use bench::FileBench;
-use image::Image;
-use mdv_name::{Geometry, GeometryFault};
+use journal::{BOOT_ID, JOURNAL, SystemStart};
 use mdv_run::run;
 use mdv_run_law::RunStatus;
+use opening::open_table;
 use source::FileSource;
-use std::alloc::AllocError;
 use std::fs::File;
 use std::io::{self, ErrorKind};
 use std::process::ExitCode;
@@ -33,14 +34,43 @@ const TABLE: &str = "drives.tab";
 const NOTHING: &str = "/dev/null";
 
 fn main(rt: HostRuntime) -> ExitCode {
-    let status = match fill_descriptors(&rt) {
+    let ending = match fill_descriptors(&rt) {
         Ok(_held) => answer(&rt),
-        Err(_) => RunStatus::ReadFault,
+        Err(_) => Ending::of(&rt, RunStatus::ReadFault),
     };
-    if status::is_failure(&status) {
-        let _ = rt.eprintln(status::Report(status));
+    ending.tell(&rt);
+    ExitCode::from(status::number(&ending.status))
+}
+
+// How a run ended, and what standard error has behind a failure: what doesn't fit in a faulty use, and the
+// drives that were lost from the start.
+#[derive(Drop)]
+struct Ending {
+    status: RunStatus,
+    misfit: Option<String>,
+    lost: Vec<String>,
+}
+
+impl Ending {
+    fn of(rt: &HostRuntime, status: RunStatus) -> Ending {
+        Ending {
+            status,
+            misfit: None,
+            lost: Vec::new(rt.alloc()),
+        }
     }
-    ExitCode::from(status::number(&status))
+
+    fn tell(&self, rt: &HostRuntime) {
+        if status::is_failure(&self.status) {
+            let _told = rt.eprintln(status::Report(self.status));
+        }
+        if let (RunStatus::Usage, Some(misfit)) = (self.status, &self.misfit) {
+            let _told = rt.eprintln(misfit.as_str());
+        }
+        for line in &self.lost {
+            let _told = rt.eprintln(line.as_str());
+        }
+    }
 }
 
 // Where the program is begun without standard input, output or error, a file that it opens would take
@@ -53,25 +83,28 @@ fn fill_descriptors(rt: &HostRuntime) -> io::Result<(File, File, File)> {
     Ok((first, second, third))
 }
 
-fn answer(rt: &HostRuntime) -> RunStatus {
+fn answer(rt: &HostRuntime) -> Ending {
     match words(rt) {
         Ok(words) => answer_words(rt, &words),
-        Err(status) => status,
+        Err(ending) => ending,
     }
 }
 
 // The words behind the program's own name.
-fn words(rt: &HostRuntime) -> Result<Vec<String>, RunStatus> {
-    let words = env::args(rt).map_err(as_usage)?;
-    words.skip(1).collect(rt.alloc()).map_err(as_no_memory)
+fn words(rt: &HostRuntime) -> Result<Vec<String>, Ending> {
+    let words = env::args(rt).map_err(|error| unread(rt, "words", &error))?;
+    words
+        .skip(1)
+        .collect(rt.alloc())
+        .map_err(|_| Ending::of(rt, RunStatus::NoMemory))
 }
 
-fn answer_words(rt: &HostRuntime, words: &[String]) -> RunStatus {
+fn answer_words(rt: &HostRuntime, words: &[String]) -> Ending {
     match page(words) {
-        Some(text) => show(rt, text),
-        None => match serve(rt, words) {
-            Ok(status) => status,
-            Err(status) => status,
+        Some(text) => Ending::of(rt, show(rt, text)),
+        None => match fs::read(rt, TABLE) {
+            Ok(table) => run_with(rt, words, &table),
+            Err(error) => unread(rt, TABLE, &error),
         },
     }
 }
@@ -92,47 +125,34 @@ fn show(rt: &HostRuntime, text: &str) -> RunStatus {
     }
 }
 
-// The run, or the status where it couldn't begin.
-fn serve(rt: &HostRuntime, words: &[String]) -> Result<RunStatus, RunStatus> {
-    let table = fs::read(rt, TABLE).map_err(as_usage)?;
-    run_with(rt, words, &table)
+// The end of a run whose words or table can't be read.
+fn unread(rt: &HostRuntime, what: &str, error: &io::Error) -> Ending {
+    if error.kind() == ErrorKind::OutOfMemory {
+        return Ending::of(rt, RunStatus::NoMemory);
+    }
+    Ending {
+        status: RunStatus::Usage,
+        misfit: format!(in rt.alloc(); "{what}: {error}").ok(),
+        lost: Vec::new(rt.alloc()),
+    }
 }
 
 // The run over that table of drives.
-fn run_with(rt: &HostRuntime, words: &[String], table: &[u8]) -> Result<RunStatus, RunStatus> {
-    let images = open_images(rt, table)?;
-    let mut bench = FileBench::new(images, rt.stdout());
+fn run_with(rt: &HostRuntime, words: &[String], table: &[u8]) -> Ending {
+    let Ok(fresh) = nanoseconds(rt) else {
+        return Ending::of(rt, RunStatus::ReadFault);
+    };
+    let system = SystemStart::read(rt, JOURNAL, BOOT_ID);
+    let Ok(start) = open_table(rt, words, table, &system) else {
+        return Ending::of(rt, RunStatus::NoMemory);
+    };
+    let mut bench = FileBench::new(start.images, rt.stdout());
     let mut script = FileSource::new(rt.stdin());
-    let fresh = nanoseconds(rt)?;
-    Ok(run(words, table, &mut bench, &mut script, fresh))
-}
-
-// The drives of the table, in its order; none where the text isn't a table.
-fn open_images(rt: &HostRuntime, table: &[u8]) -> Result<Vec<Image>, RunStatus>
-    ensures few { IfOk result (λ images. vec_len images ≤ 256) }
-    ensures drives { IfOk result (λ images. (t : Geometry) → IsTable table.now t → sizes_of images.items ≡ sizes_in t.drives) }
-{
-    match Geometry::read(rt.alloc(), table) {
-        Ok(geometry) => match open_drives(rt, &geometry) {
-            Ok(images) => Ok(images),
-            Err(_) => Err(RunStatus::NoMemory),
-        },
-        Err(GeometryFault::BadLine(_)) => Ok(Vec::new(rt.alloc())),
-        Err(GeometryFault::Memory) => Err(RunStatus::NoMemory),
+    Ending {
+        status: run(words, table, &mut bench, &mut script, fresh),
+        misfit: start.misfit,
+        lost: start.lost,
     }
-}
-
-fn open_drives(rt: &HostRuntime, geometry: &Geometry) -> Result<Vec<Image>, AllocError>
-    requires { All (λ drive. drive.blocks ≤ 2 ^ 40) geometry.now.drives }
-    ensures few { IfOk result (λ images. vec_len images ≤ 256) }
-    ensures drives { IfOk result (λ images. sizes_of images.items ≡ sizes_in geometry.now.drives) }
-{
-    let mut images = Vec::new(rt.alloc());
-    for drive in geometry.drives.as_slice() {
-        let image = Image::open(rt, Some(drive.file.as_str()), drive.blocks);
-        images.push(image)?;
-    }
-    Ok(images)
 }
 
 // The system clock, since 1970: it tells one run from another.
@@ -149,16 +169,4 @@ fn nanoseconds(rt: &HostRuntime) -> Result<u64, RunStatus> {
         ),
         Err(_) => Err(RunStatus::ReadFault),
     }
-}
-
-fn as_usage(error: io::Error) -> RunStatus {
-    if error.kind() == ErrorKind::OutOfMemory {
-        RunStatus::NoMemory
-    } else {
-        RunStatus::Usage
-    }
-}
-
-fn as_no_memory(_: AllocError) -> RunStatus {
-    RunStatus::NoMemory
 }

@@ -1,0 +1,12 @@
+use Rattle.std.proofs.Common.{◌≡◌, vec_len, take}
+use Rattle.metad.specs.Bench.{sizes_of, sizes_in}
+use Rattle.metad.specs.Opening.{HaveOwnFiles, lost_count}
+use Rattle.metad.proofs.opening.open_drives.Given as goal
+
+abbrev pub invariant-loop-line : goal.invariant-loop-line
+invariant-loop-line l = record {
+  few : vec_len l.images ≡ l.line-index;
+  sizes : sizes_of l.images.items ≡ sizes_in (take l.line-index l.geometry.drives);
+  own : HaveOwnFiles l.images.items;
+  lost : vec_len l.lost ≡ lost_count l.images.items;
+}
