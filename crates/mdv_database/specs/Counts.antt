@@ -43,7 +43,7 @@ IsAdoptionCounted calls written old new blocks end.Spent = new ≡ old
 IsAdoptionCounted calls written old new blocks end.Memory = new ≡ old
 
 -- A boot reads the drive's first block, syncs the drive, and looks at the four blocks of the head and at the open slots, one
--- or two. An adoption is eight calls more. Nothing is read twice.
+-- or two. An adoption is eight calls more.
 abbrev pub IsBootCounted : {S : Type 0} → (S → Option ℕ) → (S → Option ℕ) → S → S → BootEnd → Type 0
 IsBootCounted calls written old new (end.Adopted newest) = TookBetween calls written old new 12 13 4097
 IsBootCounted calls written old new end.Empty = TookBetween calls written old new 2 5 0

@@ -12,4 +12,3 @@ mod source;
 pub use memory::MemSource;
 pub use reader::{LineEnd, LineReader, MAX_BYTES, MAX_LINE, MAX_LINES};
 pub use source::Source;
-
