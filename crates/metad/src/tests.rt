@@ -291,12 +291,25 @@ fn a_failed_write_shuts_a_drive(rt: HostRuntime) -> Result<(), Fail> {
     Ok(())
 }
 
+// Whether `drives.failed` in that folder has a line of an image of that path.
+fn is_noted(rt: &HostRuntime, folder: &str, path: &str) -> Result<bool, Fail> {
+    let system = system_in(rt, folder)??;
+    let note = system.note(rt, path)?;
+    let journal = system.journal(rt)?;
+    Ok(journal.has(&note))
+}
+
+// A device that takes each write or none, opened for reading and writing.
+fn open_device(rt: &HostRuntime, path: &str) -> Result<File, Fail> {
+    let mut options = OpenOptions::new();
+    options.read(true).write(true);
+    Ok(options.open(rt, path)?)
+}
+
 #[test]
 fn a_failed_sync_shuts_a_drive(rt: HostRuntime) -> Result<(), Fail> {
     let folder = new_folder(&rt, "sync")?;
-    let mut options = OpenOptions::new();
-    options.read(true).write(true);
-    let sink = options.open(&rt, "/dev/null")?;
+    let sink = open_device(&rt, "/dev/null")?;
     let image = image_on(&rt, folder.as_str(), "/some", sink)?;
     let mut bench = FileBench::new(vec![in rt.alloc(); image]?, Vec::new(rt.alloc()));
     assert_eq!(rt; bench.drives(), 1);
@@ -305,7 +318,16 @@ fn a_failed_sync_shuts_a_drive(rt: HostRuntime) -> Result<(), Fail> {
         assert_eq!(rt; bench.sync(DriveNo(0)), Err(Failed));
         assert_eq!(rt; bench.write(DriveNo(0), 1, &[ZERO_BLOCK]), Err(Failed));
     }
-    let full = options.open(&rt, "/dev/full")?;
+    assert!(rt; is_noted(&rt, folder.as_str(), "/some")?);
+    assert!(rt; !is_noted(&rt, folder.as_str(), "/som")?);
+    fs::remove_dir_all(&rt, folder.as_str())?;
+    Ok(())
+}
+
+#[test]
+fn a_full_disk_shuts_a_drive(rt: HostRuntime) -> Result<(), Fail> {
+    let folder = new_folder(&rt, "full")?;
+    let full = open_device(&rt, "/dev/full")?;
     let mut image = image_on(&rt, folder.as_str(), "/other", full)?;
     let mut out = [ZERO_BLOCK];
     assert_eq!(rt; image.read(1, &mut out), Ok(()));
@@ -313,28 +335,43 @@ fn a_failed_sync_shuts_a_drive(rt: HostRuntime) -> Result<(), Fail> {
     if image.blocks() == 8 {
         assert_eq!(rt; image.read(1, &mut out), Err(Failed));
     }
-    let system = system_in(&rt, folder.as_str())??;
-    let id = FileId::File { dev: 0, ino: 0 };
-    let sink = options.open(&rt, "/dev/null")?;
-    match Locked::new(sink, id, system.note(&rt, "/third")?)
-        .map_err(|_| "not locked")?
-        .settle(&system.journal(&rt)?)
-    {
+    assert!(rt; is_noted(&rt, folder.as_str(), "/other")?);
+    fs::remove_dir_all(&rt, folder.as_str())?;
+    Ok(())
+}
+
+// Why that file can't be made a drive, once it is locked, and which file is told with it.
+fn unsettled(
+    rt: &HostRuntime,
+    folder: &str,
+    file: File,
+    id: FileId,
+) -> Result<(String, bool), Fail> {
+    let system = system_in(rt, folder)??;
+    let note = system.note(rt, "/third")?;
+    let journal = system.journal(rt)?;
+    let Ok(locked) = Locked::new(file, id, note) else {
+        return Err("not locked".into());
+    };
+    match locked.settle(&journal) {
         Err(Unopened::Lost { reason, id: told }) => {
-            assert_eq!(rt; told, Some(id));
-            assert!(rt;
-                format!(in rt.alloc(); "{reason}")?
-                    .as_str()
-                    .starts_with("can't be synced: ")
-            );
+            let text = format!(in rt.alloc(); "{reason}")?;
+            Ok((text, told == Some(id)))
         }
-        Err(Unopened::Memory) | Ok(_) => return Err("synced".into()),
+        Err(Unopened::Memory) => Err("memory".into()),
+        Ok(_) => Err("synced".into()),
     }
-    let journal = system.journal(&rt)?;
-    for path in ["/some", "/other", "/third"] {
-        assert!(rt; journal.has(&system.note(&rt, path)?));
-    }
-    assert!(rt; !journal.has(&system.note(&rt, "/oth")?));
+}
+
+#[test]
+fn a_file_that_cannot_be_synced_is_no_drive(rt: HostRuntime) -> Result<(), Fail> {
+    let folder = new_folder(&rt, "third")?;
+    let sink = open_device(&rt, "/dev/null")?;
+    let id = FileId::File { dev: 0, ino: 0 };
+    let (reason, is_told) = unsettled(&rt, folder.as_str(), sink, id)?;
+    assert!(rt; reason.as_str().starts_with("can't be synced: "));
+    assert!(rt; is_told);
+    assert!(rt; is_noted(&rt, folder.as_str(), "/third")?);
     fs::remove_dir_all(&rt, folder.as_str())?;
     Ok(())
 }
