@@ -14,7 +14,7 @@ This example runs the proved metad, which isn't built yet. With --proved it is b
 
     cd crates/metad && rt run -- --version
 
-That proves each crate that metad stands on, which takes about 40 minutes of processor time the first time.
+That proves each crate that metad stands on, which takes about 25 minutes of processor time the first time.
 examples/first-look/run.sh shows metad within two minutes, unproved.
 END
   exit 2
