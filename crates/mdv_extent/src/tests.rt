@@ -4,9 +4,9 @@ use crate::{
 use mdv_base::{Identity, VolId, ZERO_BLOCK};
 use std::test::Fail;
 
-const D1: Run = Run { at: 1, blocks: 400 };
+const LOW_EXTENT: Run = Run { at: 1, blocks: 400 };
 
-const D2: Run = Run {
+const HIGH_EXTENT: Run = Run {
     at: 402,
     blocks: 300,
 };
@@ -15,11 +15,11 @@ const D2: Run = Run {
 fn soft_partitions_stand_one_behind_another(rt: HostRuntime) -> Result<(), Fail> {
     let free = free_runs(rt.alloc(), 1000, &[])?;
     let first = allocate(rt.alloc(), free.as_slice(), 400).ok().ok_or("d1")?;
-    assert!(rt; first.as_slice() == [D1].as_slice());
+    assert!(rt; first.as_slice() == [LOW_EXTENT].as_slice());
 
-    let free = free_runs(rt.alloc(), 1000, &[D1])?;
+    let free = free_runs(rt.alloc(), 1000, &[LOW_EXTENT])?;
     let second = allocate(rt.alloc(), free.as_slice(), 300).ok().ok_or("d2")?;
-    assert!(rt; second.as_slice() == [D2].as_slice());
+    assert!(rt; second.as_slice() == [HIGH_EXTENT].as_slice());
     Ok(())
 }
 
@@ -29,23 +29,23 @@ fn a_block_is_left_for_each_header(rt: HostRuntime) -> Result<(), Fail> {
         at: 401,
         blocks: 300,
     };
-    assert!(rt; lie_apart(rt.alloc(), 702, &[D2, D1])?);
-    assert!(rt; !lie_apart(rt.alloc(), 701, &[D2, D1])?);
-    assert!(rt; !lie_apart(rt.alloc(), 1000, &[D1, tight])?);
+    assert!(rt; lie_apart(rt.alloc(), 702, &[HIGH_EXTENT, LOW_EXTENT])?);
+    assert!(rt; !lie_apart(rt.alloc(), 701, &[HIGH_EXTENT, LOW_EXTENT])?);
+    assert!(rt; !lie_apart(rt.alloc(), 1000, &[LOW_EXTENT, tight])?);
     assert!(rt; !lie_apart(rt.alloc(), 1000, &[Run { at: 0, blocks: 1 }])?);
     Ok(())
 }
 
 #[test]
 fn the_blocks_of_a_cleared_one_are_taken_again(rt: HostRuntime) -> Result<(), Fail> {
-    let used = release(rt.alloc(), &[D2, D1], &[D1])?;
-    assert!(rt; used.as_slice() == [D2].as_slice());
+    let used = release(rt.alloc(), &[HIGH_EXTENT, LOW_EXTENT], &[LOW_EXTENT])?;
+    assert!(rt; used.as_slice() == [HIGH_EXTENT].as_slice());
 
-    let free = free_runs(rt.alloc(), 1000, &[D2])?;
+    let free = free_runs(rt.alloc(), 1000, &[HIGH_EXTENT])?;
     let refused = allocate(rt.alloc(), free.as_slice(), 698);
     assert!(rt; refused.err() == Some(SpaceFault::NoSpace(697)));
     let third = allocate(rt.alloc(), free.as_slice(), 400).ok().ok_or("d3")?;
-    assert!(rt; third.as_slice() == [D1].as_slice());
+    assert!(rt; third.as_slice() == [LOW_EXTENT].as_slice());
     Ok(())
 }
 
