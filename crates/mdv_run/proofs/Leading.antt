@@ -1,12 +1,13 @@
 -- How one turn of a run goes on from the script that is before it.
-use Rattle.std.proofs.Common.{◌≡◌, inl, inr, ℕ, Bool, true, false, List, [], ◌++◌, Option, Some, None, refl, sym, ◌∙◌, ap, subst}
-use Rattle.mdv_run.specs.Below.{LineTooLong, Reader, Script, at_end, spent, too_long, line, script_before, IsTurn, Line, TooLong, End, Spent, Tale, told, Answer, Reply, Host, Memory, IsTold, IsReplied, Kept, IsTurnedDown, kept_at, Replied, RunStatus, Panic, ReadFault, WriteFault, NoMemory, NumbersSpent, Failures, Follows, Runs, IsAnswered, drive_failed, source_failed, replies_failed, status_of}
+use Rattle.std.proofs.Common.{◌≡◌, inl, inr, ℕ, Bool, true, false, List, [], ◌++◌, Option, Some, None, refl, sym, ◌∙◌, ap, subst, arith}
+use Rattle.mdv_run.specs.Below.{Rose, LineTooLong, Reader, Script, at_end, spent, too_long, line, script_before, IsTurn, Line, TooLong, End, Spent, Tale, told, Answer, Reply, Host, Memory, IsTold, IsReplied, Kept, IsTurnedDown, kept_at, Replied, RunStatus, Panic, ReadFault, WriteFault, NoMemory, NumbersSpent, At, Counts, RoseTo, NextLine, IsAnswered, drive_failed, source_failed, replies_failed, status_of}
+use Rattle.mdv_run_law.specs.Run.{Over as IsOver, broken, ended, unread, EndsAs, EndsWith, IsSaid, refused_by}
+use Rattle.mdv_engine_law.specs.Replies.{text_of}
 use Rattle.mdv_engine_law.specs.declared.answer.Answer.TheVariants as outcome
 use Rattle.mdv_engine_law.specs.declared.answer.Reply.TheVariants as reply
-use Rattle.mdv_engine_law.proofs.Executing.{rose_within, carried_more}
 use Rattle.mdv_run.specs.declared.session.Turn.{Turn}
-use Rattle.mdv_run.specs.declared.session.Turn.TheVariants.{Over}
-use Rattle.mdv_run.specs.Turns.{IsWithin, LineAnswered, Leads, Turns, turn_of, IsOn, IsLostStatus}
+use Rattle.mdv_run.specs.declared.session.Turn.TheVariants.{On, Over}
+use Rattle.mdv_run.specs.Turns.{LineAnswered, Leads, Turns, at, turn_of, IsOn, IsLostStatus}
 use Rattle.std.proofs.lemmas.List.{append-nil}
 
 -- the script that each answer of the reader comes from
@@ -34,97 +35,95 @@ line_is (spent lines bytes) text new left shown is = absurd (cc (is.0))
 line_is (too_long more) text new left shown is = absurd (cc (is.0))
 line_is (line other more) text new left shown is = (more, ap (λ (l : List ℕ). line l more) (sym is.1 ∙ sym shown), is.2)
 
--- what a line came to where something failed may be told of a longer stretch
-pub answered_more : (failed more : Type 0) (host : Host) (kept next : Kept) (text : List ℕ) (answer : Answer) → (failed → more) → IsAnswered failed host kept text answer next → IsAnswered more host kept text answer next
-answered_more failed more host kept next text answer cause (inl none) = inl none
-answered_more failed more host kept next text answer cause (inr (command, is, done)) = inr (command, is, carried_more failed more cause host kept next answer command done)
+-- counts of which the drive's and the source's are those behind a line, and those of the giving still those before it
+abbrev carried_by : Counts → Counts → Counts
+carried_by now then = record { drive = then.drive; source = then.source; replies = now.replies }
 
--- what follows on an answer and its reply
-module _ (here : Failures) (replies : Type 0) (cause : replies → replies_failed here) (host : Host) (kept next : Kept) (any : Bool) (script more : Script) (before : Option Script) (before_is : before ≡ Some more)
-    (Comes : Failures → Answer → Type 0)
-    (runs : (f : Failures) (answer : Answer) (told : List ℕ) (status : RunStatus) (last : Option Kept) → Comes f answer → Follows f answer next any (λ k r rest s l. Runs f host k r more rest s l) told status last → Runs f host kept any script told status last)
+rose_carried : (now then : Counts) → RoseTo now then → RoseTo now (carried_by now then)
+rose_carried now then rose = record { drive = rose.drive; source = rose.source; replies = omega arith }
+
+rose_told : (now then : Counts) → RoseTo now then → RoseTo (carried_by now then) then
+rose_told now then rose = record { drive = omega arith; source = omega arith; replies = rose.replies }
+
+-- how one turn leads on: its answer is the next line's, by whatever counts the drive failed as often
+module _ (host : Host) (from : At) (then : Counts) (rose : RoseTo from.counts then) (next : Kept) (more : Script) (before : Option Script) (before_is : before ≡ Some more) (answer : Answer)
+    (comes : (c : Counts) → RoseTo from.counts c → c.drive ≡ then.drive → NextLine host from.counts from.kept from.script answer c next more)
   where
-    replies_rose : (f : Failures) → IsWithin f here → replies → replies_failed f
-    replies_rose f within so = rose_within _ _ _ _ within.replies_from within.replies_to (cause so)
+    line_on : (any : Bool) (piece : List ℕ) → IsSaid answer → piece ≡ text_of answer → any ≡ refused_by answer from.refused → Leads host from piece then next before (On any)
+    line_on any piece said text is = (more, before_is, record { answer = answer; comes = comes then rose refl; said = said; as_text = text; as_refused = is })
 
-    pub leads : (answer : Answer) (r : Reply) (piece : List ℕ) → ((f : Failures) → IsWithin f here → Comes f answer) → IsTold replies answer r piece → Leads here host kept any script piece next before (turn_of r any)
-    leads outcome.Ok reply.Ok piece comes is =
-        (more, before_is, λ f within rest status last goes. runs f outcome.Ok (piece ++ rest) status last (comes f within) (inr (rest, ap (λ (p : List ℕ). p ++ rest) is, goes)))
-    leads (outcome.Values text) reply.Ok piece comes is =
-        (more, before_is, λ f within rest status last goes. runs f (outcome.Values text) (piece ++ rest) status last (comes f within) (inr (rest, ap (λ (p : List ℕ). p ++ rest) is, goes)))
-    leads (outcome.Refused refusal) (reply.Refused again) piece comes is =
-        (more, before_is, λ f within rest status last goes. runs f (outcome.Refused refusal) (piece ++ rest) status last (comes f within) (inr (rest, ap (λ (p : List ℕ). p ++ rest) is.1, goes)))
-    leads outcome.Ok reply.Told piece comes is =
-        (Some next, (refl, λ lost. lost), λ f within. runs f outcome.Ok piece WriteFault (Some next) (comes f within) (inl (replies_rose f within is.0, (is.1.0, is.1.1, refl, refl))))
-    leads (outcome.Values text) reply.Told piece comes is =
-        (Some next, (refl, λ lost. lost), λ f within. runs f (outcome.Values text) piece WriteFault (Some next) (comes f within) (inl (replies_rose f within is.0, (is.1.0, is.1.1, refl, refl))))
-    leads (outcome.Refused refusal) reply.Told piece comes is =
-        (Some next, (refl, λ lost. lost), λ f within. runs f (outcome.Refused refusal) piece WriteFault (Some next) (comes f within) (inl (replies_rose f within is.0, (is.1.0, is.1.1, refl, refl))))
-    leads outcome.Panic (reply.Panic active listed) piece comes is =
-        (None, tt, λ f within. runs f outcome.Panic piece (Panic active listed) None (comes f within) (record { silent = is.2; ended = λ i. Panic (is.0 i) (is.1 i); keeps = refl }))
-    leads outcome.Spent reply.Spent piece comes is =
-        (None, tt, λ f within. runs f outcome.Spent piece NumbersSpent None (comes f within) (record { silent = is; ended = refl; keeps = refl }))
-    leads outcome.NoMemory reply.NoMemory piece comes is =
-        (None, tt, λ f within. runs f outcome.NoMemory piece NoMemory None (comes f within) (record { silent = is; ended = refl; keeps = refl }))
-    leads outcome.Ok (reply.Refused again) piece comes is = absurd is
-    leads outcome.Ok (reply.Panic active listed) piece comes is = absurd is
-    leads outcome.Ok reply.Spent piece comes is = absurd is
-    leads outcome.Ok reply.NoMemory piece comes is = absurd is
-    leads (outcome.Values text) (reply.Refused again) piece comes is = absurd is
-    leads (outcome.Values text) (reply.Panic active listed) piece comes is = absurd is
-    leads (outcome.Values text) reply.Spent piece comes is = absurd is
-    leads (outcome.Values text) reply.NoMemory piece comes is = absurd is
-    leads (outcome.Refused refusal) reply.Ok piece comes is = absurd is
-    leads (outcome.Refused refusal) (reply.Panic active listed) piece comes is = absurd is
-    leads (outcome.Refused refusal) reply.Spent piece comes is = absurd is
-    leads (outcome.Refused refusal) reply.NoMemory piece comes is = absurd is
-    leads outcome.Panic reply.Ok piece comes is = absurd is
-    leads outcome.Panic (reply.Refused again) piece comes is = absurd is
-    leads outcome.Panic reply.Spent piece comes is = absurd is
-    leads outcome.Panic reply.NoMemory piece comes is = absurd is
-    leads outcome.Panic reply.Told piece comes is = absurd is
-    leads outcome.Spent reply.Ok piece comes is = absurd is
-    leads outcome.Spent (reply.Refused again) piece comes is = absurd is
-    leads outcome.Spent (reply.Panic active listed) piece comes is = absurd is
-    leads outcome.Spent reply.NoMemory piece comes is = absurd is
-    leads outcome.Spent reply.Told piece comes is = absurd is
-    leads outcome.NoMemory reply.Ok piece comes is = absurd is
-    leads outcome.NoMemory (reply.Refused again) piece comes is = absurd is
-    leads outcome.NoMemory (reply.Panic active listed) piece comes is = absurd is
-    leads outcome.NoMemory reply.Spent piece comes is = absurd is
-    leads outcome.NoMemory reply.Told piece comes is = absurd is
+    over_by : (status : RunStatus) (piece : List ℕ) (last : Option Kept) → EndsWith (replies_failed from.counts then) answer next piece status last → IsOver host then from piece status last
+    over_by status piece last with = broken answer (carried_by from.counts then) next more (comes (carried_by from.counts then) (rose_carried from.counts then rose) refl) (rose_told from.counts then rose) with
+
+-- what a reply leads to, by its answer
+leads : (host : Host) (from : At) (then : Counts) → RoseTo from.counts then → (next : Kept) (more : Script) (before : Option Script) → before ≡ Some more → (answer : Answer) (r : Reply) (piece : List ℕ)
+    → ((c : Counts) → RoseTo from.counts c → c.drive ≡ then.drive → NextLine host from.counts from.kept from.script answer c next more) → IsTold (replies_failed from.counts then) answer r piece → Leads host from piece then next before (turn_of r from.refused)
+leads host from then rose next more before is answer r piece comes told = by answer r comes told where
+  by : (answer : Answer) (r : Reply) → ((c : Counts) → RoseTo from.counts c → c.drive ≡ then.drive → NextLine host from.counts from.kept from.script answer c next more) → IsTold (replies_failed from.counts then) answer r piece
+      → Leads host from piece then next before (turn_of r from.refused)
+  by outcome.Ok reply.Ok comes told = line_on host from then rose next more before is outcome.Ok comes from.refused piece tt told refl
+  by (outcome.Values text) reply.Ok comes told = line_on host from then rose next more before is (outcome.Values text) comes from.refused piece tt told refl
+  by (outcome.Refused refusal) (reply.Refused again) comes told = line_on host from then rose next more before is (outcome.Refused refusal) comes true piece tt told.1 refl
+  by outcome.Ok reply.Told comes told =
+      (Some next, (refl, λ lost. lost), over_by host from then rose next more before is outcome.Ok comes WriteFault piece (Some next) (record { cause = told.0; count = told.1.0; front = told.1.1; ended = refl; keeps = refl }))
+  by (outcome.Values text) reply.Told comes told =
+      (Some next, (refl, λ lost. lost), over_by host from then rose next more before is (outcome.Values text) comes WriteFault piece (Some next) (record { cause = told.0; count = told.1.0; front = told.1.1; ended = refl; keeps = refl }))
+  by (outcome.Refused refusal) reply.Told comes told =
+      (Some next, (refl, λ lost. lost), over_by host from then rose next more before is (outcome.Refused refusal) comes WriteFault piece (Some next) (record { cause = told.0; count = told.1.0; front = told.1.1; ended = refl; keeps = refl }))
+  by outcome.Panic (reply.Panic active listed) comes told =
+      (None, tt, over_by host from then rose next more before is outcome.Panic comes (Panic active listed) piece None (record { silent = told.2; ended = λ i. Panic (told.0 i) (told.1 i); keeps = refl }))
+  by outcome.Spent reply.Spent comes told = (None, tt, over_by host from then rose next more before is outcome.Spent comes NumbersSpent piece None (record { silent = told; ended = refl; keeps = refl }))
+  by outcome.NoMemory reply.NoMemory comes told = (None, tt, over_by host from then rose next more before is outcome.NoMemory comes NoMemory piece None (record { silent = told; ended = refl; keeps = refl }))
+  by outcome.Ok (reply.Refused again) comes told = absurd told
+  by outcome.Ok (reply.Panic active listed) comes told = absurd told
+  by outcome.Ok reply.Spent comes told = absurd told
+  by outcome.Ok reply.NoMemory comes told = absurd told
+  by (outcome.Values text) (reply.Refused again) comes told = absurd told
+  by (outcome.Values text) (reply.Panic active listed) comes told = absurd told
+  by (outcome.Values text) reply.Spent comes told = absurd told
+  by (outcome.Values text) reply.NoMemory comes told = absurd told
+  by (outcome.Refused refusal) reply.Ok comes told = absurd told
+  by (outcome.Refused refusal) (reply.Panic active listed) comes told = absurd told
+  by (outcome.Refused refusal) reply.Spent comes told = absurd told
+  by (outcome.Refused refusal) reply.NoMemory comes told = absurd told
+  by outcome.Panic reply.Ok comes told = absurd told
+  by outcome.Panic (reply.Refused again) comes told = absurd told
+  by outcome.Panic reply.Spent comes told = absurd told
+  by outcome.Panic reply.NoMemory comes told = absurd told
+  by outcome.Panic reply.Told comes told = absurd told
+  by outcome.Spent reply.Ok comes told = absurd told
+  by outcome.Spent (reply.Refused again) comes told = absurd told
+  by outcome.Spent (reply.Panic active listed) comes told = absurd told
+  by outcome.Spent reply.NoMemory comes told = absurd told
+  by outcome.Spent reply.Told comes told = absurd told
+  by outcome.NoMemory reply.Ok comes told = absurd told
+  by outcome.NoMemory (reply.Refused again) comes told = absurd told
+  by outcome.NoMemory (reply.Panic active listed) comes told = absurd told
+  by outcome.NoMemory reply.Spent comes told = absurd told
+  by outcome.NoMemory reply.Told comes told = absurd told
 
 -- a line
-pub leads_line : (here : Failures) (drive replies : Type 0) (host : Host) (old new : Memory) (any : Bool) (s more : Script) (text : List ℕ) (r : Reply) (before : Option Script) (t u : Tale)
-    → s ≡ line text more → before ≡ Some more → (drive → drive_failed here) → (replies → replies_failed here) → LineAnswered drive replies host text old new r t u → Turns here host old new any s before (turn_of r any) t u
-leads_line here drive replies host old new any s more text r before t u is next lost cause done = record {
+pub leads_line : (now then : Counts) → RoseTo now then → (host : Host) (old new : Memory) (any : Bool) (s more : Script) (text : List ℕ) (r : Reply) (before : Option Script) (t u : Tale)
+    → s ≡ line text more → before ≡ Some more → LineAnswered (drive_failed now then) (replies_failed now then) host text old new r t u → Turns host now then old new any s before (turn_of r any) t u
+leads_line now then rose host old new any s more text r before t u is next done = record {
   piece = done.replied.piece;
   is_told = done.replied.is_told;
-  leads = leads here replies cause host (kept_at old t) (kept_at new u) any s more before next (λ f answer. IsAnswered (drive_failed f) host (kept_at old t) text answer (kept_at new u))
-      (λ f answer told status last comes follows. subst (λ (x : Script). Runs f host (kept_at old t) any x told status last) (sym is) (inr (answer, kept_at new u, comes, follows)))
-      done.answer r done.replied.piece
-      (λ f within. answered_more drive (drive_failed f) host (kept_at old t) (kept_at new u) text done.answer (λ so. rose_within _ _ _ _ within.drive_from within.drive_to (lost so)) done.done)
+  leads = leads host (at now (kept_at old t) any s) then rose (kept_at new u) more before next done.answer r done.replied.piece
+      (λ c up same. subst (λ (x : Script). NextLine host now (kept_at old t) x done.answer c (kept_at new u) more) (sym is)
+      (refl, up, subst (λ (d : ℕ). IsAnswered (Rose now.drive d) host (kept_at old t) text done.answer (kept_at new u)) (sym same) done.done))
       done.replied.as_told;
 }
 
 -- a line that was too long
-pub leads_long : (here : Failures) (replies : Type 0) (host : Host) (old : Memory) (any : Bool) (s more : Script) (r : Reply) (before : Option Script) (t u : Tale)
-    → s ≡ too_long more → before ≡ Some more → (replies → replies_failed here) → IsTurnedDown LineTooLong (kept_at old t) (outcome.Refused LineTooLong) (kept_at old u) → Replied replies (outcome.Refused LineTooLong) r t u
-    → Turns here host old old any s before (turn_of r any) t u
-leads_long here replies host old any s more r before t u is next cause down replied = record {
+pub leads_long : (now then : Counts) → RoseTo now then → (host : Host) (old : Memory) (any : Bool) (s more : Script) (r : Reply) (before : Option Script) (t u : Tale)
+    → s ≡ too_long more → before ≡ Some more → IsTurnedDown LineTooLong (kept_at old t) (outcome.Refused LineTooLong) (kept_at old u) → Replied (replies_failed now then) (outcome.Refused LineTooLong) r t u
+    → Turns host now then old old any s before (turn_of r any) t u
+leads_long now then rose host old any s more r before t u is next down replied = record {
   piece = replied.piece;
   is_told = replied.is_told;
-  leads = leads here replies cause host (kept_at old t) (kept_at old u) any s more before next (λ f answer. IsTurnedDown LineTooLong (kept_at old t) answer (kept_at old u))
-      (λ f answer told status last comes follows. subst (λ (x : Script). Runs f host (kept_at old t) any x told status last) (sym is) (inr (answer, kept_at old u, comes, follows)))
-      (outcome.Refused LineTooLong) r replied.piece (λ f within. down) replied.as_told;
+  leads = leads host (at now (kept_at old t) any s) then rose (kept_at old u) more before next (outcome.Refused LineTooLong) r replied.piece
+      (λ c up same. subst (λ (x : Script). NextLine host now (kept_at old t) x (outcome.Refused LineTooLong) c (kept_at old u) more) (sym is) (refl, up, down)) replied.as_told;
 }
-
--- the source failed
-pub read_fault : (f : Failures) (host : Host) (kept : Kept) (refused : Bool) (s : Script) → source_failed f → Runs f host kept refused s [] ReadFault (Some kept)
-read_fault f host kept refused at_end failed = inl (failed, record { silent = refl; ended = refl; keeps = refl })
-read_fault f host kept refused (spent lines bytes) failed = inl (failed, record { silent = refl; ended = refl; keeps = refl })
-read_fault f host kept refused (too_long more) failed = inl (failed, record { silent = refl; ended = refl; keeps = refl })
-read_fault f host kept refused (line text more) failed = inl (failed, record { silent = refl; ended = refl; keeps = refl })
 
 -- a turn on which the run goes on was replied to
 pub on_replied : (r : Reply) (any : Bool) (turn : Turn) → turn ≡ turn_of r any → IsOn turn → IsReplied r
@@ -138,9 +137,18 @@ on_replied r any turn is on = by r (subst IsOn is on) where
   by reply.Told on = on
 
 -- a turn with which the run is over, and nothing is told
-pub over_turn : (here : Failures) (host : Host) (memory : Memory) (any : Bool) (script : Script) (before : Option Script) (status : RunStatus) (t : Tale)
-    → (IsLostStatus status → ⊥) → ((f : Failures) → IsWithin f here → Runs f host (kept_at memory t) any script [] status (Some (kept_at memory t))) → Turns here host memory memory any script before (Over status) t t
-over_turn here host memory any script before status t known runs = record { piece = []; is_told = sym (append-nil (told t)); leads = (Some (kept_at memory t), (refl, known), runs) }
+over_turn : (host : Host) (now then : Counts) (memory : Memory) (any : Bool) (script : Script) (before : Option Script) (status : RunStatus) (t : Tale)
+    → (IsLostStatus status → ⊥) → IsOver host then (at now (kept_at memory t) any script) [] status (Some (kept_at memory t)) → Turns host now then memory memory any script before (Over status) t t
+over_turn host now then memory any script before status t known over = record { piece = []; is_told = sym (append-nil (told t)); leads = (Some (kept_at memory t), (refl, known), over) }
+
+-- the source failed
+pub unread_turn : (host : Host) (now then : Counts) → RoseTo now then → source_failed now then → (memory : Memory) (any : Bool) (script : Script) (before : Option Script) (t : Tale) → Turns host now then memory memory any script before (Over ReadFault) t t
+unread_turn host now then rose so memory any script before t = over_turn host now then memory any script before ReadFault t (λ lost. lost) (unread so rose (record { silent = refl; ended = refl; keeps = refl }))
+
+-- the script is at its end, or past its limit
+pub ended_turn : (host : Host) (now then : Counts) → RoseTo now then → (memory : Memory) (any : Bool) (script : Script) (before : Option Script) (status : RunStatus) (t : Tale)
+    → (IsLostStatus status → ⊥) → EndsAs any script status → Turns host now then memory memory any script before (Over status) t t
+ended_turn host now then rose memory any script before status t known how = over_turn host now then memory any script before status t known (ended how rose (record { silent = refl; ended = refl; keeps = refl }))
 
 -- at the script's end what is on the drive is known
 pub ended_known : (any : Bool) (status : RunStatus) → status ≡ status_of any → IsLostStatus status → ⊥

@@ -1,19 +1,11 @@
 -- How the lines of a run follow one another.
 use Rattle.std.specs.Prelude.{◌≡◌, ◌≤◌, ℕ, Bool, true, List, ◌++◌, Option, Some, IfSome}
-use Rattle.mdv_run.specs.Below.{Script, Tale, told, Answer, BootRefusal, Reply, Host, Kept, Memory, kept_at, Replied, RunStatus, Panic, WriteFault, NoMemory, NumbersSpent, Failures, Runs, IsAnswered, IsLeft, HasStatusCause}
+use Rattle.mdv_run.specs.Below.{Script, Tale, told, Answer, BootRefusal, Reply, Host, Kept, Memory, kept_at, Replied, RunStatus, Panic, WriteFault, NoMemory, NumbersSpent, At, Counts, LineTold, Runs, IsAnswered, IsLeft, HasStatusCause}
+use Rattle.mdv_run_law.specs.Run.{Over as IsOver}
 use Rattle.mdv_engine_law.specs.declared.answer.BootRefusal.TheVariants as refusal
 use Rattle.mdv_engine_law.specs.declared.answer.Reply.TheVariants as reply
 use Rattle.mdv_run.specs.declared.session.Turn.{Turn}
 use Rattle.mdv_run.specs.declared.session.Turn.TheVariants.{On, Over}
-
--- what counts of a longer stretch counts of this one
-pub record IsWithin (f here : Failures) : Type 0 where
-  pub drive_from : f.drive_before ≤ here.drive_before
-  pub drive_to : here.drive_after ≤ f.drive_after
-  pub source_from : f.source_before ≤ here.source_before
-  pub source_to : here.source_after ≤ f.source_after
-  pub replies_from : f.replies_before ≤ here.replies_before
-  pub replies_to : here.replies_after ≤ f.replies_after
 
 -- a line that was carried out and replied to, where calls on the drive and the giving of replies may have failed
 pub record LineAnswered (drive replies : Type 0) (host : Host) (text : List ℕ) (old new : Memory) (reply : Reply) (t u : Tale) : Type 0 where
@@ -47,32 +39,33 @@ abbrev pub IsLostTurn : Turn → Type 0
 IsLostTurn (On r) = ⊥
 IsLostTurn (Over status) = IsLostStatus status
 
--- One turn told this piece, and what then follows follows here behind the piece; or the run is over with it.
-abbrev pub Leads : Failures → Host → Kept → Bool → Script → List ℕ → Kept → Option Script → Turn → Type 0
-Leads here host old refused script piece new before (On r) =
-    (more : Script) × (before ≡ Some more)
-    × ((f : Failures) → IsWithin f here → (rest : List ℕ) (status : RunStatus) (last : Option Kept) → Runs f host new r more rest status last → Runs f host old refused script (piece ++ rest) status last)
-Leads here host old refused script piece new before (Over status) =
-    (last : Option Kept) × IfSome last (λ kept. (kept ≡ new) × (IsLostStatus status → ⊥)) × ((f : Failures) → IsWithin f here → Runs f host old refused script piece status last)
+-- where a run is before a turn
+abbrev pub at : Counts → Kept → Bool → Script → At
+at now kept refused script = record { counts = now; kept = kept; refused = refused; script = script }
 
--- a turn, told by the script before it
-pub record Turns (here : Failures) (host : Host) (old new : Memory) (refused : Bool) (script : Script) (before : Option Script) (turn : Turn) (t u : Tale) : Type 0 where
+-- One turn told this piece: a line's reply, and the run goes on; or the run is over with it, and what is kept then is known, or isn't.
+abbrev pub Leads : Host → At → List ℕ → Counts → Kept → Option Script → Turn → Type 0
+Leads host from piece then kept before (On r) = (more : Script) × (before ≡ Some more) × LineTold host from piece (at then kept r more)
+Leads host from piece then kept before (Over status) = (last : Option Kept) × IfSome last (λ k. (k ≡ kept) × (IsLostStatus status → ⊥)) × IsOver host then from piece status last
+
+-- a turn, from these counts to those, told by the script before it
+pub record Turns (host : Host) (now then : Counts) (old new : Memory) (refused : Bool) (script : Script) (before : Option Script) (turn : Turn) (t u : Tale) : Type 0 where
   pub piece : List ℕ
   pub is_told : told u ≡ told t ++ piece
-  pub leads : Leads here host (kept_at old t) refused script piece (kept_at new u) before turn
+  pub leads : Leads host (at now (kept_at old t) refused script) piece then (kept_at new u) before turn
 
-abbrev pub HasTurnCause : Failures → Turn → Type 0
-HasTurnCause here (On r) = Unit {0}
-HasTurnCause here (Over status) = HasStatusCause here status
+abbrev pub HasTurnCause : Counts → Counts → Turn → Type 0
+HasTurnCause now then (On r) = Unit {0}
+HasTurnCause now then (Over status) = HasStatusCause now then status
 
 abbrev pub IsOn : Turn → Type 0
 IsOn (On r) = Unit {0}
 IsOn (Over status) = ⊥
 
 -- the lines of a run from that state on
-pub record LinesRun (here : Failures) (host : Host) (old : Memory) (refused : Bool) (script : Script) (status : RunStatus) (t u : Tale) : Type 0 where
+pub record LinesRun (host : Host) (now then : Counts) (old : Memory) (refused : Bool) (script : Script) (status : RunStatus) (t u : Tale) : Type 0 where
   pub more : List ℕ
   pub is_told : told u ≡ told t ++ more
   pub last : Option Kept
   pub left : IfSome last (IsLeft host u)
-  pub runs : (f : Failures) → IsWithin f here → Runs f host (kept_at old t) refused script more status last
+  pub runs : Runs host then (at now (kept_at old t) refused script) more status last

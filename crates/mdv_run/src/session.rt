@@ -14,7 +14,7 @@ ghost use Rattle.mdv_engine.specs.Engine.{IsWell};
 ghost use Rattle.mdv_name.specs.declared.geometry.Geometry.{Geometry};
 ghost use Rattle.mdv_name.specs.Geometry.{IsGeometry as IsTable};
 ghost use Rattle.mdv_run_law.specs.Usage.{IsUsed};
-ghost use Rattle.mdv_run_law.specs.Run.{IsUnbegun, failures, HasStatusCause, status_of, IsWholeRun};
+ghost use Rattle.mdv_run_law.specs.Run.{IsUnbegun, counts, HasStatusCause, status_of, IsWholeRun};
 ghost use Rattle.mdv_run_law.specs.Standing.{RunMoment, LinesMoment, RanTo};
 ghost use Rattle.mdv_run.specs.Turns.{over_status, LineAnswered, Turns, turn_of as spec_turn_of, IsOn, IsLostTurn, HasTurnCause, LinesRun};
 
@@ -47,7 +47,7 @@ pub fn run<B: Bench, I: Source>(
 
     // Else the boot answers from what the drive's blocks held, and the bytes told and the status are
     // those of the script; where a database is open at the end, every crash leaves it.
-    ensures runs { (drives : Geometry) (home : Home) → IsUsed (map string_bytes words.now) geometry.now (B.sizes bench.old) drives home → (t : Tale) → B.tale bench.old ≡ Some t → (input : List ℕ) → I.left script.old ≡ Some input → IsUnbegun t (B.tale bench.new) result ⊎ IsWholeRun (failures (B.faults bench.old) (B.faults bench.new) (I.faults script.old) (I.faults script.new)) (record { drives = drives; home = home; fresh = fresh }) t (script_of input) (B.tale bench.new) result }
+    ensures runs { (drives : Geometry) (home : Home) → IsUsed (map string_bytes words.now) geometry.now (B.sizes bench.old) drives home → (t : Tale) → B.tale bench.old ≡ Some t → (input : List ℕ) → I.left script.old ≡ Some input → IsUnbegun t (B.tale bench.new) result ⊎ IsWholeRun (record { drives = drives; home = home; fresh = fresh }) (counts (B.faults bench.old) (I.faults script.old)) (counts (B.faults bench.new) (I.faults script.new)) t (script_of input) (B.tale bench.new) result }
 
     // After a faulty use nothing was done.
     ensures unbegun { result ≡ RunStatus.Usage → (B.tale bench.new ≡ B.tale bench.old) × (I.left script.new ≡ I.left script.old) }
@@ -62,7 +62,7 @@ pub fn run<B: Bench, I: Source>(
     ensures home { (drives : Geometry) (home : Home) → IsUsed (map string_bytes words.now) geometry.now (B.sizes bench.old) drives home → Moments (StaysHome (record { drives = drives; home = home; fresh = fresh })) (B.tale bench.old) (B.tale bench.new) }
 
     // A status that tells of a failure comes only where one came, whatever the bench and the source tell.
-    ensures causes { (drives : Geometry) (home : Home) → IsUsed (map string_bytes words.now) geometry.now (B.sizes bench.old) drives home → (result ≡ RunStatus.NoMemory) ⊎ HasStatusCause (failures (B.faults bench.old) (B.faults bench.new) (I.faults script.old) (I.faults script.new)) result }
+    ensures causes { (drives : Geometry) (home : Home) → IsUsed (map string_bytes words.now) geometry.now (B.sizes bench.old) drives home → (result ≡ RunStatus.NoMemory) ⊎ HasStatusCause (counts (B.faults bench.old) (I.faults script.old)) (counts (B.faults bench.new) (I.faults script.new)) result }
     ensures keeps { Keeps B.sizes B.faults B.rest B.held bench.old bench.new }
 {
     match usable(words, geometry, bench) {
@@ -87,10 +87,10 @@ fn run_host<B: Bench, I: Source>(
     script: &mut I,
 ) -> RunStatus
     requires { IsReady host (B.sizes bench.old) }
-    ensures runs { (t : Tale) → B.tale bench.old ≡ Some t → (input : List ℕ) → I.left script.old ≡ Some input → IsWholeRun (failures (B.faults bench.old) (B.faults bench.new) (I.faults script.old) (I.faults script.new)) host t (script_of input) (B.tale bench.new) result }
+    ensures runs { (t : Tale) → B.tale bench.old ≡ Some t → (input : List ℕ) → I.left script.old ≡ Some input → IsWholeRun host (counts (B.faults bench.old) (I.faults script.old)) (counts (B.faults bench.new) (I.faults script.new)) t (script_of input) (B.tale bench.new) result }
     ensures stands { (input : List ℕ) → I.left script.old ≡ Some input → Moments (RunMoment host (script_of input)) (B.tale bench.old) (B.tale bench.new) }
     ensures home { Moments (StaysHome host) (B.tale bench.old) (B.tale bench.new) }
-    ensures causes { HasStatusCause (failures (B.faults bench.old) (B.faults bench.new) (I.faults script.old) (I.faults script.new)) result }
+    ensures causes { HasStatusCause (counts (B.faults bench.old) (I.faults script.old)) (counts (B.faults bench.new) (I.faults script.new)) result }
     ensures keeps { Keeps B.sizes B.faults B.rest B.held bench.old bench.new }
 {
     match Engine::boot(bench, alloc, host) {
@@ -175,10 +175,10 @@ fn run_lines<B: Bench, I: Source>(
     requires ready { IsReady engine.old.host (B.sizes bench.old) }
     requires well { IsWell engine.old.host engine.old.state }
     requires begun { engine.old.state.begun ≡ 0 }
-    ensures runs { (input : List ℕ) → I.left script.old ≡ Some input → Ends (λ t u. Knows engine.old.host engine.old.state t → LinesRun (failures (B.faults bench.old) (B.faults bench.new) (I.faults script.old) (I.faults script.new)) engine.old.host engine.old.state false (script_of input) result t u) (B.tale bench.old) (B.tale bench.new) }
+    ensures runs { (input : List ℕ) → I.left script.old ≡ Some input → Ends (λ t u. Knows engine.old.host engine.old.state t → LinesRun engine.old.host (counts (B.faults bench.old) (I.faults script.old)) (counts (B.faults bench.new) (I.faults script.new)) engine.old.state false (script_of input) result t u) (B.tale bench.old) (B.tale bench.new) }
     ensures moments { (input : List ℕ) → I.left script.old ≡ Some input → Moments (LinesMoment engine.old.host (script_of input) engine.old.state) (B.tale bench.old) (B.tale bench.new) }
     ensures home { Moments (StaysHome engine.old.host) (B.tale bench.old) (B.tale bench.new) }
-    ensures causes { HasStatusCause (failures (B.faults bench.old) (B.faults bench.new) (I.faults script.old) (I.faults script.new)) result }
+    ensures causes { HasStatusCause (counts (B.faults bench.old) (I.faults script.old)) (counts (B.faults bench.new) (I.faults script.new)) result }
     ensures keeps { Keeps B.sizes B.faults B.rest B.held bench.old bench.new }
 {
     let mut reader = LineReader::new();
@@ -209,12 +209,12 @@ fn take_turn<B: Bench, I: Source>(
     requires ready { IsReady engine.old.host (B.sizes bench.old) }
     requires well { IsWell engine.old.host engine.old.state }
     requires begun { engine.old.state.begun ≤ reader.old.lines }
-    ensures turns { (lines : Script) → script_before reader.old (I.left script.old) ≡ Some lines → Ends (λ t u. Knows engine.old.host engine.old.state t → Turns (failures (B.faults bench.old) (B.faults bench.new) (I.faults script.old) (I.faults script.new)) engine.old.host engine.old.state engine.new.state any_refused lines (script_before reader.new (I.left script.new)) result t u) (B.tale bench.old) (B.tale bench.new) }
+    ensures turns { (lines : Script) → script_before reader.old (I.left script.old) ≡ Some lines → Ends (λ t u. Knows engine.old.host engine.old.state t → Turns engine.old.host (counts (B.faults bench.old) (I.faults script.old)) (counts (B.faults bench.new) (I.faults script.new)) engine.old.state engine.new.state any_refused lines (script_before reader.new (I.left script.new)) result t u) (B.tale bench.old) (B.tale bench.new) }
     ensures moments { (lines : Script) → script_before reader.old (I.left script.old) ≡ Some lines → Moments (LinesMoment engine.old.host lines engine.old.state) (B.tale bench.old) (B.tale bench.new) }
     ensures ran { IsOn result → (lines : Script) → script_before reader.old (I.left script.old) ≡ Some lines → (left : Script) × (script_before reader.new (I.left script.new) ≡ Some left) × Ends (RanTo engine.old.host lines engine.old.state engine.new.state left) (B.tale bench.old) (B.tale bench.new) }
     ensures knows { (IsLostTurn result → ⊥) → Ends (λ t u. Knows engine.old.host engine.old.state t → Knows engine.old.host engine.new.state u) (B.tale bench.old) (B.tale bench.new) }
     ensures home { Moments (StaysHome engine.old.host) (B.tale bench.old) (B.tale bench.new) }
-    ensures causes { HasTurnCause (failures (B.faults bench.old) (B.faults bench.new) (I.faults script.old) (I.faults script.new)) result }
+    ensures causes { HasTurnCause (counts (B.faults bench.old) (I.faults script.old)) (counts (B.faults bench.new) (I.faults script.new)) result }
     ensures host { engine.new.host ≡ engine.old.host }
     ensures well { IsWell engine.old.host engine.new.state }
     ensures begun { engine.new.state.begun ≤ reader.new.lines }

@@ -5,10 +5,12 @@ use Rattle.mdv_run_law.specs.Below.{refusal_text, Refusal, BadLine, OutOfMemory,
 use Rattle.mdv_status.proofs.Replies.{lines_tell_once}
 use Rattle.mdv_engine_law.specs.declared.answer.Answer.TheVariants as outcome
 use Rattle.mdv_engine_law.specs.Line as boot
+use Rattle.mdv_engine_law.specs.Replies.{text_of}
+use Rattle.mdv_engine_law.proofs.Executing.{rose_within, carried_more, rebooted_more}
 use Rattle.mdv_engine_law.proofs.Plain.{bad_line_plain, too_long_plain, memory_plain, create_plain, change_plain, blocks_plain, ok_reply, values_are_reply, refusal_reply}
 use Rattle.mdv_run_law.specs.declared.status.RunStatus.{RunStatus}
 use Rattle.mdv_run_law.specs.declared.status.RunStatus.TheVariants.{Panic, NoMemory, ScriptTooLong, NumbersSpent}
-use Rattle.mdv_run_law.specs.Run.{Failures, IsUndisturbed, IsSated, Course, Stops, Replies, Follows, Runs, RunsFrom, IsAnswered, IsSameEnd, HasHome, OneCourse, started, drive_failed, source_failed, replies_failed, status_of}
+use Rattle.mdv_run_law.specs.Run.{Counts, RoseTo, IsUndisturbed, IsSated, Stops, At, NextLine, IsSaid, refused_by, LineTold, LinesTold, no_line, one_more, EndsAs, EndsWith, Over, unread, ended, broken, Runs, RunsFrom, IsAnswered, IsSameEnd, HasHome, OneCourse, started, drive_failed}
 use Rattle.mdv_run_law.proofs.Again.{Alike, neither, alike_itself}
 use Rattle.mdv_run_law.proofs.Carrying.{one_answer}
 use Rattle.mdv_run_law.proofs.Keeping.{IsSatisfied, Same, One, stays_same, one_boot}
@@ -53,6 +55,11 @@ module _ (failed : Type 0) (calm : failed → ⊥) (host : Host) (kept next : Ke
   answer_plain text (inl (none, refused)) = refused_plain BadLine bad_line_plain refused.0
   answer_plain text (inr (command, is, carried)) = carried_plain command carried
 
+-- what a line came to where something failed may be told of a longer stretch
+pub answered_more : (failed more : Type 0) (host : Host) (kept next : Kept) (text : List ℕ) (answer : Answer) → (failed → more) → IsAnswered failed host kept text answer next → IsAnswered more host kept text answer next
+answered_more failed more host kept next text answer cause (inl none) = inl none
+answered_more failed more host kept next text answer cause (inr (command, is, done)) = inr (command, is, carried_more failed more cause host kept next answer command done)
+
 -- want of memory is told as such
 told_wanting : (rest : List ℕ) → Contains (replies_in (refusal_line OutOfMemory ++ rest)) (refusal_line OutOfMemory)
 told_wanting rest =
@@ -75,97 +82,273 @@ one_stop : (host : Host) (known also : Option Kept) (end : RunStatus) (a b : Lis
 one_stop host known also end a b s r k j same first second =
     (first.silent ∙ sym second.silent, first.ended ∙ sym second.ended, subst (λ (x : Option Kept). IsSameEnd host x j) (sym first.keeps) (subst (λ (x : Option Kept). IsSameEnd host known x) (sym second.keeps) same))
 
--- where nothing failed
-module _ (f : Failures) (calm : IsUndisturbed f) (host : Host) (content : ℕ → List ℕ) (has : HasHome host content) where
-  abbrev IsOne : Course → Course → Type 0
-  IsOne one other = (n m : Kept) (refused : Bool) (a b : List ℕ) (s r : RunStatus) (k j : Option Kept) → Same host n m → IsSated a s → IsSated b r → one n refused a s k → other m refused b r j → SameEnds host a b s r k j
+-- counts between others
+rose_to_more : (a b c : Counts) → RoseTo a b → RoseTo b c → RoseTo a c
+rose_to_more a b c one other = record {
+  drive = let x = one.drive in let y = other.drive in omega arith;
+  source = let x = one.source in let y = other.source in omega arith;
+  replies = let x = one.replies in let y = other.replies in omega arith;
+}
 
-  one_reply : (reply : List ℕ) → IsReply reply → (n m : Kept) (refused : Bool) (one other : Course) → IsOne one other → Same host n m → (a b : List ℕ) (s r : RunStatus) (k j : Option Kept) → IsSated a s → IsSated b r
-      → Replies (replies_failed f) reply n refused one a s k → Replies (replies_failed f) reply m refused other b r j → SameEnds host a b s r k j
-  one_reply reply whole n m refused one other is same a b s r k j sated sated_too (inl bad) second = absurd (calm.replies bad.0)
-  one_reply reply whole n m refused one other is same a b s r k j sated sated_too (inr first) (inl bad) = absurd (calm.replies bad.0)
-  one_reply reply whole n m refused one other is same a b s r k j sated sated_too (inr first) (inr second) =
-      let rest = is n m refused first.0 second.0 s r k j same
-      (rest_sated reply first.0 s whole (subst (λ (l : List ℕ). IsSated l s) first.1 sated)) (rest_sated reply second.0 r whole (subst (λ (l : List ℕ). IsSated l r) second.1 sated_too)) first.2 second.2 in
-      (first.1 ∙ ap (λ (l : List ℕ). reply ++ l) rest.0 ∙ sym second.1, rest.1, rest.2)
+calm_within : (a b c d : Counts) → RoseTo a b → RoseTo c d → IsUndisturbed a d → IsUndisturbed b c
+calm_within a b c d before behind calm = record {
+  drive = λ rose. calm.drive (rose_within _ _ _ _ before.drive behind.drive rose);
+  source = λ rose. calm.source (rose_within _ _ _ _ before.source behind.source rose);
+  replies = λ rose. calm.replies (rose_within _ _ _ _ before.replies behind.replies rose);
+}
 
-  one_follow : (answer : Answer) → IsPlainAnswer answer → (n m : Kept) (refused : Bool) (one other : Course) → IsOne one other → (IsHeard answer → Same host n m)
-      → (a b : List ℕ) (s r : RunStatus) (k j : Option Kept) → IsSated a s → IsSated b r → Follows f answer n refused one a s k → Follows f answer m refused other b r j → SameEnds host a b s r k j
-  one_follow outcome.Ok plain n m refused one other is same a b s r k j sated sated_too first second = one_reply ok_line ok_reply n m refused one other is (same tt) a b s r k j sated sated_too first second
-  one_follow (outcome.Values text) plain n m refused one other is same a b s r k j sated sated_too first second = one_reply text (values_are_reply text plain) n m refused one other is (same tt) a b s r k j sated sated_too first second
-  one_follow (outcome.Refused refusal) plain n m refused one other is same a b s r k j sated sated_too first second =
-      one_reply (refusal_line refusal) (refusal_reply refusal plain) n m true one other is (same tt) a b s r k j sated sated_too first second
-  one_follow outcome.Panic plain n m refused one other is same a b s r k j sated sated_too first second = one_stop host None None (Panic 0 1) a b s r k j tt first second
-  one_follow outcome.Spent plain n m refused one other is same a b s r k j sated sated_too first second = one_stop host None None NumbersSpent a b s r k j tt first second
-  one_follow outcome.NoMemory plain n m refused one other is same a b s r k j sated sated_too first second = one_stop host None None NoMemory a b s r k j tt first second
+rose_itself : (a : Counts) → RoseTo a a
+rose_itself a = record { drive = omega arith; source = omega arith; replies = omega arith }
 
-  -- what follows tells whether memory was wanting
-  never_refused : (next : Kept) (refused : Bool) (course : Course) (told : List ℕ) (status : RunStatus) (last : Option Kept) → IsSated told status → Follows f (outcome.Refused OutOfMemory) next refused course told status last → ⊥
-  never_refused next refused course told status last sated (inl bad) = calm.replies bad.0
-  never_refused next refused course told status last sated (inr (rest, is, more)) = sated.replies (subst (λ (l : List ℕ). Contains (replies_in l) (refusal_line OutOfMemory)) (sym is) (told_wanting rest))
+module _ (host : Host) where
+  next_rose : (now then : Counts) (kept next : Kept) (script rest : Script) (answer : Answer) → NextLine host now kept script answer then next rest → RoseTo now then
+  next_rose now then kept next at_end rest answer is = absurd is
+  next_rose now then kept next (spent lines bytes) rest answer is = absurd is
+  next_rose now then kept next (too_long left) rest answer is = is.1
+  next_rose now then kept next (line text left) rest answer is = is.1
 
-  satisfied : (answer : Answer) (next : Kept) (refused : Bool) (course : Course) (told : List ℕ) (status : RunStatus) (last : Option Kept) → IsSated told status → Follows f answer next refused course told status last → IsSatisfied answer
-  satisfied answer next refused course told status last sated follows = record {
-    not_refused = λ is. never_refused next refused course told status last sated (subst (λ (x : Answer). Follows f x next refused course told status last) is follows);
-    not_wanting = λ is. (let stops : Stops None NoMemory told status last = subst (λ (x : Answer). Follows f x next refused course told status last) is follows in sated.end stops.ended);
+  over_rose : (end : Counts) (now : At) (told : List ℕ) (status : RunStatus) (last : Option Kept) → Over host end now told status last → RoseTo now.counts end
+  over_rose end now told status last (unread so rose stops) = rose
+  over_rose end now told status last (ended how rose stops) = rose
+  over_rose end now told status last (broken answer then next left is rose with) = rose_to_more now.counts then end (next_rose now.counts then now.kept next now.script left answer is) rose
+
+  lines_rose : (now then : At) (told : List ℕ) → LinesTold host now told then → RoseTo now.counts then.counts
+  lines_rose now then told (no_line at) = rose_itself now.counts
+  lines_rose now then told (one_more at mid last piece rest one lines) =
+      rose_to_more now.counts mid.counts then.counts (next_rose now.counts mid.counts now.kept mid.kept now.script mid.script one.answer one.comes) (lines_rose mid then rest lines)
+
+-- an answer that no failure told, and what it was told by
+said_text : (answer : Answer) (failed : Type 0) → (failed → ⊥) → IsSaid answer → (next : Kept) (told : List ℕ) (status : RunStatus) (last : Option Kept) → EndsWith failed answer next told status last → ⊥
+said_text outcome.Ok failed calm said next told status last with = calm with.cause
+said_text (outcome.Values text) failed calm said next told status last with = calm with.cause
+said_text (outcome.Refused refusal) failed calm said next told status last with = calm with.cause
+said_text outcome.Panic failed calm said next told status last with = said
+said_text outcome.Spent failed calm said next told status last with = said
+said_text outcome.NoMemory failed calm said next told status last with = said
+
+said_reply : (answer : Answer) → IsPlainAnswer answer → IsSaid answer → IsReply (text_of answer)
+said_reply outcome.Ok plain said = ok_reply
+said_reply (outcome.Values text) plain said = values_are_reply text plain
+said_reply (outcome.Refused refusal) plain said = refusal_reply refusal plain
+said_reply outcome.Panic plain said = absurd said
+said_reply outcome.Spent plain said = absurd said
+said_reply outcome.NoMemory plain said = absurd said
+
+said_heard : (answer : Answer) → IsSaid answer → IsHeard answer
+said_heard outcome.Ok said = tt
+said_heard (outcome.Values text) said = tt
+said_heard (outcome.Refused refusal) said = tt
+said_heard outcome.Panic said = absurd said
+said_heard outcome.Spent said = absurd said
+said_heard outcome.NoMemory said = absurd said
+
+-- what is told behind a line of which the rest is told tells whether memory was wanting
+line_satisfied : (answer : Answer) (piece rest : List ℕ) (status : RunStatus) → IsSaid answer → piece ≡ text_of answer → IsSated (piece ++ rest) status → IsSatisfied answer
+line_satisfied answer piece rest status said text sated = record {
+  not_refused = λ is. sated.replies (subst (λ (l : List ℕ). Contains (replies_in (l ++ rest)) (refusal_line OutOfMemory)) (sym (text ∙ ap text_of is)) (told_wanting rest));
+  not_wanting = λ is. (let never : IsSaid outcome.NoMemory = subst IsSaid is said in never);
+}
+
+end_satisfied : (failed : Type 0) → (failed → ⊥) → (answer : Answer) (next : Kept) (told : List ℕ) (status : RunStatus) (last : Option Kept) → EndsWith failed answer next told status last → IsSated told status → IsSatisfied answer
+end_satisfied failed calm answer next told status last with sated = record {
+  not_refused = λ is. (let cut : EndsWith failed (outcome.Refused OutOfMemory) next told status last = subst (λ (x : Answer). EndsWith failed x next told status last) is with in calm cut.cause);
+  not_wanting = λ is. (let stops : EndsWith failed outcome.NoMemory next told status last = subst (λ (x : Answer). EndsWith failed x next told status last) is with in sated.end stops.ended);
+}
+
+-- two runs in which nothing failed
+module _ (host : Host) (content : ℕ → List ℕ) (has : HasHome host content) where
+  -- what the next line of both comes to
+  record Next (answer other : Answer) (next also : Kept) (rest left : Script) : Type 0 where
+    same : other ≡ answer
+    script : left ≡ rest
+    plain : IsPlainAnswer answer
+    kept : IsHeard answer → Same host next also
+
+  one_next : (now then from to : Counts) → (drive_failed now then → ⊥) → (drive_failed from to → ⊥) → (n m next also : Kept) → Same host n m → (script rest left : Script) (answer other : Answer) → IsSatisfied answer → IsSatisfied other
+      → NextLine host now n script answer then next rest → NextLine host from m script other to also left → Next answer other next also rest left
+  one_next now then from to calm calm_too n m next also same at_end rest left answer other enough enough_too one two = absurd one
+  one_next now then from to calm calm_too n m next also same (spent lines bytes) rest left answer other enough enough_too one two = absurd one
+  one_next now then from to calm calm_too n m next also same (too_long behind) rest left answer other enough enough_too one two = record {
+    same = two.2.0 ∙ sym one.2.0;
+    script = two.0 ∙ sym one.0;
+    plain = subst IsPlainAnswer (sym one.2.0) too_long_plain;
+    kept = λ heard. stays_same host n m next also same one.2.1 two.2.1;
+  }
+  one_next now then from to calm calm_too n m next also same (line text behind) rest left answer other enough enough_too one two =
+      let here : IsAnswered ⊥ host n text answer next = answered_more (drive_failed now then) ⊥ host n next text answer calm one.2 in
+      let there : IsAnswered ⊥ host m text other also = answered_more (drive_failed from to) ⊥ host m also text other calm_too two.2 in
+      let answers = one_answer ⊥ (λ never. never) host has.sound has.home text n m next also answer other same enough enough_too here there in
+      record {
+        same = sym answers.0;
+        script = two.0 ∙ sym one.0;
+        plain = answer_plain ⊥ (λ never. never) host n next answer text here;
+        kept = answers.1;
+      }
+
+  same_refused : (answer other : Answer) (a b : Bool) → other ≡ answer → a ≡ b → refused_by answer a ≡ refused_by other b
+  same_refused answer other a b answers before = (λ i. refused_by (sym answers i) (before i))
+
+  -- where both are between the same lines
+  record Beside (n m : At) : Type 0 where
+    script : n.script ≡ m.script
+    refused : n.refused ≡ m.refused
+    kept : Same host n.kept m.kept
+
+  one_end : (refused also : Bool) (script left : Script) (s r : RunStatus) → refused ≡ also → script ≡ left → EndsAs refused script s → EndsAs also left r → s ≡ r
+  one_end refused also script left s r before scripts one other =
+      by script one (subst (λ (x : Script). EndsAs refused x r) (sym scripts) (subst (λ (b : Bool). EndsAs b left r) (sym before) other)) where
+        by : (x : Script) → EndsAs refused x s → EndsAs refused x r → s ≡ r
+        by at_end one other = one ∙ sym other
+        by (spent lines bytes) one other = one ∙ sym other
+        by (too_long more) one other = absurd one
+        by (line text more) one other = absurd one
+
+  -- a script that is over has no next line
+  never_next : (refused : Bool) (script left : Script) (s : RunStatus) (now then : Counts) (kept next : Kept) (rest : Script) (answer : Answer) → script ≡ left → EndsAs refused script s → NextLine host now kept left answer then next rest → ⊥
+  never_next refused script left s now then kept next rest answer scripts ends is =
+      by left (subst (λ (x : Script). EndsAs refused x s) scripts ends) is where
+        by : (x : Script) → EndsAs refused x s → NextLine host now kept x answer then next rest → ⊥
+        by at_end ends is = is
+        by (spent lines bytes) ends is = is
+        by (too_long more) ends is = ends
+        by (line text more) ends is = ends
+
+  one_with : (failed also : Type 0) → (failed → ⊥) → (also → ⊥) → (answer other : Answer) → other ≡ answer → (next mine : Kept) (a b : List ℕ) (s r : RunStatus) (k j : Option Kept) → EndsWith failed answer next a s k → EndsWith also other mine b r j → SameEnds host a b s r k j
+  one_with failed also calm calm_too answer other same next mine a b s r k j one two = by answer one (subst (λ (x : Answer). EndsWith also x mine b r j) same two) where
+    by : (x : Answer) → EndsWith failed x next a s k → EndsWith also x mine b r j → SameEnds host a b s r k j
+    by outcome.Ok one two = absurd (calm one.cause)
+    by (outcome.Values text) one two = absurd (calm one.cause)
+    by (outcome.Refused refusal) one two = absurd (calm one.cause)
+    by outcome.Panic one two = one_stop host None None (Panic 0 1) a b s r k j tt one two
+    by outcome.Spent one two = one_stop host None None NumbersSpent a b s r k j tt one two
+    by outcome.NoMemory one two = one_stop host None None NoMemory a b s r k j tt one two
+
+  module _ (e f : Counts) (s r : RunStatus) (k j : Option Kept) where
+    -- both are over before a line, or with its answer
+    one_over : (n m : At) (a b : List ℕ) → Beside n m → IsUndisturbed n.counts e → IsUndisturbed m.counts f → IsSated a s → IsSated b r → Over host e n a s k → Over host f m b r j → SameEnds host a b s r k j
+    one_over n m a b beside calm calm_too sated sated_too (unread so rose stops) two = absurd (calm.source so)
+    one_over n m a b beside calm calm_too sated sated_too one (unread so rose stops) = absurd (calm_too.source so)
+    one_over n m a b beside calm calm_too sated sated_too (ended how rose stops) (ended how_too rose_too stops_too) =
+        let same = one_end n.refused m.refused n.script m.script s r beside.refused beside.script how how_too in
+        (stops.silent ∙ sym stops_too.silent, same, subst (λ (x : Option Kept). IsSameEnd host x j) (sym stops.keeps) (subst (λ (x : Option Kept). IsSameEnd host (Some n.kept) x) (sym stops_too.keeps) (beside.kept.memory, beside.kept.beside)))
+    one_over n m a b beside calm calm_too sated sated_too (ended how rose stops) (broken answer then next left is rose_too with) =
+        absurd (never_next n.refused n.script m.script s m.counts then m.kept next left answer beside.script how is)
+    one_over n m a b beside calm calm_too sated sated_too (broken answer then next left is rose with) (ended how rose_too stops) =
+        absurd (never_next m.refused m.script n.script r n.counts then n.kept next left answer (sym beside.script) how is)
+    one_over n m a b beside calm calm_too sated sated_too (broken answer then next left is rose with) (broken other to also behind is_too rose_too with_too) =
+        let here = calm_within n.counts n.counts then e (rose_itself n.counts) rose calm in
+        let there = calm_within m.counts m.counts to f (rose_itself m.counts) rose_too calm_too in
+        let last = calm_within n.counts then e e (next_rose host n.counts then n.kept next n.script left answer is) (rose_itself e) calm in
+        let last_too = calm_within m.counts to f f (next_rose host m.counts to m.kept also m.script behind other is_too) (rose_itself f) calm_too in
+        let both = one_next n.counts then m.counts to here.drive there.drive n.kept m.kept next also beside.kept n.script left behind answer other (end_satisfied _ last.replies answer next a s k with sated) (end_satisfied _ last_too.replies other also b r j with_too sated_too)
+        is (subst (λ (x : Script). NextLine host m.counts m.kept x other to also behind) (sym beside.script) is_too) in
+        one_with _ _ last.replies last_too.replies answer other both.same next also a b s r k j with with_too
+
+    -- one is over where the other goes on
+    one_stays : (n m then : At) (a piece rest : List ℕ) → Beside n m → IsUndisturbed n.counts e → IsUndisturbed m.counts f → RoseTo then.counts f → IsSated a s → IsSated (piece ++ rest) r → Over host e n a s k → LineTold host m piece then → ⊥
+    one_stays n m then a piece rest beside calm calm_too rose_too sated sated_too (unread so rose stops) two = calm.source so
+    one_stays n m then a piece rest beside calm calm_too rose_too sated sated_too (ended how rose stops) two =
+        never_next n.refused n.script m.script s m.counts then.counts m.kept then.kept then.script two.answer beside.script how two.comes
+    one_stays n m then a piece rest beside calm calm_too rose_too sated sated_too (broken answer to next left is rose with) two =
+        let here = calm_within n.counts n.counts to e (rose_itself n.counts) rose calm in
+        let there = calm_within m.counts m.counts then.counts f (rose_itself m.counts) rose_too calm_too in
+        let last = calm_within n.counts to e e (next_rose host n.counts to n.kept next n.script left answer is) (rose_itself e) calm in
+        let both = one_next n.counts to m.counts then.counts here.drive there.drive n.kept m.kept next then.kept beside.kept n.script left then.script answer two.answer (end_satisfied _ last.replies answer next a s k with sated) (line_satisfied two.answer piece rest r two.said two.as_text sated_too)
+        is (subst (λ (x : Script). NextLine host m.counts m.kept x two.answer then.counts then.kept then.script) (sym beside.script) two.comes) in
+        said_text answer _ last.replies (subst IsSaid both.same two.said) next a s k with
+
+  beside_back : (n m : At) → Beside n m → Beside m n
+  beside_back n m is = record {
+    script = sym is.script;
+    refused = sym is.refused;
+    kept = record { memory = sym is.kept.memory; beside = λ block out. sym (is.kept.beside block out); one = is.kept.other; other = is.kept.one };
   }
 
-  was_read : (A B : Type 0) → (source_failed f × A) ⊎ B → B
-  was_read A B (inl bad) = absurd (calm.source bad.0)
-  was_read A B (inr is) = is
+  sated_apart : (piece rest x : List ℕ) (status : RunStatus) → IsSated ((piece ++ rest) ++ x) status → IsSated (piece ++ (rest ++ x)) status
+  sated_apart piece rest x status sated = subst (λ (l : List ℕ). IsSated l status) (append_assoc piece rest x) sated
 
-  one_run : (script : Script) → IsOne (λ n refused told status last. Runs f host n refused script told status last) (λ n refused told status last. Runs f host n refused script told status last)
-  one_run at_end n m refused a b s r k j same sated sated_too first second = one_stop host (Some n) (Some m) (status_of refused) a b s r k j (same.memory, same.beside) (was_read _ _ first) (was_read _ _ second)
-  one_run (spent lines bytes) n m refused a b s r k j same sated sated_too first second = one_stop host (Some n) (Some m) (ScriptTooLong lines bytes) a b s r k j (same.memory, same.beside) (was_read _ _ first) (was_read _ _ second)
-  one_run (too_long more) n m refused a b s r k j same sated sated_too first second =
-      let one = was_read _ _ first in
-      let other = was_read _ _ second in
-      let equal : other.0 ≡ one.0 = other.2.0 ∙ sym one.2.0 in
-      one_follow one.0 (subst IsPlainAnswer (sym one.2.0) too_long_plain) one.1 other.1 refused (λ x any told status last. Runs f host x any more told status last) (λ x any told status last. Runs f host x any more told status last) (one_run more)
-      (λ heard. stays_same host n m one.1 other.1 same one.2.1 other.2.1) a b s r k j sated sated_too one.3
-      (subst (λ (x : Answer). Follows f x other.1 refused (λ y any told status last. Runs f host y any more told status last) b r j) equal other.3)
-  one_run (line text more) n m refused a b s r k j same sated sated_too first second =
-      let one = was_read _ _ first in
-      let other = was_read _ _ second in
-      let enough = satisfied one.0 one.1 refused (λ x any told status last. Runs f host x any more told status last) a s k sated one.3 in
-      let enough_too = satisfied other.0 other.1 refused (λ x any told status last. Runs f host x any more told status last) b r j sated_too other.3 in
-      let answers = one_answer (drive_failed f) calm.drive host has.sound has.home text n m one.1 other.1 one.0 other.0 same enough enough_too one.2 other.2 in
-      one_follow one.0 (answer_plain (drive_failed f) calm.drive host n one.1 one.0 text one.2) one.1 other.1 refused (λ x any told status last. Runs f host x any more told status last) (λ x any told status last. Runs f host x any more told status last) (one_run more)
-      answers.1 a b s r k j sated sated_too one.3
-      (subst (λ (x : Answer). Follows f x other.1 refused (λ y any told status last. Runs f host y any more told status last) b r j) (sym answers.0) other.3)
+  module _ (e f : Counts) (s r : RunStatus) (k j : Option Kept) where
+    one_run : (n m p q : At) (a b x y : List ℕ) → Beside n m → IsUndisturbed n.counts e → IsUndisturbed m.counts f → IsSated (a ++ x) s → IsSated (b ++ y) r
+        → LinesTold host n a p → LinesTold host m b q → Over host e p x s k → Over host f q y r j → SameEnds host (a ++ x) (b ++ y) s r k j
+    one_run n m p q a b x y beside calm calm_too sated sated_too (no_line at) (no_line also) one two = one_over e f s r k j n m x y beside calm calm_too sated sated_too one two
+    one_run n m p q a b x y beside calm calm_too sated sated_too (no_line at) (one_more from mid to piece rest said lines) one two =
+        absurd (one_stays e f s r k j n m mid x piece (rest ++ y) beside calm calm_too (rose_to_more mid.counts q.counts f (lines_rose host mid q rest lines) (over_rose host f q y r j two)) sated (sated_apart piece rest y r sated_too) one said)
+    one_run n m p q a b x y beside calm calm_too sated sated_too (one_more from mid to piece rest said lines) (no_line at) one two =
+        absurd (one_stays f e r s j k m n mid y piece (rest ++ x) (beside_back n m beside) calm_too calm (rose_to_more mid.counts p.counts e (lines_rose host mid p rest lines) (over_rose host e p x s k one)) sated_too (sated_apart piece rest x s sated) two said)
+    one_run n m p q a b x y beside calm calm_too sated sated_too (one_more from mid to piece rest said lines) (one_more start also last other behind turn turns) one two =
+        let up = rose_to_more mid.counts p.counts e (lines_rose host mid p rest lines) (over_rose host e p x s k one) in
+        let up_too = rose_to_more also.counts q.counts f (lines_rose host also q behind turns) (over_rose host f q y r j two) in
+        let here = calm_within n.counts n.counts mid.counts e (rose_itself n.counts) up calm in
+        let there = calm_within m.counts m.counts also.counts f (rose_itself m.counts) up_too calm_too in
+        let left = calm_within n.counts mid.counts e e (next_rose host n.counts mid.counts n.kept mid.kept n.script mid.script said.answer said.comes) (rose_itself e) calm in
+        let left_too = calm_within m.counts also.counts f f (next_rose host m.counts also.counts m.kept also.kept m.script also.script turn.answer turn.comes) (rose_itself f) calm_too in
+        let all = sated_apart piece rest x s sated in
+        let all_too = sated_apart other behind y r sated_too in
+        let both = one_next n.counts mid.counts m.counts also.counts here.drive there.drive n.kept m.kept mid.kept also.kept beside.kept n.script mid.script also.script said.answer turn.answer
+        (line_satisfied said.answer piece (rest ++ x) s said.said said.as_text all) (line_satisfied turn.answer other (behind ++ y) r turn.said turn.as_text all_too)
+        said.comes (subst (λ (z : Script). NextLine host m.counts m.kept z turn.answer also.counts also.kept also.script) (sym beside.script) turn.comes) in
+        let pieces : piece ≡ other = said.as_text ∙ sym (ap text_of both.same) ∙ sym turn.as_text in
+        let whole : IsReply piece = subst IsReply (sym said.as_text) (said_reply said.answer both.plain said.said) in
+        let ends = one_run mid also p q rest behind x y
+        (record { script = sym both.script; refused = said.as_refused ∙ same_refused said.answer turn.answer n.refused m.refused both.same beside.refused ∙ sym turn.as_refused; kept = both.kept (said_heard said.answer said.said) })
+        left left_too (rest_sated piece (rest ++ x) s whole all) (rest_sated other (behind ++ y) r (subst IsReply pieces whole) all_too) lines turns one two in
+        (append_assoc piece rest x ∙ (λ i. pieces i ++ ends.0 i) ∙ sym (append_assoc other behind y), ends.1, ends.2)
 
-  one_from : (answer : Answer) (n m : Kept) → (IsHeard answer → Same host n m) → (script : Script) (a b : List ℕ) (s r : RunStatus) (k j : Option Kept) → IsSated a s → IsSated b r
-      → RunsFrom f host answer n script a s k → RunsFrom f host answer m script b r j → SameEnds host a b s r k j
-  one_from outcome.Ok n m same script a b s r k j sated sated_too first second = one_run script n m false a b s r k j (same tt) sated sated_too first second
-  one_from (outcome.Values text) n m same script a b s r k j sated sated_too first second = absurd first
-  one_from (outcome.Refused refusal) n m same script a b s r k j sated sated_too first second = absurd first
-  one_from outcome.Panic n m same script a b s r k j sated sated_too first second = one_stop host None None (Panic 0 1) a b s r k j tt first second
-  one_from outcome.Spent n m same script a b s r k j sated sated_too first second = one_stop host None None NumbersSpent a b s r k j tt first second
-  one_from outcome.NoMemory n m same script a b s r k j sated sated_too first second = one_stop host None None NoMemory a b s r k j tt first second
+    runs_rose : (n : At) (told : List ℕ) → Runs host e n told s k → RoseTo n.counts e
+    runs_rose n told runs = rose_to_more n.counts runs.at.counts e (lines_rose host n runs.at runs.so_far runs.lines) (over_rose host e runs.at runs.rest s k runs.over)
+
+    one_from : (answer : Answer) (now from : Counts) (n m : Kept) → (IsHeard answer → Same host n m) → (script : Script) (a b : List ℕ) → IsUndisturbed now e → IsUndisturbed from f → IsSated a s → IsSated b r
+        → RunsFrom host e answer now n script a s k → RunsFrom host f answer from m script b r j → SameEnds host a b s r k j
+    one_from outcome.Ok now from n m same script a b calm calm_too sated sated_too one two =
+        let ends = one_run (record { counts = now; kept = n; refused = false; script = script }) (record { counts = from; kept = m; refused = false; script = script }) one.at two.at one.so_far two.so_far one.rest two.rest
+        (record { script = refl; refused = refl; kept = same tt }) calm calm_too (subst (λ (l : List ℕ). IsSated l s) one.parts sated) (subst (λ (l : List ℕ). IsSated l r) two.parts sated_too) one.lines two.lines one.over two.over in
+        (one.parts ∙ ends.0 ∙ sym two.parts, ends.1, ends.2)
+    one_from (outcome.Values text) now from n m same script a b calm calm_too sated sated_too one two = absurd one
+    one_from (outcome.Refused refusal) now from n m same script a b calm calm_too sated sated_too one two = absurd one
+    one_from outcome.Panic now from n m same script a b calm calm_too sated sated_too one two = one_stop host None None (Panic 0 1) a b s r k j tt one.1 two.1
+    one_from outcome.Spent now from n m same script a b calm calm_too sated sated_too one two = one_stop host None None NumbersSpent a b s r k j tt one.1 two.1
+    one_from outcome.NoMemory now from n m same script a b calm calm_too sated sated_too one two = one_stop host None None NoMemory a b s r k j tt one.1 two.1
 
   -- the boot at a run's start
-  satisfied_from : (answer : Answer) (n : Kept) (script : Script) (told : List ℕ) (status : RunStatus) (last : Option Kept) → IsSated told status → RunsFrom f host answer n script told status last → IsSatisfied answer
-  satisfied_from answer n script told status last sated from = record {
-    not_refused = λ is. (let never : ⊥ = subst (λ (x : Answer). RunsFrom f host x n script told status last) is from in never);
-    not_wanting = λ is. (let stops : Stops None NoMemory told status last = subst (λ (x : Answer). RunsFrom f host x n script told status last) is from in sated.end stops.ended);
-  }
+  module _ (e : Counts) (s : RunStatus) (k : Option Kept) where
+    from_rose : (answer : Answer) (now : Counts) (n : Kept) (script : Script) (told : List ℕ) → RunsFrom host e answer now n script told s k → RoseTo now e
+    from_rose outcome.Ok now n script told from = runs_rose e e s s k k (record { counts = now; kept = n; refused = false; script = script }) told from
+    from_rose (outcome.Values text) now n script told from = absurd from
+    from_rose (outcome.Refused refusal) now n script told from = absurd from
+    from_rose outcome.Panic now n script told from = from.0
+    from_rose outcome.Spent now n script told from = from.0
+    from_rose outcome.NoMemory now n script told from = from.0
 
-  alike_start : (kept next : Kept) (answer : Answer) → IsSatisfied answer → IsRebooted (drive_failed f) host kept answer next → Alike (site_of host) has.sound kept.content kept.content
+    satisfied_from : (answer : Answer) (now : Counts) (n : Kept) (script : Script) (told : List ℕ) → IsSated told s → RunsFrom host e answer now n script told s k → IsSatisfied answer
+    satisfied_from answer now n script told sated from = record {
+      not_refused = λ is. (let never : ⊥ = subst (λ (x : Answer). RunsFrom host e x now n script told s k) is from in never);
+      not_wanting = λ is. (let stops : RoseTo now e × Stops None NoMemory told s k = subst (λ (x : Answer). RunsFrom host e x now n script told s k) is from in sated.end stops.1.ended);
+    }
+
+  alike_start : (kept next : Kept) (answer : Answer) → IsSatisfied answer → IsRebooted ⊥ host kept answer next → Alike (site_of host) has.sound kept.content kept.content
   alike_start kept next answer enough (adopted newest ok memory is) = alike_itself (site_of host) has.sound kept.content is.head is.replica is.shown
-  alike_start kept next answer enough (empty ok memory none same) = neither none none
-  alike_start kept next answer enough (down so ok memory same) = absurd (calm.drive so)
-  alike_start kept next answer enough (lost so found panic) = absurd (calm.drive so)
+  alike_start kept next answer enough (empty ok memory found same) = neither found found
+  alike_start kept next answer enough (down so ok memory same) = absurd so
+  alike_start kept next answer enough (lost so found panic) = absurd so
   alike_start kept next answer enough (boot.spent is used) = alike_itself (site_of host) has.sound kept.content used.head used.replica used.shown
   alike_start kept next answer enough (wanting is) = absurd (enough.not_wanting is)
 
-  one_start : (n m : Kept) (a b : Answer) → IsSatisfied a → IsSatisfied b → IsRebooted (drive_failed f) host (started content) a n → IsRebooted (drive_failed f) host (started content) b m → One host n m a b
+  one_start : (n m : Kept) (a b : Answer) → IsSatisfied a → IsSatisfied b → IsRebooted ⊥ host (started content) a n → IsRebooted ⊥ host (started content) b m → One host n m a b
   one_start n m a b enough enough_too first second =
-      one_boot host has.sound (drive_failed f) calm.drive (started content) (started content) n m a b (alike_start (started content) n a enough first) refl (λ block out. refl)
+      one_boot host has.sound ⊥ (λ never. never) (started content) (started content) n m a b (alike_start (started content) n a enough first) refl (λ block out. refl)
       (λ head replica shown. has.room head (replica, shown)) enough enough_too first second
 
 pub one_course : OneCourse
-one_course = λ f calm host content has script a b s r k j sated sated_too first second.
-    let enough = satisfied_from f calm host content has first.0 first.1 script a s k sated first.3 in
-    let enough_too = satisfied_from f calm host content has second.0 second.1 script b r j sated_too second.3 in
-    let both = one_start f calm host content has first.1 second.1 first.0 second.0 enough enough_too first.2 second.2 in
-    one_from f calm host content has first.0 first.1 second.1 both.1 script a b s r k j sated sated_too first.3 (subst (λ (x : Answer). RunsFrom f host x second.1 script b r j) (sym both.0) second.3)
+one_course = λ host content has script start end from to calm calm_too a b s r k j sated sated_too first second.
+    let up = from_rose host content has end s k first.answer first.booted first.kept script a first.runs in
+    let up_too = from_rose host content has to r j second.answer second.booted second.kept script b second.runs in
+    let here = calm_within start start first.booted end (rose_itself start) up calm in
+    let there = calm_within from from second.booted to (rose_itself from) up_too calm_too in
+    let left = calm_within start first.booted end end first.rose (rose_itself end) calm in
+    let left_too = calm_within from second.booted to to second.rose (rose_itself to) calm_too in
+    let both = one_start host content has first.kept second.kept first.answer second.answer
+    (satisfied_from host content has end s k first.answer first.booted first.kept script a sated first.runs) (satisfied_from host content has to r j second.answer second.booted second.kept script b sated_too second.runs)
+    (rebooted_more (drive_failed start first.booted) ⊥ here.drive host (started content) first.kept first.answer first.boots)
+    (rebooted_more (drive_failed from second.booted) ⊥ there.drive host (started content) second.kept second.answer second.boots) in
+    one_from host content has end to s r k j first.answer first.booted second.booted first.kept second.kept both.1 script a b left left_too sated sated_too first.runs
+    (subst (λ (x : Answer). RunsFrom host to x second.booted second.kept script b r j) (sym both.0) second.runs)

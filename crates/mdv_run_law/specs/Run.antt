@@ -1,32 +1,35 @@
 -- The run of one host, told by what its script asks.
 use Rattle.std.specs.Prelude.{◌≡◌, ◌≢◌, ◌⊎◌, ◌≤◌, ℕ, Bool, true, false, List, [], ◌++◌, take, Option, Some, None, IfSome, Contains, if◌then◌else◌}
 use Rattle.mdv_run_law.specs.Below.{Rose, BadLine, LineTooLong, OutOfMemory, IsHome, Script, at_end, spent, too_long, line, Head, Part, OnDrive, OnReplies, Tale, told, replies_in, IsSound, Command, IsCommand, IsFound, IsOpened, Answer, Host, site_of, Kept, IsSame, IsSameBeside, IsCarriedOut, IsRebooted, IsTurnedDown, drive_content, unbooted, ok_line, refusal_line}
+use Rattle.mdv_engine_law.specs.Replies.{text_of}
 use Rattle.mdv_engine_law.specs.declared.answer.Answer.TheVariants as outcome
 use Rattle.mdv_run_law.specs.declared.status.RunStatus.{RunStatus}
 use Rattle.mdv_run_law.specs.declared.status.RunStatus.TheVariants.{Done, SomeRefused, Usage, NoQuorum, Panic, ReadFault, WriteFault, NoMemory, TwoDatabases, ScriptTooLong, NumbersSpent}
 
--- counts of failures before and after: of the drive, of the source, and of the giving of replies
-pub record Failures : Type 0 where
-  pub drive_before : ℕ
-  pub drive_after : ℕ
-  pub source_before : ℕ
-  pub source_after : ℕ
-  pub replies_before : ℕ
-  pub replies_after : ℕ
+-- how often each part had failed by then: the drive, the source of the script, and the giving of replies
+pub record Counts : Type 0 where
+  pub drive : ℕ
+  pub source : ℕ
+  pub replies : ℕ
 
--- from the counts of the drives and replies, and those of the source
-abbrev pub failures : (Part → ℕ) → (Part → ℕ) → ℕ → ℕ → Failures
-failures before after source_before source_after =
-    record { drive_before = before (OnDrive 0); drive_after = after (OnDrive 0); source_before = source_before; source_after = source_after; replies_before = before OnReplies; replies_after = after OnReplies }
+-- from the counts of the drives and replies, and that of the source
+abbrev pub counts : (Part → ℕ) → ℕ → Counts
+counts faults source = record { drive = faults (OnDrive 0); source = source; replies = faults OnReplies }
 
-abbrev pub drive_failed : Failures → Type 0
-drive_failed f = Rose f.drive_before f.drive_after
+-- no count fell
+pub record RoseTo (now later : Counts) : Type 0 where
+  pub drive : now.drive ≤ later.drive
+  pub source : now.source ≤ later.source
+  pub replies : now.replies ≤ later.replies
 
-abbrev pub source_failed : Failures → Type 0
-source_failed f = Rose f.source_before f.source_after
+abbrev pub drive_failed : Counts → Counts → Type 0
+drive_failed now later = Rose now.drive later.drive
 
-abbrev pub replies_failed : Failures → Type 0
-replies_failed f = Rose f.replies_before f.replies_after
+abbrev pub source_failed : Counts → Counts → Type 0
+source_failed now later = Rose now.source later.source
+
+abbrev pub replies_failed : Counts → Counts → Type 0
+replies_failed now later = Rose now.replies later.replies
 
 -- nothing that the grammar has
 abbrev pub IsNoCommand : List ℕ → Type 0
@@ -46,57 +49,115 @@ pub record Stops (known : Option Kept) (end : RunStatus) (told : List ℕ) (stat
 abbrev pub status_of : Bool → RunStatus
 status_of refused = if refused then SomeRefused else Done
 
--- a course that a run may take from a line on, with this kept and so many refusals before: what is told, the status, and what is known at the end
-abbrev pub Course : Type 1
-Course = Kept → Bool → List ℕ → RunStatus → Option Kept → Type 0
+-- where a run is between two lines: the counts by then, what is kept, whether some reply was a refusal, and the script that is left
+pub record At : Type 0 where
+  pub counts : Counts
+  pub kept : Kept
+  pub refused : Bool
+  pub script : Script
 
--- a reply is told whole, and the run goes on; or, where the giving failed, a front of it, and the run is over
-abbrev pub Replies : Type 0 → List ℕ → Kept → Bool → Course → List ℕ → RunStatus → Option Kept → Type 0
-Replies failed reply next refused course told status last =
-    (failed × ((count : ℕ) × (told ≡ take count reply) × (status ≡ WriteFault) × (last ≡ Some next)))
-    ⊎ ((rest : List ℕ) × (told ≡ reply ++ rest) × course next refused rest status last)
+-- What the next line comes to, and the script behind it. It is excused by the calls alone that failed between these counts, from the line
+-- before it to its own answer.
+abbrev pub NextLine : Host → Counts → Kept → Script → Answer → Counts → Kept → Script → Type 0
+NextLine host now kept at_end answer later next more = ⊥
+NextLine host now kept (spent lines bytes) answer later next more = ⊥
+NextLine host now kept (too_long rest) answer later next more = (more ≡ rest) × RoseTo now later × IsTurnedDown LineTooLong kept answer next
+NextLine host now kept (line text rest) answer later next more = (more ≡ rest) × RoseTo now later × IsAnswered (drive_failed now later) host kept text answer next
 
--- what follows on the answer to a line
-abbrev pub Follows : Failures → Answer → Kept → Bool → Course → List ℕ → RunStatus → Option Kept → Type 0
-Follows f outcome.Ok next refused course told status last = Replies (replies_failed f) ok_line next refused course told status last
-Follows f (outcome.Values text) next refused course told status last = Replies (replies_failed f) text next refused course told status last
-Follows f (outcome.Refused refusal) next refused course told status last = Replies (replies_failed f) (refusal_line refusal) next true course told status last
-Follows f outcome.Panic next refused course told status last = Stops None (Panic 0 1) told status last
-Follows f outcome.Spent next refused course told status last = Stops None NumbersSpent told status last
-Follows f outcome.NoMemory next refused course told status last = Stops None NoMemory told status last
+-- an answer that is told, and with which the run goes on
+abbrev pub IsSaid : Answer → Type 0
+IsSaid outcome.Ok = Unit {0}
+IsSaid (outcome.Values text) = Unit {0}
+IsSaid (outcome.Refused refusal) = Unit {0}
+IsSaid outcome.Panic = ⊥
+IsSaid outcome.Spent = ⊥
+IsSaid outcome.NoMemory = ⊥
 
--- the run of a script: line after line, until its end, a limit, or a failure
-abbrev pub Runs : Failures → Host → Kept → Bool → Script → List ℕ → RunStatus → Option Kept → Type 0
-Runs f host kept refused at_end told status last =
-    (source_failed f × Stops (Some kept) ReadFault told status last) ⊎ Stops (Some kept) (status_of refused) told status last
-Runs f host kept refused (spent lines bytes) told status last =
-    (source_failed f × Stops (Some kept) ReadFault told status last) ⊎ Stops (Some kept) (ScriptTooLong lines bytes) told status last
-Runs f host kept refused (too_long more) told status last =
-    (source_failed f × Stops (Some kept) ReadFault told status last)
-    ⊎ ((answer : Answer) × (next : Kept) × IsTurnedDown LineTooLong kept answer next
-    × Follows f answer next refused (λ k r rest s l. Runs f host k r more rest s l) told status last)
-Runs f host kept refused (line text more) told status last =
-    (source_failed f × Stops (Some kept) ReadFault told status last)
-    ⊎ ((answer : Answer) × (next : Kept) × IsAnswered (drive_failed f) host kept text answer next
-    × Follows f answer next refused (λ k r rest s l. Runs f host k r more rest s l) told status last)
+-- whether some reply was a refusal, with this answer
+abbrev pub refused_by : Answer → Bool → Bool
+refused_by outcome.Ok before = before
+refused_by (outcome.Values text) before = before
+refused_by (outcome.Refused refusal) before = true
+refused_by outcome.Panic before = before
+refused_by outcome.Spent before = before
+refused_by outcome.NoMemory before = before
+
+-- a line that was answered, and whose reply was told whole
+pub record LineTold (host : Host) (now : At) (piece : List ℕ) (later : At) : Type 0 where
+  pub answer : Answer
+  pub comes : NextLine host now.counts now.kept now.script answer later.counts later.kept later.script
+  pub said : IsSaid answer
+  pub as_text : piece ≡ text_of answer
+  pub as_refused : later.refused ≡ refused_by answer now.refused
+
+-- such lines, one behind the other, and what was told of them
+pub data LinesTold (host : Host) : At → List ℕ → At → Type 0 where
+  no_line : (now : At) → LinesTold host now [] now
+  one_more : (now mid later : At) (piece rest : List ℕ) → LineTold host now piece mid → LinesTold host mid rest later → LinesTold host now (piece ++ rest) later
+
+-- how a script is over
+abbrev pub EndsAs : Bool → Script → RunStatus → Type 0
+EndsAs refused at_end status = status ≡ status_of refused
+EndsAs refused (spent lines bytes) status = status ≡ ScriptTooLong lines bytes
+EndsAs refused (too_long more) status = ⊥
+EndsAs refused (line text more) status = ⊥
+
+-- where the giving failed a front of the reply was told
+pub record CutShort (failed : Type 0) (text : List ℕ) (next : Kept) (told : List ℕ) (status : RunStatus) (last : Option Kept) : Type 0 where
+  pub cause : failed
+  pub count : ℕ
+  pub front : told ≡ take count text
+  pub ended : status ≡ WriteFault
+  pub keeps : last ≡ Some next
+
+-- how a run is over with the answer to a line
+abbrev pub EndsWith : Type 0 → Answer → Kept → List ℕ → RunStatus → Option Kept → Type 0
+EndsWith failed outcome.Ok next told status last = CutShort failed ok_line next told status last
+EndsWith failed (outcome.Values text) next told status last = CutShort failed text next told status last
+EndsWith failed (outcome.Refused refusal) next told status last = CutShort failed (refusal_line refusal) next told status last
+EndsWith failed outcome.Panic next told status last = Stops None (Panic 0 1) told status last
+EndsWith failed outcome.Spent next told status last = Stops None NumbersSpent told status last
+EndsWith failed outcome.NoMemory next told status last = Stops None NoMemory told status last
+
+-- How a run is over, which has come so far, by these counts: the source failed; the script is at its end, or past its limit; or a line
+-- was answered so that no line is run behind it, or its reply couldn't be told.
+pub data Over (host : Host) (end : Counts) (now : At) (told : List ℕ) (status : RunStatus) (last : Option Kept) : Type 0 where
+  unread : source_failed now.counts end → RoseTo now.counts end → Stops (Some now.kept) ReadFault told status last → Over host end now told status last
+  ended : EndsAs now.refused now.script status → RoseTo now.counts end → Stops (Some now.kept) status told status last → Over host end now told status last
+  broken : (answer : Answer) (later : Counts) (next : Kept) (more : Script) → NextLine host now.counts now.kept now.script answer later next more → RoseTo later end → EndsWith (replies_failed later end) answer next told status last
+      → Over host end now told status last
+
+-- The run of a script, from there on: line after line, each excused by its own failures alone, until it is over.
+pub record Runs (host : Host) (end : Counts) (now : At) (told : List ℕ) (status : RunStatus) (last : Option Kept) : Type 0 where
+  pub so_far : List ℕ
+  pub rest : List ℕ
+  pub parts : told ≡ so_far ++ rest
+  pub at : At
+  pub lines : LinesTold host now so_far at
+  pub over : Over host end at rest status last
 
 -- what is there as a run begins
 abbrev pub started : (ℕ → List ℕ) → Kept
 started content = record { memory = unbooted 0; content = content }
 
 -- what follows on the boot at a run's start, to which nothing is replied
-abbrev pub RunsFrom : Failures → Host → Answer → Kept → Script → List ℕ → RunStatus → Option Kept → Type 0
-RunsFrom f host outcome.Ok kept script told status last = Runs f host kept false script told status last
-RunsFrom f host (outcome.Values text) kept script told status last = ⊥
-RunsFrom f host (outcome.Refused refusal) kept script told status last = ⊥
-RunsFrom f host outcome.Panic kept script told status last = Stops None (Panic 0 1) told status last
-RunsFrom f host outcome.Spent kept script told status last = Stops None NumbersSpent told status last
-RunsFrom f host outcome.NoMemory kept script told status last = Stops None NoMemory told status last
+abbrev pub RunsFrom : Host → Counts → Answer → Counts → Kept → Script → List ℕ → RunStatus → Option Kept → Type 0
+RunsFrom host end outcome.Ok later kept script told status last = Runs host end (record { counts = later; kept = kept; refused = false; script = script }) told status last
+RunsFrom host end (outcome.Values text) later kept script told status last = ⊥
+RunsFrom host end (outcome.Refused refusal) later kept script told status last = ⊥
+RunsFrom host end outcome.Panic later kept script told status last = RoseTo later end × Stops None (Panic 0 1) told status last
+RunsFrom host end outcome.Spent later kept script told status last = RoseTo later end × Stops None NumbersSpent told status last
+RunsFrom host end outcome.NoMemory later kept script told status last = RoseTo later end × Stops None NoMemory told status last
 
--- a whole run: the boot answers from what the drive's blocks held, and the script is run from there
-abbrev pub IsRun : Failures → Host → (ℕ → List ℕ) → Script → List ℕ → RunStatus → Option Kept → Type 0
-IsRun f host content script told status last =
-    (answer : Answer) × (kept : Kept) × IsRebooted (drive_failed f) host (started content) answer kept × RunsFrom f host answer kept script told status last
+-- A whole run, from these counts to those: the boot answers from what the drive's blocks held, excused by the calls that failed until
+-- then, and the script is run from there.
+pub record IsRun (host : Host) (start end : Counts) (content : ℕ → List ℕ) (script : Script) (told : List ℕ) (status : RunStatus) (last : Option Kept) : Type 0 where
+  pub answer : Answer
+  pub booted : Counts
+  pub rose : RoseTo start booted
+  pub kept : Kept
+  pub boots : IsRebooted (drive_failed start booted) host (started content) answer kept
+  pub runs : RunsFrom host end answer booted kept script told status last
 
 -- each block reads as it was kept; and where a database is open, whatever a crash leaves has one replica of it, with the newest table
 -- that is in memory
@@ -106,9 +167,14 @@ pub record IsLeft (host : Host) (u : Tale) (kept : Kept) : Type 0 where
 
 -- The whole of a run that began at t: what it told and its status are what the script asks for, and every crash at
 -- its end leaves the database that it made, or adopted and wrote anew.
-abbrev pub IsWholeRun : Failures → Host → Tale → Script → Option Tale → RunStatus → Type 0
-IsWholeRun f host t script tale status =
-    (u : Tale) × (tale ≡ Some u) × (more : List ℕ) × (told u ≡ told t ++ more) × (last : Option Kept) × IfSome last (IsLeft host u) × IsRun f host (drive_content t) script more status last
+pub record IsWholeRun (host : Host) (start end : Counts) (t : Tale) (script : Script) (tale : Option Tale) (status : RunStatus) : Type 0 where
+  pub u : Tale
+  pub tells : tale ≡ Some u
+  pub more : List ℕ
+  pub is_told : told u ≡ told t ++ more
+  pub last : Option Kept
+  pub left : IfSome last (IsLeft host u)
+  pub runs : IsRun host start end (drive_content t) script more status last
 
 -- a run that wanted memory for the table of drives: nothing was done
 pub record IsUnbegun (t : Tale) (tale : Option Tale) (status : RunStatus) : Type 0 where
@@ -116,24 +182,24 @@ pub record IsUnbegun (t : Tale) (tale : Option Tale) (status : RunStatus) : Type
   pub same : tale ≡ Some t
 
 -- a status that comes only where something failed, and those that this run never has
-abbrev pub HasStatusCause : Failures → RunStatus → Type 0
-HasStatusCause f Done = Unit {0}
-HasStatusCause f SomeRefused = Unit {0}
-HasStatusCause f Usage = ⊥
-HasStatusCause f (NoQuorum readable needed) = ⊥
-HasStatusCause f (Panic active listed) = drive_failed f × (active ≡ 0) × (listed ≡ 1)
-HasStatusCause f ReadFault = source_failed f
-HasStatusCause f WriteFault = replies_failed f
-HasStatusCause f NoMemory = Unit {0}
-HasStatusCause f (TwoDatabases a b) = ⊥
-HasStatusCause f (ScriptTooLong lines bytes) = Unit {0}
-HasStatusCause f NumbersSpent = Unit {0}
+abbrev pub HasStatusCause : Counts → Counts → RunStatus → Type 0
+HasStatusCause start end Done = Unit {0}
+HasStatusCause start end SomeRefused = Unit {0}
+HasStatusCause start end Usage = ⊥
+HasStatusCause start end (NoQuorum readable needed) = ⊥
+HasStatusCause start end (Panic active listed) = drive_failed start end × (active ≡ 0) × (listed ≡ 1)
+HasStatusCause start end ReadFault = source_failed start end
+HasStatusCause start end WriteFault = replies_failed start end
+HasStatusCause start end NoMemory = Unit {0}
+HasStatusCause start end (TwoDatabases a b) = ⊥
+HasStatusCause start end (ScriptTooLong lines bytes) = Unit {0}
+HasStatusCause start end NumbersSpent = Unit {0}
 
 -- nothing failed
-pub record IsUndisturbed (f : Failures) : Type 0 where
-  pub drive : drive_failed f → ⊥
-  pub source : source_failed f → ⊥
-  pub replies : replies_failed f → ⊥
+pub record IsUndisturbed (start end : Counts) : Type 0 where
+  pub drive : drive_failed start end → ⊥
+  pub source : source_failed start end → ⊥
+  pub replies : replies_failed start end → ⊥
 
 -- memory was never wanting, as far as the replies and the status tell
 pub record IsSated (told : List ℕ) (status : RunStatus) : Type 0 where
@@ -157,5 +223,5 @@ pub record HasHome (host : Host) (content : ℕ → List ℕ) : Type 0 where
 -- in memory and on the drive at the end
 abbrev pub OneCourse : Type 0
 OneCourse =
-    (f : Failures) → IsUndisturbed f → (host : Host) (content : ℕ → List ℕ) → HasHome host content → (script : Script) (a b : List ℕ) (s r : RunStatus) (k j : Option Kept) → IsSated a s → IsSated b r →
-    IsRun f host content script a s k → IsRun f host content script b r j → (a ≡ b) × (s ≡ r) × IsSameEnd host k j
+    (host : Host) (content : ℕ → List ℕ) → HasHome host content → (script : Script) (start end from to : Counts) → IsUndisturbed start end → IsUndisturbed from to
+    → (a b : List ℕ) (s r : RunStatus) (k j : Option Kept) → IsSated a s → IsSated b r → IsRun host start end content script a s k → IsRun host from to content script b r j → (a ≡ b) × (s ≡ r) × IsSameEnd host k j

@@ -1,5 +1,5 @@
 use Rattle.std.proofs.Common.{refl, ap, subst, inl, inr, Err}
-use Rattle.mdv_run.specs.Below.{script_of, Moments, Host, StaysHome, failures, IsWholeRun, RunMoment}
+use Rattle.mdv_run.specs.Below.{script_of, Moments, Host, StaysHome, counts, IsWholeRun, RunMoment}
 use Rattle.mdv_shelf.proofs.Moments.{moments_none}
 use Rattle.mdv_engine_law.proofs.Staying.{nothing_stays}
 use Rattle.mdv_run_law.proofs.Booting.{nothing_run}
@@ -12,7 +12,7 @@ run_host-requires g c =
 
 pub returns-in-Ok-clause-runs : goal.returns-in-Ok-clause-runs
 returns-in-Ok-clause-runs g c = λ drives home used t is input left. inr
-    (subst (λ (h : Host). IsWholeRun (failures (g.B.Shelf.faults c.args.bench.now) (g.B.Shelf.faults c.run_host.new.bench) (g.I.Source.faults c.args.script.now) (g.I.Source.faults c.run_host.new.script)) h t (script_of input) (g.B.Shelf.tale c.run_host.new.bench) c.run_host.result)
+    (subst (λ (h : Host). IsWholeRun h (counts (g.B.Shelf.faults c.args.bench.now) (g.I.Source.faults c.args.script.now)) (counts (g.B.Shelf.faults c.run_host.new.bench) (g.I.Source.faults c.run_host.new.script)) t (script_of input) (g.B.Shelf.tale c.run_host.new.bench) c.run_host.result)
     (one_host _ _ _ c.args.fresh c.in-Ok.start.drives drives c.in-Ok.start.home home c.in-Ok.ensures.value used)
     (c.run_host.ensures.runs t is input left))
 

@@ -1,7 +1,6 @@
 use Rattle.std.proofs.Common.{false, refl, sym, ◌∙◌, ap, subst, arith}
-use Rattle.mdv_run.specs.Below.{script_of, Tale, told, OnDrive, OnReplies, Moments, Host, kept_at, unbooted, BootMoment, BootedTo, Knows, RunStatus, failures, IsWholeRun, RunMoment, LinesMoment, Engine, StaysHome}
+use Rattle.mdv_run.specs.Below.{script_of, Tale, told, OnDrive, OnReplies, Moments, Host, kept_at, unbooted, BootMoment, BootedTo, Knows, RunStatus, counts, IsWholeRun, RunMoment, LinesMoment, Engine, StaysHome}
 use Rattle.mdv_shelf.proofs.Moments.{moments_after, moments_weaker, moments_end, some_is}
-use Rattle.mdv_engine_law.proofs.Executing.{rose_within}
 use Rattle.mdv_run.specs.Turns.{LinesRun}
 use Rattle.mdv_run_law.proofs.Booting.{boot_run, lines_run}
 use Rattle.mdv_run.proofs.Whole.{whole_over, whole_lines}
@@ -16,21 +15,23 @@ returns-in-Ok-clause-runs g c = λ t is input left.
     let booted = c.in-Ok.ensures.booted t is in
     let lines = c.run_lines.ensures.runs input left done.0 done.1 in
     let knows : Knows c.in-Ok.engine.host c.in-Ok.engine.state done.0 = subst (λ (h : Host). Knows h c.in-Ok.engine.state done.0) (sym c.in-Ok.ensures.host.0) (subst (λ (u : Tale). Knows host c.in-Ok.engine.state u) (some_is _ booted.0 done.0 booted.1 done.1) booted.2.knows) in
-    let here = failures (g.B.Shelf.faults c.boot.new.shelf) (g.B.Shelf.faults c.run_lines.new.bench) (g.I.Source.faults c.args.script.now) (g.I.Source.faults c.run_lines.new.script) in
-    let all = failures (g.B.Shelf.faults c.args.bench.now) (g.B.Shelf.faults c.run_lines.new.bench) (g.I.Source.faults c.args.script.now) (g.I.Source.faults c.run_lines.new.script) in
-    (whole_lines all _ (λ rose. rose_within _ _ _ _ (omega arith) (c.run_lines.ensures.keeps.no_fewer_faults (OnDrive 0)) rose) host t (script_of input) _ here done.0 lines.0 c.in-Ok.engine.state c.run_lines.result lines.1 (ap told (some_is _ done.0 quiet.0 done.1 quiet.1) ∙ quiet.2.quiet)
-    done.2
-    (record { drive_from = c.boot.ensures.keeps.no_fewer_faults (OnDrive 0); drive_to = omega arith; source_from = omega arith; source_to = omega arith; replies_from = c.boot.ensures.keeps.no_fewer_faults OnReplies; replies_to = omega arith })
-    (subst (λ (h : Host). LinesRun here h c.in-Ok.engine.state false (script_of input) c.run_lines.result done.0 lines.0) c.in-Ok.ensures.host.0 (lines.2 knows)))
+    let start = counts (g.B.Shelf.faults c.args.bench.now) (g.I.Source.faults c.args.script.now) in
+    let mid = counts (g.B.Shelf.faults c.boot.new.shelf) (g.I.Source.faults c.args.script.now) in
+    let end = counts (g.B.Shelf.faults c.run_lines.new.bench) (g.I.Source.faults c.run_lines.new.script) in
+    whole_lines host start t (script_of input) _ mid end (record { drive = c.boot.ensures.keeps.no_fewer_faults (OnDrive 0); source = omega arith; replies = c.boot.ensures.keeps.no_fewer_faults OnReplies })
+    done.0 lines.0 c.in-Ok.engine.state c.run_lines.result lines.1 (ap told (some_is _ done.0 quiet.0 done.1 quiet.1) ∙ quiet.2.quiet) done.2
+    (subst (λ (h : Host). LinesRun h mid end c.in-Ok.engine.state false (script_of input) c.run_lines.result done.0 lines.0) c.in-Ok.ensures.host.0 (lines.2 knows))
 
 pub returns-in-Err-clause-runs : goal.returns-in-Err-clause-runs
 returns-in-Err-clause-runs g c = λ t is input left.
     let host = c.args.host in
     let quiet = moments_end (BootMoment host) _ _ c.boot.ensures.moments t is in
     let done = c.in-Err.ensures.rebooted (unbooted 0) tt t is in
-    let all = failures (g.B.Shelf.faults c.args.bench.now) (g.B.Shelf.faults c.boot.new.shelf) (g.I.Source.faults c.args.script.now) (g.I.Source.faults c.args.script.now) in
-    (subst (λ (s : RunStatus). IsWholeRun all host t (script_of input) (g.B.Shelf.tale c.boot.new.shelf) s) (sym c.over.ensures)
-    (whole_over all _ (λ rose. rose) host t (script_of input) _ Engine done.0 (kept_at (unbooted 0) done.0) c.in-Err.refusal done.1 (ap told (some_is _ done.0 quiet.0 done.1 quiet.1) ∙ quiet.2.quiet) done.2 c.in-Err.ensures.cause))
+    let start = counts (g.B.Shelf.faults c.args.bench.now) (g.I.Source.faults c.args.script.now) in
+    let end = counts (g.B.Shelf.faults c.boot.new.shelf) (g.I.Source.faults c.args.script.now) in
+    subst (λ (s : RunStatus). IsWholeRun host start end t (script_of input) (g.B.Shelf.tale c.boot.new.shelf) s) (sym c.over.ensures)
+    (whole_over host start t (script_of input) _ Engine end (record { drive = c.boot.ensures.keeps.no_fewer_faults (OnDrive 0); source = omega arith; replies = c.boot.ensures.keeps.no_fewer_faults OnReplies })
+    done.0 (kept_at (unbooted 0) done.0) c.in-Err.refusal done.1 (ap told (some_is _ done.0 quiet.0 done.1 quiet.1) ∙ quiet.2.quiet) done.2 c.in-Err.ensures.cause)
 
 pub returns-in-Ok-clause-stands : goal.returns-in-Ok-clause-stands
 returns-in-Ok-clause-stands g c = λ input left.

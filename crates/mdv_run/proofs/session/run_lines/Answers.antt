@@ -1,7 +1,7 @@
 use Rattle.std.proofs.Common.{◌≤◌, false, refl, sym, ◌∙◌, subst, arith}
-use Rattle.mdv_run.specs.Below.{Reader, script_of, script_before, OnDrive, OnReplies, Moments, Ends, Host, IsReady, Knows, IsWell, failures, LinesMoment, StaysHome}
+use Rattle.mdv_run.specs.Below.{Reader, script_of, script_before, Moments, Ends, Host, IsReady, Knows, IsWell, counts, LinesMoment, StaysHome}
 use Rattle.mdv_run.specs.Turns.{LinesRun}
-use Rattle.mdv_run.proofs.Went.{SoFar, so_far_start, so_far_more, moments_over, over_ends, both_within, script_at_start, keeps_more}
+use Rattle.mdv_run.proofs.Went.{SoFar, so_far_start, so_far_more, moments_over, over_ends, script_at_start, keeps_more}
 use Rattle.mdv_engine_law.proofs.Staying.{nothing_stays, both_stay}
 use Rattle.mdv_run.proofs.session.run_lines.Goals as goal
 
@@ -32,26 +32,23 @@ loop-refused-preserved g c = record {
       (subst (λ (h : Host). Moments (StaysHome h) (g.B.Shelf.tale c.loop-refused.bench) (g.B.Shelf.tale c.take_turn.new.bench)) c.loop-refused.invariant.host c.in-On.ensures.home);
   so_far = λ input left.
       let here = c.loop-refused.invariant.so_far input left in
-      subst (λ (h : Host). SoFar h c.args.engine.now.state c.take_turn.new.engine.state c.in-On.refused input (script_before c.take_turn.new.reader (g.I.Source.left c.take_turn.new.script)) (failures (g.B.Shelf.faults c.args.bench.now) (g.B.Shelf.faults c.take_turn.new.bench) (g.I.Source.faults c.args.script.now) (g.I.Source.faults c.take_turn.new.script)) (g.B.Shelf.tale c.args.bench.now) (g.B.Shelf.tale c.take_turn.new.bench)) (sym c.in-On.ensures.host)
-      (so_far_more c.loop-refused.engine.host c.args.engine.now.state input c.loop-refused.engine.state c.take_turn.new.engine.state c.loop-refused.any_refused _ _ _ _ _ _ _ _ here
-      (λ f w. both_within f _ _ _ _ _ _ _ _ _ (c.loop-refused.invariant.keeps.no_fewer_faults (OnDrive 0)) (c.in-On.ensures.keeps.no_fewer_faults (OnDrive 0)) c.loop-refused.invariant.source c.in-On.ensures.source (c.loop-refused.invariant.keeps.no_fewer_faults OnReplies) (c.in-On.ensures.keeps.no_fewer_faults OnReplies) w)
+      subst (λ (h : Host). SoFar h (counts (g.B.Shelf.faults c.args.bench.now) (g.I.Source.faults c.args.script.now)) (counts (g.B.Shelf.faults c.take_turn.new.bench) (g.I.Source.faults c.take_turn.new.script)) c.args.engine.now.state c.take_turn.new.engine.state c.in-On.refused input (script_before c.take_turn.new.reader (g.I.Source.left c.take_turn.new.script)) (g.B.Shelf.tale c.args.bench.now) (g.B.Shelf.tale c.take_turn.new.bench)) (sym c.in-On.ensures.host)
+      (so_far_more c.loop-refused.engine.host c.args.engine.now.state input (counts (g.B.Shelf.faults c.args.bench.now) (g.I.Source.faults c.args.script.now)) (counts (g.B.Shelf.faults c.loop-refused.bench) (g.I.Source.faults c.loop-refused.script)) (counts (g.B.Shelf.faults c.take_turn.new.bench) (g.I.Source.faults c.take_turn.new.script)) c.loop-refused.engine.state c.take_turn.new.engine.state c.loop-refused.any_refused _ _ _ _ _ here
       c.in-On.refused c.in-On.ensures.turns c.in-On.ensures.moments (c.in-On.ensures.ran tt));
 }
 
 pub returns-in-Over-clause-runs : goal.returns-in-Over-clause-runs
 returns-in-Over-clause-runs g c = λ input left.
     let here = c.loop-refused.invariant.so_far input left in
-    subst (λ (h : Host). Ends (λ t u. Knows h c.args.engine.now.state t → LinesRun (failures (g.B.Shelf.faults c.args.bench.now) (g.B.Shelf.faults c.take_turn.new.bench) (g.I.Source.faults c.args.script.now) (g.I.Source.faults c.take_turn.new.script)) h c.args.engine.now.state false (script_of input) c.in-Over.status t u) (g.B.Shelf.tale c.args.bench.now) (g.B.Shelf.tale c.take_turn.new.bench)) c.loop-refused.invariant.host
-    (over_ends c.loop-refused.engine.host c.args.engine.now.state input c.loop-refused.engine.state c.take_turn.new.engine.state c.loop-refused.any_refused _ _ _ _ _ _ _ _ here
-    (λ f w. both_within f _ _ _ _ _ _ _ _ _ (c.loop-refused.invariant.keeps.no_fewer_faults (OnDrive 0)) (c.in-Over.ensures.keeps.no_fewer_faults (OnDrive 0)) c.loop-refused.invariant.source c.in-Over.ensures.source (c.loop-refused.invariant.keeps.no_fewer_faults OnReplies) (c.in-Over.ensures.keeps.no_fewer_faults OnReplies) w)
+    subst (λ (h : Host). Ends (λ t u. Knows h c.args.engine.now.state t → LinesRun h (counts (g.B.Shelf.faults c.args.bench.now) (g.I.Source.faults c.args.script.now)) (counts (g.B.Shelf.faults c.take_turn.new.bench) (g.I.Source.faults c.take_turn.new.script)) c.args.engine.now.state false (script_of input) c.in-Over.status t u) (g.B.Shelf.tale c.args.bench.now) (g.B.Shelf.tale c.take_turn.new.bench)) c.loop-refused.invariant.host
+    (over_ends c.loop-refused.engine.host c.args.engine.now.state input (counts (g.B.Shelf.faults c.args.bench.now) (g.I.Source.faults c.args.script.now)) (counts (g.B.Shelf.faults c.loop-refused.bench) (g.I.Source.faults c.loop-refused.script)) (counts (g.B.Shelf.faults c.take_turn.new.bench) (g.I.Source.faults c.take_turn.new.script)) c.loop-refused.engine.state c.take_turn.new.engine.state c.loop-refused.any_refused _ _ _ _ _ here
     c.in-Over.status c.in-Over.ensures.turns c.in-Over.ensures.knows)
 
 pub returns-in-Over-clause-moments : goal.returns-in-Over-clause-moments
 returns-in-Over-clause-moments g c = λ input left.
     let here = c.loop-refused.invariant.so_far input left in
     subst (λ (h : Host). Moments (LinesMoment h (script_of input) c.args.engine.now.state) (g.B.Shelf.tale c.args.bench.now) (g.B.Shelf.tale c.take_turn.new.bench)) c.loop-refused.invariant.host
-    (moments_over c.loop-refused.engine.host c.args.engine.now.state input c.loop-refused.engine.state c.take_turn.new.engine.state c.loop-refused.any_refused _ (script_before c.take_turn.new.reader (g.I.Source.left c.take_turn.new.script)) _ (failures (g.B.Shelf.faults c.loop-refused.bench) (g.B.Shelf.faults c.take_turn.new.bench) (g.I.Source.faults c.loop-refused.script) (g.I.Source.faults c.take_turn.new.script)) (failures (g.B.Shelf.faults c.args.bench.now) (g.B.Shelf.faults c.take_turn.new.bench) (g.I.Source.faults c.args.script.now) (g.I.Source.faults c.take_turn.new.script)) _ _ _ here
-    (λ f w. both_within f _ _ _ _ _ _ _ _ _ (c.loop-refused.invariant.keeps.no_fewer_faults (OnDrive 0)) (c.in-Over.ensures.keeps.no_fewer_faults (OnDrive 0)) c.loop-refused.invariant.source c.in-Over.ensures.source (c.loop-refused.invariant.keeps.no_fewer_faults OnReplies) (c.in-Over.ensures.keeps.no_fewer_faults OnReplies) w)
+    (moments_over c.loop-refused.engine.host c.args.engine.now.state input (counts (g.B.Shelf.faults c.args.bench.now) (g.I.Source.faults c.args.script.now)) (counts (g.B.Shelf.faults c.loop-refused.bench) (g.I.Source.faults c.loop-refused.script)) (counts (g.B.Shelf.faults c.take_turn.new.bench) (g.I.Source.faults c.take_turn.new.script)) c.loop-refused.engine.state c.take_turn.new.engine.state c.loop-refused.any_refused _ (script_before c.take_turn.new.reader (g.I.Source.left c.take_turn.new.script)) _ _ _ here
     c.in-Over.ensures.moments)
 
 pub returns-in-Over-clause-home : goal.returns-in-Over-clause-home
