@@ -1,6 +1,10 @@
 -- One line, answered.
-use Rattle.std.proofs.Common.{◌≡◌, inl, inr, ℕ, List, ◌++◌, refl, sym, ◌∙◌, ap}
-use Rattle.mdv_run.specs.Below.{Script, line, Tale, replies_in, Command, Create, MakeStripe, Read, Write, Boot, IsCommand, Deed, Host, Memory, IsExecuted, Knows, IsAwake, Turned, Asks, RanTo, behind}
+use Rattle.std.proofs.Common.{◌≡◌, inl, inr, ℕ, List, ◌++◌, Option, refl, sym, ◌∙◌, ap, subst}
+use Rattle.mdv_run.specs.Below.{Script, line, Tale, replies_in, Command, Create, MakeStripe, Read, Write, Boot, IsCommand, Deed, Ends, Reply, IsReplied, Host, Memory, IsExecuted, Executed, Knows, IsAwake, Turned, Asks, RanTo, behind}
+use Rattle.mdv_engine_law.specs.Replies.{IsLost}
+use Rattle.mdv_run.specs.Promise.{LineEnd}
+use Rattle.mdv_run.specs.Turns.{LineAnswered}
+use Rattle.mdv_shelf.proofs.Moments.{some_is}
 use Rattle.mdv_shelf.proofs.Blocks.{both_ways}
 use Rattle.mdv_words.proofs.Lines.{one_command}
 use Rattle.mdv_run_law.proofs.Coming.{behind_none}
@@ -40,3 +44,21 @@ module _ (host : Host) (text : List ℕ) (more : Script) (asked : List Deed) (as
       | inr before ↦ line_ran host text asked asks more old new t u turned (λ same. before) other
     ]
   ]
+
+-- what is known of a line's end is one
+pub joined_end : (host : Host) (text : List ℕ) (drive replies : Type 0) (old new : Memory) (reply : Reply) (a b : Option Tale) → Ends (λ t u. Knows host old t → LineAnswered drive replies host text old new reply t u) a b
+    → (IsReplied reply → (more : Script) → Ends (RanTo host (line text more) old new more) a b) → ((IsLost reply → ⊥) → Ends (λ t u. Knows host old t → Knows host new u) a b) → Ends (LineEnd drive replies host text old new reply) a b
+joined_end host text drive replies old new reply a b answered ran knows t is =
+    let end = answered t is in (
+      end.0,
+      end.1,
+      record {
+        answered = end.2;
+        ran = λ on more. (let other = ran on more t is in subst (λ (u : Tale). RanTo host (line text more) old new more t u) (some_is b other.0 end.0 other.1 end.1) other.2);
+        knows = λ kept known. (let other = knows kept t is in subst (λ (u : Tale). Knows host new u) (some_is b other.0 end.0 other.1 end.1) (other.2 known));
+      },
+    )
+
+-- a command that was carried out answers its line
+pub line_executed : (text : List ℕ) (command : Command) → IsCommand text command → (drive replies : Type 0) (host : Host) (old new : Memory) (reply : Reply) (t u : Tale) → Executed drive replies host command old new reply t u → LineAnswered drive replies host text old new reply t u
+line_executed text command is drive replies host old new reply t u done = record { answer = done.answer; done = inr (command, is, done.carried); replied = done.replied }

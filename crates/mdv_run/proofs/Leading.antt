@@ -1,13 +1,13 @@
 -- How one turn of a run goes on from the script that is before it.
-use Rattle.std.proofs.Common.{◌≡◌, inl, inr, ℕ, Bool, true, false, List, [], ◌++◌, Option, Some, None, refl, sym, ◌∙◌, ap, subst, arith}
+use Rattle.std.proofs.Common.{◌≡◌, ℕ, Bool, true, false, List, [], Option, Some, None, refl, sym, ◌∙◌, ap, subst, arith}
 use Rattle.mdv_run.specs.Below.{Rose, LineTooLong, Reader, Script, at_end, spent, too_long, line, script_before, IsTurn, Line, TooLong, End, Spent, Tale, told, Answer, Reply, Host, Memory, IsTold, IsReplied, Kept, IsTurnedDown, kept_at, Replied, RunStatus, Panic, ReadFault, WriteFault, NoMemory, NumbersSpent, At, Counts, RoseTo, NextLine, IsAnswered, drive_failed, source_failed, replies_failed, status_of}
 use Rattle.mdv_run_law.specs.Run.{Over as IsOver, broken, ended, unread, EndsAs, EndsWith, IsSaid, refused_by}
-use Rattle.mdv_engine_law.specs.Replies.{text_of}
+use Rattle.mdv_engine_law.specs.Replies.{HasReplyCause, IsLost, text_of}
 use Rattle.mdv_engine_law.specs.declared.answer.Answer.TheVariants as outcome
 use Rattle.mdv_engine_law.specs.declared.answer.Reply.TheVariants as reply
 use Rattle.mdv_run.specs.declared.session.Turn.{Turn}
 use Rattle.mdv_run.specs.declared.session.Turn.TheVariants.{On, Over}
-use Rattle.mdv_run.specs.Turns.{LineAnswered, Leads, Turns, at, turn_of, IsOn, IsLostStatus}
+use Rattle.mdv_run.specs.Turns.{LineAnswered, Leads, Turns, at, turn_of, HasTurnCause, IsOn, IsLostStatus, IsLostTurn}
 use Rattle.std.proofs.lemmas.List.{append-nil}
 
 -- the script that each answer of the reader comes from
@@ -156,3 +156,27 @@ ended_known any status is lost = by any (subst IsLostStatus is lost) where
   by : (any : Bool) → IsLostStatus (status_of any) → ⊥
   by true lost = lost
   by false lost = lost
+
+-- a turn is lost where its reply is
+pub lost_reply : (r : Reply) (any : Bool) → IsLost r → IsLostTurn (turn_of r any)
+lost_reply reply.Ok any lost = lost
+lost_reply (reply.Refused refusal) any lost = lost
+lost_reply (reply.Panic active listed) any lost = tt
+lost_reply reply.Spent any lost = tt
+lost_reply reply.NoMemory any lost = tt
+lost_reply reply.Told any lost = lost
+
+-- one script is left
+pub same_left : {before : Option Script} (left other : Script) → before ≡ Some left → before ≡ Some other → other ≡ left
+same_left left other one two = both (sym two ∙ one) where
+  both : Some other ≡ Some left → other ≡ left
+  both is = cc
+
+-- the cause of a reply is that of its turn
+pub turn_cause : (now then : Counts) (r : Reply) (any : Bool) → HasReplyCause (drive_failed now then) (replies_failed now then) r → HasTurnCause now then (turn_of r any)
+turn_cause now then reply.Ok any cause = tt
+turn_cause now then (reply.Refused refusal) any cause = tt
+turn_cause now then (reply.Panic active listed) any cause = cause
+turn_cause now then reply.Spent any cause = tt
+turn_cause now then reply.NoMemory any cause = tt
+turn_cause now then reply.Told any cause = cause

@@ -1,5 +1,5 @@
 -- How the turns of a run add up.
-use Rattle.std.proofs.Common.{◌≡◌, ◌≤◌, ℕ, Bool, false, List, [], ◌++◌, Option, Some, None, IfSome, refl, sym, ◌∙◌, ap, subst, append_assoc, arith}
+use Rattle.std.proofs.Common.{◌≡◌, ℕ, Bool, false, List, [], ◌++◌, Option, Some, None, IfSome, refl, sym, ◌∙◌, ap, subst, append_assoc, arith}
 use Rattle.std.proofs.lemmas.List.{append-nil}
 use Rattle.mdv_run.specs.Below.{Reader, Script, script_before, script_of, Tale, told, Part, Keeps, Moments, Ends, Host, Memory, Kept, kept_at, Knows, RunStatus, Done, SomeRefused, Usage, NoQuorum, Panic, ReadFault, WriteFault, NoMemory, TwoDatabases, ScriptTooLong, NumbersSpent, At, Counts, RoseTo, LineTold, LinesTold, IsLeft, HasStatusCause, LinesMoment, RanTo}
 use Rattle.mdv_run_law.specs.Run.{no_line, one_more}
@@ -7,6 +7,7 @@ use Rattle.mdv_shelf.proofs.Moments.{moments_none, moments_after, ends_more, som
 use Rattle.mdv_engine_law.proofs.Executing.{rose_within}
 use Rattle.mdv_run.specs.declared.session.Turn.TheVariants.{On, Over}
 use Rattle.mdv_run.specs.Turns.{at, IsLostStatus, Turns, LinesRun}
+use Rattle.mdv_run.specs.Promise.{TurnEnd}
 use Rattle.mdv_run_law.proofs.Lining.{lines_start, ran_start, lines_more_moment, ran_more}
 
 -- one line more
@@ -54,25 +55,25 @@ module _ (host : Host) (first : Memory) (input : List ℕ) (start : Counts) wher
           some_script is = cc
 
     -- one turn more
-    pub so_far_more : (r : Bool) → ((lines : Script) → before ≡ Some lines → Ends (λ t u. Knows host now t → Turns host here end now new any lines then (On r) t u) b c)
+    pub so_far_more : (r : Bool) → ((lines : Script) → before ≡ Some lines → (left : Script) × (then ≡ Some left))
+        → ((lines : Script) → before ≡ Some lines → Ends (TurnEnd host here end now new any lines then (On r)) b c)
         → ((lines : Script) → before ≡ Some lines → Moments (LinesMoment host lines now) b c)
-        → ((lines : Script) → before ≡ Some lines → (left : Script) × (then ≡ Some left) × Ends (RanTo host lines now new left) b c)
         → SoFar host start end first new r input then a c
-    so_far_more r turns moments ran =
-        let left = ran so_far.left so_far.comes in
+    so_far_more r goes turns moments =
+        let left = goes so_far.left so_far.comes in
         record {
           left = left.0;
           comes = left.1;
           moments = moments_after (LinesMoment host (script_of input) first) (RanTo host (script_of input) first now so_far.left) (LinesMoment host so_far.left now) (LinesMoment host (script_of input) first) a b c (λ t m lines. lines)
               (λ t u m before more. lines_more_moment host (script_of input) first t now so_far.left u before m more) so_far.moments so_far.ran (moments so_far.left so_far.comes);
-          ran = ends_more (RanTo host (script_of input) first now so_far.left) (RanTo host so_far.left now new left.0) (RanTo host (script_of input) first new left.0) a b c
-              (λ t u v one other. ran_more host (script_of input) first t now so_far.left u one new left.0 v other) so_far.ran left.2;
+          ran = ends_more (RanTo host (script_of input) first now so_far.left) (TurnEnd host here end now new any so_far.left then (On r)) (RanTo host (script_of input) first new left.0) a b c
+              (λ t u v one other. ran_more host (script_of input) first t now so_far.left u one new left.0 v (other.ran tt left.0 left.1)) so_far.ran (turns so_far.left so_far.comes);
           went = λ t is.
               let one = so_far.went t is in
               let known = so_far.ran t is in
               let knows_so : Knows host first t → Knows host now one.0 = λ knows. subst (λ (u : Tale). Knows host now u) (some_is b known.0 one.0 known.1 one.1) (known.2.knows knows) in
               let two = turns so_far.left so_far.comes one.0 one.1 in
-              (two.0, two.1, λ knows. went_more r left.0 t one.0 two.0 left.1 (one.2 knows) (two.2 (knows_so knows)));
+              (two.0, two.1, λ knows. went_more r left.0 t one.0 two.0 left.1 (one.2 knows) (two.2.turns (knows_so knows)));
         }
 
     -- the moments of the last turn too
@@ -86,9 +87,8 @@ module _ (host : Host) (first : Memory) (input : List ℕ) (start : Counts) wher
     left_there status v (Some kept) (same, not_lost) knows = subst (λ (k : Kept). IsLeft host v k) (sym same) (record { content = λ block. refl; opened = (knows not_lost).opened })
 
     -- the turn that ends the run
-    pub over_ends : (status : RunStatus) → ((lines : Script) → before ≡ Some lines → Ends (λ t u. Knows host now t → Turns host here end now new any lines then (Over status) t u) b c)
-        → ((IsLostStatus status → ⊥) → Ends (λ t u. Knows host now t → Knows host new u) b c) → Ends (λ t u. Knows host first t → LinesRun host start end first false (script_of input) status t u) a c
-    over_ends status turns knows t is =
+    pub over_ends : (status : RunStatus) → ((lines : Script) → before ≡ Some lines → Ends (TurnEnd host here end now new any lines then (Over status)) b c) → Ends (λ t u. Knows host first t → LinesRun host start end first false (script_of input) status t u) a c
+    over_ends status turns t is =
         let one = so_far.went t is in
         let known = so_far.ran t is in
         let knows_so : Knows host first t → Knows host now one.0 = λ knows. subst (λ (u : Tale). Knows host now u) (some_is b known.0 one.0 known.1 one.1) (known.2.knows knows) in
@@ -97,13 +97,13 @@ module _ (host : Host) (first : Memory) (input : List ℕ) (start : Counts) wher
           two.1,
           λ first_known.
               let went = one.2 first_known in
-              let turn = two.2 (knows_so first_known) in
+              let turn = two.2.turns (knows_so first_known) in
               record {
                 more = went.so_far ++ turn.piece;
                 is_told = turn.is_told ∙ ap (λ (l : List ℕ). l ++ turn.piece) went.is_told ∙ append_assoc (told t) went.so_far turn.piece;
                 last = turn.leads.0;
                 left = left_there status two.0 turn.leads.0 turn.leads.1
-                    (λ not_lost. (let three = knows not_lost one.0 one.1 in subst (λ (u : Tale). Knows host new u) (some_is c three.0 two.0 three.1 two.1) (three.2 (knows_so first_known))));
+                    (λ not_lost. two.2.knows not_lost (knows_so first_known));
                 runs = record { so_far = went.so_far; rest = turn.piece; parts = refl; at = at here (kept_at now one.0) any so_far.left; lines = went.lines; over = turn.leads.2 };
               },
         )

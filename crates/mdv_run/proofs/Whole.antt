@@ -1,7 +1,7 @@
 -- A whole run: its boot, and the lines behind it.
 use Rattle.std.proofs.Common.{◌≡◌, ℕ, List, [], ◌++◌, Option, Some, None, Err, refl, sym, ◌∙◌, ap, false, arith}
 use Rattle.std.proofs.lemmas.List.{append-nil}
-use Rattle.mdv_run.specs.Below.{Script, Tale, told, Answer, BootRefusal, Host, Kept, Memory, IsRebooted, kept_at, unbooted, HasBootCause, boot_answer, RunStatus, Panic, Counts, RoseTo, IsWholeRun, HasStatusCause, drive_failed}
+use Rattle.mdv_run.specs.Below.{Script, Tale, told, BootRefusal, Host, Kept, Memory, IsRebooted, kept_at, unbooted, HasBootCause, boot_answer, RunStatus, Panic, Counts, RoseTo, IsWholeRun, HasStatusCause, drive_failed}
 use Rattle.mdv_run_law.specs.Run.{RunsFrom}
 use Rattle.mdv_engine_law.specs.declared.answer.Answer.TheVariants as outcome
 use Rattle.mdv_engine_law.specs.declared.answer.BootRefusal.TheVariants as refusal

@@ -21,6 +21,7 @@ pub use Rattle.mdv_port.specs.declared.reader.LineEnd.TheVariants.{End, Line, Sp
 pub use Rattle.mdv_run_law.specs.Run.{At, Counts, HasStatusCause, IsAnswered, IsLeft, IsWholeRun, LineTold, LinesTold, NextLine, RoseTo, Runs, counts}
 pub use Rattle.mdv_run_law.specs.Run.{drive_failed, replies_failed, source_failed, status_of}
 pub use Rattle.mdv_run_law.specs.Standing.{Asks, LinesMoment, RanTo, RunMoment, behind}
+pub use Rattle.mdv_run_law.specs.Lives.{host_of}
 pub use Rattle.mdv_run_law.specs.Usage.{IsUsed}
 pub use Rattle.mdv_run_law.specs.declared.status.RunStatus.{RunStatus}
 pub use Rattle.mdv_run_law.specs.declared.status.RunStatus.TheVariants.{Done, NoMemory, NoQuorum, NumbersSpent, Panic, ReadFault, ScriptTooLong}

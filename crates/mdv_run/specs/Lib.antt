@@ -1,3 +1,4 @@
 pub mod Below
 pub use Rattle.mdv_base.specs.Causes
 pub mod Turns
+pub mod Promise

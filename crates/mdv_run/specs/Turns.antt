@@ -1,5 +1,5 @@
 -- How the lines of a run follow one another.
-use Rattle.std.specs.Prelude.{◌≡◌, ◌≤◌, ℕ, Bool, true, List, ◌++◌, Option, Some, IfSome}
+use Rattle.std.specs.Prelude.{◌≡◌, ℕ, Bool, true, List, ◌++◌, Option, Some, IfSome}
 use Rattle.mdv_run.specs.Below.{Script, Tale, told, Answer, BootRefusal, Reply, Host, Kept, Memory, kept_at, Replied, RunStatus, Panic, WriteFault, NoMemory, NumbersSpent, At, Counts, LineTold, Runs, IsAnswered, IsLeft, HasStatusCause}
 use Rattle.mdv_run_law.specs.Run.{Over as IsOver}
 use Rattle.mdv_engine_law.specs.declared.answer.BootRefusal.TheVariants as refusal

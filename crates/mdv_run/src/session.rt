@@ -1,22 +1,20 @@
-ghost use Rattle.std.specs.Prelude.{◌≡◌, ◌≢◌, ◌⊎◌, Err, IfOk, ◌<◌, ◌≤◌, ◌+◌, ◌^◌, ◌↔◌, ℕ, List, [], ◌∷◌, map, string_bytes, Some, IsTrue, false};
-ghost use Rattle.mdv_shelf.specs.Tale.{Tale};
-ghost use Rattle.mdv_shelf.specs.Calls.{OnDrive, OnReplies, Keeps};
-ghost use Rattle.mdv_shelf.specs.Moments.{Moments, Ends};
-ghost use Rattle.mdv_port.specs.Script.{Script, line as line_of, script_before, script_of};
-ghost use Rattle.mdv_base.specs.Causes.{Rose};
+ghost use Rattle.std.specs.Prelude.{◌≡◌, Err, IfOk, ◌<◌, ◌≤◌, ◌+◌, ◌^◌, ◌↔◌, ℕ, List, [], ◌∷◌, map, string_bytes, Some, IsTrue};
+ghost use Rattle.mdv_shelf.specs.Shelves.{AtEachTale, AtEnd, DriveFailed, GivingFailed, Keeps};
+ghost use Rattle.mdv_port.specs.Script.{Script, line as line_of, script_before};
 ghost use Rattle.mdv_home.specs.declared.geometry.Home.{Home};
 ghost use Rattle.mdv_words.specs.declared.command.Command.TheVariants.{Boot};
 ghost use Rattle.mdv_words.specs.Line.{IsCommand};
 ghost use Rattle.mdv_engine_law.specs.Home.{IsReady, StaysHome};
-ghost use Rattle.mdv_engine_law.specs.Replies.{IsReplied, IsLost, HasReplyCause};
-ghost use Rattle.mdv_engine_law.specs.Standing.{Executed, Knows, TurnMoment};
+ghost use Rattle.mdv_engine_law.specs.Standing.{TurnMoment};
 ghost use Rattle.mdv_engine.specs.Engine.{IsWell};
 ghost use Rattle.mdv_name.specs.declared.geometry.Geometry.{Geometry};
 ghost use Rattle.mdv_name.specs.Geometry.{IsGeometry as IsTable};
+ghost use Rattle.mdv_run_law.specs.Lives.{host_of};
 ghost use Rattle.mdv_run_law.specs.Usage.{IsUsed};
-ghost use Rattle.mdv_run_law.specs.Run.{IsUnbegun, counts, HasStatusCause, status_of, IsWholeRun};
-ghost use Rattle.mdv_run_law.specs.Standing.{RunMoment, LinesMoment, RanTo};
-ghost use Rattle.mdv_run.specs.Turns.{over_status, LineAnswered, Turns, turn_of as spec_turn_of, IsOn, IsLostTurn, HasTurnCause, LinesRun};
+ghost use Rattle.mdv_run_law.specs.Run.{status_of};
+ghost use Rattle.mdv_run_law.specs.Standing.{LinesMoment};
+ghost use Rattle.mdv_run.specs.Promise.{HasRun, HaveRun, IsUntouched, IsUsageOf, LineEnd as EndOfLine, LineReply, TurnAnswer, TurnEnd, by};
+ghost use Rattle.mdv_run.specs.Turns.{over_status, turn_of as spec_turn_of};
 
 use mdv_base::{DriveNo, Failed, Refusal};
 use mdv_engine::Engine;
@@ -42,28 +40,13 @@ pub fn run<B: Bench, I: Source>(
     fresh: u64,
 ) -> RunStatus
     // A faulty use is told exactly where the words, the table and the drives are none of a host's, but for
-    // want of memory.
-    ensures usage { result ≢ RunStatus.NoMemory → (result ≡ RunStatus.Usage) ↔ ((drives : Geometry) (home : Home) → IsUsed (map string_bytes words.now) geometry.now (B.sizes bench.old) drives home → ⊥) }
+    // want of memory, and nothing was done then.
+    ensures usage { IsUsageOf ((drives : Geometry) (home : Home) → IsUsed (map string_bytes words.now) geometry.now (B.sizes bench.old) drives home → ⊥) (IsUntouched B.Shelf I.Source bench.old script.old bench.new script.new) result }
 
-    // Else the boot answers from what the drive's blocks held, and the bytes told and the status are
-    // those of the script; where a database is open at the end, every crash leaves it.
-    ensures runs { (drives : Geometry) (home : Home) → IsUsed (map string_bytes words.now) geometry.now (B.sizes bench.old) drives home → (t : Tale) → B.tale bench.old ≡ Some t → (input : List ℕ) → I.left script.old ≡ Some input → IsUnbegun t (B.tale bench.new) result ⊎ IsWholeRun (record { drives = drives; home = home; fresh = fresh }) (counts (B.faults bench.old) (I.faults script.old)) (counts (B.faults bench.new) (I.faults script.new)) t (script_of input) (B.tale bench.new) result }
-
-    // After a faulty use nothing was done.
-    ensures unbegun { result ≡ RunStatus.Usage → (B.tale bench.new ≡ B.tale bench.old) × (I.left script.new ≡ I.left script.old) }
-
-    // At each moment the drive stands with its history so far: what a line asks is acknowledged once the newline of its
-    // `ok` was told, and each block of a volume has the value of its last acknowledged write or of one that was
-    // issued later.
-    ensures stands { (drives : Geometry) (home : Home) → IsUsed (map string_bytes words.now) geometry.now (B.sizes bench.old) drives home → (input : List ℕ) → I.left script.old ≡ Some input → Moments (RunMoment (record { drives = drives; home = home; fresh = fresh }) (script_of input)) (B.tale bench.old) (B.tale bench.new) }
-
-    // At each moment nothing was done to a block outside the most that the host's replica may have, and the slices that
-    // aren't marked `db`.
-    ensures home { (drives : Geometry) (home : Home) → IsUsed (map string_bytes words.now) geometry.now (B.sizes bench.old) drives home → Moments (StaysHome (record { drives = drives; home = home; fresh = fresh })) (B.tale bench.old) (B.tale bench.new) }
-
-    // A status that tells of a failure comes only where one came, whatever the bench and the source tell.
-    ensures causes { (drives : Geometry) (home : Home) → IsUsed (map string_bytes words.now) geometry.now (B.sizes bench.old) drives home → (result ≡ RunStatus.NoMemory) ⊎ HasStatusCause (counts (B.faults bench.old) (I.faults script.old)) (counts (B.faults bench.new) (I.faults script.new)) result }
-    ensures keeps { Keeps B.sizes B.faults B.rest B.held bench.old bench.new }
+    // Else all is as the run of that host promises: what is told and its status, what holds at each moment, and the cause of
+    // each status.
+    ensures used { (drives : Geometry) (home : Home) → IsUsed (map string_bytes words.now) geometry.now (B.sizes bench.old) drives home → HasRun B.Shelf I.Source (host_of drives home fresh) bench.old script.old bench.new script.new result }
+    ensures keeps { Keeps B.Shelf bench.old bench.new }
 {
     match usable(words, geometry, bench) {
         Ok(start) => {
@@ -87,11 +70,8 @@ fn run_host<B: Bench, I: Source>(
     script: &mut I,
 ) -> RunStatus
     requires { IsReady host (B.sizes bench.old) }
-    ensures runs { (t : Tale) → B.tale bench.old ≡ Some t → (input : List ℕ) → I.left script.old ≡ Some input → IsWholeRun host (counts (B.faults bench.old) (I.faults script.old)) (counts (B.faults bench.new) (I.faults script.new)) t (script_of input) (B.tale bench.new) result }
-    ensures stands { (input : List ℕ) → I.left script.old ≡ Some input → Moments (RunMoment host (script_of input)) (B.tale bench.old) (B.tale bench.new) }
-    ensures home { Moments (StaysHome host) (B.tale bench.old) (B.tale bench.new) }
-    ensures causes { HasStatusCause (counts (B.faults bench.old) (I.faults script.old)) (counts (B.faults bench.new) (I.faults script.new)) result }
-    ensures keeps { Keeps B.sizes B.faults B.rest B.held bench.old bench.new }
+    ensures has_run { HasRun B.Shelf I.Source host bench.old script.old bench.new script.new result }
+    ensures keeps { Keeps B.Shelf bench.old bench.new }
 {
     match Engine::boot(bench, alloc, host) {
         Ok(mut engine) => run_lines(&mut engine, alloc, bench, script),
@@ -175,11 +155,8 @@ fn run_lines<B: Bench, I: Source>(
     requires ready { IsReady engine.old.host (B.sizes bench.old) }
     requires well { IsWell engine.old.host engine.old.state }
     requires begun { engine.old.state.begun ≡ 0 }
-    ensures runs { (input : List ℕ) → I.left script.old ≡ Some input → Ends (λ t u. Knows engine.old.host engine.old.state t → LinesRun engine.old.host (counts (B.faults bench.old) (I.faults script.old)) (counts (B.faults bench.new) (I.faults script.new)) engine.old.state false (script_of input) result t u) (B.tale bench.old) (B.tale bench.new) }
-    ensures moments { (input : List ℕ) → I.left script.old ≡ Some input → Moments (LinesMoment engine.old.host (script_of input) engine.old.state) (B.tale bench.old) (B.tale bench.new) }
-    ensures home { Moments (StaysHome engine.old.host) (B.tale bench.old) (B.tale bench.new) }
-    ensures causes { HasStatusCause (counts (B.faults bench.old) (I.faults script.old)) (counts (B.faults bench.new) (I.faults script.new)) result }
-    ensures keeps { Keeps B.sizes B.faults B.rest B.held bench.old bench.new }
+    ensures lines { HaveRun B.Shelf I.Source engine.old.host engine.old.state bench.old script.old bench.new script.new result }
+    ensures keeps { Keeps B.Shelf bench.old bench.new }
 {
     let mut reader = LineReader::new();
     let mut any_refused = false;
@@ -209,18 +186,11 @@ fn take_turn<B: Bench, I: Source>(
     requires ready { IsReady engine.old.host (B.sizes bench.old) }
     requires well { IsWell engine.old.host engine.old.state }
     requires begun { engine.old.state.begun ≤ reader.old.lines }
-    ensures turns { (lines : Script) → script_before reader.old (I.left script.old) ≡ Some lines → Ends (λ t u. Knows engine.old.host engine.old.state t → Turns engine.old.host (counts (B.faults bench.old) (I.faults script.old)) (counts (B.faults bench.new) (I.faults script.new)) engine.old.state engine.new.state any_refused lines (script_before reader.new (I.left script.new)) result t u) (B.tale bench.old) (B.tale bench.new) }
-    ensures moments { (lines : Script) → script_before reader.old (I.left script.old) ≡ Some lines → Moments (LinesMoment engine.old.host lines engine.old.state) (B.tale bench.old) (B.tale bench.new) }
-    ensures ran { IsOn result → (lines : Script) → script_before reader.old (I.left script.old) ≡ Some lines → (left : Script) × (script_before reader.new (I.left script.new) ≡ Some left) × Ends (RanTo engine.old.host lines engine.old.state engine.new.state left) (B.tale bench.old) (B.tale bench.new) }
-    ensures knows { (IsLostTurn result → ⊥) → Ends (λ t u. Knows engine.old.host engine.old.state t → Knows engine.old.host engine.new.state u) (B.tale bench.old) (B.tale bench.new) }
-    ensures home { Moments (StaysHome engine.old.host) (B.tale bench.old) (B.tale bench.new) }
-    ensures causes { HasTurnCause (counts (B.faults bench.old) (I.faults script.old)) (counts (B.faults bench.new) (I.faults script.new)) result }
-    ensures host { engine.new.host ≡ engine.old.host }
-    ensures well { IsWell engine.old.host engine.new.state }
-    ensures begun { engine.new.state.begun ≤ reader.new.lines }
-    ensures on { IsOn result → (reader.old.lines < reader.new.lines) × (reader.new.lines ≤ 1048576) }
-    ensures source { I.faults script.old ≤ I.faults script.new }
-    ensures keeps { Keeps B.sizes B.faults B.rest B.held bench.old bench.new }
+    ensures moments { (lines : Script) → script_before reader.old (I.left script.old) ≡ Some lines → AtEachTale B.Shelf (LinesMoment engine.old.host lines engine.old.state) bench.old bench.new }
+    ensures end { (lines : Script) → script_before reader.old (I.left script.old) ≡ Some lines → AtEnd B.Shelf (TurnEnd engine.old.host (by B.Shelf I.Source bench.old script.old) (by B.Shelf I.Source bench.new script.new) engine.old.state engine.new.state any_refused lines (script_before reader.new (I.left script.new)) result) bench.old bench.new }
+    ensures home { AtEachTale B.Shelf (StaysHome engine.old.host) bench.old bench.new }
+    ensures answer { TurnAnswer (by B.Shelf I.Source bench.old script.old) (by B.Shelf I.Source bench.new script.new) engine.old.host engine.new reader.old reader.new (I.left script.old) (I.left script.new) result }
+    ensures keeps { Keeps B.Shelf bench.old bench.new }
 {
     match reader.next(script) {
         Ok(LineEnd::Line) => turn_of(answer(engine, alloc, bench, reader.line()), any_refused),
@@ -239,16 +209,11 @@ fn answer<B: Bench>(engine: &mut Engine, alloc: Global, bench: &mut B, line: &[u
     requires ready { IsReady engine.old.host (B.sizes bench.old) }
     requires well { IsWell engine.old.host engine.old.state }
     requires begun { engine.old.state.begun + 1 < 2 ^ 32 }
-    ensures answered { Ends (λ t u. Knows engine.old.host engine.old.state t → LineAnswered (Rose (B.faults bench.old (OnDrive 0)) (B.faults bench.new (OnDrive 0))) (Rose (B.faults bench.old OnReplies) (B.faults bench.new OnReplies)) engine.old.host line.now engine.old.state engine.new.state result t u) (B.tale bench.old) (B.tale bench.new) }
-    ensures moments { (more : Script) → Moments (LinesMoment engine.old.host (line_of line.now more) engine.old.state) (B.tale bench.old) (B.tale bench.new) }
-    ensures ran { IsReplied result → (more : Script) → Ends (RanTo engine.old.host (line_of line.now more) engine.old.state engine.new.state more) (B.tale bench.old) (B.tale bench.new) }
-    ensures knows { (IsLost result → ⊥) → Ends (λ t u. Knows engine.old.host engine.old.state t → Knows engine.old.host engine.new.state u) (B.tale bench.old) (B.tale bench.new) }
-    ensures home { Moments (StaysHome engine.old.host) (B.tale bench.old) (B.tale bench.new) }
-    ensures cause { HasReplyCause (Rose (B.faults bench.old (OnDrive 0)) (B.faults bench.new (OnDrive 0))) (Rose (B.faults bench.old OnReplies) (B.faults bench.new OnReplies)) result }
-    ensures host { engine.new.host ≡ engine.old.host }
-    ensures well { IsWell engine.old.host engine.new.state }
-    ensures begun { engine.new.state.begun ≤ engine.old.state.begun + 1 }
-    ensures keeps { Keeps B.sizes B.faults B.rest B.held bench.old bench.new }
+    ensures moments { (more : Script) → AtEachTale B.Shelf (LinesMoment engine.old.host (line_of line.now more) engine.old.state) bench.old bench.new }
+    ensures end { AtEnd B.Shelf (EndOfLine (DriveFailed B.Shelf bench.old bench.new 0) (GivingFailed B.Shelf bench.old bench.new) engine.old.host line.now engine.old.state engine.new.state result) bench.old bench.new }
+    ensures home { AtEachTale B.Shelf (StaysHome engine.old.host) bench.old bench.new }
+    ensures answer { LineReply (DriveFailed B.Shelf bench.old bench.new 0) (GivingFailed B.Shelf bench.old bench.new) engine.old.host engine.old.state engine.new result }
+    ensures keeps { Keeps B.Shelf bench.old bench.new }
 {
     let Some(command) = read_line(line) else {
         return engine.refuse(bench, &Refusal::BadLine);
@@ -262,16 +227,11 @@ fn answer<B: Bench>(engine: &mut Engine, alloc: Global, bench: &mut B, line: &[u
 fn boot_anew<B: Bench>(engine: &mut Engine, alloc: Global, bench: &mut B) -> Reply
     requires ready { IsReady engine.old.host (B.sizes bench.old) }
     requires well { IsWell engine.old.host engine.old.state }
-    ensures answered { Ends (Executed (Rose (B.faults bench.old (OnDrive 0)) (B.faults bench.new (OnDrive 0))) (Rose (B.faults bench.old OnReplies) (B.faults bench.new OnReplies)) engine.old.host Boot engine.old.state engine.new.state result) (B.tale bench.old) (B.tale bench.new) }
-    ensures moments { Moments (TurnMoment engine.old.host [] engine.old.state) (B.tale bench.old) (B.tale bench.new) }
-    ensures ran { IsReplied result → (text : List ℕ) → IsCommand text Boot → (more : Script) → Ends (RanTo engine.old.host (line_of text more) engine.old.state engine.new.state more) (B.tale bench.old) (B.tale bench.new) }
-    ensures knows { (IsLost result → ⊥) → Ends (λ t u. Knows engine.old.host engine.old.state t → Knows engine.old.host engine.new.state u) (B.tale bench.old) (B.tale bench.new) }
-    ensures home { Moments (StaysHome engine.old.host) (B.tale bench.old) (B.tale bench.new) }
-    ensures cause { HasReplyCause (Rose (B.faults bench.old (OnDrive 0)) (B.faults bench.new (OnDrive 0))) (Rose (B.faults bench.old OnReplies) (B.faults bench.new OnReplies)) result }
-    ensures host { engine.new.host ≡ engine.old.host }
-    ensures well { IsWell engine.old.host engine.new.state }
-    ensures begun { engine.new.state.begun ≤ engine.old.state.begun }
-    ensures keeps { Keeps B.sizes B.faults B.rest B.held bench.old bench.new }
+    ensures moments { AtEachTale B.Shelf (TurnMoment engine.old.host [] engine.old.state) bench.old bench.new }
+    ensures end { (text : List ℕ) → IsCommand text Boot → AtEnd B.Shelf (EndOfLine (DriveFailed B.Shelf bench.old bench.new 0) (GivingFailed B.Shelf bench.old bench.new) engine.old.host text engine.old.state engine.new.state result) bench.old bench.new }
+    ensures home { AtEachTale B.Shelf (StaysHome engine.old.host) bench.old bench.new }
+    ensures answer { LineReply (DriveFailed B.Shelf bench.old bench.new 0) (GivingFailed B.Shelf bench.old bench.new) engine.old.host engine.old.state engine.new result }
+    ensures keeps { Keeps B.Shelf bench.old bench.new }
 {
     match engine.reboot(bench, alloc) {
         Ok(()) => engine.accept(bench),

@@ -1,57 +1,58 @@
-use Rattle.std.proofs.Common.{false, refl, sym, ◌∙◌, ap, subst, arith}
-use Rattle.mdv_run.specs.Below.{script_of, Tale, told, OnDrive, OnReplies, Moments, Host, kept_at, unbooted, BootMoment, BootedTo, Knows, RunStatus, counts, IsWholeRun, RunMoment, LinesMoment, Engine, StaysHome}
+use Rattle.std.proofs.Common.{inr, false, refl, sym, ◌∙◌, ap, subst, arith}
+use Rattle.mdv_run.specs.Below.{script_of, Tale, told, OnDrive, OnReplies, Moments, Host, kept_at, unbooted, BootMoment, BootedTo, Knows, RunStatus, counts, HasStatusCause, IsWholeRun, RunMoment, LinesMoment, Engine, StaysHome}
 use Rattle.mdv_shelf.proofs.Moments.{moments_after, moments_weaker, moments_end, some_is}
 use Rattle.mdv_run.specs.Turns.{LinesRun}
 use Rattle.mdv_run_law.proofs.Booting.{boot_run, lines_run}
-use Rattle.mdv_run.proofs.Whole.{whole_over, whole_lines}
+use Rattle.mdv_run.proofs.Whole.{whole_over, whole_lines, over_cause}
+use Rattle.mdv_run.proofs.Went.{cause_within}
 use Rattle.mdv_engine_law.proofs.Staying.{both_stay, boot_stays}
 use Rattle.mdv_run.proofs.session.run_host.Goals as goal
 
-pub returns-in-Ok-clause-runs : goal.returns-in-Ok-clause-runs
-returns-in-Ok-clause-runs g c = λ t is input left.
-    let host = c.args.host in
-    let quiet = moments_end (BootMoment host) _ _ c.boot.ensures.moments t is in
-    let done = c.in-Ok.ensures.rebooted c.in-Ok.engine.state refl t is in
-    let booted = c.in-Ok.ensures.booted t is in
-    let lines = c.run_lines.ensures.runs input left done.0 done.1 in
-    let knows : Knows c.in-Ok.engine.host c.in-Ok.engine.state done.0 = subst (λ (h : Host). Knows h c.in-Ok.engine.state done.0) (sym c.in-Ok.ensures.host.0) (subst (λ (u : Tale). Knows host c.in-Ok.engine.state u) (some_is _ booted.0 done.0 booted.1 done.1) booted.2.knows) in
-    let start = counts (g.B.Shelf.faults c.args.bench.now) (g.I.Source.faults c.args.script.now) in
-    let mid = counts (g.B.Shelf.faults c.boot.new.shelf) (g.I.Source.faults c.args.script.now) in
-    let end = counts (g.B.Shelf.faults c.run_lines.new.bench) (g.I.Source.faults c.run_lines.new.script) in
-    whole_lines host start t (script_of input) _ mid end (record { drive = c.boot.ensures.keeps.no_fewer_faults (OnDrive 0); source = omega arith; replies = c.boot.ensures.keeps.no_fewer_faults OnReplies })
-    done.0 lines.0 c.in-Ok.engine.state c.run_lines.result lines.1 (ap told (some_is _ done.0 quiet.0 done.1 quiet.1) ∙ quiet.2.quiet) done.2
-    (subst (λ (h : Host). LinesRun h mid end c.in-Ok.engine.state false (script_of input) c.run_lines.result done.0 lines.0) c.in-Ok.ensures.host.0 (lines.2 knows))
+pub returns-in-Ok-clause-has_run : goal.returns-in-Ok-clause-has_run
+returns-in-Ok-clause-has_run g c = record {
+  runs = λ t is input left.
+      let host = c.args.host in
+      let quiet = moments_end (BootMoment host) _ _ c.boot.ensures.moments t is in
+      let done = c.in-Ok.ensures.rebooted c.in-Ok.engine.state refl t is in
+      let booted = c.in-Ok.ensures.booted t is in
+      let lines = c.run_lines.ensures.lines.runs input left done.0 done.1 in
+      let knows : Knows c.in-Ok.engine.host c.in-Ok.engine.state done.0 = subst (λ (h : Host). Knows h c.in-Ok.engine.state done.0) (sym c.in-Ok.ensures.host.0) (subst (λ (u : Tale). Knows host c.in-Ok.engine.state u) (some_is _ booted.0 done.0 booted.1 done.1) booted.2.knows) in
+      let start = counts (g.B.Shelf.faults c.args.bench.now) (g.I.Source.faults c.args.script.now) in
+      let mid = counts (g.B.Shelf.faults c.boot.new.shelf) (g.I.Source.faults c.args.script.now) in
+      let end = counts (g.B.Shelf.faults c.run_lines.new.bench) (g.I.Source.faults c.run_lines.new.script) in
+      inr (whole_lines host start t (script_of input) _ mid end (record { drive = c.boot.ensures.keeps.no_fewer_faults (OnDrive 0); source = omega arith; replies = c.boot.ensures.keeps.no_fewer_faults OnReplies })
+      done.0 lines.0 c.in-Ok.engine.state c.run_lines.result lines.1 (ap told (some_is _ done.0 quiet.0 done.1 quiet.1) ∙ quiet.2.quiet) done.2
+      (subst (λ (h : Host). LinesRun h mid end c.in-Ok.engine.state false (script_of input) c.run_lines.result done.0 lines.0) c.in-Ok.ensures.host.0 (lines.2 knows)));
+  stands = λ input left.
+      let host = c.args.host in
+      (moments_after (BootMoment host) (BootedTo host c.in-Ok.engine.state) (LinesMoment host (script_of input) c.in-Ok.engine.state) (RunMoment host (script_of input)) _ _ _
+      (λ t m moment. boot_run host (script_of input) t m moment)
+      (λ t u m booted lines. lines_run host (script_of input) c.in-Ok.engine.state t u m booted lines)
+      c.boot.ensures.moments c.in-Ok.ensures.booted
+      (subst (λ (h : Host). Moments (LinesMoment h (script_of input) c.in-Ok.engine.state) (g.B.Shelf.tale c.boot.new.shelf) (g.B.Shelf.tale c.run_lines.new.bench)) c.in-Ok.ensures.host.0 (c.run_lines.ensures.lines.moments input left)));
+  home = let host = c.args.host in
+      both_stay host _ _ _ (boot_stays host _ _ c.boot.ensures.moments)
+      (subst (λ (h : Host). Moments (StaysHome h) (g.B.Shelf.tale c.boot.new.shelf) (g.B.Shelf.tale c.run_lines.new.bench)) c.in-Ok.ensures.host.0 c.run_lines.ensures.lines.home);
+  causes = inr (cause_within (counts (g.B.Shelf.faults c.args.bench.now) (g.I.Source.faults c.args.script.now)) (counts (g.B.Shelf.faults c.boot.new.shelf) (g.I.Source.faults c.args.script.now))
+      (counts (g.B.Shelf.faults c.run_lines.new.bench) (g.I.Source.faults c.run_lines.new.script)) (counts (g.B.Shelf.faults c.run_lines.new.bench) (g.I.Source.faults c.run_lines.new.script)) c.run_lines.result
+      (record { drive = c.boot.ensures.keeps.no_fewer_faults (OnDrive 0); source = omega arith; replies = c.boot.ensures.keeps.no_fewer_faults OnReplies }) (record { drive = omega arith; source = omega arith; replies = omega arith }) c.run_lines.ensures.lines.causes);
+}
 
-pub returns-in-Err-clause-runs : goal.returns-in-Err-clause-runs
-returns-in-Err-clause-runs g c = λ t is input left.
-    let host = c.args.host in
-    let quiet = moments_end (BootMoment host) _ _ c.boot.ensures.moments t is in
-    let done = c.in-Err.ensures.rebooted (unbooted 0) tt t is in
-    let start = counts (g.B.Shelf.faults c.args.bench.now) (g.I.Source.faults c.args.script.now) in
-    let end = counts (g.B.Shelf.faults c.boot.new.shelf) (g.I.Source.faults c.args.script.now) in
-    subst (λ (s : RunStatus). IsWholeRun host start end t (script_of input) (g.B.Shelf.tale c.boot.new.shelf) s) (sym c.over.ensures)
-    (whole_over host start t (script_of input) _ Engine end (record { drive = c.boot.ensures.keeps.no_fewer_faults (OnDrive 0); source = omega arith; replies = c.boot.ensures.keeps.no_fewer_faults OnReplies })
-    done.0 (kept_at (unbooted 0) done.0) c.in-Err.refusal done.1 (ap told (some_is _ done.0 quiet.0 done.1 quiet.1) ∙ quiet.2.quiet) done.2 c.in-Err.ensures.cause)
-
-pub returns-in-Ok-clause-stands : goal.returns-in-Ok-clause-stands
-returns-in-Ok-clause-stands g c = λ input left.
-    let host = c.args.host in
-    (moments_after (BootMoment host) (BootedTo host c.in-Ok.engine.state) (LinesMoment host (script_of input) c.in-Ok.engine.state) (RunMoment host (script_of input)) _ _ _
-    (λ t m moment. boot_run host (script_of input) t m moment)
-    (λ t u m booted lines. lines_run host (script_of input) c.in-Ok.engine.state t u m booted lines)
-    c.boot.ensures.moments c.in-Ok.ensures.booted
-    (subst (λ (h : Host). Moments (LinesMoment h (script_of input) c.in-Ok.engine.state) (g.B.Shelf.tale c.boot.new.shelf) (g.B.Shelf.tale c.run_lines.new.bench)) c.in-Ok.ensures.host.0 (c.run_lines.ensures.moments input left)))
-
-pub returns-in-Err-clause-stands : goal.returns-in-Err-clause-stands
-returns-in-Err-clause-stands g c = λ input left.
-    let host = c.args.host in
-    (moments_weaker (BootMoment host) (RunMoment host (script_of input)) _ _ (λ t m moment. boot_run host (script_of input) t m moment) c.boot.ensures.moments)
-
-pub returns-in-Ok-clause-home : goal.returns-in-Ok-clause-home
-returns-in-Ok-clause-home g c =
-    let host = c.args.host in
-    both_stay host _ _ _ (boot_stays host _ _ c.boot.ensures.moments)
-    (subst (λ (h : Host). Moments (StaysHome h) (g.B.Shelf.tale c.boot.new.shelf) (g.B.Shelf.tale c.run_lines.new.bench)) c.in-Ok.ensures.host.0 c.run_lines.ensures.home)
-
-pub returns-in-Err-clause-home : goal.returns-in-Err-clause-home
-returns-in-Err-clause-home g c = boot_stays c.args.host _ _ c.boot.ensures.moments
+pub returns-in-Err-clause-has_run : goal.returns-in-Err-clause-has_run
+returns-in-Err-clause-has_run g c = record {
+  runs = λ t is input left.
+      let host = c.args.host in
+      let quiet = moments_end (BootMoment host) _ _ c.boot.ensures.moments t is in
+      let done = c.in-Err.ensures.rebooted (unbooted 0) tt t is in
+      let start = counts (g.B.Shelf.faults c.args.bench.now) (g.I.Source.faults c.args.script.now) in
+      let end = counts (g.B.Shelf.faults c.boot.new.shelf) (g.I.Source.faults c.args.script.now) in
+      inr (subst (λ (s : RunStatus). IsWholeRun host start end t (script_of input) (g.B.Shelf.tale c.boot.new.shelf) s) (sym c.over.ensures)
+      (whole_over host start t (script_of input) _ Engine end (record { drive = c.boot.ensures.keeps.no_fewer_faults (OnDrive 0); source = omega arith; replies = c.boot.ensures.keeps.no_fewer_faults OnReplies })
+      done.0 (kept_at (unbooted 0) done.0) c.in-Err.refusal done.1 (ap told (some_is _ done.0 quiet.0 done.1 quiet.1) ∙ quiet.2.quiet) done.2 c.in-Err.ensures.cause));
+  stands = λ input left.
+      let host = c.args.host in
+      (moments_weaker (BootMoment host) (RunMoment host (script_of input)) _ _ (λ t m moment. boot_run host (script_of input) t m moment) c.boot.ensures.moments);
+  home = boot_stays c.args.host _ _ c.boot.ensures.moments;
+  causes = inr (subst (λ (s : RunStatus). HasStatusCause (counts (g.B.Shelf.faults c.args.bench.now) (g.I.Source.faults c.args.script.now)) (counts (g.B.Shelf.faults c.boot.new.shelf) (g.I.Source.faults c.args.script.now)) s) (sym c.over.ensures)
+      (over_cause Engine _ _ c.in-Err.refusal c.in-Err.ensures.cause));
+}

@@ -1,7 +1,7 @@
 use Rattle.std.proofs.Common.{◌≤◌, false, refl, sym, ◌∙◌, subst, arith}
-use Rattle.mdv_run.specs.Below.{Reader, script_of, script_before, Moments, Ends, Host, IsReady, Knows, IsWell, counts, LinesMoment, StaysHome}
+use Rattle.mdv_run.specs.Below.{Reader, script_of, script_before, OnDrive, OnReplies, Moments, Ends, Host, IsReady, Knows, IsWell, counts, LinesMoment, StaysHome}
 use Rattle.mdv_run.specs.Turns.{LinesRun}
-use Rattle.mdv_run.proofs.Went.{SoFar, so_far_start, so_far_more, moments_over, over_ends, script_at_start, keeps_more}
+use Rattle.mdv_run.proofs.Went.{SoFar, so_far_start, so_far_more, moments_over, over_ends, cause_within, script_at_start, keeps_more}
 use Rattle.mdv_engine_law.proofs.Staying.{nothing_stays, both_stay}
 use Rattle.mdv_run.proofs.session.run_lines.Goals as goal
 
@@ -19,39 +19,42 @@ loop-refused-init g c = record {
 }
 
 pub loop-refused-preserved : goal.loop-refused-preserved
-loop-refused-preserved g c = record {
-  host = c.in-On.ensures.host ∙ c.loop-refused.invariant.host;
-  ready = subst (λ (h : Host). IsReady h (g.B.Shelf.sizes c.take_turn.new.bench)) (sym c.in-On.ensures.host)
-      (let ready = c.loop-refused.invariant.ready in record { table = ready.table; sound = ready.sound; home = ready.home; small = ready.small; fresh = ready.fresh; drive = c.in-On.ensures.keeps.same_sizes ∙ ready.drive });
-  well = subst (λ (h : Host). IsWell h c.take_turn.new.engine.state) (sym c.in-On.ensures.host) c.in-On.ensures.well;
-  begun = c.in-On.ensures.begun;
-  limit = (c.in-On.ensures.on tt).1;
-  keeps = keeps_more _ _ _ _ _ _ _ c.loop-refused.invariant.keeps c.in-On.ensures.keeps;
-  source = let first = c.loop-refused.invariant.source in let more = c.in-On.ensures.source in omega arith;
-  home = both_stay c.args.engine.now.host _ _ _ c.loop-refused.invariant.home
-      (subst (λ (h : Host). Moments (StaysHome h) (g.B.Shelf.tale c.loop-refused.bench) (g.B.Shelf.tale c.take_turn.new.bench)) c.loop-refused.invariant.host c.in-On.ensures.home);
-  so_far = λ input left.
-      let here = c.loop-refused.invariant.so_far input left in
-      subst (λ (h : Host). SoFar h (counts (g.B.Shelf.faults c.args.bench.now) (g.I.Source.faults c.args.script.now)) (counts (g.B.Shelf.faults c.take_turn.new.bench) (g.I.Source.faults c.take_turn.new.script)) c.args.engine.now.state c.take_turn.new.engine.state c.in-On.refused input (script_before c.take_turn.new.reader (g.I.Source.left c.take_turn.new.script)) (g.B.Shelf.tale c.args.bench.now) (g.B.Shelf.tale c.take_turn.new.bench)) (sym c.in-On.ensures.host)
-      (so_far_more c.loop-refused.engine.host c.args.engine.now.state input (counts (g.B.Shelf.faults c.args.bench.now) (g.I.Source.faults c.args.script.now)) (counts (g.B.Shelf.faults c.loop-refused.bench) (g.I.Source.faults c.loop-refused.script)) (counts (g.B.Shelf.faults c.take_turn.new.bench) (g.I.Source.faults c.take_turn.new.script)) c.loop-refused.engine.state c.take_turn.new.engine.state c.loop-refused.any_refused _ _ _ _ _ here
-      c.in-On.refused c.in-On.ensures.turns c.in-On.ensures.moments (c.in-On.ensures.ran tt));
-}
+loop-refused-preserved g c =
+    let answer = c.in-On.ensures.answer in
+    let before = c.loop-refused.invariant in record {
+      host = answer.same ∙ before.host;
+      ready = subst (λ (h : Host). IsReady h (g.B.Shelf.sizes c.take_turn.new.bench)) (sym answer.same)
+          (record { table = before.ready.table; sound = before.ready.sound; home = before.ready.home; small = before.ready.small; fresh = before.ready.fresh; drive = c.in-On.ensures.keeps.same_sizes ∙ before.ready.drive });
+      well = subst (λ (h : Host). IsWell h c.take_turn.new.engine.state) (sym answer.same) answer.well;
+      begun = answer.begun;
+      limit = (answer.on tt).1;
+      keeps = keeps_more _ _ _ _ _ _ _ before.keeps c.in-On.ensures.keeps;
+      source = let first = before.source in let more = answer.source in omega arith;
+      home = both_stay c.args.engine.now.host _ _ _ before.home
+          (subst (λ (h : Host). Moments (StaysHome h) (g.B.Shelf.tale c.loop-refused.bench) (g.B.Shelf.tale c.take_turn.new.bench)) before.host c.in-On.ensures.home);
+      so_far = λ input left.
+          let here = before.so_far input left in
+          subst (λ (h : Host). SoFar h (counts (g.B.Shelf.faults c.args.bench.now) (g.I.Source.faults c.args.script.now)) (counts (g.B.Shelf.faults c.take_turn.new.bench) (g.I.Source.faults c.take_turn.new.script)) c.args.engine.now.state c.take_turn.new.engine.state c.in-On.refused input (script_before c.take_turn.new.reader (g.I.Source.left c.take_turn.new.script)) (g.B.Shelf.tale c.args.bench.now) (g.B.Shelf.tale c.take_turn.new.bench)) (sym answer.same)
+          (so_far_more c.loop-refused.engine.host c.args.engine.now.state input (counts (g.B.Shelf.faults c.args.bench.now) (g.I.Source.faults c.args.script.now)) (counts (g.B.Shelf.faults c.loop-refused.bench) (g.I.Source.faults c.loop-refused.script)) (counts (g.B.Shelf.faults c.take_turn.new.bench) (g.I.Source.faults c.take_turn.new.script)) c.loop-refused.engine.state c.take_turn.new.engine.state c.loop-refused.any_refused _ _ _ _ _ here
+          c.in-On.refused (answer.goes_on tt) c.in-On.ensures.end c.in-On.ensures.moments);
+    }
 
-pub returns-in-Over-clause-runs : goal.returns-in-Over-clause-runs
-returns-in-Over-clause-runs g c = λ input left.
-    let here = c.loop-refused.invariant.so_far input left in
-    subst (λ (h : Host). Ends (λ t u. Knows h c.args.engine.now.state t → LinesRun h (counts (g.B.Shelf.faults c.args.bench.now) (g.I.Source.faults c.args.script.now)) (counts (g.B.Shelf.faults c.take_turn.new.bench) (g.I.Source.faults c.take_turn.new.script)) c.args.engine.now.state false (script_of input) c.in-Over.status t u) (g.B.Shelf.tale c.args.bench.now) (g.B.Shelf.tale c.take_turn.new.bench)) c.loop-refused.invariant.host
-    (over_ends c.loop-refused.engine.host c.args.engine.now.state input (counts (g.B.Shelf.faults c.args.bench.now) (g.I.Source.faults c.args.script.now)) (counts (g.B.Shelf.faults c.loop-refused.bench) (g.I.Source.faults c.loop-refused.script)) (counts (g.B.Shelf.faults c.take_turn.new.bench) (g.I.Source.faults c.take_turn.new.script)) c.loop-refused.engine.state c.take_turn.new.engine.state c.loop-refused.any_refused _ _ _ _ _ here
-    c.in-Over.status c.in-Over.ensures.turns c.in-Over.ensures.knows)
-
-pub returns-in-Over-clause-moments : goal.returns-in-Over-clause-moments
-returns-in-Over-clause-moments g c = λ input left.
-    let here = c.loop-refused.invariant.so_far input left in
-    subst (λ (h : Host). Moments (LinesMoment h (script_of input) c.args.engine.now.state) (g.B.Shelf.tale c.args.bench.now) (g.B.Shelf.tale c.take_turn.new.bench)) c.loop-refused.invariant.host
-    (moments_over c.loop-refused.engine.host c.args.engine.now.state input (counts (g.B.Shelf.faults c.args.bench.now) (g.I.Source.faults c.args.script.now)) (counts (g.B.Shelf.faults c.loop-refused.bench) (g.I.Source.faults c.loop-refused.script)) (counts (g.B.Shelf.faults c.take_turn.new.bench) (g.I.Source.faults c.take_turn.new.script)) c.loop-refused.engine.state c.take_turn.new.engine.state c.loop-refused.any_refused _ (script_before c.take_turn.new.reader (g.I.Source.left c.take_turn.new.script)) _ _ _ here
-    c.in-Over.ensures.moments)
-
-pub returns-in-Over-clause-home : goal.returns-in-Over-clause-home
-returns-in-Over-clause-home g c =
-    both_stay c.args.engine.now.host _ _ _ c.loop-refused.invariant.home
-    (subst (λ (h : Host). Moments (StaysHome h) (g.B.Shelf.tale c.loop-refused.bench) (g.B.Shelf.tale c.take_turn.new.bench)) c.loop-refused.invariant.host c.in-Over.ensures.home)
+pub returns-in-Over-clause-lines : goal.returns-in-Over-clause-lines
+returns-in-Over-clause-lines g c =
+    let before = c.loop-refused.invariant in record {
+      runs = λ input left.
+          let here = before.so_far input left in
+          subst (λ (h : Host). Ends (λ t u. Knows h c.args.engine.now.state t → LinesRun h (counts (g.B.Shelf.faults c.args.bench.now) (g.I.Source.faults c.args.script.now)) (counts (g.B.Shelf.faults c.take_turn.new.bench) (g.I.Source.faults c.take_turn.new.script)) c.args.engine.now.state false (script_of input) c.in-Over.status t u) (g.B.Shelf.tale c.args.bench.now) (g.B.Shelf.tale c.take_turn.new.bench)) before.host
+          (over_ends c.loop-refused.engine.host c.args.engine.now.state input (counts (g.B.Shelf.faults c.args.bench.now) (g.I.Source.faults c.args.script.now)) (counts (g.B.Shelf.faults c.loop-refused.bench) (g.I.Source.faults c.loop-refused.script)) (counts (g.B.Shelf.faults c.take_turn.new.bench) (g.I.Source.faults c.take_turn.new.script)) c.loop-refused.engine.state c.take_turn.new.engine.state c.loop-refused.any_refused _ _ _ _ _ here
+          c.in-Over.status c.in-Over.ensures.end);
+      moments = λ input left.
+          let here = before.so_far input left in
+          subst (λ (h : Host). Moments (LinesMoment h (script_of input) c.args.engine.now.state) (g.B.Shelf.tale c.args.bench.now) (g.B.Shelf.tale c.take_turn.new.bench)) before.host
+          (moments_over c.loop-refused.engine.host c.args.engine.now.state input (counts (g.B.Shelf.faults c.args.bench.now) (g.I.Source.faults c.args.script.now)) (counts (g.B.Shelf.faults c.loop-refused.bench) (g.I.Source.faults c.loop-refused.script)) (counts (g.B.Shelf.faults c.take_turn.new.bench) (g.I.Source.faults c.take_turn.new.script)) c.loop-refused.engine.state c.take_turn.new.engine.state c.loop-refused.any_refused _ (script_before c.take_turn.new.reader (g.I.Source.left c.take_turn.new.script)) _ _ _ here
+          c.in-Over.ensures.moments);
+      home = both_stay c.args.engine.now.host _ _ _ before.home
+          (subst (λ (h : Host). Moments (StaysHome h) (g.B.Shelf.tale c.loop-refused.bench) (g.B.Shelf.tale c.take_turn.new.bench)) before.host c.in-Over.ensures.home);
+      causes = cause_within (counts (g.B.Shelf.faults c.args.bench.now) (g.I.Source.faults c.args.script.now)) (counts (g.B.Shelf.faults c.loop-refused.bench) (g.I.Source.faults c.loop-refused.script)) (counts (g.B.Shelf.faults c.take_turn.new.bench) (g.I.Source.faults c.take_turn.new.script)) (counts (g.B.Shelf.faults c.take_turn.new.bench) (g.I.Source.faults c.take_turn.new.script)) c.in-Over.status
+          (record { drive = before.keeps.no_fewer_faults (OnDrive 0); source = before.source; replies = before.keeps.no_fewer_faults OnReplies })
+          (record { drive = omega arith; source = omega arith; replies = omega arith }) c.in-Over.ensures.answer.cause;
+    }

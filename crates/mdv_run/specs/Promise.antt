@@ -1,0 +1,70 @@
+-- What a run promises, of the whole bench and the whole source.
+use Rattle.std.specs.Prelude.{◌≡◌, ◌≢◌, ◌⊎◌, ◌↔◌, ◌≤◌, ◌<◌, ◌+◌, ℕ, Bool, false, List, Option, Some}
+use Rattle.mdv_run.specs.Below.{Reader, Script, line, script_before, script_of, Tale, Reply, IsReplied, Host, Memory, Engine, Knows, IsWell, StaysHome, RunStatus, NoMemory, Usage, Counts, counts, HasStatusCause, IsWholeRun, RunMoment, LinesMoment, RanTo}
+use Rattle.mdv_shelf.specs.Shelves.{AtEachTale, AtEnd}
+use Rattle.mdv_shelf.specs.declared.shelf.Shelf.{Ghosts as Shelf}
+use Rattle.mdv_port.specs.declared.source.Source.{Ghosts as Source}
+use Rattle.mdv_run_law.specs.Run.{IsUnbegun}
+use Rattle.mdv_run.specs.declared.session.Turn.{Turn}
+use Rattle.mdv_engine_law.specs.Replies.{IsLost, HasReplyCause}
+use Rattle.mdv_run.specs.Turns.{LineAnswered, LinesRun, Turns, HasTurnCause, IsOn, IsLostTurn}
+
+-- how often each part had failed by then
+abbrev pub by : {B I : Type 0} → Shelf B → Source I → B → I → Counts
+by shelf source bench script = counts (shelf.faults bench) (source.faults script)
+
+-- nothing was done, told or taken
+abbrev pub IsUntouched : {B I : Type 0} → Shelf B → Source I → B → I → B → I → Type 0
+IsUntouched shelf source old from new to = (shelf.tale new ≡ shelf.tale old) × (source.left to ≡ source.left from)
+
+-- a faulty use is told exactly where there is none of a host, but for want of memory; and then nothing was done
+pub record IsUsageOf (None Untouched : Type 0) (status : RunStatus) : Type 0 where
+  pub exactly : status ≢ NoMemory → (status ≡ Usage) ↔ None
+  pub untouched : status ≡ Usage → Untouched
+
+-- The run of a host. Where bench and source tell what they hold, memory was wanting for the table of drives and nothing was done, or the
+-- bytes told, the status and what is left are those that the script asks for; and at each moment the drive stands with its history so
+-- far. Whatever they tell, nothing happens outside the host's area, and a status that tells of a failure comes only where one came.
+pub record HasRun {B I : Type 0} (shelf : Shelf B) (source : Source I) (host : Host) (old : B) (from : I) (new : B) (to : I) (status : RunStatus) : Type 0 where
+  pub runs : (t : Tale) → shelf.tale old ≡ Some t → (input : List ℕ) → source.left from ≡ Some input
+      → IsUnbegun t (shelf.tale new) status ⊎ IsWholeRun host (by shelf source old from) (by shelf source new to) t (script_of input) (shelf.tale new) status
+  pub stands : (input : List ℕ) → source.left from ≡ Some input → AtEachTale shelf (RunMoment host (script_of input)) old new
+  pub home : AtEachTale shelf (StaysHome host) old new
+  pub causes : (status ≡ NoMemory) ⊎ HasStatusCause (by shelf source old from) (by shelf source new to) status
+
+-- the lines of a run behind its boot, which left this memory
+pub record HaveRun {B I : Type 0} (shelf : Shelf B) (source : Source I) (host : Host) (memory : Memory) (old : B) (from : I) (new : B) (to : I) (status : RunStatus) : Type 0 where
+  pub runs : (input : List ℕ) → source.left from ≡ Some input
+      → AtEnd shelf (λ t u. Knows host memory t → LinesRun host (by shelf source old from) (by shelf source new to) memory false (script_of input) status t u) old new
+  pub moments : (input : List ℕ) → source.left from ≡ Some input → AtEachTale shelf (LinesMoment host (script_of input) memory) old new
+  pub home : AtEachTale shelf (StaysHome host) old new
+  pub causes : HasStatusCause (by shelf source old from) (by shelf source new to) status
+
+-- one turn, in the end: what it told and led to, by the script before it, and what is known of the drive then
+pub record TurnEnd (host : Host) (now later : Counts) (old new : Memory) (refused : Bool) (script : Script) (before : Option Script) (turn : Turn) (t u : Tale) : Type 0 where
+  pub turns : Knows host old t → Turns host now later old new refused script before turn t u
+  pub ran : IsOn turn → (left : Script) → before ≡ Some left → RanTo host script old new left t u
+  pub knows : (IsLostTurn turn → ⊥) → Knows host old t → Knows host new u
+
+-- what a turn says whatever bench and source tell: its cause, and what the engine and the reader are then
+pub record TurnAnswer (now later : Counts) (host : Host) (engine : Engine) (before after : Reader) (left rest : Option (List ℕ)) (turn : Turn) : Type 0 where
+  pub cause : HasTurnCause now later turn
+  pub source : now.source ≤ later.source
+  pub same : engine.host ≡ host
+  pub well : IsWell host engine.state
+  pub begun : engine.state.begun ≤ after.lines
+  pub on : IsOn turn → (before.lines < after.lines) × (after.lines ≤ 1048576)
+  pub goes_on : IsOn turn → (script : Script) → script_before before left ≡ Some script → (more : Script) × (script_before after rest ≡ Some more)
+
+-- one line, in the end: its answer and its reply, what is left of the script, and what is known of the drive then
+pub record LineEnd (drive replies : Type 0) (host : Host) (text : List ℕ) (old new : Memory) (reply : Reply) (t u : Tale) : Type 0 where
+  pub answered : Knows host old t → LineAnswered drive replies host text old new reply t u
+  pub ran : IsReplied reply → (more : Script) → RanTo host (line text more) old new more t u
+  pub knows : (IsLost reply → ⊥) → Knows host old t → Knows host new u
+
+-- what a reply says whatever the bench tells: its cause, and what the engine is then
+pub record LineReply (drive replies : Type 0) (host : Host) (old : Memory) (engine : Engine) (reply : Reply) : Type 0 where
+  pub cause : HasReplyCause drive replies reply
+  pub same : engine.host ≡ host
+  pub well : IsWell host engine.state
+  pub begun : engine.state.begun ≤ old.begun + 1
