@@ -1,56 +1,97 @@
 -- What the calls of a creation lead to.
-use Rattle.std.proofs.Common.{◌≡◌, ℕ, ◌≤◌, false, List, [], refl, subst, Option}
-use Rattle.mdv_database.specs.Below.{Identity, Key, Geometry, Master, PlaceAt, First, IsMaster, Image, Leaves, Formatting, IsFormatted, IsPlaced, master_of, Moments, Ends, Tale, IsImage, Table, Creates, IsCreated, created_head, created_newest, first_mark, IsThis, is_firm, Site, IsNewestOf, IsTableAt, GoesOn, GoesOnTo, IsOpened, ShowsNothing, MayTake, Takes}
-use Rattle.mdv_shelf.proofs.Moments.{moments_after, moments_end, moments_more, moments_weaker, ends_more}
+use Rattle.std.proofs.Common.{◌≡◌, ℕ, ◌≤◌, List, [], refl, subst, Option, Ok, Err, arith}
+use Rattle.mdv_database.specs.Below.{Identity, Key, Geometry, Master, PlaceAt, First, IsMaster, Image, Formatting, IsFormatted, IsPlaced, master_of, Moments, Ends, Tale, IsImage, IsPlaceOf, Table, Creates, created_head, first_mark, Site, IsNewestOf, IsTableAt, IsOpened}
+use Rattle.mdv_shelf.proofs.Moments.{moments_after, moments_end, moments_weaker, ends_both, ends_more}
 use Rattle.mdv_store_law.proofs.Creating.{creations_go}
-use Rattle.mdv_database.specs.Database.{IsQuiet, IsSafe, first_table, site_of}
+use Rattle.mdv_database.specs.Create.{CreateEnds, CreateMoment}
+use Rattle.mdv_database.specs.Database.{IsSafe, first_newest, first_table, site_of}
+use Rattle.mdv_database.specs.Write.{WriteEnds, WriteMoment}
+use Rattle.mdv_database.specs.declared.database.CreateFault.TheVariants.{Failed, Lost}
 use Rattle.mdv_database.proofs.Quiet.{quiet_format, quiet_more}
-
--- a replica is formatted, and then its table is written
-pub quiet_made : (at : PlaceAt) (master : Master) (claim : ℕ) (old between new : Option Tale) → Moments (Formatting at master claim) old between → Moments (IsQuiet at) between new → Moments (IsQuiet at) old new
-quiet_made at master claim old between new formatting quiet =
-    moments_more (Formatting at master claim) (IsQuiet at) (IsQuiet at) old between new (quiet_format at master claim) (λ t u m one. quiet_more at t u m (quiet_format at master claim t u one)) formatting quiet
 
 -- what a creation at a place of the table of drives starts from
 pub creates : (drives : Geometry) (key : Key) (at : PlaceAt) (sizes : List ℕ) (identity : Identity) (table : Table) → IsPlaced sizes at → at.place.blocks ≤ 8192 → IsMaster (master_of at key identity)
     → IsTableAt drives at.place table → table.plan.volumes ≡ [] → Creates (site_of drives key at sizes) identity table
 creates drives key at sizes identity table placed most form is empty = record {
   form = form;
-  lies = record { slice = refl; start = refl; least = placed.least; most = most; within = placed.within };
+  lies = record { slice = refl; start = refl; least = placed.least; most = most; in_place = omega arith; within = placed.within };
   is = is;
   empty = empty;
 }
 
-module _ (site : Site) (identity : Identity) (old between : Option Tale) (formatting : Moments (Formatting site.at (master_of site.at site.key identity) 1) old between) where
-  pub format_stays : Moments (λ t m. ShowsNothing site t → GoesOn site (IsThis identity) t m) old between
-  format_stays = moments_weaker _ (λ t m. ShowsNothing site t → GoesOn site (IsThis identity) t m) old between (λ t m one none. creations_go.begins site identity t m none one) formatting
+-- a database that is there whatever a crash leaves is open
+pub safe_opened : (site : Site) (identity : Identity) (u : Tale) → IsSafe site identity u → IsOpened site (first_newest site.at) u
+safe_opened site identity u safe = record { head = created_head site identity (first_table site.at.place); each = safe }
 
-  pub format_ends : Ends (λ t u. ShowsNothing site t → GoesOnTo site (IsThis identity) (λ log. is_firm log ≡ false) t u) old between
-  format_ends t is = let end = moments_end _ old between formatting t is in (end.0, end.1, λ none. creations_go.fails site identity t end.0 none end.2)
+module _ (at : PlaceAt) (key : Key) (sizes : List ℕ) (identity : Identity) (least : 16 ≤ at.place.blocks) where
+  abbrev site : Geometry → Site
+  site drives = site_of drives key at sizes
 
-  pub format_nothing : Ends (λ t u. ShowsNothing site t → ShowsNothing site u) old between
-  format_nothing t is = let end = moments_end _ old between formatting t is in (end.0, end.1, λ none. creations_go.nothing site identity t end.0 none end.2)
+  abbrev master : Master
+  master = master_of at key identity
 
-  -- once it is formatted
-  module _ (table : Table) (from : Creates site identity table) (formatted : Ends (λ t u. IsFormatted site.at (master_of site.at site.key identity) 1 u) old between) (new : Option Tale) where
-    pub made_stays : Moments (Leaves (MayTake site.at First first_mark table)) between new → Moments (λ t m. ShowsNothing site t → GoesOn site (IsThis identity) t m) old new
-    made_stays = moments_after _ (λ t u. IsFormatted site.at (master_of site.at site.key identity) 1 u) _ (λ t m. ShowsNothing site t → GoesOn site (IsThis identity) t m) old between new
-        (λ t m one none. creations_go.begins site identity t m none one) (λ t u m is leaves none. creations_go.goes site identity table t u m from none is leaves) formatting formatted
+  abbrev Moment : Tale → Tale → Type 0
+  Moment = CreateMoment at key sizes identity
 
-    pub made_ends : Ends (Leaves (Takes site.at First first_mark table)) between new → Ends (λ t u. ShowsNothing site t → GoesOnTo site (IsThis identity) (IsCreated site identity table) t u) old new
-    made_ends = ends_more (λ t u. IsFormatted site.at (master_of site.at site.key identity) 1 u) (Leaves (Takes site.at First first_mark table)) (λ t u. ShowsNothing site t → GoesOnTo site (IsThis identity) (IsCreated site identity table) t u) old between new
-        (λ t u v is leaves none. creations_go.ends site identity table t u v from none is leaves) formatted
+  -- a replica is formatted
+  module _ (old between : Option Tale) (formatting : Moments (Formatting at master 1) old between) where
+    format_moment : (t m : Tale) → Formatting at master 1 t m → Moment t m
+    format_moment t m one = record { quiet = quiet_format at master 1 t m least one; goes = λ drives lies none. creations_go.begins (site drives) identity t m none one }
 
-    made_shows : Ends (Leaves (Takes site.at First first_mark table)) between new
-        → Ends (λ t u. (image : Image) → IsImage u image → IsNewestOf site (image site.at.drive.0) (created_head site identity table) (created_newest site table)) old new
-    made_shows = ends_more (λ t u. IsFormatted site.at (master_of site.at site.key identity) 1 u) (Leaves (Takes site.at First first_mark table))
-        (λ t u. (image : Image) → IsImage u image → IsNewestOf site (image site.at.drive.0) (created_head site identity table) (created_newest site table)) old between new
-        (λ t u v is leaves. creations_go.shows site identity table u v from is leaves) formatted
+    pub format_moments : Moments Moment old between
+    format_moments = moments_weaker (Formatting at master 1) Moment old between format_moment formatting
 
-    pub made_safe : table ≡ first_table site.at.place → Ends (Leaves (Takes site.at First first_mark table)) between new → Ends (λ t u. IsSafe site identity u) old new
-    made_safe is ends =
-        subst (λ (one : Table). Ends (λ t u. (image : Image) → IsImage u image → IsNewestOf site (image site.at.drive.0) (created_head site identity one) (created_newest site one)) old new) is (made_shows ends)
+    -- or its format failed
+    pub format_ends : Ends (CreateEnds at key sizes identity (Err Failed)) old between
+    format_ends t is =
+        let end = moments_end (Formatting at master 1) old between formatting t is in (
+          end.0,
+          end.1,
+          record {
+            synced = tt;
+            safe = tt;
+            failed = λ same drives none. creations_go.nothing (site drives) identity t end.0 none end.2;
+            lost = λ same. absurd (cc (same));
+            goes = λ drives lies none. creations_go.fails (site drives) identity t end.0 none end.2;
+          },
+        )
 
-    pub made_opens : Ends (Leaves (Takes site.at First first_mark table)) between new → Ends (λ t u. IsOpened site (created_newest site table) u) old new
-    made_opens = ends_more (λ t u. IsFormatted site.at (master_of site.at site.key identity) 1 u) (Leaves (Takes site.at First first_mark table)) (λ t u. IsOpened site (created_newest site table) u) old between new
-        (λ t u v is leaves. creations_go.opens site identity table u v from is leaves) formatted
+    -- and then its table is written
+    module _ (table : Table) (from : (drives : Geometry) → IsPlaceOf drives at.place → Creates (site drives) identity table) (formatted : Ends (λ t u. IsFormatted at master 1 u) old between) (new : Option Tale) where
+      both : Ends (λ t u. Formatting at master 1 t u × IsFormatted at master 1 u) old between
+      both = ends_both (Formatting at master 1) (λ t u. IsFormatted at master 1 u) (λ t u. Formatting at master 1 t u × IsFormatted at master 1 u) old between (λ t u one is. (one, is))
+          (moments_end (Formatting at master 1) old between formatting) formatted
+
+      pub made_moments : Moments (WriteMoment at First first_mark table) between new → Moments Moment old new
+      made_moments = moments_after (Formatting at master 1) (λ t u. Formatting at master 1 t u × IsFormatted at master 1 u) (WriteMoment at First first_mark table) Moment old between new format_moment
+          (λ t u m one write. record {
+            quiet = quiet_more at t u m (quiet_format at master 1 t u least one.0) write.quiet;
+            goes = λ drives lies none. creations_go.goes (site drives) identity table t u m (from drives lies) none one.1 write.leaves;
+          })
+          formatting both
+
+      pub made_ends : table ≡ first_table at.place → Ends (WriteEnds at First first_mark table) between new
+          → Ends (CreateEnds at key sizes identity (Ok (record { blocks = at.place.blocks; slot = First; mark = first_mark; table = table }))) old new
+      made_ends is = ends_more (λ t u. IsFormatted at master 1 u) (WriteEnds at First first_mark table) (CreateEnds at key sizes identity (Ok (record { blocks = at.place.blocks; slot = First; mark = first_mark; table = table }))) old between new
+          (λ t u v formatted write. record {
+            synced = write.synced;
+            safe = λ drives lies.
+                subst (λ (one : Table). (image : Image) → IsImage v image → IsNewestOf (site drives) (image at.drive.0) (created_head (site drives) identity one) (record { blocks = at.place.blocks; slot = First; mark = first_mark; table = one })) is
+                (creations_go.shows (site drives) identity table u v (from drives lies) formatted write.written);
+            failed = λ same. absurd (cc (same));
+            lost = λ same. absurd (cc (same));
+            goes = λ drives lies none. creations_go.ends (site drives) identity table t u v (from drives lies) none formatted write.written;
+          })
+          formatted
+
+      -- or that failed: the formatted replica is there
+      pub lost_ends : Moments (WriteMoment at First first_mark table) between new → Ends (CreateEnds at key sizes identity (Err Lost)) old new
+      lost_ends writing = ends_more (λ t u. Formatting at master 1 t u × IsFormatted at master 1 u) (WriteMoment at First first_mark table) (CreateEnds at key sizes identity (Err Lost)) old between new
+          (λ t u v one write. record {
+            synced = tt;
+            safe = tt;
+            failed = λ same. absurd (cc (same));
+            lost = λ same drives lies. creations_go.formatted (site drives) identity table u v (from drives lies) one.1 write.leaves;
+            goes = λ drives lies none. creations_go.goes (site drives) identity table t u v (from drives lies) none one.1 write.leaves;
+          })
+          both (moments_end (WriteMoment at First first_mark table) between new writing)

@@ -1,11 +1,9 @@
 -- The database of one place: what a boot finds and leaves, and what a creation and a commit leave.
 use Rattle.std.specs.Prelude.{◌≡◌, ℕ, ◌+◌, ◌≤◌, ◌<◌, ◌^◌, true, false, List, [], ◌∷◌, length, slice_index_or, Option, Some, None, Result, Ok, Err}
-use Rattle.mdv_database.specs.Below.{Identity, Key, Place, Geometry, record_text, PlaceAt, Head, First, Second, IsSpareSlot, greatest, other_slot, room_of, shows, Image, IsFormed, slot_blocks, with_blocks, range, KeptOutside, IsSynced, Tale, IsImage, last, told, Change, One, Table, IsSound, IsCreated, created_head, first_mark, Log, IsMade, IsTellable, is_firm, Site, IsFound, IsNewestOf, IsReplica, IsTableAt, Newest, IsNewestIn, IsOpened, IsTheReplica, adopted_newest, next_newest}
+use Rattle.mdv_database.specs.Below.{Identity, Key, Place, Geometry, record_text, PlaceAt, Head, First, Second, IsSpareSlot, greatest, other_slot, room_of, shows, Image, IsFormed, IsPlaced, slot_blocks, with_blocks, range, KeptOutside, nowhere, IsSynced, Tale, IsImage, last, told, Change, One, Table, IsSound, IsCreated, created_head, first_mark, Log, IsMade, IsTellable, is_firm, Site, IsFound, IsNewestOf, IsReplica, IsTableAt, Newest, IsNewestIn, IsOpened, IsTheReplica, adopted_newest, next_newest}
 use Rattle.mdv_store_law.specs.Adoptable.{IsAdoptable}
 use Rattle.mdv_database.specs.declared.database.BootEnd.{BootEnd}
 use Rattle.mdv_database.specs.declared.database.BootEnd.TheVariants as end
-use Rattle.mdv_database.specs.declared.database.CommitFault.{CommitFault}
-use Rattle.mdv_database.specs.declared.database.CommitFault.TheVariants as unwritten
 use Rattle.mdv_database.specs.declared.database.CreateFault.{CreateFault}
 use Rattle.mdv_database.specs.declared.database.CreateFault.TheVariants as unmade
 use Rattle.mdv_database.specs.declared.looking.Found.{Found}
@@ -20,9 +18,19 @@ pub record IsOnDrive (sizes : List ℕ) (at : PlaceAt) : Type 0 where
   pub some : 0 < slice_index_or sizes at.drive.0 0
   pub size : slice_index_or sizes at.drive.0 0 < 2 ^ 64
 
--- nothing is told, and nothing happens outside the most blocks that a replica at the place may have
+-- nothing is told, and nothing happens outside the blocks of the place, the most that a replica there may have
 pub record IsQuiet (at : PlaceAt) (t m : Tale) : Type 0 where
-  pub outside : KeptOutside (range at.drive.0 at.first 8192) t m
+  pub outside : KeptOutside (range at.drive.0 at.first at.place.blocks) t m
+  pub quiet : told m ≡ told t
+
+-- a replica of so many blocks ends within the place, and within its drive
+pub record IsLaid (sizes : List ℕ) (at : PlaceAt) (blocks : ℕ) : Type 0 where
+  pub placed : IsPlaced sizes (with_blocks at blocks)
+  pub in_place : blocks ≤ at.place.blocks
+
+-- nothing is told, and no block is written
+pub record IsUnwritten (t m : Tale) : Type 0 where
+  pub kept : KeptOutside nowhere t m
   pub quiet : told m ≡ told t
 
 -- what a boot has in hand of a replica that it found
@@ -125,12 +133,6 @@ IsCreatedTo site identity (Err unmade.Failed) log = is_firm log ≡ false
 IsCreatedTo site identity (Err unmade.Lost) log = Unit {0}
 IsCreatedTo site identity (Err unmade.Memory) log = Unit {0}
 
--- a creation fails where a call failed, or for want of memory
-abbrev pub HasCreateCause : Type 0 → CreateFault → Type 0
-HasCreateCause failed unmade.Failed = failed
-HasCreateCause failed unmade.Lost = failed
-HasCreateCause failed unmade.Memory = Unit {0}
-
 -- what a commit starts from: an open database, and a table that a change makes of its newest one, or that one again
 pub record MayCommit (site : Site) (newest : Newest) (asked : Option Change) (next : Table) (t : Tale) : Type 0 where
   pub sound : IsSound site.drives
@@ -142,15 +144,3 @@ pub record MayCommit (site : Site) (newest : Newest) (asked : Option Change) (ne
 pub record IsCommitted (newest : Newest) (asked : Option Change) (next : Table) (log : Log) : Type 0 where
   pub is_newest : IsNewestIn (next_newest newest next) log
   pub tellable : (change : Change) → asked ≡ Some change → IsTellable log asked
-
--- why a table isn't committed: a call failed, its text is too long for a slot, or else the next count is no number
-abbrev pub HasCommitCause : Type 0 → Newest → Table → CommitFault → Type 0
-HasCommitCause failed newest next unwritten.Lost = failed
-HasCommitCause failed newest next (unwritten.TooLong fault) = room_of newest.blocks < length (record_text next)
-HasCommitCause failed newest next unwritten.Spent = 2 ^ 63 ≤ newest.mark.count + 1
-
--- a commit that does nothing
-abbrev pub IsCommitRefusal : CommitFault → Type 0
-IsCommitRefusal unwritten.Lost = ⊥
-IsCommitRefusal (unwritten.TooLong fault) = Unit {0}
-IsCommitRefusal unwritten.Spent = Unit {0}

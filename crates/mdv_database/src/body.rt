@@ -1,24 +1,22 @@
 // The text of a table in a slot: how it is read from there, and written to it.
-ghost use Rattle.std.specs.Prelude.{◌≡◌, ◌↔◌, ◌<◌, ◌≤◌, ◌+◌, ◌*◌, ◌%◌, ◌^◌, ℕ, List, [], ◌∷◌, length, take, slice_index, slice_index_or, IsTrue, IfOk, IfErr, IfSome, OnOk, Some};
-ghost use Rattle.std.specs.List.{concat, flat_map};
-ghost use Rattle.mdv_base.specs.Causes.{HasCause, Rose};
-ghost use Rattle.mdv_shelf.specs.Tale.{Tale, last};
-ghost use Rattle.mdv_shelf.specs.Between.{TookBetween};
-ghost use Rattle.mdv_shelf.specs.Calls.{OnDrive, Keeps, Took, TookAtMost};
-ghost use Rattle.mdv_shelf.specs.Moments.{Moments, Ends};
-ghost use Rattle.mdv_shelf.specs.Settle.{IsSynced};
+ghost use Rattle.std.specs.Prelude.{◌≡◌, ◌↔◌, ◌<◌, ◌≤◌, ◌+◌, ◌*◌, ◌%◌, ◌^◌, ℕ, [], ◌∷◌, length, take, slice_index, IsTrue, IfOk, IfErr, IfSome, OnOk};
+ghost use Rattle.std.specs.List.{flat_map};
+ghost use Rattle.mdv_base.specs.Causes.{HasCause};
+ghost use Rattle.mdv_shelf.specs.Calls.{OnDrive};
+ghost use Rattle.mdv_shelf.specs.Shelves.{AtEachTale, AtEnd, DriveFailed, Kept};
+ghost use Rattle.mdv_shelf.specs.Tale.{last};
+ghost use Rattle.mdv_replica.specs.Counts.{MakesCalls};
 ghost use Rattle.mdv_replica.specs.Forms.{IsMark};
 ghost use Rattle.mdv_replica.specs.Form.{room_of};
-ghost use Rattle.mdv_replica.specs.Images.{Leaves};
 ghost use Rattle.mdv_replica.specs.Replica.{IsPlaced, slot_blocks as spec_slot_blocks};
 ghost use Rattle.mdv_record.specs.Text.{record_text};
 ghost use Rattle.mdv_table.specs.declared.plan.Lists.TheVariants.{One};
 ghost use Rattle.mdv_table.specs.Slices.{IsSound};
 ghost use Rattle.mdv_store_law.specs.Site.{IsRecordAt, IsTableAt};
-ghost use Rattle.mdv_store_law.specs.Steps.{MayTake, Takes};
-ghost use Rattle.mdv_database.specs.Counts.{if_found};
-ghost use Rattle.mdv_database.specs.Database.{IsQuiet};
-ghost use Rattle.mdv_database.specs.Slots.{blocks_for as spec_blocks_for, HasReadCause, IsFitting, IsRead};
+ghost use Rattle.mdv_database.specs.Counts.{MadeCallsBetween, if_found};
+ghost use Rattle.mdv_database.specs.Looks.{OnlyReads, ReadAnswer};
+ghost use Rattle.mdv_database.specs.Slots.{blocks_for as spec_blocks_for, IsFitting, IsRead};
+ghost use Rattle.mdv_database.specs.Write.{WriteAnswer, WriteEnds, WriteMoment};
 
 use mdv_base::{BLOCK_BYTES, Block, Failed, Mark, Place, ZERO_BLOCK};
 use mdv_name::Geometry;
@@ -86,12 +84,10 @@ impl Body {
         requires placed { IsPlaced (S.sizes shelf.old) at }
         requires whole { self.old ≡ spec_slot_blocks at.place.blocks }
         ensures whole { self.new ≡ self.old }
-        ensures fits { IfOk result (λ found. IfSome found (IsFitting drives.now at)) }
-        ensures read { (t : Tale) → S.tale shelf.old ≡ Some t → IfOk result (IsRead drives.now at slot bytes (last t at.drive.0)) }
-        ensures same { S.tale shelf.new ≡ S.tale shelf.old }
-        ensures cause { IfErr result (HasReadCause (Rose (S.faults shelf.old (OnDrive at.drive.0)) (S.faults shelf.new (OnDrive at.drive.0)))) }
-        ensures counted { TookBetween S.calls S.written shelf.old shelf.new (if_found 1 result) 1 0 }
-        ensures keeps { Keeps S.sizes S.faults S.rest S.held shelf.old shelf.new }
+        ensures answer { ReadAnswer (DriveFailed S.Shelf shelf.old shelf.new at.drive.0) (λ found. IfSome found (IsFitting drives.now at)) result }
+        ensures reads { OnlyReads S.Shelf (λ t. IfOk result (IsRead drives.now at slot bytes (last t at.drive.0))) shelf.old shelf.new }
+        ensures counted { MadeCallsBetween S.Shelf shelf.old shelf.new (if_found 1 result) 1 0 }
+        ensures kept { Kept S.Shelf shelf.old shelf.new }
     {
         let count = blocks_for(bytes);
         if self.blocks.len() < count {
@@ -122,15 +118,11 @@ impl Body {
         requires whole { self.old ≡ spec_slot_blocks at.place.blocks }
         requires mark { IsMark mark }
         requires in_room { length (record_text table.now) ≤ room_of at.place.blocks }
-        ensures whole { self.new ≡ self.old }
-        ensures leaves { Moments (Leaves (MayTake at slot mark table.now)) (S.tale shelf.old) (S.tale shelf.new) }
-        ensures written { OnOk result (Ends (Leaves (Takes at slot mark table.now)) (S.tale shelf.old) (S.tale shelf.new)) }
-        ensures synced { OnOk result (Ends (λ _ u. IsSynced at.drive.0 u) (S.tale shelf.old) (S.tale shelf.new)) }
-        ensures moments { Moments (IsQuiet at) (S.tale shelf.old) (S.tale shelf.new) }
-        ensures cause { HasCause (S.faults shelf.old (OnDrive at.drive.0)) (S.faults shelf.new (OnDrive at.drive.0)) result }
-        ensures counted { OnOk result (Took S.calls S.written shelf.old shelf.new 6 (2 + spec_blocks_for (length (record_text table.now)))) }
-        ensures counted_at_most { TookAtMost S.calls S.written shelf.old shelf.new 6 (2 + spec_blocks_for (length (record_text table.now))) }
-        ensures keeps { Keeps S.sizes S.faults S.rest S.held shelf.old shelf.new }
+        ensures answer { WriteAnswer (S.faults shelf.old (OnDrive at.drive.0)) (S.faults shelf.new (OnDrive at.drive.0)) self.old self.new result }
+        ensures moments { AtEachTale S.Shelf (WriteMoment at slot mark table.now) shelf.old shelf.new }
+        ensures end { OnOk result (AtEnd S.Shelf (WriteEnds at slot mark table.now) shelf.old shelf.new) }
+        ensures counted { MakesCalls S.Shelf shelf.old shelf.new 6 (2 + spec_blocks_for (length (record_text table.now))) result }
+        ensures kept { Kept S.Shelf shelf.old shelf.new }
     {
         write_table(shelf, at, slot, mark, table, self.blocks.as_mut_slice())
     }
@@ -163,12 +155,10 @@ fn read_table<S: Shelf>(
     requires placed { IsPlaced (S.sizes shelf.old) at }
     requires count { length body.old ≡ spec_blocks_for bytes }
     requires in_slot { length body.old ≤ spec_slot_blocks at.place.blocks }
-    ensures fits { IfOk result (λ found. IfSome found (IsFitting drives.now at)) }
-    ensures read { (t : Tale) → S.tale shelf.old ≡ Some t → IfOk result (IsRead drives.now at slot bytes (last t at.drive.0)) }
-    ensures same { S.tale shelf.new ≡ S.tale shelf.old }
-    ensures cause { IfErr result (HasReadCause (Rose (S.faults shelf.old (OnDrive at.drive.0)) (S.faults shelf.new (OnDrive at.drive.0)))) }
-    ensures counted { TookBetween S.calls S.written shelf.old shelf.new (if_found 1 result) 1 0 }
-    ensures keeps { Keeps S.sizes S.faults S.rest S.held shelf.old shelf.new }
+    ensures answer { ReadAnswer (DriveFailed S.Shelf shelf.old shelf.new at.drive.0) (λ found. IfSome found (IsFitting drives.now at)) result }
+    ensures reads { OnlyReads S.Shelf (λ t. IfOk result (IsRead drives.now at slot bytes (last t at.drive.0))) shelf.old shelf.new }
+    ensures counted { MadeCallsBetween S.Shelf shelf.old shelf.new (if_found 1 result) 1 0 }
+    ensures kept { Kept S.Shelf shelf.old shelf.new }
 {
     match read_body(shelf, at, slot, body) {
         Ok(()) => table_in(alloc, drives, &at.place, bytes, body),
@@ -228,14 +218,11 @@ fn write_table<S: Shelf>(
     requires whole { length body.old ≡ spec_slot_blocks at.place.blocks }
     requires mark { IsMark mark }
     requires in_room { length (record_text table.now) ≤ room_of at.place.blocks }
-    ensures leaves { Moments (Leaves (MayTake at slot mark table.now)) (S.tale shelf.old) (S.tale shelf.new) }
-    ensures written { OnOk result (Ends (Leaves (Takes at slot mark table.now)) (S.tale shelf.old) (S.tale shelf.new)) }
-    ensures synced { OnOk result (Ends (λ _ u. IsSynced at.drive.0 u) (S.tale shelf.old) (S.tale shelf.new)) }
-    ensures moments { Moments (IsQuiet at) (S.tale shelf.old) (S.tale shelf.new) }
+    ensures moments { AtEachTale S.Shelf (WriteMoment at slot mark table.now) shelf.old shelf.new }
+    ensures end { OnOk result (AtEnd S.Shelf (WriteEnds at slot mark table.now) shelf.old shelf.new) }
     ensures cause { HasCause (S.faults shelf.old (OnDrive at.drive.0)) (S.faults shelf.new (OnDrive at.drive.0)) result }
-    ensures counted { OnOk result (Took S.calls S.written shelf.old shelf.new 6 (2 + spec_blocks_for (length (record_text table.now)))) }
-    ensures counted_at_most { TookAtMost S.calls S.written shelf.old shelf.new 6 (2 + spec_blocks_for (length (record_text table.now))) }
-    ensures keeps { Keeps S.sizes S.faults S.rest S.held shelf.old shelf.new }
+    ensures counted { MakesCalls S.Shelf shelf.old shelf.new 6 (2 + spec_blocks_for (length (record_text table.now))) result }
+    ensures kept { Kept S.Shelf shelf.old shelf.new }
 {
     let text = body.as_flattened_mut();
     let bytes = lay(table, text);

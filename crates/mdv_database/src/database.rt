@@ -1,29 +1,23 @@
-ghost use Rattle.std.specs.Prelude.{◌≡◌, ◌↔◌, ◌<◌, ◌≤◌, ◌+◌, ◌^◌, length, slice_index_or, Option, Some, IfOk, IfErr, OnOk, OnErr};
-ghost use Rattle.mdv_base.specs.Causes.{HasCause, Rose};
-ghost use Rattle.mdv_base.specs.declared.name.Key.{Key as AnyKey};
+ghost use Rattle.std.specs.Prelude.{◌≡◌, ◌<◌, ◌≤◌, ◌+◌, ◌^◌, length, slice_index_or, IfErr, OnOk};
 ghost use Rattle.mdv_name.specs.declared.geometry.Geometry.{Geometry as Drives};
 ghost use Rattle.mdv_record.specs.Text.{record_text};
-ghost use Rattle.mdv_shelf.specs.Area.{KeptOutside, nowhere};
-ghost use Rattle.mdv_shelf.specs.Calls.{OnDrive, Keeps, Took, TookAtMost};
-ghost use Rattle.mdv_shelf.specs.Moments.{Moments, Ends};
-ghost use Rattle.mdv_shelf.specs.Settle.{IsSynced};
-ghost use Rattle.mdv_shelf.specs.Tale.{Tale, last};
-ghost use Rattle.mdv_replica.specs.Form.{greatest, room_of};
+ghost use Rattle.mdv_shelf.specs.Calls.{OnDrive};
+ghost use Rattle.mdv_shelf.specs.Shelves.{AtEachTale, AtEnd, DriveFailed, Kept};
+ghost use Rattle.mdv_replica.specs.Counts.{MakesCalls};
+ghost use Rattle.mdv_replica.specs.Form.{room_of};
 ghost use Rattle.mdv_replica.specs.Forms.{IsMark};
-ghost use Rattle.mdv_replica.specs.Images.{Leaves};
 ghost use Rattle.mdv_replica.specs.Replica.{IsPlaced, slot_blocks, with_blocks};
-ghost use Rattle.mdv_table.specs.declared.change.Change.{Change};
 ghost use Rattle.mdv_table.specs.Slices.{IsSound};
 ghost use Rattle.mdv_table.specs.Table.{IsPlaceOf};
-ghost use Rattle.mdv_store_law.specs.Going.{IsWithNewest};
-ghost use Rattle.mdv_store_law.specs.Log.{IsThis, IsThisChange, NoCreation};
 ghost use Rattle.mdv_store_law.specs.Site.{IsTableAt};
-ghost use Rattle.mdv_store_law.specs.Standing.{Anything, GoesFrom, GoesOn, GoesOnTo, IsOpened, ShowsNothing};
-ghost use Rattle.mdv_store_law.specs.Steps.{IsAdopted, Rewrites, Rewritten, adopted_newest, next_newest};
-ghost use Rattle.mdv_database.specs.Counts.{IsAdoptionCounted, IsBootCounted, IsCreationCounted};
-ghost use Rattle.mdv_database.specs.Database.{IsOnDrive, IsQuiet, IsInHand, IsFoundIn, IsBooted, IsBootedTo, IsRefusal, IsCertain, IfAdopted, site_of};
-ghost use Rattle.mdv_database.specs.Database.{IsSafe, IsCreatedTo, HasCreateCause, MayCommit, IsCommitted, HasCommitCause, IsCommitRefusal, first_newest, first_table as spec_first_table};
+ghost use Rattle.mdv_store_law.specs.Steps.{next_newest};
+ghost use Rattle.mdv_database.specs.Boot.{AdoptEnds, AdoptMoment, BootAnswer, BootEnds, BootMoment, IsAdoption, RewriteEnds, RewriteMoment};
+ghost use Rattle.mdv_database.specs.Commit.{CommitAnswer, CommitDone, CommitMoment};
+ghost use Rattle.mdv_database.specs.Counts.{IsAdoptionCounted, IsBootCounted, IsCommitCounted, IsCreationCounted};
+ghost use Rattle.mdv_database.specs.Create.{CreateAnswer, CreateEnds, CreateMoment};
+ghost use Rattle.mdv_database.specs.Database.{IsOnDrive, IsInHand, IsLaid, site_of, first_table as spec_first_table};
 ghost use Rattle.mdv_database.specs.Slots.{blocks_for};
+ghost use Rattle.mdv_database.specs.Write.{WriteAnswer};
 
 use crate::body::{Body, ReadFault};
 use crate::head::{at_length, greatest_of, other_slot};
@@ -118,6 +112,7 @@ impl From<TooLong> for CommitFault {
 
 /// Looks for a replica of the database at its place. One that shows a table is adopted: the boot draws one
 /// more than the greatest number there, and writes it and the newest table under it.
+#[tactic(auto, using(mdv_shelf::proofs::Noted::kept_more))]
 pub fn boot<S: Shelf>(
     shelf: &mut S,
     alloc: Global,
@@ -127,24 +122,11 @@ pub fn boot<S: Shelf>(
 ) -> BootEnd
     requires sound { IsSound drives.now }
     requires on_drive { IsOnDrive (S.sizes shelf.old) at }
-    ensures booted { (t : Tale) → S.tale shelf.old ≡ Some t → IsBooted (Rose (S.faults shelf.old (OnDrive at.drive.0)) (S.faults shelf.new (OnDrive at.drive.0))) (site_of drives.now key.now at (S.sizes shelf.old)) (last t at.drive.0) result }
-    ensures table { IfAdopted result (λ newest. IsTableAt drives.now (with_blocks at newest.blocks).place newest.table) }
-    ensures placed { IfAdopted result (λ newest. IsPlaced (S.sizes shelf.old) (with_blocks at newest.blocks)) }
-    ensures moments { Moments (IsQuiet at) (S.tale shelf.old) (S.tale shelf.new) }
-
-    // An adoption is on the disk before it is answered. At each moment the log goes on.
-    ensures adopted { IfAdopted result (λ newest. let site = site_of drives.now key.now at (S.sizes shelf.old) in Ends (λ t u. IsAdopted site (last t at.drive.0) newest u × IsOpened site newest u) (S.tale shelf.old) (S.tale shelf.new)) }
-    ensures synced { IsCertain result → Ends (λ _ u. IsSynced at.drive.0 u) (S.tale shelf.old) (S.tale shelf.new) }
-    ensures empty { result ≡ BootEnd.Empty → Ends (λ _ u. ShowsNothing (site_of drives.now key.now at (S.sizes shelf.old)) u) (S.tale shelf.old) (S.tale shelf.new) }
-    ensures stays { Moments (GoesOn (site_of drives.now key.now at (S.sizes shelf.old)) NoCreation) (S.tale shelf.old) (S.tale shelf.new) }
-    ensures ends { Ends (GoesOnTo (site_of drives.now key.now at (S.sizes shelf.old)) NoCreation (IsBootedTo result)) (S.tale shelf.old) (S.tale shelf.new) }
-
-    // Each other answer has its cause, and then nothing is written but by an adoption that failed.
-    ensures refuses { IsRefusal result → Ends (KeptOutside nowhere) (S.tale shelf.old) (S.tale shelf.new) }
-    ensures down { result ≡ BootEnd.Down → Rose (S.faults shelf.old (OnDrive at.drive.0)) (S.faults shelf.new (OnDrive at.drive.0)) }
-    ensures lost { result ≡ BootEnd.Lost → Rose (S.faults shelf.old (OnDrive at.drive.0)) (S.faults shelf.new (OnDrive at.drive.0)) }
-    ensures counted { IsBootCounted S.calls S.written shelf.old shelf.new result }
-    ensures keeps { Keeps S.sizes S.faults S.rest S.held shelf.old shelf.new }
+    ensures answer { BootAnswer (DriveFailed S.Shelf shelf.old shelf.new at.drive.0) drives.now (S.sizes shelf.old) at result }
+    ensures moments { AtEachTale S.Shelf (BootMoment (site_of drives.now key.now at (S.sizes shelf.old))) shelf.old shelf.new }
+    ensures end { AtEnd S.Shelf (BootEnds (DriveFailed S.Shelf shelf.old shelf.new at.drive.0) (site_of drives.now key.now at (S.sizes shelf.old)) result) shelf.old shelf.new }
+    ensures counted { IsBootCounted S.Shelf shelf.old shelf.new result }
+    ensures kept { Kept S.Shelf shelf.old shelf.new }
 {
     match look(shelf, alloc, drives, at, key) {
         Ok(Some(found)) => adopt(shelf, at, found),
@@ -159,19 +141,11 @@ pub fn boot<S: Shelf>(
 fn adopt<S: Shelf>(shelf: &mut S, at: PlaceAt, found: Found) -> BootEnd
     requires on_drive { IsOnDrive (S.sizes shelf.old) at }
     requires in_hand { IsInHand at (slice_index_or (S.sizes shelf.old) at.drive.0 0) found }
-    ensures drawn { IfAdopted result (λ newest. (newest ≡ adopted_newest found.head found.spare found.table) × (greatest found.head + 1 < 2 ^ 63)) }
-    ensures placed { IfAdopted result (λ newest. IsPlaced (S.sizes shelf.old) (with_blocks at newest.blocks)) }
-    ensures spent { result ≡ BootEnd.Spent ↔ (2 ^ 63 ≤ greatest found.head + 1) }
-    ensures lost { result ≡ BootEnd.Lost → Rose (S.faults shelf.old (OnDrive at.drive.0)) (S.faults shelf.new (OnDrive at.drive.0)) × (greatest found.head + 1 < 2 ^ 63) }
-    ensures looked { (result ≡ BootEnd.Empty → ⊥) × (result ≡ BootEnd.Down → ⊥) × (result ≡ BootEnd.Memory → ⊥) }
-    ensures adopted { IfAdopted result (λ newest. Ends (λ t u. (drives : Drives) (key : AnyKey) → let site = site_of drives key at (S.sizes shelf.old) in IsFoundIn site found t → IsAdopted site (last t at.drive.0) newest u × IsOpened site newest u) (S.tale shelf.old) (S.tale shelf.new)) }
-    ensures synced { IfAdopted result (λ _. Ends (λ _ u. IsSynced at.drive.0 u) (S.tale shelf.old) (S.tale shelf.new)) }
-    ensures stays { Moments (λ t m. (drives : Drives) (key : AnyKey) → let site = site_of drives key at (S.sizes shelf.old) in IsFoundIn site found t → GoesOn site NoCreation t m) (S.tale shelf.old) (S.tale shelf.new) }
-    ensures ends { Ends (λ t u. (drives : Drives) (key : AnyKey) → let site = site_of drives key at (S.sizes shelf.old) in IsFoundIn site found t → GoesOnTo site NoCreation (IsBootedTo result) t u) (S.tale shelf.old) (S.tale shelf.new) }
-    ensures refuses { IsRefusal result → S.tale shelf.new ≡ S.tale shelf.old }
-    ensures moments { Moments (IsQuiet at) (S.tale shelf.old) (S.tale shelf.new) }
-    ensures counted { IsAdoptionCounted S.calls S.written shelf.old shelf.new (3 + blocks_for (length (record_text found.table))) result }
-    ensures keeps { Keeps S.sizes S.faults S.rest S.held shelf.old shelf.new }
+    ensures answer { IsAdoption (DriveFailed S.Shelf shelf.old shelf.new at.drive.0) (S.sizes shelf.old) at found result }
+    ensures moments { AtEachTale S.Shelf (AdoptMoment at (S.sizes shelf.old) found) shelf.old shelf.new }
+    ensures end { AtEnd S.Shelf (AdoptEnds at (S.sizes shelf.old) found result) shelf.old shelf.new }
+    ensures counted { IsAdoptionCounted S.Shelf shelf.old shelf.new (3 + blocks_for (length (record_text found.table))) result }
+    ensures kept { Kept S.Shelf shelf.old shelf.new }
 {
     let Found {
         head,
@@ -200,6 +174,7 @@ fn adopt<S: Shelf>(shelf: &mut S, at: PlaceAt, found: Found) -> BootEnd
     }
 }
 
+#[tactic(auto, using(mdv_shelf::proofs::Noted::kept_more))]
 fn rewrite<S: Shelf>(
     shelf: &mut S,
     at: PlaceAt,
@@ -213,15 +188,11 @@ fn rewrite<S: Shelf>(
     requires whole { body.old ≡ slot_blocks at.place.blocks }
     requires mark { IsMark mark }
     requires in_room { length (record_text table.now) ≤ room_of at.place.blocks }
-    ensures whole { body.new ≡ body.old }
-    ensures leaves { Moments (Rewrites at slot mark table.now) (S.tale shelf.old) (S.tale shelf.new) }
-    ensures written { OnOk result (Ends (Leaves (Rewritten at slot mark table.now)) (S.tale shelf.old) (S.tale shelf.new)) }
-    ensures synced { OnOk result (Ends (λ _ u. IsSynced at.drive.0 u) (S.tale shelf.old) (S.tale shelf.new)) }
-    ensures moments { Moments (IsQuiet at) (S.tale shelf.old) (S.tale shelf.new) }
-    ensures cause { HasCause (S.faults shelf.old (OnDrive at.drive.0)) (S.faults shelf.new (OnDrive at.drive.0)) result }
-    ensures counted { OnOk result (Took S.calls S.written shelf.old shelf.new 8 (3 + blocks_for (length (record_text table.now)))) }
-    ensures counted_at_most { TookAtMost S.calls S.written shelf.old shelf.new 8 (3 + blocks_for (length (record_text table.now))) }
-    ensures keeps { Keeps S.sizes S.faults S.rest S.held shelf.old shelf.new }
+    ensures answer { WriteAnswer (S.faults shelf.old (OnDrive at.drive.0)) (S.faults shelf.new (OnDrive at.drive.0)) body.old body.new result }
+    ensures moments { AtEachTale S.Shelf (RewriteMoment at slot mark table.now) shelf.old shelf.new }
+    ensures end { OnOk result (AtEnd S.Shelf (RewriteEnds at slot mark table.now) shelf.old shelf.new) }
+    ensures counted { MakesCalls S.Shelf shelf.old shelf.new 8 (3 + blocks_for (length (record_text table.now))) result }
+    ensures kept { Kept S.Shelf shelf.old shelf.new }
 {
     write_claim(shelf, at, mark.boot)?;
     body.write(shelf, at, slot, mark, table)?;
@@ -230,6 +201,7 @@ fn rewrite<S: Shelf>(
 
 /// Makes the database: a replica is formatted with claim 1, and the table without volumes is written under
 /// the mark (1, 0).
+#[tactic(auto, using(mdv_shelf::proofs::Noted::kept_more))]
 pub fn create<S: Shelf>(
     shelf: &mut S,
     alloc: Global,
@@ -239,25 +211,11 @@ pub fn create<S: Shelf>(
 ) -> Result<Database, CreateFault>
     requires placed { IsPlaced (S.sizes shelf.old) at }
     requires length { at.place.blocks ≤ 8192 }
-    ensures made { IfOk result (λ newest. newest ≡ first_newest at) }
-    ensures table { IfOk result (λ newest. (drives : Drives) → IsPlaceOf drives at.place → IsTableAt drives at.place newest.table) }
-    ensures moments { Moments (IsQuiet at) (S.tale shelf.old) (S.tale shelf.new) }
-
-    // Whatever a crash leaves, the new database is there, on each table of drives that has the place.
-    ensures safe { OnOk result ((drives : Drives) → IsPlaceOf drives at.place → Ends (λ _ u. IsSafe (site_of drives key.now at (S.sizes shelf.old)) identity u) (S.tale shelf.old) (S.tale shelf.new)) }
-    ensures opened { IfOk result (λ newest. (drives : Drives) → IsPlaceOf drives at.place → Ends (λ _ u. IsOpened (site_of drives key.now at (S.sizes shelf.old)) newest u) (S.tale shelf.old) (S.tale shelf.new)) }
-    ensures synced { OnOk result (Ends (λ _ u. IsSynced at.drive.0 u) (S.tale shelf.old) (S.tale shelf.new)) }
-
-    // Where nothing was there, the log goes on at each moment.
-    ensures stays { (drives : Drives) → IsPlaceOf drives at.place → let site = site_of drives key.now at (S.sizes shelf.old) in Moments (λ t m. ShowsNothing site t → GoesOn site (IsThis identity) t m) (S.tale shelf.old) (S.tale shelf.new) }
-    ensures ends { (drives : Drives) → IsPlaceOf drives at.place → let site = site_of drives key.now at (S.sizes shelf.old) in Ends (λ t u. ShowsNothing site t → GoesOnTo site (IsThis identity) (IsCreatedTo site identity result) t u) (S.tale shelf.old) (S.tale shelf.new) }
-
-    // A format that failed leaves nothing there; without memory nothing is done.
-    ensures failed { result ≡ Err CreateFault.Failed → (drives : Drives) → let site = site_of drives key.now at (S.sizes shelf.old) in Ends (λ t u. ShowsNothing site t → ShowsNothing site u) (S.tale shelf.old) (S.tale shelf.new) }
-    ensures memory { result ≡ Err CreateFault.Memory → shelf.new ≡ shelf.old }
-    ensures cause { IfErr result (HasCreateCause (Rose (S.faults shelf.old (OnDrive at.drive.0)) (S.faults shelf.new (OnDrive at.drive.0)))) }
-    ensures counted { IsCreationCounted S.calls S.written shelf.old shelf.new result }
-    ensures keeps { Keeps S.sizes S.faults S.rest S.held shelf.old shelf.new }
+    ensures answer { CreateAnswer (DriveFailed S.Shelf shelf.old shelf.new at.drive.0) at result }
+    ensures moments { AtEachTale S.Shelf (CreateMoment at key.now (S.sizes shelf.old) identity) shelf.old shelf.new }
+    ensures end { AtEnd S.Shelf (CreateEnds at key.now (S.sizes shelf.old) identity result) shelf.old shelf.new }
+    ensures counted { IsCreationCounted S.Shelf shelf.old shelf.new result }
+    ensures kept { Kept S.Shelf shelf.old shelf.new }
 {
     let mut body = Body::new(alloc, at.place.blocks)?;
     let table = first_table(alloc, at.place);
@@ -304,29 +262,12 @@ impl Database {
         at: PlaceAt,
         next: Table,
     ) -> Result<(), CommitFault>
-        requires { IsPlaced (S.sizes shelf.old) (with_blocks at self.old.blocks) }
-        ensures moments { Moments (IsQuiet at) (S.tale shelf.old) (S.tale shelf.new) }
-
-        // Once it is written, the database goes on from the next table.
-        ensures ok { OnOk result (self.new ≡ next_newest self.old next) }
-        ensures fits { OnOk result ((length (record_text next) ≤ room_of self.old.blocks) × (self.old.mark.count + 1 < 2 ^ 63)) }
-        ensures synced { OnOk result (Ends (λ _ u. IsSynced at.drive.0 u) (S.tale shelf.old) (S.tale shelf.new)) }
-        ensures opened { OnOk result ((drives : Drives) (key : AnyKey) (asked : Option Change) → let site = site_of drives key at (S.sizes shelf.old) in Ends (λ t u. MayCommit site self.old asked next t → IsOpened site (next_newest self.old next) u) (S.tale shelf.old) (S.tale shelf.new)) }
-
-        // At each moment the log goes on, whichever change made the table.
-        ensures stays { (drives : Drives) (key : AnyKey) (asked : Option Change) → let site = site_of drives key at (S.sizes shelf.old) in Moments (λ t m. MayCommit site self.old asked next t → GoesFrom site (IsWithNewest site self.old) NoCreation (IsThisChange asked) Anything t m) (S.tale shelf.old) (S.tale shelf.new) }
-        ensures ends { OnOk result ((drives : Drives) (key : AnyKey) (asked : Option Change) → let site = site_of drives key at (S.sizes shelf.old) in Ends (λ t u. MayCommit site self.old asked next t → GoesFrom site (IsWithNewest site self.old) NoCreation (IsThisChange asked) (IsCommitted self.old asked next) t u) (S.tale shelf.old) (S.tale shelf.new)) }
-
-        // Otherwise it stays as it was. A text that is too long is told before a count that is spent, and both before
-        // anything is done.
-        ensures err { OnErr result (self.new ≡ self.old) }
-        ensures too_long { room_of self.old.blocks < length (record_text next) → result ≡ Err (CommitFault.TooLong (record { bytes = length (record_text next); room = room_of self.old.blocks })) }
-        ensures spent { (result ≡ Err CommitFault.Spent) ↔ ((length (record_text next) ≤ room_of self.old.blocks) × (2 ^ 63 ≤ self.old.mark.count + 1)) }
-        ensures cause { IfErr result (HasCommitCause (Rose (S.faults shelf.old (OnDrive at.drive.0)) (S.faults shelf.new (OnDrive at.drive.0))) self.old next) }
-        ensures refuses { IfErr result (λ fault. IsCommitRefusal fault → shelf.new ≡ shelf.old) }
-        ensures counted { OnOk result (Took S.calls S.written shelf.old shelf.new 6 (2 + blocks_for (length (record_text next)))) }
-        ensures counted_at_most { TookAtMost S.calls S.written shelf.old shelf.new 6 4096 }
-        ensures keeps { Keeps S.sizes S.faults S.rest S.held shelf.old shelf.new }
+        requires { IsLaid (S.sizes shelf.old) at self.old.blocks }
+        ensures answer { CommitAnswer (DriveFailed S.Shelf shelf.old shelf.new at.drive.0) self.old self.new next result }
+        ensures moments { AtEachTale S.Shelf (CommitMoment at (S.sizes shelf.old) self.old next) shelf.old shelf.new }
+        ensures end { OnOk result (AtEnd S.Shelf (CommitDone at (S.sizes shelf.old) self.old next) shelf.old shelf.new) }
+        ensures counted { IsCommitCounted S.Shelf shelf.old shelf.new (length (record_text next)) result }
+        ensures kept { Kept S.Shelf shelf.old shelf.new }
     {
         self.check_room(&next)?;
         let count = self.mark.count + 1;

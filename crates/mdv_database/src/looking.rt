@@ -1,19 +1,16 @@
 // What a boot looks for: a readable replica of the database that shows a table, and its newest table.
-ghost use Rattle.std.specs.Prelude.{◌≡◌, ◌≤◌, true, slice_index_or, IfOk, IfErr, IfSome, OnOk, Some};
-ghost use Rattle.mdv_base.specs.Causes.{HasCause, Rose};
-ghost use Rattle.mdv_shelf.specs.Area.{KeptOutside, nowhere};
-ghost use Rattle.mdv_shelf.specs.Between.{TookBetween};
-ghost use Rattle.mdv_shelf.specs.Calls.{OnDrive, Keeps};
-ghost use Rattle.mdv_shelf.specs.Moments.{Moments, Ends};
-ghost use Rattle.mdv_shelf.specs.Settle.{IsSynced};
-ghost use Rattle.mdv_shelf.specs.Tale.{Tale, last};
+ghost use Rattle.std.specs.Prelude.{◌≡◌, true, slice_index_or, IfOk, IfSome};
+ghost use Rattle.mdv_base.specs.Causes.{HasCause};
+ghost use Rattle.mdv_shelf.specs.Calls.{OnDrive};
+ghost use Rattle.mdv_shelf.specs.Shelves.{AtEachTale, AtEnd, DriveFailed, Kept};
+ghost use Rattle.mdv_shelf.specs.Tale.{last};
 ghost use Rattle.mdv_replica.specs.Form.{IsSpareSlot, shows};
-ghost use Rattle.mdv_replica.specs.Replica.{IsFormed, IsHead, IsPlaced, slot_blocks, with_blocks};
+ghost use Rattle.mdv_replica.specs.Replica.{IsFormed, IsPlaced, slot_blocks};
 ghost use Rattle.mdv_table.specs.Slices.{IsSound};
-ghost use Rattle.mdv_store_law.specs.Site.{IsTableAt};
-ghost use Rattle.mdv_database.specs.Counts.{if_found, if_kept, looked};
-ghost use Rattle.mdv_database.specs.Database.{IsInHand, IsLookedAt, IsOnDrive, IsQuiet, site_of};
-ghost use Rattle.mdv_database.specs.Slots.{AreHeld, HasReadCause, IfKept, IsFitting, IsHeld, IsTableOf};
+ghost use Rattle.mdv_database.specs.Counts.{MadeCallsBetween, if_found, if_kept, looked};
+ghost use Rattle.mdv_database.specs.Database.{IsLookedAt, IsOnDrive, IsUnwritten, site_of};
+ghost use Rattle.mdv_database.specs.Looks.{IsFoundAt, IsHeadThere, LookEnds, OnlyReads, ReadAnswer};
+ghost use Rattle.mdv_database.specs.Slots.{AreHeld, IfKept, IsFitting, IsHeld, IsTableOf};
 
 use crate::body::{Body, ReadFault};
 use crate::head::{at_length, gate_of_slot, is_of_database, other_slot, spare_slot};
@@ -53,15 +50,11 @@ pub(crate) fn look<S: Shelf>(
 ) -> Result<Option<Found>, ReadFault>
     requires sound { IsSound drives.now }
     requires on_drive { IsOnDrive (S.sizes shelf.old) at }
-    ensures in_hand { IfOk result (λ found. IfSome found (IsInHand at (slice_index_or (S.sizes shelf.old) at.drive.0 0))) }
-    ensures table { IfOk result (λ seen. IfSome seen (λ found. IsTableAt drives.now (with_blocks at found.head.master.blocks).place found.table)) }
-    ensures found { (t : Tale) → S.tale shelf.old ≡ Some t → IfOk result (IsLookedAt (site_of drives.now key.now at (S.sizes shelf.old)) (last t at.drive.0)) }
-    ensures synced { OnOk result (Ends (λ _ u. IsSynced at.drive.0 u) (S.tale shelf.old) (S.tale shelf.new)) }
-    ensures unwritten { Moments (KeptOutside nowhere) (S.tale shelf.old) (S.tale shelf.new) }
-    ensures moments { Moments (IsQuiet at) (S.tale shelf.old) (S.tale shelf.new) }
-    ensures cause { IfErr result (HasReadCause (Rose (S.faults shelf.old (OnDrive at.drive.0)) (S.faults shelf.new (OnDrive at.drive.0)))) }
-    ensures counted { TookBetween S.calls S.written shelf.old shelf.new (looked result) 5 0 }
-    ensures keeps { Keeps S.sizes S.faults S.rest S.held shelf.old shelf.new }
+    ensures answer { ReadAnswer (DriveFailed S.Shelf shelf.old shelf.new at.drive.0) (λ seen. IfSome seen (IsFoundAt drives.now (S.sizes shelf.old) at)) result }
+    ensures moments { AtEachTale S.Shelf IsUnwritten shelf.old shelf.new }
+    ensures end { AtEnd S.Shelf (LookEnds (site_of drives.now key.now at (S.sizes shelf.old)) result) shelf.old shelf.new }
+    ensures counted { MadeCallsBetween S.Shelf shelf.old shelf.new (looked result) 5 0 }
+    ensures kept { Kept S.Shelf shelf.old shelf.new }
 {
     let mut first = [ZERO_BLOCK];
     match shelf.read(at.drive, 0, &mut first) {
@@ -85,13 +78,10 @@ fn find<S: Shelf>(
 ) -> Result<Option<Found>, ReadFault>
     requires sound { IsSound drives.now }
     requires on_drive { IsOnDrive (S.sizes shelf.old) at }
-    ensures in_hand { IfOk result (λ found. IfSome found (IsInHand at (slice_index_or (S.sizes shelf.old) at.drive.0 0))) }
-    ensures table { IfOk result (λ seen. IfSome seen (λ found. IsTableAt drives.now (with_blocks at found.head.master.blocks).place found.table)) }
-    ensures found { (t : Tale) → S.tale shelf.old ≡ Some t → IfOk result (IsLookedAt (site_of drives.now key.now at (S.sizes shelf.old)) (last t at.drive.0)) }
-    ensures same { S.tale shelf.new ≡ S.tale shelf.old }
-    ensures cause { IfErr result (HasReadCause (Rose (S.faults shelf.old (OnDrive at.drive.0)) (S.faults shelf.new (OnDrive at.drive.0)))) }
-    ensures counted { TookBetween S.calls S.written shelf.old shelf.new (if_found 2 result) 3 0 }
-    ensures keeps { Keeps S.sizes S.faults S.rest S.held shelf.old shelf.new }
+    ensures answer { ReadAnswer (DriveFailed S.Shelf shelf.old shelf.new at.drive.0) (λ seen. IfSome seen (IsFoundAt drives.now (S.sizes shelf.old) at)) result }
+    ensures reads { OnlyReads S.Shelf (λ t. IfOk result (IsLookedAt (site_of drives.now key.now at (S.sizes shelf.old)) (last t at.drive.0))) shelf.old shelf.new }
+    ensures counted { MadeCallsBetween S.Shelf shelf.old shelf.new (if_found 2 result) 3 0 }
+    ensures kept { Kept S.Shelf shelf.old shelf.new }
 {
     match head_at(shelf, at) {
         Ok(Some(head)) => {
@@ -110,12 +100,10 @@ fn find<S: Shelf>(
 fn head_at<S: Shelf>(shelf: &mut S, at: PlaceAt) -> Result<Option<Head>, Failed>
     requires { IsOnDrive (S.sizes shelf.old) at }
     ensures form { IfOk result (λ seen. IfSome seen (IsFormed at (slice_index_or (S.sizes shelf.old) at.drive.0 0))) }
-    ensures value { IfOk result (λ seen. (t : Tale) → S.tale shelf.old ≡ Some t → IfSome seen (IsHead at (slice_index_or (S.sizes shelf.old) at.drive.0 0) (last t at.drive.0))) }
-    ensures spelled { IfOk result (λ seen. (t : Tale) → S.tale shelf.old ≡ Some t → (head : Head) → IsHead at (slice_index_or (S.sizes shelf.old) at.drive.0 0) (last t at.drive.0) head → seen ≡ Some head) }
-    ensures same { S.tale shelf.new ≡ S.tale shelf.old }
     ensures cause { HasCause (S.faults shelf.old (OnDrive at.drive.0)) (S.faults shelf.new (OnDrive at.drive.0)) result }
-    ensures counted { TookBetween S.calls S.written shelf.old shelf.new (if_found 1 result) 1 0 }
-    ensures keeps { Keeps S.sizes S.faults S.rest S.held shelf.old shelf.new }
+    ensures reads { OnlyReads S.Shelf (λ t. IfOk result (IsHeadThere at (slice_index_or (S.sizes shelf.old) at.drive.0 0) (last t at.drive.0))) shelf.old shelf.new }
+    ensures counted { MadeCallsBetween S.Shelf shelf.old shelf.new (if_found 1 result) 1 0 }
+    ensures kept { Kept S.Shelf shelf.old shelf.new }
 {
     if shelf.blocks(at.drive) <= at.first {
         return Ok(None);
@@ -138,13 +126,10 @@ fn find_table<S: Shelf>(
     requires on_drive { IsOnDrive (S.sizes shelf.old) at }
     requires form { IsFormed at (slice_index_or (S.sizes shelf.old) at.drive.0 0) head }
     requires shown { shows head ≡ true }
-    ensures in_hand { IfOk result (λ found. IfSome found (IsInHand at (slice_index_or (S.sizes shelf.old) at.drive.0 0))) }
-    ensures table { IfOk result (λ seen. IfSome seen (λ found. IsTableAt drives.now (with_blocks at found.head.master.blocks).place found.table)) }
-    ensures found { (t : Tale) → S.tale shelf.old ≡ Some t → IfOk result (IsTableOf drives.now at head (last t at.drive.0)) }
-    ensures same { S.tale shelf.new ≡ S.tale shelf.old }
-    ensures cause { IfErr result (HasReadCause (Rose (S.faults shelf.old (OnDrive at.drive.0)) (S.faults shelf.new (OnDrive at.drive.0)))) }
-    ensures counted { TookBetween S.calls S.written shelf.old shelf.new (if_found 1 result) 2 0 }
-    ensures keeps { Keeps S.sizes S.faults S.rest S.held shelf.old shelf.new }
+    ensures answer { ReadAnswer (DriveFailed S.Shelf shelf.old shelf.new at.drive.0) (λ seen. IfSome seen (IsFoundAt drives.now (S.sizes shelf.old) at)) result }
+    ensures reads { OnlyReads S.Shelf (λ t. IfOk result (IsTableOf drives.now at head (last t at.drive.0))) shelf.old shelf.new }
+    ensures counted { MadeCallsBetween S.Shelf shelf.old shelf.new (if_found 1 result) 2 0 }
+    ensures kept { Kept S.Shelf shelf.old shelf.new }
 {
     let sized = at_length(at, head.master.blocks);
     let spare = spare_slot(&head);
@@ -162,6 +147,7 @@ fn find_table<S: Shelf>(
 }
 
 // The table of the slot that isn't spare, where both slots fit.
+#[tactic(auto, using(mdv_shelf::proofs::Noted::kept_more))]
 fn newest_table<S: Shelf>(
     shelf: &mut S,
     alloc: Global,
@@ -177,12 +163,10 @@ fn newest_table<S: Shelf>(
     requires shown { shows head.now ≡ true }
     requires spare { IsSpareSlot head.now spare }
     ensures whole { body.new ≡ body.old }
-    ensures fits { IfOk result (λ found. IfSome found (IsFitting drives.now at)) }
-    ensures found { (t : Tale) → S.tale shelf.old ≡ Some t → IfOk result (AreHeld drives.now at head.now spare (last t at.drive.0)) }
-    ensures same { S.tale shelf.new ≡ S.tale shelf.old }
-    ensures cause { IfErr result (HasReadCause (Rose (S.faults shelf.old (OnDrive at.drive.0)) (S.faults shelf.new (OnDrive at.drive.0)))) }
-    ensures counted { TookBetween S.calls S.written shelf.old shelf.new (if_found 1 result) 2 0 }
-    ensures keeps { Keeps S.sizes S.faults S.rest S.held shelf.old shelf.new }
+    ensures answer { ReadAnswer (DriveFailed S.Shelf shelf.old shelf.new at.drive.0) (λ found. IfSome found (IsFitting drives.now at)) result }
+    ensures reads { OnlyReads S.Shelf (λ t. IfOk result (AreHeld drives.now at head.now spare (last t at.drive.0))) shelf.old shelf.new }
+    ensures counted { MadeCallsBetween S.Shelf shelf.old shelf.new (if_found 1 result) 2 0 }
+    ensures kept { Kept S.Shelf shelf.old shelf.new }
 {
     let older = read_slot(
         shelf,
@@ -224,12 +208,10 @@ fn read_slot<S: Shelf>(
     requires placed { IsPlaced (S.sizes shelf.old) at }
     requires whole { body.old ≡ slot_blocks at.place.blocks }
     ensures whole { body.new ≡ body.old }
-    ensures fits { IfOk result (λ held. IfKept held (IsFitting drives.now at)) }
-    ensures held { (t : Tale) → S.tale shelf.old ≡ Some t → IfOk result (IsHeld drives.now at slot gate (last t at.drive.0)) }
-    ensures same { S.tale shelf.new ≡ S.tale shelf.old }
-    ensures cause { IfErr result (HasReadCause (Rose (S.faults shelf.old (OnDrive at.drive.0)) (S.faults shelf.new (OnDrive at.drive.0)))) }
-    ensures counted { TookBetween S.calls S.written shelf.old shelf.new (if_kept result) 1 0 }
-    ensures keeps { Keeps S.sizes S.faults S.rest S.held shelf.old shelf.new }
+    ensures answer { ReadAnswer (DriveFailed S.Shelf shelf.old shelf.new at.drive.0) (λ held. IfKept held (IsFitting drives.now at)) result }
+    ensures reads { OnlyReads S.Shelf (λ t. IfOk result (IsHeld drives.now at slot gate (last t at.drive.0))) shelf.old shelf.new }
+    ensures counted { MadeCallsBetween S.Shelf shelf.old shelf.new (if_kept result) 1 0 }
+    ensures kept { Kept S.Shelf shelf.old shelf.new }
 {
     match gate {
         Gate::Closed => Ok(Held::Nothing),

@@ -1,13 +1,16 @@
 -- What a read and a write of a volume's blocks come to.
-use Rattle.std.proofs.Common.{◌≡◌, inl, inr, ℕ, List, [], ◌∷◌, Option, refl, ◌∙◌, arith}
-use Rattle.mdv_engine.specs.Below.{VolId, Refusal, IoFault, OutOfMemory, Moments, Ends, IsSettled, Settling, Tale, Read, Write, Deed, Wrote, Host, IsReady, StaysHome, Memory, AreBlocksAt, AreBlocksRefused, IsCarriedOut, kept_at, IsPlain, CarriedTo, CarryMoment, Knows}
+use Rattle.std.proofs.Common.{◌≡◌, inl, inr, ℕ, List, [], ◌∷◌, Option, Err, refl, ◌∙◌, subst, arith}
+use Rattle.mdv_engine.specs.Below.{VolId, Refusal, IoFault, OutOfMemory, Moments, Ends, IsSettled, Settling, Tale, Read, Write, Deed, Wrote, Host, IsReady, Memory, AreBlocksAt, AreBlocksRefused, IsCarriedOut, kept_at, IsPlain, CarriedTo, CarryMoment, Knows}
 use Rattle.mdv_shelf.proofs.Moments.{moments_end, moments_none, moments_weaker, ends_both}
 use Rattle.mdv_engine_law.specs.declared.answer.Answer.TheVariants as outcome
 use Rattle.mdv_engine_law.proofs.Keeping.{are_put, may_be_put}
 use Rattle.mdv_engine_law.proofs.Plain.{blocks_plain, fault_plain, memory_plain}
-use Rattle.mdv_engine_law.proofs.Staying.{nothing_stays, stays_in_volume}
+use Rattle.mdv_engine_law.proofs.Staying.{stays_in_volume}
 use Rattle.mdv_engine_law.proofs.Transfer.{writing_moment, wrote_blocks, wrote_some}
 use Rattle.mdv_engine_law.proofs.Turning.{carry_none, refused_none}
+use Rattle.mdv_shelf.specs.declared.shelf.Shelf.{Ghosts}
+use Rattle.mdv_engine.specs.declared.engine.Engine.{Engine}
+use Rattle.mdv_engine.specs.Ends.{ArePutting, AreWritten}
 use Rattle.mdv_engine.specs.Engine.{HasBlocksCause, HasReadCause, IsWell}
 
 -- a line that left all as it was
@@ -17,9 +20,6 @@ module _ (host : Host) (asked : List Deed) (memory : Memory) (a b : Option Tale)
 
   pub refused_carried : (r : Refusal) → Ends (CarriedTo host asked memory (outcome.Refused r) memory) a b
   refused_carried r t start = (t, same ∙ start, refused_none host asked memory r t)
-
-  pub still_home : Moments (StaysHome host) a b
-  still_home = nothing_stays host a b same
 
 module _ (host : Host) (memory : Memory) (volume : VolId) (at count : ℕ) where
   -- a read that isn't told
@@ -46,6 +46,13 @@ module _ (host : Host) (memory : Memory) (volume : VolId) (at count : ℕ) where
   refused_cause failed IoFault is = absurd is
   refused_cause failed other is = is
 
+-- of one block that was written some
+pub torn_of : {S : Type 0} (shelf : Ghosts S) (old new : S) (engine : Engine) (volume : VolId) (at : ℕ) (value : List ℕ) (r : Refusal) → AreWritten shelf old new engine volume at (value ∷ []) (Err r) → r ≡ IoFault
+    → (block : ℕ) × AreBlocksAt engine.host engine.state volume at 1 block × Moments (Settling 0 block (value ∷ [])) (shelf.tale old) (shelf.tale new)
+torn_of shelf old new engine volume at value r written is =
+    let put : ArePutting shelf old new engine volume at (value ∷ []) = subst (λ (x : Refusal). AreWritten shelf old new engine volume at (value ∷ []) (Err x)) is written in
+    (put.block, put.there, put.moments)
+
 -- one block that is written
 module _ (host : Host) (sizes : List ℕ) (ready : IsReady host sizes) (memory : Memory) (well : IsWell host memory) (volume : VolId) (at : ℕ) (value : List ℕ) (a b : Option Tale) where
   abbrev wrote : List Deed
@@ -53,10 +60,7 @@ module _ (host : Host) (sizes : List ℕ) (ready : IsReady host sizes) (memory :
 
   module _ (block : ℕ) (there : AreBlocksAt host memory volume at 1 block) (settling : Moments (Settling 0 block (value ∷ [])) a b) where
     pub write_moments : Moments (CarryMoment host wrote memory) a b
-    write_moments = moments_weaker (Settling 0 block (value ∷ [])) (CarryMoment host wrote memory) a b (λ t m s. writing_moment host sizes ready memory volume at block (value ∷ []) (omega arith) there t m s) settling
-
-    pub write_home : Moments (StaysHome host) a b
-    write_home = moments_weaker (Settling 0 block (value ∷ [])) (StaysHome host) a b (λ t m s. stays_in_volume host sizes ready memory volume at 1 block (omega arith) there well.table t m s.outside) settling
+    write_moments = moments_weaker (Settling 0 block (value ∷ [])) (CarryMoment host wrote memory) a b (λ t m s. writing_moment host sizes ready memory volume at block (value ∷ []) (omega arith) there t m s (stays_in_volume host sizes ready memory volume at 1 block (omega arith) there well.table t m s.outside)) settling
 
     -- it is on the disk
     module _ (settled : Ends (λ t u. IsSettled 0 block (value ∷ []) u) a b) where
@@ -82,7 +86,6 @@ module _ (host : Host) (sizes : List ℕ) (ready : IsReady host sizes) (memory :
   -- a write that was refused: the volume has no such block, or a call on the drive failed
   pub record IsUnwritten (failed : Type 0) (r : Refusal) : Type 0 where
     pub moments : Moments (CarryMoment host wrote memory) a b
-    pub home : Moments (StaysHome host) a b
     pub line : Ends (λ t u. Knows host memory t → IsCarriedOut failed host (kept_at memory t) (Write volume at value) (outcome.Refused r) (kept_at memory u)) a b
     pub carried : Ends (CarriedTo host wrote memory (outcome.Refused r) memory) a b
 
@@ -90,10 +93,9 @@ module _ (host : Host) (sizes : List ℕ) (ready : IsReady host sizes) (memory :
       → (AreBlocksRefused host memory volume at 1 r → b ≡ a) → IsUnwritten failed r
   unwritten failed IoFault (so, has) torn same =
       let is = torn refl in
-      record { moments = write_moments is.0 is.1 is.2; home = write_home is.0 is.1 is.2; line = torn_line is.0 is.1 is.2 failed so; carried = torn_carried is.0 is.1 is.2 }
+      record { moments = write_moments is.0 is.1 is.2; line = torn_line is.0 is.1 is.2 failed so; carried = torn_carried is.0 is.1 is.2 }
   unwritten failed other is torn same = record {
     moments = moments_still host wrote memory a b (same is);
-    home = still_home host wrote memory a b (same is);
     line = λ t start. (t, same is ∙ start, λ known. inl (other, is, (refl, record { memory = refl; content = λ block. refl })));
     carried = refused_carried host wrote memory a b (same is) other;
   }

@@ -1,21 +1,11 @@
 -- What a commit of the open database answers and leaves, told of the host, by the answer of the database.
 use Rattle.std.proofs.Common.{◌≡◌, ◌≤◌, ◌<◌, ◌⊎◌, ℕ, [], ◌∷◌, Option, Some, Err, Result, refl, sym, subst, ap, ◌∙◌, arith}
-use Rattle.mdv_engine.specs.Below.{Refusal, CommitFault, TooLong, Ends, Tale, Change, Newest, Changed, Answer, Host, Memory, kept_at, CarriedTo, Knows}
+use Rattle.mdv_engine.specs.Below.{Refusal, CommitFault, TooLong, Ends, Tale, Change, Newest, Changed, Answer, Host, Memory, kept_at, CarriedTo, CarryEnd, Knows}
+use Rattle.mdv_shelf.proofs.Moments.{ends_both}
 use Rattle.mdv_database.specs.declared.database.CommitFault.TheVariants as unwritten
 use Rattle.mdv_engine_law.specs.declared.answer.Answer.TheVariants as outcome
 use Rattle.mdv_engine_law.proofs.Refusing.{refused_still, spent_still}
 use Rattle.mdv_engine.specs.Engine.{IsCommit}
-
--- a text fits the room or it doesn't
-pub fits_or_long : (bytes room : ℕ) → (bytes ≤ room) ⊎ (room < bytes)
-fits_or_long bytes room = grind arith
-
--- a text that is too long: its length and its room are told
-pub told_numbers : (fault : TooLong) (other : CommitFault) → other ≡ unwritten.TooLong fault → (bytes room : ℕ) → ◌≡◌ {A = Result (Unit {0}) CommitFault} (Err other) (Err (unwritten.TooLong (record { bytes = bytes; room = room }))) → (fault.bytes ≡ bytes) × (fault.room ≡ room)
-told_numbers fault other is bytes room same = (cc (is, same), cc (is, same))
-
-pub lost_is_no_other : (other : CommitFault) → other ≡ unwritten.Lost → (fault : TooLong) → ◌≡◌ {A = Result (Unit {0}) CommitFault} (Err other) (Err (unwritten.TooLong fault)) → ⊥
-lost_is_no_other other is fault same = absurd (cc (is, same))
 
 -- what is in memory, where another database is open
 pub opened_as : (old memory : Memory) → old ≡ memory → (n m : Newest) → n ≡ m → record old { opened = Some n } ≡ record memory { opened = Some m }
@@ -34,11 +24,16 @@ module _ (host : Host) (memory : Memory) (change : Change) where
     Carried answer after = Ends (CarriedTo host (Changed change ∷ []) memory answer after) a b
 
     -- what the commit answers, and leaves in memory
-    pub commit_as : (failed : Type 0) → Committed failed answer after → Committed failed result real
+    commit_as : (failed : Type 0) → Committed failed answer after → Committed failed result real
     commit_as failed is = subst (λ (x : Answer). Committed failed x real) (sym result_is) (subst (λ (m : Memory). Committed failed answer m) (sym real_is) is)
 
-    pub carried_as : Carried answer after → Carried result real
+    carried_as : Carried answer after → Carried result real
     carried_as is = subst (λ (x : Answer). Carried x real) (sym result_is) (subst (λ (m : Memory). Carried answer m) (sym real_is) is)
+
+    pub end_as : (failed : Type 0) → Committed failed answer after → Carried answer after → Ends (CarryEnd (λ kept x next. IsCommit failed host kept change x next) host (Changed change ∷ []) memory result real) a b
+    end_as failed is carried =
+        ends_both (λ t u. Knows host memory t → IsCommit failed host (kept_at memory t) change result (kept_at real u)) (CarriedTo host (Changed change ∷ []) memory result real) (CarryEnd (λ kept x next. IsCommit failed host kept change x next) host (Changed change ∷ []) memory result real) a b
+        (λ t u one two. record { answered = one; carried = two }) (commit_as failed is) (carried_as carried)
 
   -- nothing was done
   module _ (a b : Option Tale) (same : b ≡ a) where

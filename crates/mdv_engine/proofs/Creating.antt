@@ -6,6 +6,9 @@ use Rattle.mdv_engine_law.specs.declared.answer.Answer.TheVariants as outcome
 use Rattle.mdv_engine_law.proofs.Keeping.{created, uncreated}
 use Rattle.mdv_engine_law.proofs.Making.{Makes, making_moment, made, unmade, made_or_lost}
 use Rattle.mdv_engine_law.proofs.Refusing.{refused_still}
+use Rattle.mdv_shelf.specs.Tale.{last}
+use Rattle.mdv_store_law.specs.Standing.{ShowsReplica}
+use Rattle.mdv_store_law.proofs.Covering.{last_image}
 use Rattle.mdv_engine.proofs.Sites.{here, told_site, quiet_here}
 
 -- what is in memory once a creation was begun, and once it made a database
@@ -43,7 +46,7 @@ module _ (host : Host) (sizes : List ℕ) (ready : IsReady host sizes) (at : Pla
     made_creation failed next next_is = ends_both (IsQuiet at) (λ t u. IsSafe site identity u) _ a b
         (λ t u q s. λ known. inl (
           refl,
-          created host memory next t u (first_table (site_of host).at.place) (quiet_here host sizes ready at at_is t u q) next_is refl refl (to_host (λ x. IsSafe x identity u) s),
+          created host memory next t u (first_table (site_of host).at.place) room (quiet_here host sizes ready at at_is t u q) next_is refl refl (to_host (λ x. IsSafe x identity u) s),
         ))
         (moments_end (IsQuiet at) a b quiet) safe
 
@@ -78,8 +81,11 @@ module _ (host : Host) (sizes : List ℕ) (ready : IsReady host sizes) (at : Pla
         (ends_both (λ t u. ShowsNothing site t → ShowsNothing site u) (Goes (λ lg. is_firm lg ≡ false)) (λ t u. (ShowsNothing site t → ShowsNothing site u) × Goes (λ lg. is_firm lg ≡ false) t u) a b (λ t u o g. (o, g)) nothing goes)
 
   -- the write of its table failed
-  pub lost_creation : (failed : Type 0) → failed → Ends (λ t u. Knows host memory t → IsCreation failed host (kept_at memory t) outcome.Panic (kept_at (begun memory) u)) a b
-  lost_creation failed so t start = (let end = quiet t start in (end.0, end.1, λ known. inr (inr (so, inr refl))))
+  pub lost_creation : (failed : Type 0) → failed → Ends (λ _ u. ShowsReplica site identity u) a b → Ends (λ t u. Knows host memory t → IsCreation failed host (kept_at memory t) outcome.Panic (kept_at (begun memory) u)) a b
+  lost_creation failed so shows =
+      ends_both (IsQuiet at) (λ _ u. ShowsReplica site identity u) (λ t u. Knows host memory t → IsCreation failed host (kept_at memory t) outcome.Panic (kept_at (begun memory) u)) a b
+      (λ t u q s known. inr (inr (so, inr (refl, to_host (λ x. ShowsReplica x identity u) s (last u) (last_image u)))))
+      (moments_end (IsQuiet at) a b quiet) shows
 
   pub lost_carried : (next : Memory) → Moments (Goes Anything) a b → Ends (CarriedTo host (Created ∷ []) memory outcome.Panic next) a b
   lost_carried next goes =

@@ -6,3 +6,5 @@ pub mod Commits
 pub mod Places
 pub mod Blocks
 pub mod Counting
+pub mod Ending
+mod Parts

@@ -1,11 +1,11 @@
 -- Where the database of a host's home lies, and what is said there of the place that the code computed.
-use Rattle.std.proofs.Common.{◌≡◌, ◌+◌, ◌≤◌, ℕ, List, [], ◌∷◌, Option, refl, sym, subst, ap, arith}
+use Rattle.std.proofs.Math.Nat.{le-min, min-le_left}
+use Rattle.mdv_home.proofs.Places.{whole_place}
+use Rattle.std.proofs.Common.{◌≡◌, ◌+◌, ◌-◌, ◌≤◌, ℕ, List, [], ◌∷◌, refl, sym, subst, ap, arith}
 use Rattle.std.proofs.lemmas.List.Elements.{All-head}
-use Rattle.mdv_engine.specs.Below.{Local, Place, line_of, place_of, SliceAt, PlaceAt, IsPlaced, with_blocks, KeptOutside, Moments, Tale, One, Table, IsListsOf, IsPlaceOf, Site, area_of, IsOnDrive, IsQuiet, Host, IsReady, StaysHome, site_of}
-use Rattle.mdv_shelf.proofs.Moments.{moments_weaker}
+use Rattle.mdv_engine.specs.Below.{Local, Place, line_of, place_of, SliceAt, PlaceAt, IsPlaced, with_blocks, KeptOutside, Tale, One, Table, IsListsOf, IsPlaceOf, Site, area_of, IsLaid, IsOnDrive, IsQuiet, Host, IsReady, site_of}
 use Rattle.mdv_database.specs.Database as database
 use Rattle.mdv_engine_law.proofs.Lifting.{site_here}
-use Rattle.mdv_engine_law.proofs.Staying.{stays_in_replica}
 use Rattle.mdv_engine.specs.Engine.{IsTableOf}
 
 module _ (host : Host) (sizes : List ℕ) (ready : IsReady host sizes) (at : PlaceAt) (at_is : at ≡ place_of host.home) where
@@ -39,30 +39,35 @@ module _ (host : Host) (sizes : List ℕ) (ready : IsReady host sizes) (at : Pla
 
   -- the whole place
   pub placed_whole : 8208 ≤ host.home.blocks → IsPlaced sizes at
-  placed_whole room = subst (IsPlaced sizes) (sym at_is) (subst (λ (p : PlaceAt). IsPlaced sizes (with_blocks p 8192)) at_is (placed 8192 (omega arith) (omega arith)))
+  placed_whole room = subst (IsPlaced sizes) (sym at_is) (subst (λ (n : ℕ). IsPlaced sizes (with_blocks (place_of host.home) n)) (sym (whole_place host.home room)) (subst (λ (p : PlaceAt). IsPlaced sizes (with_blocks p 8192)) at_is (placed 8192 (omega arith) (omega arith))))
 
   -- it is one of the table of drives
   pub place_is : 8208 ≤ host.home.blocks → IsPlaceOf host.drives at.place
-  place_is room = subst (λ (p : PlaceAt). IsPlaceOf host.drives p.place) (sym at_is) (record {
-    at = (line_of host.home).at;
-    has = ready.home.db;
-    lies = record { db = refl; start = refl; least = omega arith; most = omega arith; within = omega arith };
-  })
+  place_is room = subst (λ (p : PlaceAt). IsPlaceOf host.drives p.place) (sym at_is)
+      (subst (λ (n : ℕ). IsPlaceOf host.drives (record { slice = host.home.slice; start = 16; blocks = n })) (sym (whole_place host.home room)) (record {
+        at = (line_of host.home).at;
+        has = ready.home.db;
+        lies = record { db = refl; start = refl; least = omega arith; most = omega arith; within = omega arith };
+      }))
+
+  -- it has no more than the default length
+  pub short_place : at.place.blocks ≤ 8192
+  short_place = subst (λ (p : PlaceAt). p.place.blocks ≤ 8192) (sym at_is) (min-le_left 8192 (host.home.blocks - 16))
 
   -- so does one whose table is one of this place
-  pub placed_open : (blocks : ℕ) (table : Table) → IsTableOf host blocks table → IsPlaced sizes (with_blocks at blocks)
-  placed_open blocks table is =
+  pub laid_open : (blocks : ℕ) (table : Table) → IsTableOf host blocks table → IsLaid sizes at blocks
+  laid_open blocks table is =
       let place : Place = record { slice = host.home.slice; start = 16; blocks = blocks } in
       let listed : IsListsOf host.drives (One (place ∷ [])) = subst (IsListsOf host.drives) is.lists is.of_geometry.lists in
       let of : IsPlaceOf host.drives place = All-head (IsPlaceOf host.drives) place [] listed.1 in
       let same : of.at ≡ (line_of host.home).at = ready.sound.once host.home.slice of.at (line_of host.home).at of.has ready.home.db in
       let within = of.lies.within in
       let counted : of.at.blocks ≡ host.home.blocks = ap (λ (a : SliceAt). a.blocks) same in
-      placed blocks of.lies.least (omega arith)
+      record {
+        placed = placed blocks of.lies.least (omega arith);
+        in_place = subst (λ (p : PlaceAt). blocks ≤ p.place.blocks) (sym at_is) (le-min of.lies.most (omega arith));
+      }
 
   -- nothing is done outside the replica's blocks
   pub quiet_here : (t m : Tale) → IsQuiet at t m → KeptOutside (area_of (site_of host)) t m
   quiet_here t m quiet = (subst (λ (p : PlaceAt). IsQuiet p t m) at_is quiet).outside
-
-  pub quiet_stays : (a b : Option Tale) → Moments (IsQuiet at) a b → Moments (StaysHome host) a b
-  quiet_stays a b quiet = moments_weaker (IsQuiet at) (StaysHome host) a b (λ t m q. stays_in_replica host t m (quiet_here t m q)) quiet

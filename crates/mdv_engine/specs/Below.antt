@@ -2,12 +2,14 @@
 pub use Rattle.mdv_base.specs.Causes.{Rose}
 pub use Rattle.mdv_base.specs.declared.drive.SliceName.{SliceName}
 pub use Rattle.mdv_base.specs.declared.mark.Identity.{Identity}
+pub use Rattle.mdv_base.specs.declared.name.Key.{Key}
 pub use Rattle.mdv_base.specs.declared.name.Key.TheVariants.{Local}
 pub use Rattle.mdv_base.specs.declared.name.VolId.{VolId}
 pub use Rattle.mdv_base.specs.declared.place.Place.{Place}
 pub use Rattle.mdv_base.specs.declared.refusal.Refusal.{Refusal}
 pub use Rattle.mdv_base.specs.declared.refusal.Refusal.TheVariants.{IoFault, NameTaken, NoSuchSlice, OutOfMemory, ReplicaFull, SliceInUse, WrongKind}
-pub use Rattle.mdv_database.specs.Database.{HasCommitCause, IsCommitRefusal, IsCommitted, IsDrawn, IsOnDrive, IsQuiet, IsSafe, IsSpent, MayCommit}
+pub use Rattle.mdv_database.specs.Commit.{HasCommitCause}
+pub use Rattle.mdv_database.specs.Database.{IsCommitted, IsDrawn, IsLaid, IsOnDrive, IsQuiet, IsSafe, IsSpent, MayCommit}
 pub use Rattle.mdv_database.specs.Database.{first_newest, first_table}
 pub use Rattle.mdv_database.specs.declared.database.CommitFault.{CommitFault}
 pub use Rattle.mdv_engine_law.specs.Home.{IsReady, StaysHome, identity_of, site_of}
@@ -15,11 +17,11 @@ pub use Rattle.mdv_engine_law.specs.Line.{AreBlocksAt, AreBlocksRefused, HasVolu
 pub use Rattle.mdv_engine_law.specs.Line.{IsRebooted, IsSound, IsTurnedDown, IsUsedUp, Kept, MayChange, Memory, adopted, asked_by, blocks_of, down}
 pub use Rattle.mdv_engine_law.specs.Line.{empty, kept_at, lost, record_room, spent, unbooted, wanting}
 pub use Rattle.mdv_engine_law.specs.Replies.{IsPlain, IsPlainAnswer, text_of}
-pub use Rattle.mdv_engine_law.specs.Standing.{BootMoment, BootedTo, CarriedTo, CarryMoment, Knows, OnlyReplied, TellMoment, TurnMoment, Turned}
+pub use Rattle.mdv_engine_law.specs.Standing.{BootMoment, BootedTo, CarriedTo, CarryEnd, CarryMoment, Executed, Knows, OnlyReplied, TellMoment, TurnMoment, Turned}
 pub use Rattle.mdv_engine_law.specs.declared.answer.Answer.{Answer}
 pub use Rattle.mdv_engine_law.specs.declared.answer.BootRefusal.{BootRefusal}
 pub use Rattle.mdv_engine_law.specs.declared.host.Host.{Host}
-pub use Rattle.mdv_history.specs.History.{Changed, Created, Deed, LiesOn, Wrote}
+pub use Rattle.mdv_history.specs.History.{Changed, Created, Deed, LiesOn, Saw, Wrote}
 pub use Rattle.mdv_home.specs.Home.{line_of, place_of}
 pub use Rattle.mdv_home.specs.Placed.{IsHomeTable, IsWithin}
 pub use Rattle.mdv_name.specs.SliceIndex.{HasNoSlice, HasSlice}

@@ -6,7 +6,7 @@ use Rattle.mdv_shelf.specs.Calls.{TookAtMost}
 use Rattle.mdv_shelf.specs.Between.{TookBetween}
 use Rattle.mdv_shelf.specs.Tale.{Tale}
 use Rattle.mdv_words.specs.declared.command.Command.{Command}
-use Rattle.mdv_words.specs.declared.command.Command.TheVariants.{Create, MakeStripe, Read, Write, Boot}
+use Rattle.mdv_words.specs.declared.command.Command.TheVariants.{Create, MakeStripe, Read, Write}
 use Rattle.mdv_store_law.specs.Site.{Newest}
 use Rattle.mdv_engine_law.specs.Line.{Memory}
 use Rattle.mdv_engine_law.specs.declared.answer.Answer.{Answer}
@@ -20,7 +20,6 @@ calls_of (Create slice force) = 12
 calls_of (MakeStripe volume slice) = 6
 calls_of (Read volume at count) = 1
 calls_of (Write volume at block) = 2
-calls_of Boot = 13
 
 -- the blocks that it writes at most; a table has 4094 blocks at most, and two gates
 abbrev pub blocks_of : Command → ℕ
@@ -28,7 +27,6 @@ blocks_of (Create slice force) = 8
 blocks_of (MakeStripe volume slice) = 4096
 blocks_of (Read volume at count) = 0
 blocks_of (Write volume at block) = 1
-blocks_of Boot = 4097
 
 -- The calls of a command, by what it came to: exactly so many where it was done, and no more where one failed. Without memory
 -- nothing is written. A command that is refused for another cause does nothing at all: it doesn't even read.

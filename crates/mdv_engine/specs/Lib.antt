@@ -2,3 +2,4 @@ pub mod Below
 pub use Rattle.mdv_base.specs.Causes
 pub mod Engine
 pub mod Counts
+pub mod Ends

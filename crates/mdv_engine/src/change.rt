@@ -1,8 +1,5 @@
 ghost use Rattle.std.specs.Prelude.{◌≡◌, [], ◌∷◌, ◌<◌, Some, IfOk, IfErr, IfSome, OnOk};
-ghost use Rattle.mdv_base.specs.Causes.{Rose};
 ghost use Rattle.mdv_base.specs.declared.refusal.Refusal.{Refusal as AnyRefusal};
-ghost use Rattle.mdv_shelf.specs.Calls.{OnDrive, Keeps};
-ghost use Rattle.mdv_shelf.specs.Moments.{Moments, Ends};
 ghost use Rattle.mdv_table.specs.declared.change.Change.{Change as AnyChange};
 ghost use Rattle.mdv_table.specs.Change.{HasFault, IsNumbered, IsRefused};
 ghost use Rattle.mdv_table.specs.Slices.{IsSound};
@@ -10,12 +7,12 @@ ghost use Rattle.mdv_table.specs.Table.{IsOfGeometry};
 ghost use Rattle.mdv_words.specs.declared.command.Command.TheVariants as command;
 ghost use Rattle.mdv_store_law.specs.Log.{IsMade};
 ghost use Rattle.mdv_history.specs.History.{Changed};
-ghost use Rattle.mdv_engine_law.specs.Home.{IsReady, StaysHome};
-ghost use Rattle.mdv_engine_law.specs.Line.{IsCarriedOut, kept_at};
-ghost use Rattle.mdv_engine_law.specs.Replies.{HasAnswerCause, IsAccepted, IsPlainAnswer};
-ghost use Rattle.mdv_engine_law.specs.Standing.{CarriedTo, CarryMoment, IsAwake, Knows};
 ghost use Rattle.mdv_engine.specs.Counts.{IsCommandCounted};
-ghost use Rattle.mdv_engine.specs.Engine.{HasChangeCause, IsCommit, IsNextTable, IsTableOf, IsWell};
+ghost use Rattle.mdv_shelf.specs.Shelves.{AtEachTale, AtEnd, DriveFailed, Kept};
+ghost use Rattle.mdv_engine_law.specs.Home.{IsReady};
+ghost use Rattle.mdv_engine_law.specs.Standing.{CarryMoment};
+ghost use Rattle.mdv_engine.specs.Ends.{CommandEnd, CommitEnd, HasAnswered, IsNext};
+ghost use Rattle.mdv_engine.specs.Engine.{HasChangeCause, IsNextTable, IsTableOf, IsWell};
 
 use crate::engine::Engine;
 use mdv_base::{Refusal, SliceName, VolId};
@@ -29,6 +26,7 @@ use std::alloc::Global;
 
 impl Engine {
     // `metainit dN 1 1 SLICE`.
+    #[tactic(auto, using(mdv_shelf::proofs::Noted::kept_more))]
     pub(crate) fn make_stripe<S: Shelf>(
         &mut self,
         shelf: &mut S,
@@ -39,18 +37,11 @@ impl Engine {
         requires ready { IsReady self.old.host (S.sizes shelf.old) }
         requires well { IsWell self.old.host self.old.state }
         requires numbered { volume.0 < 8192 }
-        ensures answered { Ends (λ t u. Knows self.old.host self.old.state t → IsCarriedOut (Rose (S.faults shelf.old (OnDrive 0)) (S.faults shelf.new (OnDrive 0))) self.old.host (kept_at self.old.state t) (command.MakeStripe volume slice) result (kept_at self.new.state u)) (S.tale shelf.old) (S.tale shelf.new) }
-        ensures moments { Moments (CarryMoment self.old.host (Changed (Change.MakeStripe volume slice) ∷ []) self.old.state) (S.tale shelf.old) (S.tale shelf.new) }
-        ensures carried { Ends (CarriedTo self.old.host (Changed (Change.MakeStripe volume slice) ∷ []) self.old.state result self.new.state) (S.tale shelf.old) (S.tale shelf.new) }
-        ensures home { Moments (StaysHome self.old.host) (S.tale shelf.old) (S.tale shelf.new) }
-        ensures awake { IsAccepted result → IsAwake self.old.state }
-        ensures plain { IsPlainAnswer result }
-        ensures cause { HasAnswerCause (Rose (S.faults shelf.old (OnDrive 0)) (S.faults shelf.new (OnDrive 0))) result }
-        ensures host { self.new.host ≡ self.old.host }
-        ensures well { IsWell self.old.host self.new.state }
-        ensures begun { self.new.state.begun ≡ self.old.state.begun }
+        ensures moments { AtEachTale S.Shelf (CarryMoment self.old.host (Changed (Change.MakeStripe volume slice) ∷ []) self.old.state) shelf.old shelf.new }
+        ensures end { AtEnd S.Shelf (CommandEnd (DriveFailed S.Shelf shelf.old shelf.new 0) self.old (command.MakeStripe volume slice) result self.new) shelf.old shelf.new }
+        ensures answer { HasAnswered (DriveFailed S.Shelf shelf.old shelf.new 0) (Changed (Change.MakeStripe volume slice) ∷ []) self.old result self.new }
         ensures counted { IsCommandCounted S.tale S.calls S.written shelf.old shelf.new 6 4096 result }
-        ensures keeps { Keeps S.sizes S.faults S.rest S.held shelf.old shelf.new }
+        ensures kept { Kept S.Shelf shelf.old shelf.new }
     {
         let change = Change::MakeStripe { volume, slice };
         match self.next_table(alloc, &change) {
@@ -78,22 +69,16 @@ impl Engine {
     }
 
     // Commits the next table. Where writing it failed it is open which table a crash leaves, so the run ends.
+    #[tactic(auto, using(mdv_shelf::proofs::Noted::kept_more))]
     fn commit<S: Shelf>(&mut self, shelf: &mut S, next: Table) -> Answer
         requires ready { IsReady self.old.host (S.sizes shelf.old) }
         requires well { IsWell self.old.host self.old.state }
         requires placed { IfSome self.old.state.opened (λ newest. IsTableOf self.old.host newest.blocks next) }
-        ensures committed { (change : AnyChange) → IsNextTable self.old.host self.old.state change next → Ends (λ t u. Knows self.old.host self.old.state t → IsCommit (Rose (S.faults shelf.old (OnDrive 0)) (S.faults shelf.new (OnDrive 0))) self.old.host (kept_at self.old.state t) change result (kept_at self.new.state u)) (S.tale shelf.old) (S.tale shelf.new) }
-        ensures moments { (change : AnyChange) → IsNextTable self.old.host self.old.state change next → Moments (CarryMoment self.old.host (Changed change ∷ []) self.old.state) (S.tale shelf.old) (S.tale shelf.new) }
-        ensures carried { (change : AnyChange) → IsNextTable self.old.host self.old.state change next → Ends (CarriedTo self.old.host (Changed change ∷ []) self.old.state result self.new.state) (S.tale shelf.old) (S.tale shelf.new) }
-        ensures home { Moments (StaysHome self.old.host) (S.tale shelf.old) (S.tale shelf.new) }
-        ensures awake { IsAccepted result → IsAwake self.old.state }
-        ensures plain { IsPlainAnswer result }
-        ensures cause { HasAnswerCause (Rose (S.faults shelf.old (OnDrive 0)) (S.faults shelf.new (OnDrive 0))) result }
-        ensures host { self.new.host ≡ self.old.host }
-        ensures well { IsWell self.old.host self.new.state }
-        ensures begun { self.new.state.begun ≡ self.old.state.begun }
+        ensures moments { (change : AnyChange) → IsNext self.old change next → AtEachTale S.Shelf (CarryMoment self.old.host (Changed change ∷ []) self.old.state) shelf.old shelf.new }
+        ensures end { (change : AnyChange) → IsNext self.old change next → AtEnd S.Shelf (CommitEnd (DriveFailed S.Shelf shelf.old shelf.new 0) self.old change result self.new.state) shelf.old shelf.new }
+        ensures answer { (change : AnyChange) → HasAnswered (DriveFailed S.Shelf shelf.old shelf.new 0) (Changed change ∷ []) self.old result self.new }
         ensures counted { IsCommandCounted S.tale S.calls S.written shelf.old shelf.new 6 4096 result }
-        ensures keeps { Keeps S.sizes S.faults S.rest S.held shelf.old shelf.new }
+        ensures kept { Kept S.Shelf shelf.old shelf.new }
     {
         let at = place_at(&self.host.home);
         let Some(database) = &mut self.state.database else {

@@ -1,15 +1,13 @@
 ghost use Rattle.std.specs.Prelude.{◌≡◌, ◌<◌, ◌≤◌, ◌+◌, ◌^◌, [], ◌∷◌, false, None, IfSome, IfNone};
-ghost use Rattle.mdv_base.specs.Causes.{Rose};
-ghost use Rattle.mdv_shelf.specs.Calls.{OnDrive, Keeps};
-ghost use Rattle.mdv_shelf.specs.Moments.{Moments, Ends};
 ghost use Rattle.mdv_words.specs.declared.command.Command.TheVariants.{Create};
 ghost use Rattle.mdv_history.specs.History.{Created};
-ghost use Rattle.mdv_engine_law.specs.Home.{IsReady, StaysHome};
-ghost use Rattle.mdv_engine_law.specs.Line.{IsCarriedOut, IsCreateRefused, IsCreation, MayCreate, kept_at};
-ghost use Rattle.mdv_engine_law.specs.Replies.{HasAnswerCause, IsAccepted, IsPlainAnswer};
-ghost use Rattle.mdv_engine_law.specs.Standing.{CarriedTo, CarryMoment, IsAwake, Knows};
 ghost use Rattle.mdv_engine.specs.Counts.{IsCommandCounted};
 ghost use Rattle.mdv_engine.specs.Engine.{IsWell};
+ghost use Rattle.mdv_shelf.specs.Shelves.{AtEachTale, AtEnd, DriveFailed, Kept};
+ghost use Rattle.mdv_engine_law.specs.Home.{IsReady};
+ghost use Rattle.mdv_engine_law.specs.Line.{IsCreateRefused, MayCreate};
+ghost use Rattle.mdv_engine_law.specs.Standing.{CarryMoment};
+ghost use Rattle.mdv_engine.specs.Ends.{CommandEnd, CreationEnd, HasAnswered};
 
 use crate::engine::Engine;
 use mdv_base::{Identity, Key, Refusal, SliceName, StateWord};
@@ -24,6 +22,7 @@ const SLICE_BLOCKS: u64 = 8208;
 
 impl Engine {
     // `metadb -a SLICE`, or with `-f`.
+    #[tactic(auto, using(mdv_shelf::proofs::Noted::kept_more))]
     pub(crate) fn make<S: Shelf>(
         &mut self,
         shelf: &mut S,
@@ -34,19 +33,11 @@ impl Engine {
         requires ready { IsReady self.old.host (S.sizes shelf.old) }
         requires well { IsWell self.old.host self.old.state }
         requires begun { self.old.state.begun + 1 < 2 ^ 32 }
-        ensures answered { Ends (λ t u. Knows self.old.host self.old.state t → IsCarriedOut (Rose (S.faults shelf.old (OnDrive 0)) (S.faults shelf.new (OnDrive 0))) self.old.host (kept_at self.old.state t) (Create slice force) result (kept_at self.new.state u)) (S.tale shelf.old) (S.tale shelf.new) }
-        ensures moments { Moments (CarryMoment self.old.host (Created ∷ []) self.old.state) (S.tale shelf.old) (S.tale shelf.new) }
-        ensures carried { Ends (CarriedTo self.old.host (Created ∷ []) self.old.state result self.new.state) (S.tale shelf.old) (S.tale shelf.new) }
-        ensures home { Moments (StaysHome self.old.host) (S.tale shelf.old) (S.tale shelf.new) }
-        ensures awake { IsAccepted result → IsAwake self.old.state }
-        ensures free { IsAccepted result → self.old.state.opened ≡ None }
-        ensures plain { IsPlainAnswer result }
-        ensures cause { HasAnswerCause (Rose (S.faults shelf.old (OnDrive 0)) (S.faults shelf.new (OnDrive 0))) result }
-        ensures host { self.new.host ≡ self.old.host }
-        ensures well { IsWell self.old.host self.new.state }
-        ensures begun { self.new.state.begun ≤ self.old.state.begun + 1 }
+        ensures moments { AtEachTale S.Shelf (CarryMoment self.old.host (Created ∷ []) self.old.state) shelf.old shelf.new }
+        ensures end { AtEnd S.Shelf (CommandEnd (DriveFailed S.Shelf shelf.old shelf.new 0) self.old (Create slice force) result self.new) shelf.old shelf.new }
+        ensures answer { HasAnswered (DriveFailed S.Shelf shelf.old shelf.new 0) (Created ∷ []) self.old result self.new }
         ensures counted { IsCommandCounted S.tale S.calls S.written shelf.old shelf.new 12 8 result }
-        ensures keeps { Keeps S.sizes S.faults S.rest S.held shelf.old shelf.new }
+        ensures kept { Kept S.Shelf shelf.old shelf.new }
     {
         match self.creation_refusal(slice, force) {
             Some(refusal) => Answer::Refused(refusal),
@@ -83,23 +74,18 @@ impl Engine {
 
     // Makes the database. A failed format leaves none; a failed write of its table may leave one that nobody
     // was told of, so the run ends.
+    #[tactic(auto, using(mdv_shelf::proofs::Noted::kept_more))]
     fn make_database<S: Shelf>(&mut self, shelf: &mut S, alloc: Global) -> Answer
         requires ready { IsReady self.old.host (S.sizes shelf.old) }
         requires begun { self.old.state.begun + 1 < 2 ^ 32 }
         requires room { 8208 ≤ self.old.host.home.blocks }
         requires none { self.old.state.opened ≡ None }
         requires up { self.old.state.down ≡ false }
-        ensures made { Ends (λ t u. Knows self.old.host self.old.state t → IsCreation (Rose (S.faults shelf.old (OnDrive 0)) (S.faults shelf.new (OnDrive 0))) self.old.host (kept_at self.old.state t) result (kept_at self.new.state u)) (S.tale shelf.old) (S.tale shelf.new) }
-        ensures moments { Moments (CarryMoment self.old.host (Created ∷ []) self.old.state) (S.tale shelf.old) (S.tale shelf.new) }
-        ensures carried { Ends (CarriedTo self.old.host (Created ∷ []) self.old.state result self.new.state) (S.tale shelf.old) (S.tale shelf.new) }
-        ensures home { Moments (StaysHome self.old.host) (S.tale shelf.old) (S.tale shelf.new) }
-        ensures plain { IsPlainAnswer result }
-        ensures cause { HasAnswerCause (Rose (S.faults shelf.old (OnDrive 0)) (S.faults shelf.new (OnDrive 0))) result }
-        ensures host { self.new.host ≡ self.old.host }
-        ensures well { IsWell self.old.host self.new.state }
-        ensures begun { self.new.state.begun ≡ self.old.state.begun + 1 }
+        ensures moments { AtEachTale S.Shelf (CarryMoment self.old.host (Created ∷ []) self.old.state) shelf.old shelf.new }
+        ensures end { AtEnd S.Shelf (CreationEnd (DriveFailed S.Shelf shelf.old shelf.new 0) self.old result self.new.state) shelf.old shelf.new }
+        ensures answer { HasAnswered (DriveFailed S.Shelf shelf.old shelf.new 0) (Created ∷ []) self.old result self.new }
         ensures counted { IsCommandCounted S.tale S.calls S.written shelf.old shelf.new 12 8 result }
-        ensures keeps { Keeps S.sizes S.faults S.rest S.held shelf.old shelf.new }
+        ensures kept { Kept S.Shelf shelf.old shelf.new }
     {
         let identity = Identity {
             fresh: self.host.fresh,

@@ -1,10 +1,5 @@
 ghost use Rattle.std.specs.Prelude.{◌≡◌, ◌≤◌, ◌+◌, ◌^◌, ℕ, List, [], ◌∷◌, length, replicate, Some, Err, IfOk, IfErr, OnOk, Contains};
-ghost use Rattle.mdv_base.specs.Causes.{Rose};
 ghost use Rattle.mdv_home.specs.Placed.{IsHomeTable};
-ghost use Rattle.mdv_shelf.specs.Calls.{OnDrive, Keeps, Took, TookAtMost};
-ghost use Rattle.mdv_shelf.specs.Moments.{Moments, Ends};
-ghost use Rattle.mdv_shelf.specs.Settle.{IsSettled, Settling};
-ghost use Rattle.mdv_shelf.specs.Tale.{Tale, last};
 ghost use Rattle.mdv_status.specs.Values.{values_reply};
 ghost use Rattle.mdv_table.specs.declared.volume.Volume.{Volume as AnyVolume};
 ghost use Rattle.mdv_table.specs.declared.volume.Base.TheVariants.{Slice};
@@ -13,12 +8,13 @@ ghost use Rattle.mdv_table.specs.Slices.{IsSound};
 ghost use Rattle.mdv_table.specs.Table.{IsKindOf};
 ghost use Rattle.mdv_words.specs.declared.command.Command.TheVariants.{Read, Write};
 ghost use Rattle.mdv_history.specs.History.{LiesOn, Saw, Wrote};
-ghost use Rattle.mdv_engine_law.specs.Home.{IsReady, StaysHome, site_of};
-ghost use Rattle.mdv_engine_law.specs.Line.{AreBlocksAt, AreBlocksRefused, IsCarriedOut, blocks_of, kept_at};
-ghost use Rattle.mdv_engine_law.specs.Replies.{AreValues, HasAnswerCause, IsAccepted, IsPlainAnswer};
-ghost use Rattle.mdv_engine_law.specs.Standing.{CarriedTo, CarryMoment, IsAwake, Knows};
 ghost use Rattle.mdv_engine.specs.Counts.{HasReadCounts, IsCommandCounted};
 ghost use Rattle.mdv_engine.specs.Engine.{HasBlocksCause, HasReadCause, IsCount, IsWell};
+ghost use Rattle.mdv_shelf.specs.Shelves.{AtEachTale, AtEnd, DriveFailed, Kept};
+ghost use Rattle.mdv_engine_law.specs.Home.{IsReady, site_of};
+ghost use Rattle.mdv_engine_law.specs.Line.{AreBlocksAt, AreBlocksRefused};
+ghost use Rattle.mdv_engine_law.specs.Standing.{CarryMoment};
+ghost use Rattle.mdv_engine.specs.Ends.{AreBlocksCounted, AreRead, AreWritten, CommandEnd, HasAnswered};
 
 use crate::engine::Engine;
 use mdv_base::{Block, DriveNo, Failed, Refusal, SliceName, VolId, ZERO_BLOCK};
@@ -34,6 +30,7 @@ const DRIVE: DriveNo = DriveNo(0);
 impl Engine {
     /// Reads blocks of a volume, from block `at` of it on: 1 to 1024 of them, with one call on the drive. No memory
     /// is taken. After a fault `out` holds anything.
+    #[tactic(auto, using(mdv_shelf::proofs::Noted::kept_more))]
     pub fn read_blocks<S: Shelf>(
         &self,
         shelf: &mut S,
@@ -44,13 +41,11 @@ impl Engine {
         requires ready { IsReady self.now.host (S.sizes shelf.old) }
         requires well { IsWell self.now.host self.now.state }
         requires count { IsCount (length out.old) }
-        ensures ok { OnOk result ((block : ℕ) × AreBlocksAt self.now.host self.now.state volume at (length out.new) block × ((t : Tale) → S.tale shelf.old ≡ Some t → out.new ≡ blocks_of (last t 0) block (length out.new))) }
-        ensures err { IfErr result (HasBlocksCause (Rose (S.faults shelf.old (OnDrive 0)) (S.faults shelf.new (OnDrive 0))) self.now.host self.now.state volume at (length out.new)) }
-        ensures refused { IfErr result (λ refusal. AreBlocksRefused self.now.host self.now.state volume at (length out.new) refusal → shelf.new ≡ shelf.old) }
+        ensures ok { OnOk result (AreRead S.Shelf shelf.old self.now volume at (length out.new) (λ blocks. out.new ≡ blocks)) }
+        ensures err { IfErr result (HasBlocksCause (DriveFailed S.Shelf shelf.old shelf.new 0) self.now.host self.now.state volume at (length out.new)) }
         ensures same { S.tale shelf.new ≡ S.tale shelf.old }
-        ensures counted { OnOk result (Took S.calls S.written shelf.old shelf.new 1 0) }
-        ensures counted_at_most { TookAtMost S.calls S.written shelf.old shelf.new 1 0 }
-        ensures keeps { Keeps S.sizes S.faults S.rest S.held shelf.old shelf.new }
+        ensures counted { AreBlocksCounted S.Shelf shelf.old shelf.new 1 0 self.now volume at (length out.new) result }
+        ensures kept { Kept S.Shelf shelf.old shelf.new }
     {
         let first = self.place_of(volume, at, out.len() as u64)?;
         match shelf.read(DRIVE, first, out) {
@@ -61,6 +56,7 @@ impl Engine {
 
     /// Writes blocks of a volume, from block `at` of it on: 1 to 1024 of them, with one write and one sync of the
     /// drive. No memory is taken. Where a call failed, each of the blocks may be old or new.
+    #[tactic(auto, using(mdv_shelf::proofs::Noted::kept_more))]
     pub fn write_blocks<S: Shelf>(
         &mut self,
         shelf: &mut S,
@@ -71,14 +67,11 @@ impl Engine {
         requires ready { IsReady self.old.host (S.sizes shelf.old) }
         requires well { IsWell self.old.host self.old.state }
         requires count { IsCount (length from.now) }
-        ensures ok { OnOk result ((block : ℕ) × AreBlocksAt self.old.host self.old.state volume at (length from.now) block × Moments (Settling 0 block from.now) (S.tale shelf.old) (S.tale shelf.new) × Ends (λ _ u. IsSettled 0 block from.now u) (S.tale shelf.old) (S.tale shelf.new)) }
-        ensures fault { result ≡ Err Refusal.IoFault → (block : ℕ) × AreBlocksAt self.old.host self.old.state volume at (length from.now) block × Moments (Settling 0 block from.now) (S.tale shelf.old) (S.tale shelf.new) }
-        ensures err { IfErr result (HasBlocksCause (Rose (S.faults shelf.old (OnDrive 0)) (S.faults shelf.new (OnDrive 0))) self.old.host self.old.state volume at (length from.now)) }
-        ensures refused { IfErr result (λ refusal. AreBlocksRefused self.old.host self.old.state volume at (length from.now) refusal → shelf.new ≡ shelf.old) }
-        ensures counted { OnOk result (Took S.calls S.written shelf.old shelf.new 2 (length from.now)) }
-        ensures counted_at_most { TookAtMost S.calls S.written shelf.old shelf.new 2 (length from.now) }
+        ensures put { AreWritten S.Shelf shelf.old shelf.new self.old volume at from.now result }
+        ensures err { IfErr result (HasBlocksCause (DriveFailed S.Shelf shelf.old shelf.new 0) self.old.host self.old.state volume at (length from.now)) }
         ensures same { self.new ≡ self.old }
-        ensures keeps { Keeps S.sizes S.faults S.rest S.held shelf.old shelf.new }
+        ensures counted { AreBlocksCounted S.Shelf shelf.old shelf.new 2 (length from.now) self.old volume at (length from.now) result }
+        ensures kept { Kept S.Shelf shelf.old shelf.new }
     {
         let first = self.place_of(volume, at, from.len() as u64)?;
         match settle(shelf, DRIVE, first, from) {
@@ -88,6 +81,7 @@ impl Engine {
     }
 
     // `read dN AT COUNT`.
+    #[tactic(auto, using(mdv_shelf::proofs::Noted::kept_more))]
     pub(crate) fn read<S: Shelf>(
         &self,
         shelf: &mut S,
@@ -99,15 +93,11 @@ impl Engine {
         requires ready { IsReady self.now.host (S.sizes shelf.old) }
         requires well { IsWell self.now.host self.now.state }
         requires count { IsCount count }
-        ensures answered { Ends (λ t u. Knows self.now.host self.now.state t → IsCarriedOut (Rose (S.faults shelf.old (OnDrive 0)) (S.faults shelf.new (OnDrive 0))) self.now.host (kept_at self.now.state t) (Read volume at count) result (kept_at self.now.state u)) (S.tale shelf.old) (S.tale shelf.new) }
-        ensures moments { Moments (CarryMoment self.now.host (Saw volume at count ∷ []) self.now.state) (S.tale shelf.old) (S.tale shelf.new) }
-        ensures carried { Ends (CarriedTo self.now.host (Saw volume at count ∷ []) self.now.state result self.now.state) (S.tale shelf.old) (S.tale shelf.new) }
-        ensures home { Moments (StaysHome self.now.host) (S.tale shelf.old) (S.tale shelf.new) }
-        ensures awake { IsAccepted result → IsAwake self.now.state }
-        ensures plain { IsPlainAnswer result }
-        ensures cause { HasAnswerCause (Rose (S.faults shelf.old (OnDrive 0)) (S.faults shelf.new (OnDrive 0))) result }
+        ensures moments { AtEachTale S.Shelf (CarryMoment self.now.host (Saw volume at count ∷ []) self.now.state) shelf.old shelf.new }
+        ensures end { AtEnd S.Shelf (CommandEnd (DriveFailed S.Shelf shelf.old shelf.new 0) self.now (Read volume at count) result self.now) shelf.old shelf.new }
+        ensures answer { HasAnswered (DriveFailed S.Shelf shelf.old shelf.new 0) (Saw volume at count ∷ []) self.now result self.now }
         ensures counted { IsCommandCounted S.tale S.calls S.written shelf.old shelf.new 1 0 result }
-        ensures keeps { Keeps S.sizes S.faults S.rest S.held shelf.old shelf.new }
+        ensures kept { Kept S.Shelf shelf.old shelf.new }
     {
         match self.values(shelf, alloc, volume, at, count) {
             Ok(text) => Answer::Values(text),
@@ -115,6 +105,7 @@ impl Engine {
         }
     }
 
+    #[tactic(auto, using(mdv_shelf::proofs::Noted::kept_more))]
     fn values<S: Shelf>(
         &self,
         shelf: &mut S,
@@ -126,12 +117,11 @@ impl Engine {
         requires ready { IsReady self.now.host (S.sizes shelf.old) }
         requires well { IsWell self.now.host self.now.state }
         requires count { IsCount count }
-        ensures ok { IfOk result (λ text. (block : ℕ) × AreBlocksAt self.now.host self.now.state volume at count block × ((t : Tale) → S.tale shelf.old ≡ Some t → text ≡ values_reply at (blocks_of (last t 0) block count))) }
-        ensures values { IfOk result AreValues }
-        ensures err { IfErr result (HasReadCause (Rose (S.faults shelf.old (OnDrive 0)) (S.faults shelf.new (OnDrive 0))) self.now.host self.now.state volume at count) }
+        ensures ok { IfOk result (λ text. AreRead S.Shelf shelf.old self.now volume at count (λ blocks. text ≡ values_reply at blocks)) }
+        ensures err { IfErr result (HasReadCause (DriveFailed S.Shelf shelf.old shelf.new 0) self.now.host self.now.state volume at count) }
         ensures same { S.tale shelf.new ≡ S.tale shelf.old }
         ensures counted { HasReadCounts S.tale S.calls S.written shelf.old shelf.new result }
-        ensures keeps { Keeps S.sizes S.faults S.rest S.held shelf.old shelf.new }
+        ensures kept { Kept S.Shelf shelf.old shelf.new }
     {
         let _first = self.place_of(volume, at, u64::from(count))?;
         let mut blocks = buffer(alloc, count)?;
@@ -146,6 +136,7 @@ impl Engine {
     }
 
     // `write dN AT HEX`.
+    #[tactic(auto, using(mdv_shelf::proofs::Noted::kept_more))]
     pub(crate) fn write<S: Shelf>(
         &mut self,
         shelf: &mut S,
@@ -155,16 +146,11 @@ impl Engine {
     ) -> Answer
         requires ready { IsReady self.old.host (S.sizes shelf.old) }
         requires well { IsWell self.old.host self.old.state }
-        ensures answered { Ends (λ t u. Knows self.old.host self.old.state t → IsCarriedOut (Rose (S.faults shelf.old (OnDrive 0)) (S.faults shelf.new (OnDrive 0))) self.old.host (kept_at self.old.state t) (Write volume at block.now) result (kept_at self.new.state u)) (S.tale shelf.old) (S.tale shelf.new) }
-        ensures moments { Moments (CarryMoment self.old.host (Wrote volume at (block.now ∷ []) ∷ []) self.old.state) (S.tale shelf.old) (S.tale shelf.new) }
-        ensures carried { Ends (CarriedTo self.old.host (Wrote volume at (block.now ∷ []) ∷ []) self.old.state result self.new.state) (S.tale shelf.old) (S.tale shelf.new) }
-        ensures home { Moments (StaysHome self.old.host) (S.tale shelf.old) (S.tale shelf.new) }
-        ensures awake { IsAccepted result → IsAwake self.old.state }
-        ensures plain { IsPlainAnswer result }
-        ensures cause { HasAnswerCause (Rose (S.faults shelf.old (OnDrive 0)) (S.faults shelf.new (OnDrive 0))) result }
-        ensures same { self.new ≡ self.old }
+        ensures moments { AtEachTale S.Shelf (CarryMoment self.old.host (Wrote volume at (block.now ∷ []) ∷ []) self.old.state) shelf.old shelf.new }
+        ensures end { AtEnd S.Shelf (CommandEnd (DriveFailed S.Shelf shelf.old shelf.new 0) self.old (Write volume at block.now) result self.new) shelf.old shelf.new }
+        ensures answer { HasAnswered (DriveFailed S.Shelf shelf.old shelf.new 0) (Wrote volume at (block.now ∷ []) ∷ []) self.old result self.new }
         ensures counted { IsCommandCounted S.tale S.calls S.written shelf.old shelf.new 2 1 result }
-        ensures keeps { Keeps S.sizes S.faults S.rest S.held shelf.old shelf.new }
+        ensures kept { Kept S.Shelf shelf.old shelf.new }
     {
         match self.write_blocks(shelf, volume, at, &[*block]) {
             Ok(()) => Answer::Ok,

@@ -9,6 +9,7 @@ use Rattle.mdv_engine_law.specs.Standing.{StandsAt, Goes, Reached, Knows, IsKnow
 use Rattle.mdv_engine_law.proofs.Going.{goes_none, goes_more, no_creation}
 use Rattle.mdv_engine_law.proofs.Knowing.{stands_kept}
 use Rattle.mdv_engine_law.proofs.Lifting.{lift_log, goes_woken}
+use Rattle.mdv_engine_law.proofs.Staying.{stays_in_replica, stays_still}
 
 -- what a boot leaves in memory that has read the drive, and one that hasn't
 abbrev pub booted : Option Newest → ℕ → Memory
@@ -32,6 +33,7 @@ module _ (host : Host) (t : Tale) where
     booted_by : (opened : Option Newest) (After : Log → Type 0) → Knows host (booted opened begun) u → ((lg : Log) → After lg → IfSome opened (λ newest. IsNewestIn newest lg))
         → GoesOnTo (site_of host) NoCreation After t u → BootedTo host (booted opened begun) t u
     booted_by opened After knows newest goes = record {
+      home = stays_in_replica host t u kept;
       quiet = quiet;
       knows = knows;
       goes = λ h stands.
@@ -55,6 +57,7 @@ module _ (host : Host) (t : Tale) where
   booted_down u begun kept quiet =
       let knows : Knows host (unread begun) u = record { nothing = λ none up. absurd (cc (up)); opened = tt } in
       record {
+        home = stays_still host t u kept;
         quiet = quiet;
         knows = knows;
         goes = λ h stands.

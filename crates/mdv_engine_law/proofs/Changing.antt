@@ -9,6 +9,7 @@ use Rattle.mdv_engine_law.specs.Standing.{StandsAt, IsAsked, Goes, Reached, Know
 use Rattle.mdv_engine_law.proofs.Going.{no_creation, only_asked}
 use Rattle.mdv_engine_law.proofs.Lifting.{lift_log}
 use Rattle.mdv_engine_law.proofs.Refusing.{of_opened, opened_has, knows_opened}
+use Rattle.mdv_engine_law.proofs.Staying.{stays_in_replica}
 
 -- the newest table of the log is the next one, and the `ok` of its change may be told
 abbrev pub IsCommittedTo : Newest → Change → Table → Log → Type 0
@@ -33,7 +34,7 @@ module _ (host : Host) (memory : Memory) (newest : Newest) (opened : memory.open
       (record { is_log = known.stands.stands.database.is_log; is_newest = opened_has memory newest (λ n. IsNewestIn n h.database) opened known.newest })
 
   pub changing_moment : told m ≡ told t → Commits host newest change Anything t m → CarryMoment host (Changed change ∷ []) memory t m
-  changing_moment quiet goes = record { quiet = quiet; goes = λ h known. changing Anything Reached goes h known (λ es g there is. tt) }
+  changing_moment quiet goes = record { home = stays_in_replica host t m kept; quiet = quiet; goes = λ h known. changing Anything Reached goes h known (λ es g there is. tt) }
 
   -- it was committed, and its `ok` may be told
   pub changed : (table : Table) (next : Memory) → next.opened ≡ Some (next_newest newest table) → (IsOpened (site_of host) newest t → IsOpened (site_of host) (next_newest newest table) m)

@@ -1,13 +1,14 @@
 -- What a command came to, told of the longer stretch that its reply ends.
 use Rattle.std.proofs.Common.{◌≡◌, inl, inr, ℕ, ◌+◌, ◌-◌, ◌^◌, ◌≤◌, min, List, [], ◌∷◌, ◌++◌, sym, refl, ◌∙◌, ap, subst, arith}
-use Rattle.mdv_engine_law.specs.Below.{Rose, KeptOutside, nowhere, Tale, told, Change, Command, Create, Read, Write, Boot}
+use Rattle.mdv_engine_law.specs.Below.{Rose, KeptOutside, nowhere, Tale, told, Change, Command, Create, Read, Write, Line}
 use Rattle.mdv_words.specs.declared.command.Command.TheVariants.{MakeStripe}
+use Rattle.mdv_words.specs.declared.command.Line.TheVariants as words
 use Rattle.mdv_engine_law.specs.declared.answer.Answer.{Answer}
 use Rattle.mdv_engine_law.specs.declared.answer.Answer.TheVariants as outcome
 use Rattle.mdv_engine_law.specs.declared.answer.Reply.{Reply}
 use Rattle.mdv_engine_law.specs.declared.answer.Reply.TheVariants as reply
 use Rattle.mdv_engine_law.specs.declared.host.Host.{Host}
-use Rattle.mdv_engine_law.specs.Line.{Memory, Kept, kept_at, drive_content, IsCarriedOut, IsRebooted, adopted, empty, down, lost, spent, wanting, MayChange, IsChange, IsCreation, IsRead, IsWrite}
+use Rattle.mdv_engine_law.specs.Line.{Memory, Kept, kept_at, drive_content, IsCarriedOut, ComesTo, IsRebooted, adopted, empty, down, lost, spent, wanting, MayChange, IsChange, IsCreation, IsRead, IsWrite}
 use Rattle.mdv_engine_law.specs.Replies.{IsTold, HasAnswerCause, HasReplyCause}
 use Rattle.mdv_engine_law.specs.Standing.{OnlyReplied, Executed}
 
@@ -63,7 +64,10 @@ module _ (failed more : Type 0) (cause : failed → more) (host : Host) (kept ne
   carried_more (Read volume at count) (inr (block, there, read)) = inr (block, there, read_more at count block read)
   carried_more (Write volume at block) (inl refused) = inl refused
   carried_more (Write volume at block) (inr (place, there, written)) = inr (place, there, write_more place (block ∷ []) written)
-  carried_more Boot is = rebooted_more is
+
+  pub comes_more : (line : Line) → ComesTo failed host kept line answer next → ComesTo more host kept line answer next
+  comes_more words.Boot is = rebooted_more is
+  comes_more (words.Command command) is = carried_more command is
 
 module _ (failed more : Type 0) (piece : List ℕ) (cause : failed → more) where
   pub told_more : (answer : Answer) (r : Reply) → IsTold failed answer r piece → IsTold more answer r piece
@@ -124,13 +128,13 @@ module _ (drive replies failed more : Type 0) (piece : List ℕ) (one : drive �
   told_cause outcome.Spent (reply.Panic active listed) cause is = absurd is
   told_cause outcome.NoMemory (reply.Panic active listed) cause is = absurd is
 
--- a command that was carried out, and then replied to
-pub executed : (drive replies failed more : Type 0) (host : Host) (command : Command) (old new : Memory) (answer : Answer) (r : Reply) (t u v : Tale) → (drive → failed) → (replies → more) → told u ≡ told t
-    → IsCarriedOut drive host (kept_at old t) command answer (kept_at new u) → OnlyReplied replies answer r u v → Executed failed more host command old new r t v
-executed drive replies failed more host command old new answer r t u v one other quiet carried given = record {
+-- a line that was carried out, and then replied to
+pub executed : (drive replies failed more : Type 0) (host : Host) (line : Line) (old new : Memory) (answer : Answer) (r : Reply) (t u v : Tale) → (drive → failed) → (replies → more) → told u ≡ told t
+    → ComesTo drive host (kept_at old t) line answer (kept_at new u) → OnlyReplied replies answer r u v → Executed failed more host line old new r t v
+executed drive replies failed more host line old new answer r t u v one other quiet carried given = record {
   answer = answer;
-  carried = subst (λ (content : ℕ → List ℕ). IsCarriedOut failed host (kept_at old t) command answer (record { memory = new; content = content })) (content_kept u v given.kept)
-      (carried_more drive failed one host (kept_at old t) (kept_at new u) answer command carried);
+  carried = subst (λ (content : ℕ → List ℕ). ComesTo failed host (kept_at old t) line answer (record { memory = new; content = content })) (content_kept u v given.kept)
+      (comes_more drive failed one host (kept_at old t) (kept_at new u) answer line carried);
   replied = record {
     piece = given.replied.piece;
     is_told = given.replied.is_told ∙ ap (λ (l : List ℕ). l ++ given.replied.piece) quiet;

@@ -14,3 +14,4 @@ pub mod Changing
 pub mod Transfer
 pub mod Keeping
 pub mod Staying
+pub mod Kept

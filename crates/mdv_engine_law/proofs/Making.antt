@@ -9,6 +9,7 @@ use Rattle.mdv_engine_law.specs.Standing.{StandsAt, IsOfRun, IsMadeHere, IsAsked
 use Rattle.mdv_engine_law.proofs.Going.{only_asked}
 use Rattle.mdv_engine_law.proofs.Lifting.{lift_log}
 use Rattle.mdv_engine_law.proofs.Refusing.{of_opened, knows_opened}
+use Rattle.mdv_engine_law.proofs.Staying.{stays_in_replica}
 
 -- how the log goes on by the creation of this number, where nothing was there
 abbrev pub Makes : Host → Memory → (Log → Type 0) → Tale → Tale → Type 0
@@ -25,7 +26,7 @@ module _ (host : Host) (memory : Memory) (room : 8208 ≤ host.home.blocks) (non
       lift_log host (IsAsked (Created ∷ [])) Then Anything (IsThis (identity_of host memory.begun)) NoChange After t m kept mine (λ change nothing. absurd nothing) then (goes (known.knows.nothing none up)) h known.stands tt
 
   pub making_moment : told m ≡ told t → Makes host memory Anything t m → CarryMoment host (Created ∷ []) memory t m
-  making_moment quiet goes = record { quiet = quiet; goes = λ h known. making Anything Reached goes h known (λ es g there is. tt) }
+  making_moment quiet goes = record { home = stays_in_replica host t m kept; quiet = quiet; goes = λ h known. making Anything Reached goes h known (λ es g there is. tt) }
 
   -- it was made, and its `ok` may be told
   pub made : (table : Table) (next : Memory) → next.opened ≡ Some (created_newest (site_of host) table) → (ShowsNothing (site_of host) t → IsOpened (site_of host) (created_newest (site_of host) table) m)

@@ -11,7 +11,8 @@ use Rattle.mdv_engine_law.specs.declared.answer.Answer.{Answer}
 use Rattle.mdv_engine_law.specs.declared.answer.Answer.TheVariants as outcome
 use Rattle.mdv_engine_law.specs.declared.host.Host.{Host}
 use Rattle.mdv_engine_law.specs.Line.{Memory, IsCreateRefused, IsChangeRefused, AreBlocksRefused}
-use Rattle.mdv_engine_law.specs.Replies.{IsPlain, IsPlainAnswer, AreValues, IsReply, IsFront, IsAccepted, acked, acked_in, text_of, refusal_line, ok_line}
+use Rattle.mdv_engine_law.specs.Replies.{IsPlain, IsPlainAnswer, AreValues, IsReply, IsFront, IsAccepted, acked, acked_in, issuable_in, issuable_of, issued_by, text_of, refusal_line, ok_line}
+use Rattle.mdv_engine_law.specs.Standing.{IsAsked}
 
 -- each refusal's text begins with the same letter
 plainly : (r : Refusal) → lacks 10 (refusal_text r) ≡ true → IsPlain r
@@ -172,26 +173,75 @@ module _ (asked : List Deed) where
   pub acked_refusal_line : (r : Refusal) → IsPlain r → acked asked (refusal_line r) ≡ []
   acked_refusal_line r plain = acked_refusal r (refusal_line r) (alone (refusal_line r) (refusal_line r) (refusal_answers r plain))
 
+  -- what they let the line issue
+  pub issuable_none : (bytes : List ℕ) → replies_in bytes ≡ [] → issuable_of asked bytes ≡ asked
+  issuable_none bytes none = ap (issuable_in asked) none
+
+  issuable_ok : (bytes : List ℕ) → replies_in bytes ≡ ok_line ∷ [] → issuable_of asked bytes ≡ asked
+  issuable_ok bytes one = ap (issuable_in asked) one
+
+  pub issuable_ok_line : issuable_of asked ok_line ≡ asked
+  issuable_ok_line = issuable_ok ok_line (alone ok_line ok_line ok_answers)
+
+  pub issuable_values : (text : List ℕ) → AreValues text → issuable_of asked text ≡ asked
+  issuable_values text are = issuable_ok text (alone text ok_line (values_answer text are))
+
+  -- which is no less than the answer says
+  abbrev pub IsLet : Answer → List ℕ → Type 0
+  IsLet answer bytes = (deed : Deed) → IsAsked (issued_by asked answer) deed → IsAsked (issuable_of asked bytes) deed
+
+  nothing_more : (may : List Deed) (deed : Deed) → IsAsked [] deed → IsAsked may deed
+  nothing_more may deed none = absurd (omega (arith, none.1))
+
+  -- and no more than was asked
+  pub issued_asked : (answer : Answer) (deed : Deed) → IsAsked (issued_by asked answer) deed → IsAsked asked deed
+  issued_asked outcome.Ok deed is = is
+  issued_asked (outcome.Values text) deed is = is
+  issued_asked (outcome.Refused IoFault) deed is = is
+  issued_asked (outcome.Refused other) deed is = nothing_more asked deed is
+  issued_asked outcome.Panic deed is = is
+  issued_asked outcome.Spent deed is = nothing_more asked deed is
+  issued_asked outcome.NoMemory deed is = nothing_more asked deed is
+
+  let_none : (answer : Answer) (bytes : List ℕ) → replies_in bytes ≡ [] → IsLet answer bytes
+  let_none answer bytes none deed is = subst (λ (may : List Deed). IsAsked may deed) (sym (issuable_none bytes none)) (issued_asked answer deed is)
+
+  let_refusal : (r : Refusal) (bytes : List ℕ) → replies_in bytes ≡ refusal_line r ∷ [] → IsLet (outcome.Refused r) bytes
+  unfolding digits
+  let_refusal IoFault bytes one deed is = subst (λ (may : List Deed). IsAsked may deed) (sym (ap (issuable_in asked) one)) is
+  let_refusal other bytes one deed is = nothing_more (issuable_of asked bytes) deed is
+
+  pub let_refusal_line : (r : Refusal) → IsPlain r → IsLet (outcome.Refused r) (refusal_line r)
+  let_refusal_line r plain = let_refusal r (refusal_line r) (alone (refusal_line r) (refusal_line r) (refusal_answers r plain))
+
   -- the whole of what was asked, of an answer that accepts it, or nothing
+  pub record All (answer : Answer) (bytes : List ℕ) : Type 0 where
+    pub accepted : IsAccepted answer
+    pub acked_is : acked asked bytes ≡ asked
+    pub issuable_is : issuable_of asked bytes ≡ asked
+
   abbrev pub Ways : Answer → List ℕ → Type 0
-  Ways answer bytes = (IsAccepted answer × (acked asked bytes ≡ asked)) ⊎ (acked asked bytes ≡ [])
+  Ways answer bytes = All answer bytes ⊎ ((acked asked bytes ≡ []) × IsLet answer bytes)
 
   accepted_ways : (answer : Answer) (text : List ℕ) → IsAccepted answer → Answers text ok_line → (count : ℕ) → Ways answer (take count text)
   accepted_ways answer text accepted answers count = ⊎_elim
-      (λ (none : replies_in (take count text) ≡ []). inr (acked_none (take count text) none))
-      (λ (one : replies_in (take count text) ≡ ok_line ∷ []). inl (accepted, acked_ok (take count text) one))
+      (λ (none : replies_in (take count text) ≡ []). inr (acked_none (take count text) none, let_none answer (take count text) none))
+      (λ (one : replies_in (take count text) ≡ ok_line ∷ []). inl (record { accepted = accepted; acked_is = acked_ok (take count text) one; issuable_is = issuable_ok (take count text) one }))
       (front_ways text ok_line answers count)
 
-  refused_ways : (r : Refusal) → IsPlain r → (count : ℕ) → acked asked (take count (refusal_line r)) ≡ []
+  refused_ways : (r : Refusal) → IsPlain r → (count : ℕ) → Ways (outcome.Refused r) (take count (refusal_line r))
   refused_ways r plain count = ⊎_elim
-      (λ (none : replies_in (take count (refusal_line r)) ≡ []). acked_none (take count (refusal_line r)) none)
-      (λ (one : replies_in (take count (refusal_line r)) ≡ refusal_line r ∷ []). acked_refusal r (take count (refusal_line r)) one)
+      (λ (none : replies_in (take count (refusal_line r)) ≡ []). inr (acked_none (take count (refusal_line r)) none, let_none (outcome.Refused r) (take count (refusal_line r)) none))
+      (λ (one : replies_in (take count (refusal_line r)) ≡ refusal_line r ∷ []). inr (acked_refusal r (take count (refusal_line r)) one, let_refusal r (take count (refusal_line r)) one))
       (front_ways (refusal_line r) (refusal_line r) (refusal_answers r plain) count)
+
+  untold_ways : (answer : Answer) (count : ℕ) → Ways answer (take count [])
+  untold_ways answer count = inr (acked_none (take count []) (none_ways count), let_none answer (take count []) (none_ways count))
 
   pub acked_ways : (answer : Answer) → IsPlainAnswer answer → (count : ℕ) → Ways answer (take count (text_of answer))
   acked_ways outcome.Ok plain count = accepted_ways outcome.Ok ok_line tt ok_answers count
   acked_ways (outcome.Values text) plain count = accepted_ways (outcome.Values text) text tt (values_answer text plain) count
-  acked_ways (outcome.Refused r) plain count = inr (refused_ways r plain count)
-  acked_ways outcome.Panic plain count = inr (acked_none (take count []) (none_ways count))
-  acked_ways outcome.Spent plain count = inr (acked_none (take count []) (none_ways count))
-  acked_ways outcome.NoMemory plain count = inr (acked_none (take count []) (none_ways count))
+  acked_ways (outcome.Refused r) plain count = refused_ways r plain count
+  acked_ways outcome.Panic plain count = untold_ways outcome.Panic count
+  acked_ways outcome.Spent plain count = untold_ways outcome.Spent count
+  acked_ways outcome.NoMemory plain count = untold_ways outcome.NoMemory count

@@ -1,10 +1,11 @@
 -- A line that ends before anything is done, and what is known by what is in memory.
-use Rattle.std.proofs.Common.{◌≡◌, List, Option, Some, IfSome, sym, ◌∙◌, subst}
+use Rattle.std.proofs.Common.{◌≡◌, List, [], Option, Some, IfSome, sym, ◌∙◌, subst}
 use Rattle.mdv_engine_law.specs.Below.{Refusal, Tale, Newest, IsOpened, IsNewestIn, Deed}
 use Rattle.mdv_engine_law.specs.declared.answer.Answer.TheVariants as outcome
 use Rattle.mdv_engine_law.specs.declared.host.Host.{Host}
 use Rattle.mdv_engine_law.specs.Home.{site_of}
 use Rattle.mdv_engine_law.specs.Line.{Memory}
+use Rattle.mdv_engine_law.specs.Replies.{issued_by}
 use Rattle.mdv_engine_law.specs.Standing.{IsAsked, Knows, IsKnownAfter, CarriedTo}
 use Rattle.mdv_engine_law.proofs.Going.{goes_none}
 
@@ -34,7 +35,7 @@ module _ (host : Host) (asked : List Deed) (old next : Memory) (t : Tale) where
     -- a refusal before anything was done
     pub refused_still : (refusal : Refusal) → CarriedTo host asked old (outcome.Refused refusal) next t t
     refused_still refusal = record {
-      goes = λ h known. goes_none host (IsAsked asked) (λ es g. IsKnownAfter host asked (outcome.Refused refusal) next g t) t h known.stands (record {
+      goes = λ h known. goes_none host (IsAsked (issued_by asked (outcome.Refused refusal))) (λ es g. IsKnownAfter host asked (outcome.Refused refusal) next g t) t h known.stands (record {
         stands = known.stands;
         newest = subst (λ (o : Option Newest). IfSome o (λ n. IsNewestIn n h.database)) (sym opened) known.newest;
         knows = still_knows known.knows;
@@ -44,4 +45,4 @@ module _ (host : Host) (asked : List Deed) (old next : Memory) (t : Tale) where
 
   -- a number would reach its limit
   pub spent_still : CarriedTo host asked old outcome.Spent next t t
-  spent_still = record { goes = λ h known. goes_none host (IsAsked asked) (λ es g. IsKnownAfter host asked outcome.Spent next g t) t h known.stands tt; knows = λ knows. tt }
+  spent_still = record { goes = λ h known. goes_none host (IsAsked []) (λ es g. IsKnownAfter host asked outcome.Spent next g t) t h known.stands tt; knows = λ knows. tt }

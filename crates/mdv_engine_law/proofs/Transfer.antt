@@ -2,13 +2,14 @@
 use Rattle.std.proofs.Common.{◌+◌, ◌<◌, ◌≤◌, ℕ, List, [], ◌∷◌, length, Option, IfSome, Contains, refl, sym, subst, arith}
 use Rattle.mdv_engine_law.specs.Below.{Identity, VolId, IoFault, AreApart, range, Settling, IsSettled, Tale, last, Table, Version, Newest, IsTableAt, with_blocks, nothing, replica, IsOpened, IsNewestIn, History, Deed, Wrote, Saw, Event, Extent, Issues, HasExtent, LiesOn, history_after}
 use Rattle.mdv_shelf.proofs.Frame.{fixed_settled}
+use Rattle.mdv_home.proofs.Places.{whole_place}
 use Rattle.mdv_store_law.proofs.Covering.{last_image}
 use Rattle.mdv_store_law.proofs.Families.{contains_first, written_firm}
 use Rattle.mdv_store_law.proofs.Frame.{frames}
 use Rattle.mdv_history.proofs.Values.{values_issued, issued_newest}
 use Rattle.mdv_engine_law.specs.declared.answer.Answer.TheVariants as outcome
 use Rattle.mdv_engine_law.specs.declared.host.Host.{Host}
-use Rattle.mdv_engine_law.specs.Home.{IsReady, site_of}
+use Rattle.mdv_engine_law.specs.Home.{IsReady, StaysHome, site_of}
 use Rattle.mdv_engine_law.specs.Line.{Memory, AreBlocksAt}
 use Rattle.mdv_engine_law.specs.Standing.{StandsAt, IsAsked, Goes, Reached, Knows, IsKnown, IsKnownAfter, CarryMoment, CarriedTo}
 use Rattle.mdv_engine_law.proofs.Beside.{IsPlain, of_home, on_plain, replica_within, opened_beside, table_opened}
@@ -66,7 +67,7 @@ module _ (host : Host) (sizes : List ℕ) (ready : IsReady host sizes) (memory :
           some = some;
           within = there.within;
           block = there.block_is;
-          apart = apart_from t 8192 known.knows (omega (arith, room));
+          apart = subst (λ (n : ℕ). AreApart (range 0 block count) (range 0 (host.home.start + 16) n)) (sym (whole_place host.home room)) (apart_from t 8192 known.knows (omega (arith, room)));
         };
       }
 
@@ -118,8 +119,8 @@ module _ (host : Host) (sizes : List ℕ) (ready : IsReady host sizes) (memory :
         after = then h has (record { stands = stands; newest = known.newest; knows = knows_written known.knows });
       }
 
-  pub writing_moment : CarryMoment host (wrote ∷ []) memory t m
-  writing_moment = record { quiet = settling.quiet; goes = issued_by Reached (λ h has known. tt) }
+  pub writing_moment : StaysHome host t m → CarryMoment host (wrote ∷ []) memory t m
+  writing_moment home = record { home = home; quiet = settling.quiet; goes = issued_by Reached (λ h has known. tt) }
 
   -- they are on the disk, and the `ok` may be told
   pub wrote_blocks : IsSettled 0 block blocks m → CarriedTo host (wrote ∷ []) memory outcome.Ok memory t m

@@ -54,4 +54,5 @@ pub use Rattle.mdv_table.specs.declared.volume.Base.{Base}
 pub use Rattle.mdv_table.specs.declared.volume.Volume.{Volume}
 pub use Rattle.mdv_table.specs.declared.volume.VolumeKind.{VolumeKind}
 pub use Rattle.mdv_words.specs.declared.command.Command.{Command}
-pub use Rattle.mdv_words.specs.declared.command.Command.TheVariants.{Boot, Create, Read, Write}
+pub use Rattle.mdv_words.specs.declared.command.Command.TheVariants.{Create, Read, Write}
+pub use Rattle.mdv_words.specs.declared.command.Line.{Line}

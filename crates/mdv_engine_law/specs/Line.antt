@@ -1,11 +1,13 @@
 -- What a line comes to, and what is kept then.
 use Rattle.std.specs.Prelude.{◌≡◌, ◌≢◌, ◌⊎◌, ◌+◌, ◌<◌, ◌≤◌, ◌^◌, ℕ, Bool, true, false, List, [], ◌∷◌, length, map, Option, Some, None, slice_index_or}
 use Rattle.std.specs.List.{range_with_len}
-use Rattle.mdv_engine_law.specs.Below.{SliceName, Mark, VolId, Refusal, NoDatabase, NeedForce, NoSuchVolume, NoSuchSlice, SliceInUse, TooSmall, WrongKind, WrongState, OutOfRange, ReplicaFull, IoFault, OutOfMemory, StateWord, HasNoSlice, record_text, Head, First, Second, IsSpareSlot, greatest, other_slot, room_of, shows, Tale, covers, last, values_reply, Change, MakeStripe, One, Table, HasNoVolume, Command, Create, Read, Write, Boot, IsMade, Site, Newest, IsReplica, IsFound, HasTable, IsNewestOf, area_of, adopted_newest, next_newest, rewritten, Deed, Created, Changed, Wrote, Saw, LiesOn}
+use Rattle.mdv_engine_law.specs.Below.{SliceName, Mark, VolId, Refusal, NoDatabase, NeedForce, NoSuchVolume, NoSuchSlice, SliceInUse, TooSmall, WrongKind, WrongState, OutOfRange, ReplicaFull, IoFault, OutOfMemory, StateWord, HasNoSlice, record_text, Head, First, Second, IsSpareSlot, greatest, other_slot, room_of, shows, Tale, covers, last, values_reply, Change, MakeStripe, One, Table, HasNoVolume, Command, Create, Read, Write, Line, IsMade, Site, Newest, IsReplica, IsFound, HasTable, IsNewestOf, area_of, adopted_newest, next_newest, rewritten, Deed, Created, Changed, Wrote, Saw, LiesOn}
 use Rattle.mdv_base.specs.declared.state_word.StateWord.TheVariants as word
 use Rattle.mdv_store_law.specs.Adoptable.{IsAdoptable}
+use Rattle.mdv_store_law.specs.Standing.{IsReplicaMade}
 use Rattle.mdv_table.specs.Change as table
 use Rattle.mdv_words.specs.declared.command.Command.TheVariants as command
+use Rattle.mdv_words.specs.declared.command.Line.TheVariants as words
 use Rattle.mdv_engine_law.specs.declared.answer.Answer.{Answer}
 use Rattle.mdv_engine_law.specs.declared.answer.Answer.TheVariants as outcome
 use Rattle.mdv_engine_law.specs.declared.host.Host.{Host}
@@ -109,12 +111,14 @@ pub record IsUnbegun (kept next : Kept) : Type 0 where
   pub memory : next.memory ≡ record kept.memory { begun = kept.memory.begun + 1 }
   pub content : IsSame kept.content next.content
 
--- a creation is answered ok, or memory was wanting; where the drive failed it may instead be refused, or lose the replica
+-- A creation is answered ok, or memory was wanting. Where the drive failed it may instead be refused, or lose the replica, if its format was
+-- answered: the drive has the new replica then, whatever its slots show.
 abbrev pub IsCreation : Type 0 → Host → Kept → Answer → Kept → Type 0
 IsCreation failed host kept answer next =
     ((answer ≡ outcome.Ok) × IsCreated host kept next)
     ⊎ (((answer ≡ outcome.Refused OutOfMemory) × IsUnbegun kept next)
-    ⊎ (failed × (((answer ≡ outcome.Refused IoFault) × IsUncreated host kept next) ⊎ (answer ≡ outcome.Panic))))
+    ⊎ (failed × (((answer ≡ outcome.Refused IoFault) × IsUncreated host kept next)
+    ⊎ ((answer ≡ outcome.Panic) × IsReplicaMade (site_of host) (identity_of host kept.memory.begun) next.content))))
 
 -- how many bytes a record may have in the open database
 abbrev pub record_room : Newest → ℕ
@@ -254,7 +258,11 @@ IsCarriedOut failed host kept (Read volume at count) answer next =
 IsCarriedOut failed host kept (Write volume at block) answer next =
     ((refusal : Refusal) × AreBlocksRefused host kept.memory volume at 1 refusal × IsTurnedDown refusal kept answer next)
     ⊎ ((place : ℕ) × AreBlocksAt host kept.memory volume at 1 place × IsWrite failed place (block ∷ []) kept answer next)
-IsCarriedOut failed host kept Boot answer next = IsRebooted failed host kept answer next
+
+-- what a line comes to, that is in the grammar
+abbrev pub ComesTo : Type 0 → Host → Kept → Line → Answer → Kept → Type 0
+ComesTo failed host kept words.Boot answer next = IsRebooted failed host kept answer next
+ComesTo failed host kept (words.Command command) answer next = IsCarriedOut failed host kept command answer next
 
 -- what the `ok` of a command acknowledges
 abbrev pub asked_by : Command → List Deed
@@ -262,15 +270,18 @@ asked_by (Create slice force) = Created ∷ []
 asked_by (command.MakeStripe volume slice) = Changed (MakeStripe volume slice) ∷ []
 asked_by (Read volume at count) = Saw volume at count ∷ []
 asked_by (Write volume at block) = Wrote volume at (block ∷ []) ∷ []
-asked_by Boot = []
 
--- the command that an engine executes, with what its reader made sure of: the host boots itself
+-- and of a line: a boot's acknowledges nothing
+abbrev pub asked_by_line : Line → List Deed
+asked_by_line words.Boot = []
+asked_by_line (words.Command command) = asked_by command
+
+-- a command with what its reader made sure of
 abbrev pub IsExecuted : Command → Type 0
 IsExecuted (Create slice force) = Unit {0}
 IsExecuted (command.MakeStripe volume slice) = volume.0 < 8192
 IsExecuted (Read volume at count) = (1 ≤ count) × (count ≤ 1024)
 IsExecuted (Write volume at block) = Unit {0}
-IsExecuted Boot = ⊥
 
 -- a database is open only where the last boot read its drive
 abbrev pub IsSound : Memory → Type 0

@@ -1,7 +1,7 @@
 -- The bytes of replies, how they are told, and what they acknowledge.
-use Rattle.std.specs.Prelude.{◌≡◌, ◌⊎◌, ℕ, true, List, [], ◌∷◌, ◌++◌, take, codes, if◌then◌else◌}
+use Rattle.std.specs.Prelude.{◌≡◌, ◌⊎◌, ℕ, true, ◌||◌, List, [], ◌∷◌, ◌++◌, take, codes, if◌then◌else◌}
 use Rattle.std.specs.Str.{bytes_eq}
-use Rattle.mdv_engine_law.specs.Below.{refusal_text, Refusal, Deed, lacks, replies_in, values_reply}
+use Rattle.mdv_engine_law.specs.Below.{refusal_text, Refusal, IoFault, Deed, lacks, replies_in, values_reply}
 use Rattle.mdv_engine_law.specs.declared.answer.Answer.{Answer}
 use Rattle.mdv_engine_law.specs.declared.answer.Answer.TheVariants as outcome
 use Rattle.mdv_engine_law.specs.declared.answer.Reply.{Reply}
@@ -63,6 +63,29 @@ acked_in asked (line ∷ more) = acked_by asked line
 
 abbrev pub acked : List Deed → List ℕ → List Deed
 acked asked bytes = acked_in asked (replies_in bytes)
+
+-- What a line may have issued that was answered so, where these deeds were asked: all of them, where a call on a drive may have been
+-- made for them; a line that is refused for another cause than a failed call issues nothing.
+abbrev pub issued_by : List Deed → Answer → List Deed
+issued_by asked outcome.Ok = asked
+issued_by asked (outcome.Values text) = asked
+issued_by asked (outcome.Refused IoFault) = asked
+issued_by asked (outcome.Refused other) = []
+issued_by asked outcome.Panic = asked
+issued_by asked outcome.Spent = []
+issued_by asked outcome.NoMemory = []
+
+-- the same by the line of its reply: `ok`, or that a call failed
+abbrev pub issuable : List Deed → List ℕ → List Deed
+issuable asked line = if bytes_eq line ok_line || bytes_eq line (refusal_line IoFault) then asked else []
+
+-- and by the bytes told of it: all, while there is no line of reply yet
+abbrev pub issuable_in : List Deed → List (List ℕ) → List Deed
+issuable_in asked [] = asked
+issuable_in asked (line ∷ more) = issuable asked line
+
+abbrev pub issuable_of : List Deed → List ℕ → List Deed
+issuable_of asked bytes = issuable_in asked (replies_in bytes)
 
 -- how an answer is told: whole; or a front of it, where the giving failed; or there is none to tell
 abbrev pub IsTold : Type 0 → Answer → Reply → List ℕ → Type 0

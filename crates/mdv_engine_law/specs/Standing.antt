@@ -1,14 +1,14 @@
 -- How the drive stands with its history at each moment of a line.
 use Rattle.std.specs.Prelude.{◌≡◌, ◌≢◌, ℕ, ◌≤◌, false, List, [], ◌∷◌, ◌++◌, take, None, IfSome, Contains}
-use Rattle.mdv_engine_law.specs.Below.{Identity, KeptOutside, nowhere, Tale, told, Command, area_of, ShowsNothing, IsOpened, IsNewestIn, History, Deed, Created, Event, history_after_all, IsCourse, Adds, HasWoken, NoDeed, CanTell}
+use Rattle.mdv_engine_law.specs.Below.{Identity, KeptOutside, nowhere, Tale, told, Line, area_of, ShowsNothing, IsOpened, IsNewestIn, History, Deed, Created, Event, history_after_all, IsCourse, Adds, HasWoken, NoDeed, CanTell}
 use Rattle.mdv_history.specs.Standing as history
 use Rattle.mdv_engine_law.specs.declared.answer.Answer.{Answer}
 use Rattle.mdv_engine_law.specs.declared.answer.Answer.TheVariants as outcome
 use Rattle.mdv_engine_law.specs.declared.answer.Reply.{Reply}
 use Rattle.mdv_engine_law.specs.declared.host.Host.{Host}
-use Rattle.mdv_engine_law.specs.Home.{site_of}
-use Rattle.mdv_engine_law.specs.Line.{Memory, IsCarriedOut, kept_at}
-use Rattle.mdv_engine_law.specs.Replies.{IsReply, IsFront, IsTold, acked}
+use Rattle.mdv_engine_law.specs.Home.{StaysHome, site_of}
+use Rattle.mdv_engine_law.specs.Line.{Kept, Memory, ComesTo, kept_at}
+use Rattle.mdv_engine_law.specs.Replies.{IsReply, IsFront, IsTold, acked, issuable_of, issued_by}
 
 -- the drive stands with the history, in which a database was made only where there is room for it
 pub record StandsAt (host : Host) (h : History) (m : Tale) : Type 0 where
@@ -55,10 +55,10 @@ pub record OnlyReplied (failed : Type 0) (answer : Answer) (reply : Reply) (t u 
   pub replied : Replied failed answer reply t u
   pub kept : KeptOutside nowhere t u
 
--- a command that was carried out and replied to, where calls on the drive and the giving of replies may have failed
-pub record Executed (drive replies : Type 0) (host : Host) (command : Command) (old new : Memory) (reply : Reply) (t u : Tale) : Type 0 where
+-- a line that was carried out and replied to, where calls on the drive and the giving of replies may have failed
+pub record Executed (drive replies : Type 0) (host : Host) (line : Line) (old new : Memory) (reply : Reply) (t u : Tale) : Type 0 where
   pub answer : Answer
-  pub carried : IsCarriedOut drive host (kept_at old t) command answer (kept_at new u)
+  pub carried : ComesTo drive host (kept_at old t) line answer (kept_at new u)
   pub replied : Replied replies answer reply t u
 
 -- What is known of the drive between two lines: where no database is open and the last boot read the drive, nothing is
@@ -81,12 +81,14 @@ pub record BootMoment (host : Host) (t m : Tale) : Type 0 where
 
 -- a boot that is answered, and leaves this in memory: where it has read the drive, each block has one value since
 pub record BootedTo (host : Host) (memory : Memory) (t u : Tale) : Type 0 where
+  pub home : StaysHome host t u
   pub quiet : told u ≡ told t
   pub knows : Knows host memory u
   pub goes : (h : History) → StandsAt host h t → Goes host NoDeed [] (λ es after. IsKnown host memory after u × (memory.down ≡ false → HasWoken es)) u h
 
--- a moment while a line is carried out, by which these deeds are asked, with nothing told
+-- a moment while a line is carried out, by which these deeds are asked, with nothing told, and nothing done outside the host's blocks
 pub record CarryMoment (host : Host) (asked : List Deed) (memory : Memory) (t m : Tale) : Type 0 where
+  pub home : StaysHome host t m
   pub quiet : told m ≡ told t
   pub goes : (h : History) → IsKnown host memory h t → Goes host (IsAsked asked) [] Reached m h
 
@@ -114,10 +116,16 @@ KnowsAfter host outcome.Panic next u = Unit {0}
 KnowsAfter host outcome.Spent next u = Unit {0}
 KnowsAfter host outcome.NoMemory next u = Unit {0}
 
--- a line that was carried out, and came to this answer
+-- A line that was carried out, and came to this answer: each history goes on by what the answer says may have been issued, so by
+-- nothing where it is refused for another cause than a failed call.
 pub record CarriedTo (host : Host) (asked : List Deed) (old : Memory) (answer : Answer) (new : Memory) (t u : Tale) : Type 0 where
-  pub goes : (h : History) → IsKnown host old h t → Goes host (IsAsked asked) [] (λ es after. IsKnownAfter host asked answer new after u) u h
+  pub goes : (h : History) → IsKnown host old h t → Goes host (IsAsked (issued_by asked answer)) [] (λ es after. IsKnownAfter host asked answer new after u) u h
   pub knows : Knows host old t → KnowsAfter host answer new u
+
+-- The end of a line that was carried out: what it came to, and what it led to.
+pub record CarryEnd (Comes : Kept → Answer → Kept → Type 0) (host : Host) (asked : List Deed) (old : Memory) (answer : Answer) (new : Memory) (t u : Tale) : Type 0 where
+  pub answered : Knows host old t → Comes (kept_at old t) answer (kept_at new u)
+  pub carried : CarriedTo host asked old answer new t u
 
 -- a deed is told only where the last boot read the drive
 abbrev pub IsAwake : Memory → Type 0
@@ -130,14 +138,16 @@ pub record TellMoment (text : List ℕ) (t m : Tale) : Type 0 where
   pub is_told : told m ≡ told t ++ take count text
 
 -- A moment of a line, by which these deeds are asked, and of its reply: at most a front of one reply is told, and each
--- history goes on by as many acknowledgements as that front says. A creation is told only where no database was open.
+-- history goes on by as many acknowledgements as that front says, with what it lets the line issue. A creation is told only where no
+-- database was open.
 pub record TurnMoment (host : Host) (asked : List Deed) (old : Memory) (t m : Tale) : Type 0 where
+  pub home : StaysHome host t m
   pub bytes : List ℕ
   pub is_told : told m ≡ told t ++ bytes
   pub front : IsFront bytes
   pub awake : acked asked bytes ≢ [] → IsAwake old
   pub free : Contains (acked asked bytes) Created → old.opened ≡ None
-  pub goes : (h : History) → IsKnown host old h t → Goes host (IsAsked asked) (acked asked bytes) Reached m h
+  pub goes : (h : History) → IsKnown host old h t → Goes host (IsAsked (issuable_of asked bytes)) (acked asked bytes) Reached m h
 
 -- a line and its reply, told whole, that led from one memory to the other
 pub record Turned (host : Host) (asked : List Deed) (old new : Memory) (t u : Tale) : Type 0 where
@@ -147,4 +157,4 @@ pub record Turned (host : Host) (asked : List Deed) (old new : Memory) (t u : Ta
   pub awake : acked asked bytes ≢ [] → IsAwake old
   pub free : Contains (acked asked bytes) Created → old.opened ≡ None
   pub knows : Knows host old t → Knows host new u
-  pub goes : (h : History) → IsKnown host old h t → Goes host (IsAsked asked) (acked asked bytes) (λ es after. IsKnown host new after u) u h
+  pub goes : (h : History) → IsKnown host old h t → Goes host (IsAsked (issuable_of asked bytes)) (acked asked bytes) (λ es after. IsKnown host new after u) u h

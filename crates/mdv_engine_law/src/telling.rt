@@ -1,7 +1,8 @@
 ghost use Rattle.std.specs.Prelude.{◌≡◌, ℕ, List};
 ghost use Rattle.mdv_base.specs.Causes.{Rose};
-ghost use Rattle.mdv_shelf.specs.Calls.{OnReplies, Keeps, Took, TookAtMost};
+ghost use Rattle.mdv_shelf.specs.Calls.{OnReplies, Took, TookAtMost};
 ghost use Rattle.mdv_shelf.specs.Moments.{Moments, Ends};
+ghost use Rattle.mdv_shelf.specs.Shelves.{Kept};
 ghost use Rattle.mdv_engine_law.specs.Replies.{refusal_line, IsReplied, IsTold, text_of};
 ghost use Rattle.mdv_engine_law.specs.Standing.{OnlyReplied, TellMoment};
 
@@ -18,7 +19,7 @@ pub fn tell<B: Bench>(bench: &mut B, answer: &Answer) -> Reply
     ensures answers { (piece : List ℕ) × IsTold (Rose (B.faults bench.old OnReplies) (B.faults bench.new OnReplies)) answer.now result piece }
     ensures counted { TookAtMost B.calls B.written bench.old bench.new 1 0 }
     ensures given { IsReplied result → Took B.calls B.written bench.old bench.new 1 0 }
-    ensures keeps { Keeps B.sizes B.faults B.rest B.held bench.old bench.new }
+    ensures kept { Kept B.Shelf bench.old bench.new }
 {
     match answer {
         Answer::Ok => match bench.give(OK) {

@@ -1,5 +1,5 @@
 -- Where a host has its database: on the one slice of its one drive that is set aside for replicas.
-use Rattle.std.specs.Prelude.{◌≡◌, ◌≢◌, ◌≤◌, ◌+◌, ◌^◌, ℕ, true, false, List, [], ◌∷◌, Contains, codes}
+use Rattle.std.specs.Prelude.{◌≡◌, ◌≢◌, ◌≤◌, ◌+◌, ◌-◌, ◌^◌, ℕ, min, true, false, List, [], ◌∷◌, Contains, codes}
 use Rattle.mdv_base.specs.Name.{IsName}
 use Rattle.mdv_name.specs.declared.drive_line.DriveKind.TheVariants.{Own}
 use Rattle.mdv_name.specs.declared.geometry.Geometry.{Geometry}
@@ -44,6 +44,6 @@ pub record IsSmall (h : Home) : Type 0 where
   pub some_blocks : 1 ≤ h.blocks
   pub within : h.start + h.blocks ≤ h.drive_blocks
 
--- the replica: 8192 blocks from block 16 of the slice on
+-- the replica: it lies from block 16 of the slice on, and has at most 8192 blocks, or those that the slice has there
 abbrev pub place_of : Home → PlaceAt
-place_of h = record { place = record { slice = h.slice; start = 16; blocks = 8192 }; drive = record { 0 = 0 }; first = h.start + 16; index = 0; count = 1 }
+place_of h = record { place = record { slice = h.slice; start = 16; blocks = min 8192 (h.blocks - 16) }; drive = record { 0 = 0 }; first = h.start + 16; index = 0; count = 1 }

@@ -8,7 +8,7 @@ use Rattle.mdv_name.specs.SliceIndex.{HasSlice}
 use Rattle.mdv_shelf.specs.Area.{Area, AreApart, range}
 use Rattle.mdv_table.specs.Slices.{Overlaps}
 use Rattle.mdv_home.specs.declared.geometry.Home.{Home}
-use Rattle.mdv_home.specs.Home.{IsHome}
+use Rattle.mdv_home.specs.Home.{IsHome, place_of}
 
 -- the table was read, and has this home
 pub record IsHomeTable (table : Geometry) (h : Home) : Type 0 where
@@ -24,9 +24,9 @@ slice_area at = range 0 at.start at.blocks
 abbrev pub home_area : Home → Area
 home_area h = range 0 h.start h.blocks
 
--- those of its replica
+-- those that its replica may have
 abbrev pub replica_area : Home → Area
-replica_area h = range 0 (h.start + 16) 8192
+replica_area h = range 0 (place_of h).first (place_of h).place.blocks
 
 -- a slice of one block at least on the first drive, within it
 pub record IsWithin (h : Home) (at : SliceAt) : Type 0 where
@@ -42,9 +42,9 @@ SlicesWithin = (table : Geometry) (h : Home) (name : SliceName) (at : SliceAt) �
 abbrev pub SlicesApart : Type 0
 SlicesApart = (table : Geometry) (h : Home) (name : SliceName) (at : SliceAt) → IsHomeTable table h → HasSlice table.slices name at → at.db ≡ false → AreApart (slice_area at) (home_area h)
 
--- nor one of its replica, where that ends within the home's slice
+-- nor one that its replica may have
 abbrev pub ReplicaApart : Type 0
-ReplicaApart = (table : Geometry) (h : Home) (name : SliceName) (at : SliceAt) → IsHomeTable table h → HasSlice table.slices name at → at.db ≡ false → 8208 ≤ h.blocks → AreApart (slice_area at) (replica_area h)
+ReplicaApart = (table : Geometry) (h : Home) (name : SliceName) (at : SliceAt) → IsHomeTable table h → HasSlice table.slices name at → at.db ≡ false → AreApart (slice_area at) (replica_area h)
 
 -- slices that don't overlap have no block in common
 abbrev pub PlainApart : Type 0

@@ -1,4 +1,4 @@
-ghost use Rattle.std.specs.Prelude.{◌≡◌, ◌≢◌, ◌↔◌, [], ◌∷◌, true, All, Contains, IsTrue, IfSome, IfNone};
+ghost use Rattle.std.specs.Prelude.{◌≡◌, ◌≢◌, ◌↔◌, ◌-◌, min, [], ◌∷◌, true, All, Contains, IsTrue, IfSome, IfNone};
 ghost use Rattle.mdv_name.specs.declared.drive_line.DriveKind.TheVariants.{Own};
 ghost use Rattle.mdv_table.specs.Slices.{Overlap};
 ghost use Rattle.mdv_home.specs.declared.geometry.Home.{Home};
@@ -105,8 +105,8 @@ fn share_a_block(a: SliceAt, b: SliceAt) -> bool
     a.drive == b.drive && second.blocks > 0 && second.start - first.start < first.blocks
 }
 
-/// Where the replica of the home lies: 8192 blocks from block 16 of the slice on. It ends within the
-/// slice where the slice has 8208 blocks.
+/// Where the replica of the home lies, from block 16 of the slice on, and how many blocks it may have: 8192,
+/// or as many as the slice has there.
 pub fn place_at(home: &Home) -> PlaceAt
     requires { IsSmall home.now }
     ensures { result ≡ place_of home.now }
@@ -115,11 +115,19 @@ pub fn place_at(home: &Home) -> PlaceAt
         place: Place {
             slice: home.slice,
             start: FIRST_BLOCK,
-            blocks: MAX_BLOCKS,
+            blocks: replica_blocks(home.blocks),
         },
         drive: DRIVE,
         first: home.start + u64::from(FIRST_BLOCK),
         index: 0,
         count: 1,
     }
+}
+
+// The most blocks that a replica has in a slice of so many.
+fn replica_blocks(blocks: u64) -> u32
+    ensures { result ≡ min 8192 (blocks - 16) }
+{
+    let behind = blocks.saturating_sub(u64::from(FIRST_BLOCK));
+    behind.min(u64::from(MAX_BLOCKS)) as u32
 }

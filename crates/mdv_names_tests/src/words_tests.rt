@@ -13,21 +13,21 @@ const SLICE: SliceName = SliceName {
 
 #[test]
 fn reads_each_command(rt: HostRuntime) -> Result<(), Fail> {
-    let cases: [(&[u8], Command); 9] = [
-        (b"boot", Command::Boot),
+    let cases: [(&[u8], Line); 9] = [
+        (b"boot", Line::Boot),
         (
             b"metadb -a c0t1d2s7",
-            Command::Create {
+            Line::Command(Command::Create {
                 slice: SLICE,
                 force: false,
-            },
+            }),
         ),
         (
             b"metadb -a -f c0t1d2s7",
-            Command::Create {
+            Line::Command(Command::Create {
                 slice: SLICE,
                 force: true,
-            },
+            }),
         ),
         (b"metainit d0 1 1 c0t1d2s7", stripe(0)),
         (b"metainit d8191 1 1 c0t1d2s7", stripe(8191)),
@@ -48,31 +48,31 @@ fn reads_each_command(rt: HostRuntime) -> Result<(), Fail> {
     Ok(())
 }
 
-fn stripe(volume: u16) -> Command {
-    Command::MakeStripe {
+fn stripe(volume: u16) -> Line {
+    Line::Command(Command::MakeStripe {
         volume: VolId(volume),
         slice: SLICE,
-    }
+    })
 }
 
-fn reading(at: u64, count: u32) -> Command {
-    Command::Read {
+fn reading(at: u64, count: u32) -> Line {
+    Line::Command(Command::Read {
         volume: VolId(12),
         at,
         count,
-    }
+    })
 }
 
-fn writing(bytes: &[u8]) -> Command {
+fn writing(bytes: &[u8]) -> Line {
     let mut block = ZERO_BLOCK;
     for (place, byte) in block.iter_mut().zip(bytes) {
         *place = *byte;
     }
-    Command::Write {
+    Line::Command(Command::Write {
         volume: VolId(12),
         at: 5,
         block,
-    }
+    })
 }
 
 #[test]
@@ -111,7 +111,7 @@ fn refuses_other_lines(rt: HostRuntime) -> Result<(), Fail> {
     for line in lines {
         assert_eq!(rt; read_line(line), None, "{line:?}");
     }
-    reads_one_command();
+    reads_one_line();
     Ok(())
 }
 

@@ -1,5 +1,6 @@
 -- A replica at its place: what its head says, and what calls on it do at each moment.
-use Rattle.std.specs.Prelude.{◌≡◌, ◌⊎◌, ℕ, ◌+◌, ◌-◌, ◌/◌, ◌≤◌, ◌<◌, ◌^◌, List, [], ◌∷◌, length, slice_index_or}
+use Rattle.std.specs.Prelude.{◌≡◌, ◌⊎◌, ℕ, ◌+◌, ◌-◌, ◌/◌, ◌≤◌, ◌<◌, ◌^◌, List, [], ◌∷◌, length, slice_index_or, Result}
+use Rattle.mdv_base.specs.Causes.{HasCause}
 use Rattle.mdv_replica.specs.Below.{Identity, Mark, Key, Tale, MayLeave, told, Area, range, joined, KeptOutside, Settling, IsSettled, IsFixed}
 use Rattle.mdv_replica.specs.declared.forms.Master.{Master}
 use Rattle.mdv_replica.specs.declared.forms.Gate.TheVariants.{Closed, Open}
@@ -38,12 +39,14 @@ abbrev pub master_of : PlaceAt → Key → Identity → Master
 master_of at key identity =
     record { identity = identity; key = key; slice = at.place.slice; start = at.place.start; blocks = at.place.blocks; index = at.index; count = at.count }
 
--- a master names the place where it was read, with a length that a replica may have on a drive of this size
+-- a master names the place where it was read, with a length that a replica may have there, on a drive of this size: the
+-- place's blocks are the most
 pub record LiesAt (at : PlaceAt) (size : ℕ) (master : Master) : Type 0 where
   pub slice : master.slice ≡ at.place.slice
   pub start : master.start ≡ at.place.start
   pub least : 16 ≤ master.blocks
   pub most : master.blocks ≤ 8192
+  pub in_place : master.blocks ≤ at.place.blocks
   pub within : at.first + master.blocks ≤ size
 
 -- what a head can say there
@@ -131,6 +134,11 @@ pub record Formatting (at : PlaceAt) (master : Master) (claim : ℕ) (t m : Tale
       (LeavesOnly m at.drive.0 at.first (λ x. MayLeave t at.drive.0 at.first x ⊎ (x ≡ block_of [])) × KeptOutside (master_area at) t m)
       (LeavesOnly m at.drive.0 at.first (λ x. x ≡ block_of []))
       (LeavesOnly m at.drive.0 at.first (λ x. (x ≡ block_of []) ⊎ (x ≡ block_of (master_text master))) × IsFixed at.drive.0 (at.first + 1) (formatted_rest claim) m)
+
+-- the master is of its form, and a format fails only where the count of failures rose
+pub record IsFormatAnswer {T E : Type 0} (before now : ℕ) (master : Master) (result : Result T E) : Type 0 where
+  pub form : IsMaster master
+  pub cause : HasCause before now result
 
 -- in the end all four blocks are on the disk
 abbrev pub IsFormatted : PlaceAt → Master → ℕ → Tale → Type 0

@@ -2,7 +2,8 @@
 ghost use Rattle.std.specs.Prelude.{◌≡◌, ◌↔◌, ◌<◌, ◌-◌, ◌+◌, min, ℕ, List, [], length, slice_index_or, true, is_some, is_none, IsTrue, IfSome, MatchOption, Some, None};
 ghost use Rattle.mdv_base.specs.Causes.{Rose};
 ghost use Rattle.mdv_shelf.specs.Tale.{Tale, last};
-ghost use Rattle.mdv_shelf.specs.Calls.{OnDrive, Keeps, Took};
+ghost use Rattle.mdv_shelf.specs.Calls.{OnDrive, Took};
+ghost use Rattle.mdv_shelf.specs.Shelves.{Kept};
 ghost use Rattle.mdv_replica.specs.Replica.{LiesAt, with_blocks};
 ghost use Rattle.mdv_replica.specs.Seen.{AreClaimAndGates, IsMasterAt, IsSeen, IsLook, head_flags, unread_at};
 
@@ -31,7 +32,7 @@ struct ClaimAndGates {
 }
 
 /// Looks at master, claim and gates of a replica, with one read of the blocks that the drive has of these
-/// four. Of `at` it needs the place's slice and start, the drive, and the first block.
+/// four. The place's blocks are the most that a master may name there.
 pub fn inspect<S: Shelf>(shelf: &mut S, at: PlaceAt) -> Seen
     requires known { at.drive.0 < length (S.sizes shelf.old) }
     requires within { at.first < slice_index_or (S.sizes shelf.old) at.drive.0 0 }
@@ -42,7 +43,7 @@ pub fn inspect<S: Shelf>(shelf: &mut S, at: PlaceAt) -> Seen
     ensures cause { result.flags.read_error ≡ true → Rose (S.faults shelf.old (OnDrive at.drive.0)) (S.faults shelf.new (OnDrive at.drive.0)) }
     ensures same { S.tale shelf.new ≡ S.tale shelf.old }
     ensures counted { Took S.calls S.written shelf.old shelf.new 1 0 }
-    ensures keeps { Keeps S.sizes S.faults S.rest S.held shelf.old shelf.new }
+    ensures kept { Kept S.Shelf shelf.old shelf.new }
 {
     let size = shelf.blocks(at.drive);
     let count = HEAD_BLOCKS.min(size - at.first) as usize;
@@ -142,6 +143,7 @@ fn lies_at(master: &Master, at: &PlaceAt, size: u64) -> bool
         && master.start == at.place.start
         && master.blocks >= MIN_BLOCKS
         && master.blocks <= MAX_BLOCKS
+        && master.blocks <= at.place.blocks
         && blocks <= size
         && at.first <= size - blocks
 }

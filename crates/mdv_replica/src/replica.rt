@@ -2,10 +2,12 @@
 // blocks 2 and 3, and behind them the bodies of the slots, (L - 4) / 2 blocks each.
 ghost use Rattle.std.specs.Prelude.{◌≡◌, ◌<◌, ◌≤◌, ◌+◌, ◌^◌, [], ◌∷◌, length, OnOk};
 ghost use Rattle.mdv_base.specs.Causes.{HasCause};
-ghost use Rattle.mdv_shelf.specs.Calls.{OnDrive, Keeps, Reads, Took, TookAtMost};
+ghost use Rattle.mdv_shelf.specs.Calls.{OnDrive, Reads, Took};
 ghost use Rattle.mdv_shelf.specs.Moments.{Moments, Ends};
+ghost use Rattle.mdv_shelf.specs.Shelves.{Kept};
+ghost use Rattle.mdv_replica.specs.Counts.{MakesCalls};
 ghost use Rattle.mdv_replica.specs.Forms.{IsMaster, IsMark};
-ghost use Rattle.mdv_replica.specs.Replica.{IsPlaced, Claiming, IsClaimed, Wiping, IsWiped, Formatting, IsFormatted, SlotWriting, IsSlotWritten, gate_at, body_at, slot_blocks, master_of};
+ghost use Rattle.mdv_replica.specs.Replica.{IsPlaced, Claiming, IsClaimed, Wiping, IsWiped, Formatting, IsFormatAnswer, IsFormatted, SlotWriting, IsSlotWritten, gate_at, body_at, slot_blocks, master_of};
 
 use crate::forms::{Gate, Master, claim_block, gate_block, master_block};
 use mdv_base::{Block, DriveNo, Failed, Identity, Key, Mark, Place, ZERO_BLOCK};
@@ -91,9 +93,8 @@ pub fn write_claim<S: Shelf>(shelf: &mut S, at: PlaceAt, number: u64) -> Result<
     ensures moments { Moments (Claiming at number) (S.tale shelf.old) (S.tale shelf.new) }
     ensures settled { OnOk result (Ends (λ _ u. IsClaimed at number u) (S.tale shelf.old) (S.tale shelf.new)) }
     ensures cause { HasCause (S.faults shelf.old (OnDrive at.drive.0)) (S.faults shelf.new (OnDrive at.drive.0)) result }
-    ensures counted { OnOk result (Took S.calls S.written shelf.old shelf.new 2 1) }
-    ensures counted_at_most { TookAtMost S.calls S.written shelf.old shelf.new 2 1 }
-    ensures keeps { Keeps S.sizes S.faults S.rest S.held shelf.old shelf.new }
+    ensures counted { MakesCalls S.Shelf shelf.old shelf.new 2 1 result }
+    ensures kept { Kept S.Shelf shelf.old shelf.new }
 {
     settle(shelf, at.drive, at.first + 1, &[claim_block(number)])?;
     Ok(())
@@ -117,9 +118,8 @@ pub fn write_slot<S: Shelf>(
     ensures moments { Moments (SlotWriting at slot mark bytes body.now) (S.tale shelf.old) (S.tale shelf.new) }
     ensures settled { OnOk result (Ends (λ _ u. IsSlotWritten at slot mark bytes body.now u) (S.tale shelf.old) (S.tale shelf.new)) }
     ensures cause { HasCause (S.faults shelf.old (OnDrive at.drive.0)) (S.faults shelf.new (OnDrive at.drive.0)) result }
-    ensures counted { OnOk result (Took S.calls S.written shelf.old shelf.new 6 (2 + length body.now)) }
-    ensures counted_at_most { TookAtMost S.calls S.written shelf.old shelf.new 6 (2 + length body.now) }
-    ensures keeps { Keeps S.sizes S.faults S.rest S.held shelf.old shelf.new }
+    ensures counted { MakesCalls S.Shelf shelf.old shelf.new 6 (2 + length body.now) result }
+    ensures kept { Kept S.Shelf shelf.old shelf.new }
 {
     let gate = at.gate_block_of(slot);
     let first = at.body_block_of(slot);
@@ -148,11 +148,9 @@ pub fn format<S: Shelf>(
     requires number { claim < 2 ^ 63 }
     ensures moments { Moments (Formatting at (master_of at key.now identity) claim) (S.tale shelf.old) (S.tale shelf.new) }
     ensures settled { OnOk result (Ends (λ _ u. IsFormatted at (master_of at key.now identity) claim u) (S.tale shelf.old) (S.tale shelf.new)) }
-    ensures master { IsMaster (master_of at key.now identity) }
-    ensures cause { HasCause (S.faults shelf.old (OnDrive at.drive.0)) (S.faults shelf.new (OnDrive at.drive.0)) result }
-    ensures counted { OnOk result (Took S.calls S.written shelf.old shelf.new 6 5) }
-    ensures counted_at_most { TookAtMost S.calls S.written shelf.old shelf.new 6 5 }
-    ensures keeps { Keeps S.sizes S.faults S.rest S.held shelf.old shelf.new }
+    ensures answer { IsFormatAnswer (S.faults shelf.old (OnDrive at.drive.0)) (S.faults shelf.new (OnDrive at.drive.0)) (master_of at key.now identity) result }
+    ensures counted { MakesCalls S.Shelf shelf.old shelf.new 6 5 result }
+    ensures kept { Kept S.Shelf shelf.old shelf.new }
 {
     let master = master_block(&at.master_of(key, identity));
     let closed = gate_block(Gate::Closed);
@@ -174,9 +172,8 @@ pub fn wipe<S: Shelf>(shelf: &mut S, at: PlaceAt) -> Result<(), Failed>
     ensures moments { Moments (Wiping at) (S.tale shelf.old) (S.tale shelf.new) }
     ensures settled { OnOk result (Ends (λ _ u. IsWiped at u) (S.tale shelf.old) (S.tale shelf.new)) }
     ensures cause { HasCause (S.faults shelf.old (OnDrive at.drive.0)) (S.faults shelf.new (OnDrive at.drive.0)) result }
-    ensures counted { OnOk result (Took S.calls S.written shelf.old shelf.new 2 1) }
-    ensures counted_at_most { TookAtMost S.calls S.written shelf.old shelf.new 2 1 }
-    ensures keeps { Keeps S.sizes S.faults S.rest S.held shelf.old shelf.new }
+    ensures counted { MakesCalls S.Shelf shelf.old shelf.new 2 1 result }
+    ensures kept { Kept S.Shelf shelf.old shelf.new }
 {
     settle(shelf, at.drive, at.first, &[ZERO_BLOCK])?;
     Ok(())
@@ -195,7 +192,7 @@ pub fn read_body<S: Shelf>(
     ensures reads { Reads (S.tale shelf.old) at.drive.0 (body_at at slot) result out.new (S.tale shelf.new) }
     ensures cause { HasCause (S.faults shelf.old (OnDrive at.drive.0)) (S.faults shelf.new (OnDrive at.drive.0)) result }
     ensures counted { Took S.calls S.written shelf.old shelf.new 1 0 }
-    ensures keeps { Keeps S.sizes S.faults S.rest S.held shelf.old shelf.new }
+    ensures kept { Kept S.Shelf shelf.old shelf.new }
 {
     let first = at.body_block_of(slot);
     shelf.read(at.drive, first, out)?;

@@ -1,30 +1,34 @@
 -- One line, answered.
-use Rattle.std.proofs.Common.{◌≡◌, inl, inr, ℕ, List, ◌++◌, Option, refl, sym, ◌∙◌, ap, subst}
-use Rattle.mdv_run.specs.Below.{Script, line, Tale, replies_in, Command, Create, MakeStripe, Read, Write, Boot, IsCommand, Deed, Ends, Reply, IsReplied, Host, Memory, IsExecuted, Executed, Knows, IsAwake, Turned, Asks, RanTo, behind}
-use Rattle.mdv_engine_law.specs.Replies.{IsLost}
-use Rattle.mdv_run.specs.Promise.{LineEnd}
+use Rattle.std.proofs.Common.{◌≡◌, inl, inr, ℕ, List, [], ◌++◌, refl, sym, ◌∙◌, ap, subst}
+use Rattle.mdv_run.specs.Below.{Script, line, Tale, replies_in, Command, Create, MakeStripe, Read, Write, Spelled, Boot, IsCommand, IsLine, Deed, Reply, IsReplied, IsTurnedDown, Host, Memory, IsExecuted, Executed, Knows, IsAwake, Turned, Asks, RanTo, behind, kept_at}
 use Rattle.mdv_run.specs.Turns.{LineAnswered}
-use Rattle.mdv_shelf.proofs.Moments.{some_is}
 use Rattle.mdv_shelf.proofs.Blocks.{both_ways}
-use Rattle.mdv_words.proofs.Lines.{one_command}
+use Rattle.mdv_words.specs.declared.command.Line.TheVariants as words
+use Rattle.mdv_words.proofs.Lines.{one_line}
+use Rattle.mdv_engine_law.specs.declared.answer.Answer.TheVariants as outcome
+use Rattle.mdv_engine_law.proofs.Turning.{accepted_none, never_among, refused_none, turned}
+use Rattle.mdv_engine_law.proofs.Knowing.{knows_kept}
+use Rattle.mdv_engine_law.specs.Replies.{IsPlain}
+use Rattle.mdv_engine_law.specs.Standing.{OnlyReplied}
+use Rattle.mdv_history.specs.History.{Created}
+use Rattle.mdv_base.specs.declared.refusal.Refusal.{Refusal}
 use Rattle.mdv_run_law.proofs.Coming.{behind_none}
 use Rattle.mdv_run_law.proofs.Turning.{line_ran}
 
--- a command but `boot` is one that an engine executes
-pub executed_line : (text : List ℕ) (command : Command) → IsCommand text command → (command ≡ Boot → ⊥) → IsExecuted command
-executed_line text (Create slice force) is not = tt
-executed_line text (MakeStripe volume slice) is not = is.0
-executed_line text (Read volume at count) is not = (is.2, is.3)
-executed_line text (Write volume at block) is not = tt
-executed_line text Boot is not = not refl
+-- a command of a line is one that an engine executes
+pub executed_line : (text : List ℕ) (command : Command) → IsCommand text command → IsExecuted command
+executed_line text (Create slice force) is = tt
+executed_line text (MakeStripe volume slice) is = is.0
+executed_line text (Read volume at count) is = (is.2, is.3)
+executed_line text (Write volume at block) is = tt
 
 -- its line is no `boot`
-pub no_boot : (text : List ℕ) (command : Command) → IsCommand text command → (command ≡ Boot → ⊥) → IsCommand text Boot → ⊥
-no_boot text command is not boot = not (one_command text command Boot is boot)
+pub no_boot : (text : List ℕ) (command : Command) → IsCommand text command → IsLine text Boot → ⊥
+no_boot text command is boot = absurd (let same = one_line text (words.Command command) Boot is boot in cc (same))
 
 -- A line that is no boot, whose reply was told whole, where the last boot is known to have read the drive only where it is known of the
 -- memory before.
-module _ (host : Host) (text : List ℕ) (more : Script) (asked : List Deed) (asks : Asks text asked) (old new : Memory) (t u : Tale) (turned : Turned host asked old new t u) (other : IsCommand text Boot → ⊥) where
+module _ (host : Host) (text : List ℕ) (more : Script) (asked : List Deed) (asks : Asks text asked) (old new : Memory) (t u : Tale) (turned : Turned host asked old new t u) (other : IsLine text Boot → ⊥) where
   unknown_ran : (Knows host old t → ⊥) → RanTo host (line text more) old new more t u
   unknown_ran never = record {
     bytes = turned.bytes;
@@ -45,20 +49,22 @@ module _ (host : Host) (text : List ℕ) (more : Script) (asked : List Deed) (as
     ]
   ]
 
--- what is known of a line's end is one
-pub joined_end : (host : Host) (text : List ℕ) (drive replies : Type 0) (old new : Memory) (reply : Reply) (a b : Option Tale) → Ends (λ t u. Knows host old t → LineAnswered drive replies host text old new reply t u) a b
-    → (IsReplied reply → (more : Script) → Ends (RanTo host (line text more) old new more) a b) → ((IsLost reply → ⊥) → Ends (λ t u. Knows host old t → Knows host new u) a b) → Ends (LineEnd drive replies host text old new reply) a b
-joined_end host text drive replies old new reply a b answered ran knows t is =
-    let end = answered t is in (
-      end.0,
-      end.1,
-      record {
-        answered = end.2;
-        ran = λ on more. (let other = ran on more t is in subst (λ (u : Tale). RanTo host (line text more) old new more t u) (some_is b other.0 end.0 other.1 end.1) other.2);
-        knows = λ kept known. (let other = knows kept t is in subst (λ (u : Tale). Knows host new u) (some_is b other.0 end.0 other.1 end.1) (other.2 known));
-      },
-    )
+-- a line that was carried out is answered
+pub line_executed : (text : List ℕ) (spelled : Spelled) → IsLine text spelled → (drive replies : Type 0) (host : Host) (old new : Memory) (reply : Reply) (t u : Tale) → Executed drive replies host spelled old new reply t u → LineAnswered drive replies host text old new reply t u
+line_executed text spelled is drive replies host old new reply t u done = record { answer = done.answer; done = inr (spelled, is, done.carried); replied = done.replied }
 
--- a command that was carried out answers its line
-pub line_executed : (text : List ℕ) (command : Command) → IsCommand text command → (drive replies : Type 0) (host : Host) (old new : Memory) (reply : Reply) (t u : Tale) → Executed drive replies host command old new reply t u → LineAnswered drive replies host text old new reply t u
-line_executed text command is drive replies host old new reply t u done = record { answer = done.answer; done = inr (command, is, done.carried); replied = done.replied }
+-- a refusal that was told, and nothing else happened
+module _ (host : Host) (memory : Memory) (r : Refusal) (plain : IsPlain r) (replies : Type 0) (reply : Reply) (t u : Tale) (given : OnlyReplied replies (outcome.Refused r) reply t u) where
+  pub refused_turned : (asked : List Deed) → IsReplied reply → Turned host asked memory memory t u
+  refused_turned asked on = turned host asked memory memory replies t t u refl (outcome.Refused r) plain (λ on some. absurd on) (λ on has. absurd on) (refused_none host asked memory r t) reply on given
+
+  pub refused_down : IsTurnedDown r (kept_at memory t) (outcome.Refused r) (kept_at memory u)
+  refused_down = (refl, record { memory = refl; content = λ block. (given.kept 0 block refl).last })
+
+  pub refused_knows : Knows host memory t → Knows host memory u
+  refused_knows = knows_kept host t u given.kept memory
+
+-- an `ok` of a boot that was told
+pub accepted_turned : (host : Host) (memory : Memory) (replies : Type 0) (reply : Reply) (t u : Tale) → OnlyReplied replies outcome.Ok reply t u → IsReplied reply → Turned host [] memory memory t u
+accepted_turned host memory replies reply t u given on =
+    turned host [] memory memory replies t t u refl outcome.Ok tt (λ on some. absurd (some refl)) (λ on has. absurd (never_among [] Created refl has)) (accepted_none host memory t) reply on given

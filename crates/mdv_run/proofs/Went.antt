@@ -1,7 +1,7 @@
 -- How the turns of a run add up.
 use Rattle.std.proofs.Common.{◌≡◌, ℕ, Bool, false, List, [], ◌++◌, Option, Some, None, IfSome, refl, sym, ◌∙◌, ap, subst, append_assoc, arith}
 use Rattle.std.proofs.lemmas.List.{append-nil}
-use Rattle.mdv_run.specs.Below.{Reader, Script, script_before, script_of, Tale, told, Part, Keeps, Moments, Ends, Host, Memory, Kept, kept_at, Knows, RunStatus, Done, SomeRefused, Usage, NoQuorum, Panic, ReadFault, WriteFault, NoMemory, TwoDatabases, ScriptTooLong, NumbersSpent, At, Counts, RoseTo, LineTold, LinesTold, IsLeft, HasStatusCause, LinesMoment, RanTo}
+use Rattle.mdv_run.specs.Below.{Reader, Script, script_before, script_of, Tale, told, Moments, Ends, Host, Memory, Kept, kept_at, Knows, RunStatus, Done, SomeRefused, Usage, NoQuorum, Panic, ReadFault, WriteFault, NoMemory, TwoDatabases, ScriptTooLong, NumbersSpent, At, Counts, RoseTo, LineTold, LinesTold, IsLeft, HasStatusCause, LinesMoment, RanTo}
 use Rattle.mdv_run_law.specs.Run.{no_line, one_more}
 use Rattle.mdv_shelf.proofs.Moments.{moments_none, moments_after, ends_more, some_is}
 use Rattle.mdv_engine_law.proofs.Executing.{rose_within}
@@ -125,11 +125,3 @@ cause_within start now then end NumbersSpent before behind cause = tt
 -- a reader that has taken nothing has the whole script before it
 pub script_at_start : (reader : Reader) (left : Option (List ℕ)) (input : List ℕ) → reader ≡ record { unread = []; lines = 0; bytes = 0; line = [] } → left ≡ Some input → script_before reader left ≡ Some (script_of input)
 script_at_start reader left input is comes = subst (λ (r : Reader). script_before r left ≡ Some (script_of input)) (sym is) (subst (λ (l : Option (List ℕ)). script_before (record { unread = []; lines = 0; bytes = 0; line = [] }) l ≡ Some (script_of input)) (sym comes) refl)
-
-pub keeps_more : {S Rest Held : Type 0} → (sizes : S → List ℕ) (faults : S → Part → ℕ) (rest : S → Rest) (held : S → Held) (old mid new : S) → Keeps sizes faults rest held old mid → Keeps sizes faults rest held mid new → Keeps sizes faults rest held old new
-keeps_more sizes faults rest held old mid new first more = record {
-  same_sizes = more.same_sizes ∙ first.same_sizes;
-  same_rest = more.same_rest ∙ first.same_rest;
-  same_held = more.same_held ∙ first.same_held;
-  no_fewer_faults = λ part. (let a = first.no_fewer_faults part in let b = more.no_fewer_faults part in omega arith);
-}

@@ -30,6 +30,8 @@ pub use Rattle.mdv_shelf.specs.Calls.{Keeps, OnDrive, OnReplies, Part}
 pub use Rattle.mdv_shelf.specs.Moments.{Ends, Moments}
 pub use Rattle.mdv_shelf.specs.Tale.{Tale, told}
 pub use Rattle.mdv_status.specs.Telling.{replies_in}
-pub use Rattle.mdv_words.specs.Line.{IsCommand}
+pub use Rattle.mdv_words.specs.Line.{IsCommand, IsLine}
 pub use Rattle.mdv_words.specs.declared.command.Command.{Command}
-pub use Rattle.mdv_words.specs.declared.command.Command.TheVariants.{Boot, Create, MakeStripe, Read, Write}
+pub use Rattle.mdv_words.specs.declared.command.Command.TheVariants.{Create, MakeStripe, Read, Write}
+pub use Rattle.mdv_words.specs.declared.command.Line.{Line as Spelled}
+pub use Rattle.mdv_words.specs.declared.command.Line.TheVariants.{Boot}

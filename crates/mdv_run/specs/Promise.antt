@@ -1,7 +1,8 @@
 -- What a run promises, of the whole bench and the whole source.
 use Rattle.std.specs.Prelude.{◌≡◌, ◌≢◌, ◌⊎◌, ◌↔◌, ◌≤◌, ◌<◌, ◌+◌, ℕ, Bool, false, List, Option, Some}
 use Rattle.mdv_run.specs.Below.{Reader, Script, line, script_before, script_of, Tale, Reply, IsReplied, Host, Memory, Engine, Knows, IsWell, StaysHome, RunStatus, NoMemory, Usage, Counts, counts, HasStatusCause, IsWholeRun, RunMoment, LinesMoment, RanTo}
-use Rattle.mdv_shelf.specs.Shelves.{AtEachTale, AtEnd}
+use Rattle.mdv_shelf.specs.Shelves.{AtEachMoment, AtEachTale, AtEnd}
+use Rattle.mdv_shelf.specs.Story.{OfTales}
 use Rattle.mdv_shelf.specs.declared.shelf.Shelf.{Ghosts as Shelf}
 use Rattle.mdv_port.specs.declared.source.Source.{Ghosts as Source}
 use Rattle.mdv_run_law.specs.Run.{IsUnbegun}
@@ -28,7 +29,7 @@ pub record IsUsageOf (None Untouched : Type 0) (status : RunStatus) : Type 0 whe
 pub record HasRun {B I : Type 0} (shelf : Shelf B) (source : Source I) (host : Host) (old : B) (from : I) (new : B) (to : I) (status : RunStatus) : Type 0 where
   pub runs : (t : Tale) → shelf.tale old ≡ Some t → (input : List ℕ) → source.left from ≡ Some input
       → IsUnbegun t (shelf.tale new) status ⊎ IsWholeRun host (by shelf source old from) (by shelf source new to) t (script_of input) (shelf.tale new) status
-  pub stands : (input : List ℕ) → source.left from ≡ Some input → AtEachTale shelf (RunMoment host (script_of input)) old new
+  pub stands : (input : List ℕ) → source.left from ≡ Some input → AtEachMoment shelf (OfTales (RunMoment host (script_of input))) old new
   pub home : AtEachTale shelf (StaysHome host) old new
   pub causes : (status ≡ NoMemory) ⊎ HasStatusCause (by shelf source old from) (by shelf source new to) status
 

@@ -1,9 +1,9 @@
 ghost use Rattle.std.specs.Prelude.{◌≡◌, Err, IfOk, ◌<◌, ◌≤◌, ◌+◌, ◌^◌, ◌↔◌, ℕ, List, [], ◌∷◌, map, string_bytes, Some, IsTrue};
-ghost use Rattle.mdv_shelf.specs.Shelves.{AtEachTale, AtEnd, DriveFailed, GivingFailed, Keeps};
+ghost use Rattle.mdv_shelf.specs.Shelves.{AtEachTale, AtEnd, DriveFailed, GivingFailed, Kept};
 ghost use Rattle.mdv_port.specs.Script.{Script, line as line_of, script_before};
 ghost use Rattle.mdv_home.specs.declared.geometry.Home.{Home};
-ghost use Rattle.mdv_words.specs.declared.command.Command.TheVariants.{Boot};
-ghost use Rattle.mdv_words.specs.Line.{IsCommand};
+ghost use Rattle.mdv_words.specs.declared.command.Line.TheVariants.{Boot};
+ghost use Rattle.mdv_words.specs.Line.{IsLine};
 ghost use Rattle.mdv_engine_law.specs.Home.{IsReady, StaysHome};
 ghost use Rattle.mdv_engine_law.specs.Standing.{TurnMoment};
 ghost use Rattle.mdv_engine.specs.Engine.{IsWell};
@@ -24,7 +24,7 @@ use mdv_name::{Geometry, GeometryFault};
 use mdv_port::{LineEnd, LineReader, Source};
 use mdv_run_law::RunStatus;
 use mdv_shelf::Bench;
-use mdv_words::{Command, read_line};
+use mdv_words::{Line, read_line};
 use std::alloc::Global;
 
 /// Runs one host: it boots from the drive, then answers the lines of the script one by one. The words
@@ -32,6 +32,7 @@ use std::alloc::Global;
 /// of the slices is marked `db`, and no other overlaps it. `fresh` has to differ between runs: it is part of the
 /// identity of each database that the run makes. Memory is taken for the table of drives and by boots, without which
 /// the run ends, and by commands, which are refused without it.
+#[tactic(auto, using(mdv_shelf::proofs::Noted::kept_more))]
 pub fn run<B: Bench, I: Source>(
     words: &[String],
     geometry: &[u8],
@@ -46,7 +47,7 @@ pub fn run<B: Bench, I: Source>(
     // Else all is as the run of that host promises: what is told and its status, what holds at each moment, and the cause of
     // each status.
     ensures used { (drives : Geometry) (home : Home) → IsUsed (map string_bytes words.now) geometry.now (B.sizes bench.old) drives home → HasRun B.Shelf I.Source (host_of drives home fresh) bench.old script.old bench.new script.new result }
-    ensures keeps { Keeps B.Shelf bench.old bench.new }
+    ensures kept { Kept B.Shelf bench.old bench.new }
 {
     match usable(words, geometry, bench) {
         Ok(start) => {
@@ -63,6 +64,7 @@ pub fn run<B: Bench, I: Source>(
 }
 
 // The run of this host on its drive.
+#[tactic(auto, using(mdv_shelf::proofs::Noted::kept_more))]
 fn run_host<B: Bench, I: Source>(
     host: Host,
     alloc: Global,
@@ -71,7 +73,7 @@ fn run_host<B: Bench, I: Source>(
 ) -> RunStatus
     requires { IsReady host (B.sizes bench.old) }
     ensures has_run { HasRun B.Shelf I.Source host bench.old script.old bench.new script.new result }
-    ensures keeps { Keeps B.Shelf bench.old bench.new }
+    ensures kept { Kept B.Shelf bench.old bench.new }
 {
     match Engine::boot(bench, alloc, host) {
         Ok(mut engine) => run_lines(&mut engine, alloc, bench, script),
@@ -146,6 +148,7 @@ fn has_drive<B: Bench>(bench: &B, blocks: u64) -> bool
     bench.drives() == 1 && bench.blocks(DriveNo(0)) == blocks
 }
 
+#[tactic(auto, using(mdv_shelf::proofs::Noted::kept_more))]
 fn run_lines<B: Bench, I: Source>(
     engine: &mut Engine,
     alloc: Global,
@@ -156,7 +159,7 @@ fn run_lines<B: Bench, I: Source>(
     requires well { IsWell engine.old.host engine.old.state }
     requires begun { engine.old.state.begun ≡ 0 }
     ensures lines { HaveRun B.Shelf I.Source engine.old.host engine.old.state bench.old script.old bench.new script.new result }
-    ensures keeps { Keeps B.Shelf bench.old bench.new }
+    ensures kept { Kept B.Shelf bench.old bench.new }
 {
     let mut reader = LineReader::new();
     let mut any_refused = false;
@@ -175,6 +178,7 @@ enum Turn {
 }
 
 // One line: it is taken, carried out and answered.
+#[tactic(auto, using(mdv_shelf::proofs::Noted::kept_more))]
 fn take_turn<B: Bench, I: Source>(
     engine: &mut Engine,
     alloc: Global,
@@ -190,7 +194,7 @@ fn take_turn<B: Bench, I: Source>(
     ensures end { (lines : Script) → script_before reader.old (I.left script.old) ≡ Some lines → AtEnd B.Shelf (TurnEnd engine.old.host (by B.Shelf I.Source bench.old script.old) (by B.Shelf I.Source bench.new script.new) engine.old.state engine.new.state any_refused lines (script_before reader.new (I.left script.new)) result) bench.old bench.new }
     ensures home { AtEachTale B.Shelf (StaysHome engine.old.host) bench.old bench.new }
     ensures answer { TurnAnswer (by B.Shelf I.Source bench.old script.old) (by B.Shelf I.Source bench.new script.new) engine.old.host engine.new reader.old reader.new (I.left script.old) (I.left script.new) result }
-    ensures keeps { Keeps B.Shelf bench.old bench.new }
+    ensures kept { Kept B.Shelf bench.old bench.new }
 {
     match reader.next(script) {
         Ok(LineEnd::Line) => turn_of(answer(engine, alloc, bench, reader.line()), any_refused),
@@ -205,6 +209,7 @@ fn take_turn<B: Bench, I: Source>(
 }
 
 // Carries a line out and replies to it.
+#[tactic(auto, using(mdv_shelf::proofs::Noted::kept_more))]
 fn answer<B: Bench>(engine: &mut Engine, alloc: Global, bench: &mut B, line: &[u8]) -> Reply
     requires ready { IsReady engine.old.host (B.sizes bench.old) }
     requires well { IsWell engine.old.host engine.old.state }
@@ -213,25 +218,26 @@ fn answer<B: Bench>(engine: &mut Engine, alloc: Global, bench: &mut B, line: &[u
     ensures end { AtEnd B.Shelf (EndOfLine (DriveFailed B.Shelf bench.old bench.new 0) (GivingFailed B.Shelf bench.old bench.new) engine.old.host line.now engine.old.state engine.new.state result) bench.old bench.new }
     ensures home { AtEachTale B.Shelf (StaysHome engine.old.host) bench.old bench.new }
     ensures answer { LineReply (DriveFailed B.Shelf bench.old bench.new 0) (GivingFailed B.Shelf bench.old bench.new) engine.old.host engine.old.state engine.new result }
-    ensures keeps { Keeps B.Shelf bench.old bench.new }
+    ensures kept { Kept B.Shelf bench.old bench.new }
 {
-    let Some(command) = read_line(line) else {
+    let Some(spelled) = read_line(line) else {
         return engine.refuse(bench, &Refusal::BadLine);
     };
-    match command {
-        Command::Boot => boot_anew(engine, alloc, bench),
-        command => engine.exec(bench, alloc, &command),
+    match spelled {
+        Line::Boot => boot_anew(engine, alloc, bench),
+        Line::Command(command) => engine.exec(bench, alloc, &command),
     }
 }
 
+#[tactic(auto, using(mdv_shelf::proofs::Noted::kept_more))]
 fn boot_anew<B: Bench>(engine: &mut Engine, alloc: Global, bench: &mut B) -> Reply
     requires ready { IsReady engine.old.host (B.sizes bench.old) }
     requires well { IsWell engine.old.host engine.old.state }
     ensures moments { AtEachTale B.Shelf (TurnMoment engine.old.host [] engine.old.state) bench.old bench.new }
-    ensures end { (text : List ℕ) → IsCommand text Boot → AtEnd B.Shelf (EndOfLine (DriveFailed B.Shelf bench.old bench.new 0) (GivingFailed B.Shelf bench.old bench.new) engine.old.host text engine.old.state engine.new.state result) bench.old bench.new }
+    ensures end { (text : List ℕ) → IsLine text Boot → AtEnd B.Shelf (EndOfLine (DriveFailed B.Shelf bench.old bench.new 0) (GivingFailed B.Shelf bench.old bench.new) engine.old.host text engine.old.state engine.new.state result) bench.old bench.new }
     ensures home { AtEachTale B.Shelf (StaysHome engine.old.host) bench.old bench.new }
     ensures answer { LineReply (DriveFailed B.Shelf bench.old bench.new 0) (GivingFailed B.Shelf bench.old bench.new) engine.old.host engine.old.state engine.new result }
-    ensures keeps { Keeps B.Shelf bench.old bench.new }
+    ensures kept { Kept B.Shelf bench.old bench.new }
 {
     match engine.reboot(bench, alloc) {
         Ok(()) => engine.accept(bench),

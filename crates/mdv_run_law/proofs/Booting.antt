@@ -1,9 +1,10 @@
 -- A boot, as a line of the script and as the start of a run.
 use Rattle.std.proofs.Common.{◌≡◌, inl, inr, ℕ, true, List, [], ◌++◌, Contains, refl, sym, ◌∙◌, ap, subst, arith}
 use Rattle.std.proofs.lemmas.List.{append-nil}
-use Rattle.mdv_run_law.specs.Below.{Script, line, Tale, told, replies_in, Boot, IsCommand, History, Deed, Created, Event, NoDeed, history_after_all, HasWoken, Host, site_of, Memory, IsFront, acked, StandsAt, IsMadeHere, Does, IsAsked, IsKnown, IsAwake, BootMoment, BootedTo, TurnMoment, Turned}
+use Rattle.mdv_run_law.specs.Below.{Script, line, Tale, told, replies_in, Boot, IsLine, History, Deed, Created, Event, NoDeed, history_after_all, HasWoken, Host, site_of, Memory, IsFront, acked, issuable_of, StandsAt, IsMadeHere, Does, IsAsked, IsKnown, IsAwake, BootMoment, BootedTo, TurnMoment, Turned}
 use Rattle.mdv_history.proofs.Histories.{history_after_more, course_more, adds_more, adds_weaker, woken_first}
 use Rattle.mdv_engine_law.proofs.Plain.{nothing_answers}
+use Rattle.mdv_engine_law.proofs.Staying.{stays_in_replica, stays_more}
 use Rattle.mdv_engine_law.specs.Standing as turn
 use Rattle.mdv_run_law.specs.Standing.{Asks, AreIdle, AreOfRun, ComeOf, InWork, IsTold, behind, LinesMoment, RanTo, RunMoment}
 use Rattle.mdv_run_law.proofs.Coming.{behind_none, told_none, in_work_none, idle_none}
@@ -11,19 +12,19 @@ use Rattle.mdv_run_law.proofs.Turning.{none_acked, front_told, reply_come}
 
 module _ (host : Host) where
   -- by which nothing is asked
-  idly : (told other : List Deed) (es : List Event) → told ≡ other → Does host NoDeed told es → Does host (IsAsked []) other es
-  idly told other es same does =
-      adds_weaker (IsMadeHere host NoDeed) (IsMadeHere host (IsAsked [])) NoDeed (IsAsked []) (λ identity is. absurd is.1) (λ deed none. absurd none) other es (subst (λ (l : List Deed). Does host NoDeed l es) same does)
+  idly : (asked told other : List Deed) (es : List Event) → told ≡ other → Does host NoDeed told es → Does host (IsAsked asked) other es
+  idly asked told other es same does =
+      adds_weaker (IsMadeHere host NoDeed) (IsMadeHere host (IsAsked asked)) NoDeed (IsAsked asked) (λ identity is. absurd is.1) (λ deed none. absurd none) other es (subst (λ (l : List Deed). Does host NoDeed l es) same does)
 
   -- the events of a boot, and those of a turn by which nothing is asked
   booted_goes : (bytes : List ℕ) (front : IsFront bytes) (Between After : List Event → History → Type 0) (u m : Tale) (h : History) (first : turn.Goes host NoDeed [] Between u h)
-      → (second : turn.Goes host (IsAsked []) (acked [] bytes) After m (history_after_all h first.es)) → turn.Goes host (IsAsked []) (acked [] bytes) (λ es after. (fs : List Event) × (gs : List Event) × (es ≡ fs ++ gs) × Between fs (history_after_all h fs) × After gs after) m h
+      → (second : turn.Goes host (IsAsked (issuable_of [] bytes)) (acked [] bytes) After m (history_after_all h first.es)) → turn.Goes host (IsAsked (issuable_of [] bytes)) (acked [] bytes) (λ es after. (fs : List Event) × (gs : List Event) × (es ≡ fs ++ gs) × Between fs (history_after_all h fs) × After gs after) m h
   booted_goes bytes front Between After u m h first second =
       let same : history_after_all (history_after_all h first.es) second.es ≡ history_after_all h (first.es ++ second.es) = sym (history_after_more h first.es second.es) in
       record {
         es = first.es ++ second.es;
         course = course_more (site_of host) h first.es second.es first.course second.course;
-        does = adds_more (IsMadeHere host (IsAsked [])) (IsAsked []) [] (acked [] bytes) first.es second.es (idly [] [] first.es refl first.does) second.does;
+        does = adds_more (IsMadeHere host (IsAsked (issuable_of [] bytes))) (IsAsked (issuable_of [] bytes)) [] (acked [] bytes) first.es second.es (idly (issuable_of [] bytes) [] [] first.es refl first.does) second.does;
         stands = subst (λ (x : History). StandsAt host x m) same second.stands;
         after = (first.es, second.es, refl, first.after, subst (λ (x : History). After second.es x) same second.after);
       }
@@ -34,6 +35,7 @@ module _ (host : Host) where
   -- while the host boots nothing is told
   pub boot_turn : (old : Memory) (t m : Tale) → BootMoment host t m → TurnMoment host [] old t m
   boot_turn old t m moment = record {
+    home = stays_in_replica host t m moment.kept;
     bytes = [];
     is_told = moment.quiet ∙ sym (append-nil (told t));
     front = inl nothing_answers;
@@ -41,7 +43,7 @@ module _ (host : Host) where
     free = λ has. absurd (never [] (inl nothing_answers) has);
     goes = λ h known.
         let went = moment.goes h known.stands in
-        record { es = went.es; course = went.course; does = idly [] (acked [] []) went.es (sym (none_acked [] (inl nothing_answers))) went.does; stands = went.stands; after = tt };
+        record { es = went.es; course = went.course; does = idly (issuable_of [] []) [] (acked [] []) went.es (sym (none_acked [] (inl nothing_answers))) went.does; stands = went.stands; after = tt };
   }
 
   module _ (old new : Memory) (t u : Tale) (booted : BootedTo host new t u) where
@@ -51,6 +53,7 @@ module _ (host : Host) where
     -- while the `ok` of a line `boot` is told
     pub booted_turn : (m : Tale) → TurnMoment host [] new u m → TurnMoment host [] old t m
     booted_turn m moment = record {
+      home = stays_more host t u m booted.home moment.home;
       bytes = moment.bytes;
       is_told = told_both m moment.bytes moment.is_told;
       front = moment.front;
@@ -63,7 +66,7 @@ module _ (host : Host) where
     }
 
     -- and once it is
-    pub booted_ran : (text : List ℕ) (more : Script) → IsCommand text Boot → (v : Tale) → Turned host [] new new u v → RanTo host (line text more) old new more t v
+    pub booted_ran : (text : List ℕ) (more : Script) → IsLine text Boot → (v : Tale) → Turned host [] new new u v → RanTo host (line text more) old new more t v
     booted_ran text more is v turned =
         let asks : Asks text [] = inr (Boot, is, refl) in
         let front : IsFront turned.bytes = inr (turned.reply.line, turned.reply.alone) in

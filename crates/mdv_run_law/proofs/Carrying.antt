@@ -1,8 +1,9 @@
 -- Where nothing failed and memory wasn't wanting, a line comes to one answer.
 use Rattle.std.proofs.Common.{◌≡◌, inl, inr, ℕ, zero, suc, ◌+◌, ◌≤◌, ◌<◌, false, List, [], ◌∷◌, Some, refl, sym, ◌∙◌, ap, subst, arith}
-use Rattle.mdv_run_law.specs.Below.{SliceName, VolId, Refusal, IsHome, values_reply, IsSound, Command, Create, Read, Write, Boot, Newest, area_of, next_newest, Answer, Host, site_of, Memory, Kept, IsTurnedDown, IsCarriedOut, IsCreation, IsCreated, IsNew, MayChange, IsChange, IsCommitted, AreBlocksAt, AreBlocksRefused, IsRead, IsWrite, ArePut, blocks_of}
+use Rattle.mdv_run_law.specs.Below.{SliceName, VolId, Refusal, IsHome, values_reply, IsSound, Command, Create, Read, Write, Line, Newest, area_of, next_newest, Answer, Host, site_of, Memory, Kept, IsTurnedDown, IsCarriedOut, ComesTo, IsCreation, IsCreated, IsNew, MayChange, IsChange, IsCommitted, AreBlocksAt, AreBlocksRefused, IsRead, IsWrite, ArePut, blocks_of}
 use Rattle.mdv_words.specs.declared.command.Command.TheVariants as command
-use Rattle.mdv_words.proofs.Lines.{one_command}
+use Rattle.mdv_words.specs.declared.command.Line.TheVariants as words
+use Rattle.mdv_words.proofs.Lines.{one_line}
 use Rattle.mdv_engine_law.specs.declared.answer.Answer.TheVariants as outcome
 use Rattle.mdv_run_law.specs.Run.{IsAnswered}
 use Rattle.mdv_run_law.proofs.Changing.{stripe, one_change_cause, one_may, never_changed}
@@ -133,14 +134,17 @@ module _ (failed : Type 0) (calm : failed → ⊥) (host : Host) (sound : IsSoun
       carried (Write volume at block) (inl first) (inr second) = absurd (never_read volume at 1 second.1.lies.0 second.1.lies.1 (opening_of host k same.one) first.0 second.0 first.1 second.1)
       carried (Write volume at block) (inr first) (inl second) = absurd (never_read volume at 1 first.1.lies.0 first.1.lies.1 (opening_of host k same.one) second.0 first.0 second.1 first.1)
       carried (Write volume at block) (inr first) (inr second) = write volume at block first.0 second.0 first.1 second.1 first.2 second.2
-      carried Boot first second = boot_same host sound failed calm k j n m a b same sated sated_too first second
 
-  -- a command comes to the same from what is kept in common
-  one_carried : (cmd : Command) (k j n m : Kept) (a b : Answer) → Same host k j → IsSatisfied a → IsSatisfied b → IsCarriedOut failed host k cmd a n → IsCarriedOut failed host j cmd b m → One host n m a b
-  one_carried cmd k j n m a b same sated sated_too first second =
-      let moved = subst (λ (x : Memory). IsCarriedOut failed host (record { memory = x; content = j.content }) cmd b m) (sym same.memory) second in
+      comes : (spelled : Line) → ComesTo failed host k spelled a n → ComesTo failed host j spelled b m → One host n m a b
+      comes words.Boot first second = boot_same host sound failed calm k j n m a b same sated sated_too first second
+      comes (words.Command cmd) first second = carried cmd first second
+
+  -- a line comes to the same from what is kept in common
+  one_carried : (spelled : Line) (k j n m : Kept) (a b : Answer) → Same host k j → IsSatisfied a → IsSatisfied b → ComesTo failed host k spelled a n → ComesTo failed host j spelled b m → One host n m a b
+  one_carried spelled k j n m a b same sated sated_too first second =
+      let moved = subst (λ (x : Memory). ComesTo failed host (record { memory = x; content = j.content }) spelled b m) (sym same.memory) second in
       let settled = subst (λ (x : Memory). Settled host (record { memory = x; content = j.content })) (sym same.memory) same.other in
-      carried k.memory k.content j.content n m a b (record { memory = refl; beside = same.beside; one = same.one; other = settled }) sated sated_too cmd first moved
+      comes k.memory k.content j.content n m a b (record { memory = refl; beside = same.beside; one = same.one; other = settled }) sated sated_too spelled first moved
 
   -- and so does a line
   pub one_answer : (text : List ℕ) (k j n m : Kept) (a b : Answer) → Same host k j → IsSatisfied a → IsSatisfied b → IsAnswered failed host k text a n → IsAnswered failed host j text b m → One host n m a b
@@ -148,4 +152,4 @@ module _ (failed : Type 0) (calm : failed → ⊥) (host : Host) (sound : IsSoun
   one_answer text k j n m a b same sated sated_too (inl first) (inr second) = absurd (first.0 second.0 second.1)
   one_answer text k j n m a b same sated sated_too (inr first) (inl second) = absurd (second.0 first.0 first.1)
   one_answer text k j n m a b same sated sated_too (inr first) (inr second) =
-      one_carried first.0 k j n m a b same sated sated_too first.2 (subst (λ (x : Command). IsCarriedOut failed host j x b m) (one_command text second.0 first.0 second.1 first.1) second.2)
+      one_carried first.0 k j n m a b same sated sated_too first.2 (subst (λ (x : Line). ComesTo failed host j x b m) (one_line text second.0 first.0 second.1 first.1) second.2)

@@ -2,8 +2,8 @@
 use Rattle.std.proofs.Common.{◌≡◌, ◌⊎◌, inl, inr, ⊎_elim, ℕ, Bool, List, [], ◌∷◌, ◌++◌, refl, sym, ◌∙◌, ap, subst, append_assoc, Contains}
 use Rattle.std.proofs.lemmas.List.{append-nil}
 use Rattle.std.proofs.lemmas.List.Elements.{Contains-append_left, Contains-append_right}
-use Rattle.mdv_run_law.specs.Below.{Script, at_end, spent, too_long, line, Deed, Event, told_by, Host, asked_by, acked_by}
-use Rattle.mdv_words.proofs.Lines.{one_command}
+use Rattle.mdv_run_law.specs.Below.{Script, at_end, spent, too_long, line, Deed, Event, told_by, Host, asked_by_line, acked_by}
+use Rattle.mdv_words.proofs.Lines.{one_line}
 use Rattle.mdv_history.proofs.Histories.{told_more}
 use Rattle.mdv_run_law.specs.Standing.{Asks, AreIdle, AreOfLine, ComeOf, InWork, NothingLeft, IsTold, behind}
 
@@ -12,7 +12,7 @@ pub one_asked : (text : List ℕ) (a b : List Deed) → Asks text a → Asks tex
 one_asked text a b (inl one) (inl other) = one.1 ∙ sym other.1
 one_asked text a b (inl one) (inr other) = absurd (one.0 other.0 other.1)
 one_asked text a b (inr one) (inl other) = absurd (other.0 one.0 one.1)
-one_asked text a b (inr one) (inr other) = one.2 ∙ ap asked_by (one_command text one.0 other.0 one.1 other.1) ∙ sym other.2
+one_asked text a b (inr one) (inr other) = one.2 ∙ ap asked_by_line (one_line text one.0 other.0 one.1 other.1) ∙ sym other.2
 
 pub behind_none : (script : Script) → behind script [] ≡ script
 behind_none at_end = refl

@@ -1,12 +1,13 @@
 -- Where nothing failed and memory was never wanting, a run has one course.
 use Rattle.std.proofs.Common.{◌≡◌, ◌⊎◌, inl, inr, ℕ, Bool, false, true, List, [], ◌∷◌, ◌++◌, Option, Some, None, Contains, refl, sym, ◌∙◌, ap, subst, append_assoc, arith}
 use Rattle.std.proofs.lemmas.List.Elements.{Contains-append_right}
-use Rattle.mdv_run_law.specs.Below.{refusal_text, Refusal, BadLine, OutOfMemory, Script, at_end, spent, too_long, line, begins_with_digit, replies_in, Command, Create, MakeStripe, Read, Write, Boot, Answer, Host, site_of, Kept, IsCarriedOut, IsRebooted, adopted, empty, down, lost, wanting, IsPlain, IsPlainAnswer, IsReply, ok_line, refusal_line}
+use Rattle.mdv_run_law.specs.Below.{refusal_text, Refusal, BadLine, OutOfMemory, Script, at_end, spent, too_long, line, begins_with_digit, replies_in, Command, Create, MakeStripe, Read, Write, Boot, Line, Answer, Host, site_of, Kept, IsCarriedOut, ComesTo, IsRebooted, adopted, empty, down, lost, wanting, IsPlain, IsPlainAnswer, IsReply, ok_line, refusal_line}
+use Rattle.mdv_words.specs.declared.command.Line.TheVariants as words
 use Rattle.mdv_status.proofs.Replies.{lines_tell_once}
 use Rattle.mdv_engine_law.specs.declared.answer.Answer.TheVariants as outcome
 use Rattle.mdv_engine_law.specs.Line as boot
 use Rattle.mdv_engine_law.specs.Replies.{text_of}
-use Rattle.mdv_engine_law.proofs.Executing.{rose_within, carried_more, rebooted_more}
+use Rattle.mdv_engine_law.proofs.Executing.{rose_within, comes_more, rebooted_more}
 use Rattle.mdv_engine_law.proofs.Plain.{bad_line_plain, too_long_plain, memory_plain, create_plain, change_plain, blocks_plain, ok_reply, values_are_reply, refusal_reply}
 use Rattle.mdv_run_law.specs.declared.status.RunStatus.{RunStatus}
 use Rattle.mdv_run_law.specs.declared.status.RunStatus.TheVariants.{Panic, NoMemory, ScriptTooLong, NumbersSpent}
@@ -49,16 +50,19 @@ module _ (failed : Type 0) (calm : failed → ⊥) (host : Host) (kept next : Ke
   carried_plain (Write volume at block) (inl (r, cause, refused)) = refused_plain r (blocks_plain host kept.memory volume at 1 r cause) refused.0
   carried_plain (Write volume at block) (inr (place, there, (same, inl (ok, put)))) = ok_plain ok
   carried_plain (Write volume at block) (inr (place, there, (same, inr (so, bad, put)))) = absurd (calm so)
-  carried_plain Boot is = booted_plain is
+
+  line_plain : (spelled : Line) → ComesTo failed host kept spelled answer next → IsPlainAnswer answer
+  line_plain Boot is = booted_plain is
+  line_plain (words.Command command) is = carried_plain command is
 
   answer_plain : (text : List ℕ) → IsAnswered failed host kept text answer next → IsPlainAnswer answer
   answer_plain text (inl (none, refused)) = refused_plain BadLine bad_line_plain refused.0
-  answer_plain text (inr (command, is, carried)) = carried_plain command carried
+  answer_plain text (inr (spelled, is, comes)) = line_plain spelled comes
 
 -- what a line came to where something failed may be told of a longer stretch
 pub answered_more : (failed more : Type 0) (host : Host) (kept next : Kept) (text : List ℕ) (answer : Answer) → (failed → more) → IsAnswered failed host kept text answer next → IsAnswered more host kept text answer next
 answered_more failed more host kept next text answer cause (inl none) = inl none
-answered_more failed more host kept next text answer cause (inr (command, is, done)) = inr (command, is, carried_more failed more cause host kept next answer command done)
+answered_more failed more host kept next text answer cause (inr (spelled, is, done)) = inr (spelled, is, comes_more failed more cause host kept next answer spelled done)
 
 -- want of memory is told as such
 told_wanting : (rest : List ℕ) → Contains (replies_in (refusal_line OutOfMemory ++ rest)) (refusal_line OutOfMemory)

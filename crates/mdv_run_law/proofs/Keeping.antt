@@ -2,6 +2,7 @@
 use Rattle.std.proofs.Common.{◌≡◌, inl, inr, ℕ, ◌+◌, ◌≤◌, ◌<◌, ◌^◌, true, false, List, [], ◌∷◌, Option, Some, None, sym, ◌∙◌, ap, subst, arith}
 use Rattle.std.proofs.lemmas.Bool.Decides.{nat_tests}
 use Rattle.mdv_run_law.specs.Below.{OutOfMemory, Head, greatest, shows, covers, IsSound, area_of, IsFound, IsReplica, Newest, IsNewestOf, Answer, Host, site_of, Memory, Kept, Stays, ArePut, IsRebooted, adopted, empty, down, lost, wanting}
+use Rattle.mdv_shelf.specs.Area.{range}
 use Rattle.mdv_shelf.proofs.Blocks.{both_ways}
 use Rattle.mdv_store_law.proofs.Frame.{newest_there, none_there}
 use Rattle.mdv_engine_law.specs.declared.answer.Answer.TheVariants as outcome
@@ -127,8 +128,11 @@ module _ (host : Host) where
         | inr out ↦ put.elsewhere b out
       ]
 
-      of_home : (b : ℕ) → (site_of host).at.first ≤ b → b < (site_of host).at.first + 8192 → area_of (site_of host) 0 b ≡ true
-      of_home b from to = grind (arith, nat_tests)
+      in_place : (first blocks b : ℕ) → first ≤ b → b < first + blocks → range 0 first blocks 0 b ≡ true
+      in_place first blocks b from to = grind (arith, nat_tests)
+
+      of_home : (b : ℕ) → (site_of host).at.first ≤ b → b < (site_of host).at.first + (site_of host).at.place.blocks → area_of (site_of host) 0 b ≡ true
+      of_home b from to = in_place (site_of host).at.first (site_of host).at.place.blocks b from to
 
       by : Settled kept → Settled next
       by (bare none found) = bare (ap (λ (m : Memory). m.opened) memory ∙ none) (none_there (site_of host) kept.content next.content (λ b from to. there b (of_home b from to)) found)

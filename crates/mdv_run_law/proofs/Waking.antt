@@ -1,6 +1,7 @@
 -- A line that isn't `boot` leaves it as it was whether the last boot read the drive.
 use Rattle.std.proofs.Common.{◌≡◌, inl, inr, ℕ, List, sym, ◌∙◌, ap, subst}
-use Rattle.mdv_run_law.specs.Below.{Command, Create, MakeStripe, Read, Write, Boot, Tale, Answer, Reply, Host, Memory, Kept, kept_at, IsCarriedOut, IsExecuted, IsTold, IsReplied, Executed, IsAwake}
+use Rattle.mdv_run_law.specs.Below.{Command, Create, MakeStripe, Read, Write, Tale, Answer, Reply, Host, Memory, Kept, kept_at, IsCarriedOut, IsExecuted, IsTold, IsReplied, Executed, IsAwake}
+use Rattle.mdv_words.specs.declared.command.Line.TheVariants as words
 use Rattle.mdv_engine_law.specs.declared.answer.Answer.TheVariants as outcome
 use Rattle.mdv_engine_law.specs.declared.answer.Reply.TheVariants as reply
 
@@ -55,9 +56,8 @@ module _ (failed : Type 0) (host : Host) (kept next : Kept) (answer : Answer) (u
   carried_awake (Read volume at count) executed (inr read) heard = same_memory read.2.0.memory
   carried_awake (Write volume at block) executed (inl refused) heard = same_memory refused.2.1.memory
   carried_awake (Write volume at block) executed (inr written) heard = same_memory written.2.0
-  carried_awake Boot executed is heard = absurd executed
 
 -- a command that was executed and replied to
-pub executed_awake : (drive replies : Type 0) (host : Host) (command : Command) (old new : Memory) (r : Reply) (t u : Tale) → Executed drive replies host command old new r t u → IsExecuted command → IsReplied r → IsAwake new → IsAwake old
+pub executed_awake : (drive replies : Type 0) (host : Host) (command : Command) (old new : Memory) (r : Reply) (t u : Tale) → Executed drive replies host (words.Command command) old new r t u → IsExecuted command → IsReplied r → IsAwake new → IsAwake old
 executed_awake drive replies host command old new r t u is executed replied up =
     carried_awake drive host (kept_at old t) (kept_at new u) is.answer up command executed is.carried (told_heard replies is.answer r is.replied.piece is.replied.as_told replied)

@@ -14,10 +14,10 @@ pub use Rattle.mdv_engine_law.specs.Home.{identity_of, site_of}
 pub use Rattle.mdv_engine_law.specs.Line.{AreBlocksAt, AreBlocksRefused, ArePut, HasVolumeOn, IsCarriedOut, IsChange, IsChangeRefused, IsChanged}
 pub use Rattle.mdv_engine_law.specs.Line.{IsCommitted, IsCreateRefused, IsCreated, IsCreation, IsDownWord, IsExecuted, IsHomeSlice, IsNew, IsOther}
 pub use Rattle.mdv_engine_law.specs.Line.{IsRead, IsRebooted, IsRewritten, IsSame, IsSameBeside, IsTurnedDown, IsWrite, Kept, MayChange, MayCreate}
-pub use Rattle.mdv_engine_law.specs.Line.{Memory, Stays, adopted, asked_by, blocks_of, down, drive_content, empty, kept_at, lost, record_room}
+pub use Rattle.mdv_engine_law.specs.Line.{ComesTo, Memory, Stays, adopted, asked_by, asked_by_line, blocks_of, down, drive_content, empty, kept_at, lost, record_room}
 pub use Rattle.mdv_engine_law.specs.Line.{unbooted, wanting}
-pub use Rattle.mdv_engine_law.specs.Replies.{IsFront, IsPlain, IsPlainAnswer, IsReplied, IsReply, IsTold, acked, acked_by, acked_in, ok_line}
-pub use Rattle.mdv_engine_law.specs.Replies.{refusal_line}
+pub use Rattle.mdv_engine_law.specs.Replies.{IsFront, IsPlain, IsPlainAnswer, IsReplied, IsReply, IsTold, acked, acked_by, acked_in, issuable}
+pub use Rattle.mdv_engine_law.specs.Replies.{issuable_in, issuable_of, ok_line, refusal_line}
 pub use Rattle.mdv_engine_law.specs.Standing.{BootMoment, BootedTo, Does, Executed, IsAsked, IsAwake, IsKnown, IsMadeHere, IsOfRun, Knows, Reached}
 pub use Rattle.mdv_engine_law.specs.Standing.{StandsAt, TurnMoment, Turned}
 pub use Rattle.mdv_engine_law.specs.declared.answer.Answer.{Answer}
@@ -65,6 +65,8 @@ pub use Rattle.mdv_table.specs.declared.volume.Component.{Component}
 pub use Rattle.mdv_table.specs.declared.volume.Volume.{Volume}
 pub use Rattle.mdv_table.specs.declared.volume.VolumeKind.{VolumeKind}
 pub use Rattle.mdv_table.specs.declared.volume.VolumeKind.TheVariants.{Stripe}
-pub use Rattle.mdv_words.specs.Line.{IsCommand}
+pub use Rattle.mdv_words.specs.Line.{IsCommand, IsLine}
 pub use Rattle.mdv_words.specs.declared.command.Command.{Command}
-pub use Rattle.mdv_words.specs.declared.command.Command.TheVariants.{Boot, Create, MakeStripe, Read, Write}
+pub use Rattle.mdv_words.specs.declared.command.Command.TheVariants.{Create, MakeStripe, Read, Write}
+pub use Rattle.mdv_words.specs.declared.command.Line.{Line}
+pub use Rattle.mdv_words.specs.declared.command.Line.TheVariants.{Boot}

@@ -1,6 +1,6 @@
 -- The run of one host, told by what its script asks.
 use Rattle.std.specs.Prelude.{◌≡◌, ◌≢◌, ◌⊎◌, ◌≤◌, ℕ, Bool, true, false, List, [], ◌++◌, take, Option, Some, None, IfSome, Contains, if◌then◌else◌}
-use Rattle.mdv_run_law.specs.Below.{Rose, BadLine, LineTooLong, OutOfMemory, IsHome, Script, at_end, spent, too_long, line, Head, Part, OnDrive, OnReplies, Tale, told, replies_in, IsSound, Command, IsCommand, IsFound, IsOpened, Answer, Host, site_of, Kept, IsSame, IsSameBeside, IsCarriedOut, IsRebooted, IsTurnedDown, drive_content, unbooted, ok_line, refusal_line}
+use Rattle.mdv_run_law.specs.Below.{Rose, BadLine, LineTooLong, OutOfMemory, IsHome, Script, at_end, spent, too_long, line, Head, Part, OnDrive, OnReplies, Tale, told, replies_in, IsSound, Line, IsLine, IsFound, IsOpened, Answer, Host, site_of, Kept, IsSame, IsSameBeside, ComesTo, IsRebooted, IsTurnedDown, drive_content, unbooted, ok_line, refusal_line}
 use Rattle.mdv_engine_law.specs.Replies.{text_of}
 use Rattle.mdv_engine_law.specs.declared.answer.Answer.TheVariants as outcome
 use Rattle.mdv_run_law.specs.declared.status.RunStatus.{RunStatus}
@@ -33,12 +33,12 @@ replies_failed now later = Rose now.replies later.replies
 
 -- nothing that the grammar has
 abbrev pub IsNoCommand : List ℕ → Type 0
-IsNoCommand text = (command : Command) → IsCommand text command → ⊥
+IsNoCommand text = (spelled : Line) → IsLine text spelled → ⊥
 
--- what a line comes to: one that isn't in the grammar is refused, and a command comes to what it asks
+-- what a line comes to: one that isn't in the grammar is refused, and another comes to what it asks
 abbrev pub IsAnswered : Type 0 → Host → Kept → List ℕ → Answer → Kept → Type 0
 IsAnswered failed host kept text answer next =
-    (IsNoCommand text × IsTurnedDown BadLine kept answer next) ⊎ ((command : Command) × IsCommand text command × IsCarriedOut failed host kept command answer next)
+    (IsNoCommand text × IsTurnedDown BadLine kept answer next) ⊎ ((spelled : Line) × IsLine text spelled × ComesTo failed host kept spelled answer next)
 
 -- How a run is over: nothing more is told. Of what is then in memory and on the drive something is known, or nothing.
 pub record Stops (known : Option Kept) (end : RunStatus) (told : List ℕ) (status : RunStatus) (last : Option Kept) : Type 0 where

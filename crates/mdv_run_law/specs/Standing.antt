@@ -1,25 +1,25 @@
 -- How the drive stands with its history at each moment of a run.
 use Rattle.std.specs.Prelude.{◌≡◌, ◌≢◌, ◌⊎◌, ℕ, Bool, true, false, List, [], ◌∷◌, ◌++◌, Some, Contains}
-use Rattle.mdv_run_law.specs.Below.{Script, at_end, spent, too_long, line, Head, shows, Tale, told, IsImage, replies_in, Command, Boot, IsCommand, is_firm, IsReplica, History, Deed, Created, Event, HasWoken, IsCourse, NoDeed, history_after_all, Host, site_of, identity_of, Memory, asked_by, acked_by, StandsAt, Does, IsAsked, Reached, Knows, IsKnown}
+use Rattle.mdv_run_law.specs.Below.{Script, at_end, spent, too_long, line, Head, shows, Tale, told, IsImage, replies_in, Line, Boot, IsLine, is_firm, IsReplica, History, Deed, Created, Event, HasWoken, IsCourse, NoDeed, history_after_all, Host, site_of, identity_of, Memory, asked_by_line, acked_by, issuable, StandsAt, Does, IsAsked, Reached, Knows, IsKnown}
 use Rattle.mdv_run_law.specs.Run.{IsNoCommand}
 
 -- what the `ok` of a line acknowledges: nothing, where the grammar doesn't have the line
 abbrev pub Asks : List ℕ → List Deed → Type 0
-Asks text asked = (IsNoCommand text × (asked ≡ [])) ⊎ ((command : Command) × IsCommand text command × (asked ≡ asked_by command))
+Asks text asked = (IsNoCommand text × (asked ≡ [])) ⊎ ((spelled : Line) × IsLine text spelled × (asked ≡ asked_by_line spelled))
 
 -- events by which nothing is asked and nothing is told
 abbrev pub AreIdle : Host → List Event → Type 0
 AreIdle host es = Does host NoDeed [] es
 
--- Events of a line that was answered by this line of reply: they issue only what it asks, and tell it exactly where the reply is `ok`,
--- which comes only where the last boot has read the drive. Behind it the last boot has read the drive only where the line is a boot
+-- Events of a line that was answered by this line of reply: they issue what it asks only where the reply is `ok`, or tells that a call on
+-- a drive failed, and else nothing; they tell it exactly where the reply is `ok`, which comes only where the last boot has read the drive. Behind it the last boot has read the drive only where the line is a boot
 -- that did, or where it had and the line is none.
 pub record AreOfLine (host : Host) (text : List ℕ) (down : Bool) (reply : List ℕ) (es : List Event) (then : Bool) : Type 0 where
   pub asked : List Deed
   pub asks : Asks text asked
-  pub does : Does host (IsAsked asked) (acked_by asked reply) es
+  pub does : Does host (IsAsked (issuable asked reply)) (acked_by asked reply) es
   pub awake : acked_by asked reply ≢ [] → down ≡ false
-  pub up : then ≡ false → HasWoken es ⊎ ((down ≡ false) × (IsCommand text Boot → ⊥))
+  pub up : then ≡ false → HasWoken es ⊎ ((down ≡ false) × (IsLine text Boot → ⊥))
 
 -- Events that come, in order, of the lines of the script that these replies answer, one line of reply for each, where the last boot
 -- before them has read the drive, or was down; behind them come events of what is left of the script.
@@ -76,7 +76,8 @@ pub record ShowsMade (host : Host) (t : Tale) : Type 0 where
   pub each : (image : ℕ → ℕ → List ℕ) → IsImage t image → (head : Head) × IsReplica (site_of host) (image 0) head × (shows head ≡ true) × (head.master.identity ≡ identity_of host number)
 
 -- A moment of a run of that script that began at t: the drive stands with each history that it stood with at the start, gone on
--- by the events of the boot and of the lines so far, in their order; each line's events issue only what it asks, and tell
+-- by the events of the boot and of the lines so far, in their order; each line's events issue what it asks only where it was answered
+-- `ok`, or that a call failed, or where nothing whole was told of it, and tell
 -- it exactly where its `ok` was told. Wherever one is told, the last boot before it has read the drive, since when each block has
 -- one value until it is written. Where a creation was told, whatever a crash leaves is a replica of a database that this run made.
 pub record RunMoment (host : Host) (script : Script) (t m : Tale) : Type 0 where

@@ -5,7 +5,7 @@ use Rattle.mdv_shelf.specs.Tale.{Tale, Then, Call, Wrote, Tore, Synced, Gave}
 use Rattle.mdv_shelf.specs.Calls.{Reads, Writes, Syncs, Gives, and_then}
 use Rattle.mdv_shelf.specs.Moments.{During, Moments}
 use Rattle.mdv_shelf.specs.Story.{tale_of, IsNoted, Moment, NoFewer, OfTales}
-use Rattle.mdv_shelf.specs.Shelves.{AtEachMoment, AtEachTale, GoesOn, Keeps}
+use Rattle.mdv_shelf.specs.Shelves.{AtEachMoment, AtEachTale, GoesOn, Keeps, Kept}
 use Rattle.mdv_shelf.specs.declared.shelf.Shelf.{Ghosts}
 use Rattle.mdv_shelf.proofs.Moments.{grew_one, moments_none}
 use Rattle.mdv_shelf.proofs.Stories.{each_noted, each_both, each_more, each_one, each_of_moments, each_of_tales, each_weaker, moments_of_each}
@@ -66,6 +66,26 @@ module _ {S : Type 0} (shelf : Ghosts S) where
 
   pub goes_on_each : (R : Moment → Moment → Type 0) (old new : S) → AtEachMoment shelf R old new → GoesOn shelf old new
   goes_on_each R old new each = moment_weaker R (λ _ _. Unit {0}) old new (λ t m up down here. tt) each
+
+-- stretches of calls, with all that they keep
+module _ {S : Type 0} (shelf : Ghosts S) where
+  keeps_more : (a b c : S) → Keeps shelf a b → Keeps shelf b c → Keeps shelf a c
+  keeps_more a b c first second = record {
+    same_sizes = second.same_sizes ∙ first.same_sizes;
+    same_rest = second.same_rest ∙ first.same_rest;
+    same_held = second.same_held ∙ first.same_held;
+    no_fewer_faults = λ part. (let one = first.no_fewer_faults part in let two = second.no_fewer_faults part in omega arith);
+  }
+
+  pub kept_call : (old new : S) → IsNoted shelf.story shelf.faults old new → Keeps shelf old new → Kept shelf old new
+  kept_call old new noted keeps = record { keeps = keeps; goes = goes_on_call shelf old new noted keeps }
+
+  pub kept_each : (R : Moment → Moment → Type 0) (old new : S) → AtEachMoment shelf R old new → Keeps shelf old new → Kept shelf old new
+  kept_each R old new each keeps = record { keeps = keeps; goes = goes_on_each shelf R old new each }
+
+-- one stretch after another
+pub kept_more : {S : Type 0} {shelf : Ghosts S} {a b c : S} → Kept shelf a b → Kept shelf b c → Kept shelf a c
+kept_more {S} {shelf} {a} {b} {c} first second = record { keeps = keeps_more shelf a b c first.keeps second.keeps; goes = goes_on_more shelf a b c first.goes second.goes }
 
 -- One call on a shelf. What a relation needs is said of each moment with the counts as the call was made,
 -- and of the end with those behind it.

@@ -27,6 +27,11 @@ AtEachMoment shelf R old new = AtEach R (shelf.story old) (shelf.faults old) (sh
 abbrev pub GoesOn : {S : Type 0} → Ghosts S → S → S → Type 0
 GoesOn shelf old new = AtEachMoment shelf (λ _ _. Unit {0}) old new
 
+-- a stretch of calls: it keeps what calls keep, and the story goes on
+pub record Kept {S : Type 0} (shelf : Ghosts S) (old new : S) : Type 0 where
+  pub keeps : Keeps shelf old new
+  pub goes : GoesOn shelf old new
+
 -- R holds, relative to the start, of what was done and told by each moment, whatever had failed
 abbrev pub AtEachTale : {S : Type 0} → Ghosts S → (Tale → Tale → Type 0) → S → S → Type 0
 AtEachTale shelf R old new = Moments R (shelf.tale old) (shelf.tale new)

@@ -1,5 +1,6 @@
 ghost use Rattle.std.specs.Prelude.{◌≡◌, length, OnOk};
 ghost use Rattle.mdv_base.specs.Causes.{HasCause};
+ghost use Rattle.mdv_shelf.specs.Between.{RoseByAtLeast};
 ghost use Rattle.mdv_shelf.specs.Calls.{OnDrive, InDrive, Took, TookAtMost};
 ghost use Rattle.mdv_shelf.specs.Moments.{Moments, Ends};
 ghost use Rattle.mdv_shelf.specs.Settle.{Settling, IsSettled};
@@ -23,6 +24,7 @@ pub fn settle<S: Shelf>(
     ensures cause { HasCause (S.faults shelf.old (OnDrive drive.0)) (S.faults shelf.new (OnDrive drive.0)) result }
     ensures counted { OnOk result (Took S.calls S.written shelf.old shelf.new 2 (length from.now)) }
     ensures counted_at_most { TookAtMost S.calls S.written shelf.old shelf.new 2 (length from.now) }
+    ensures counted_at_least { RoseByAtLeast 1 (S.calls shelf.old) (S.calls shelf.new) }
     ensures keeps { Keeps S.Shelf shelf.old shelf.new }
 {
     shelf.write(drive, at, from)?;

@@ -9,10 +9,10 @@ use Rattle.mdv_replica.proofs.Showing.{head_formatted}
 use Rattle.mdv_store_law.specs.Going.{Creates, CreationsGo, IsCreated, created_head, created_newest, created_version, first_mark}
 use Rattle.mdv_store_law.specs.Log.{Version, Log, Issued, Writing, Written, IsFirst, IsThis, is_firm, log_after}
 use Rattle.mdv_store_law.specs.Site.{Site, IsFound, IsNewestOf, IsReplica, IsTableAt}
-use Rattle.mdv_store_law.specs.Standing.{Agrees, Holds, nothing, replica, ShowsNothing, GoesOn, GoesOnTo}
+use Rattle.mdv_store_law.specs.Standing.{Agrees, Holds, nothing, replica, IsReplicaMade, ShowsNothing, GoesOn, GoesOnTo}
 use Rattle.mdv_store_law.specs.Steps.{MayTake, Takes}
 use Rattle.mdv_store_law.proofs.Kept.{text_taken}
-use Rattle.mdv_store_law.proofs.Replicas.{filled_replica, found_none_blank, found_none_closed}
+use Rattle.mdv_store_law.proofs.Replicas.{closed_replica, filled_replica, found_none_blank, found_none_closed, same_replica}
 use Rattle.mdv_store_law.proofs.Families.{contains_first}
 use Rattle.mdv_store_law.proofs.Covering.{newest_of, not_firm, nothing_covers}
 
@@ -108,6 +108,14 @@ module _ (site : Site) where
         | filled fills ↦ replica made_head (made_agrees false old new is (record { bytes = takes.bytes; body = takes.body; is_body = takes.is_body; fills = fills }))
       ]
 
+      -- the replica is there, whatever its slot has
+      still_there : (old new : Image) → IsImage u old → MayTake site.at First first_mark table old new → IsReplicaMade site identity (new site.at.drive.0)
+      still_there old new is takes = elim (takes.fills) [
+        | untouched same ↦ record { head = blank_head; replica = same_replica site old new blank_head (blank_replica old is) same; as_made = refl }
+        | closed others shut ↦ record { head = blank_head; replica = closed_replica site old new blank_head (blank_replica old is) First (length takes.body) takes.is_body.in_slot others shut; as_made = refl }
+        | filled fills ↦ record { head = made_head; replica = made_replica old new is (record { bytes = takes.bytes; body = takes.body; is_body = takes.is_body; fills = fills }); as_made = refl }
+      ]
+
       is_first : IsFirst [] None [] table
       is_first = record { none = refl; unasked = refl; unchanged = refl; empty = creates.empty }
 
@@ -148,6 +156,7 @@ creations_go = record {
   begins = λ site identity t m none formatting. format_goes_on site identity t m none formatting;
   fails = λ site identity t m none formatting. format_ends_on site identity t m none formatting;
   goes = λ site identity table t u m creates none is leaves. table_goes_on site identity table creates u is t m none leaves;
+  formatted = λ site identity table u m creates is leaves image of. (let from = leaves image of in still_there site identity table creates u is from.0 image from.1 from.2);
   shows = λ site identity table u v creates is leaves image of. (let from = leaves image of in shows_new site identity table creates u is from.0 image from.1 from.2);
   opens = λ site identity table u v creates is leaves. record {
     head = created_head site identity table;

@@ -13,12 +13,12 @@ use Rattle.mdv_store_law.proofs.Shown.{family_kept}
 
 -- the contents are the same where a replica may lie
 abbrev pub IsSameThere : Site → (ℕ → List ℕ) → (ℕ → List ℕ) → Type 0
-IsSameThere site old new = (block : ℕ) → site.at.first ≤ block → block < site.at.first + 8192 → new block ≡ old block
+IsSameThere site old new = (block : ℕ) → site.at.first ≤ block → block < site.at.first + site.at.place.blocks → new block ≡ old block
 
 module _ (site : Site) (old new : ℕ → List ℕ) (same : IsSameThere site old new) where
   pub replica_there : (head : Head) → IsReplica site old head → IsReplica site new head
   replica_there head is =
-      let most = is.readable.of_head.lies.most in
+      let most = is.readable.of_head.lies.in_place in
       record {
         readable = readable_kept (IsRecordAt site.drives) site.at site.size old new head is.readable (λ block from to. same block from (omega arith));
         of_key = is.of_key;
@@ -26,11 +26,11 @@ module _ (site : Site) (old new : ℕ → List ℕ) (same : IsSameThere site old
 
   text_there : (head : Head) (slot : Slot) → IsReplica site old head → KeepsText (sized site head) slot old new
   text_there head First is =
-      let most = is.readable.of_head.lies.most in
+      let most = is.readable.of_head.lies.in_place in
       let least = is.readable.of_head.lies.least in
       text_kept (sized site head) First old new (λ block from to. same block (omega arith) (omega arith))
   text_there head Second is =
-      let most = is.readable.of_head.lies.most in
+      let most = is.readable.of_head.lies.in_place in
       let least = is.readable.of_head.lies.least in
       text_kept (sized site head) Second old new (λ block from to. same block (omega arith) (omega arith))
 
@@ -80,7 +80,7 @@ module _ (site : Site) (area : Area) (t m : Tale) (apart : AreApart area (area_o
     ];
   }
 
-  of_site : (block : ℕ) → site.at.first ≤ block → block < site.at.first + 8192 → area_of site site.at.drive.0 block ≡ true
+  of_site : (block : ℕ) → site.at.first ≤ block → block < site.at.first + site.at.place.blocks → area_of site site.at.drive.0 block ≡ true
   of_site block from to = grind (arith, nat_tests)
 
   pub same_there : IsSameThere site (before site.at.drive.0) (image site.at.drive.0)

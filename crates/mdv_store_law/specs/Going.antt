@@ -3,7 +3,7 @@ use Rattle.std.specs.Prelude.{◌≡◌, ◌+◌, ◌<◌, ◌^◌, true, false,
 use Rattle.mdv_store_law.specs.Below.{Identity, Mark, record_text, Open, Head, Slot, First, IsSpareSlot, formatted_head, greatest, other_slot, with_slot, IsMaster, Image, Leaves, Formatting, IsFormatted, LiesAt, master_of, with_blocks, IsSynced, Tale, IsImage, last, Change, Table, IsSound}
 use Rattle.mdv_store_law.specs.Log.{Version, Log, IsLog, IsMade, IsTellable, IsThis, IsThisChange, NoCreation, is_firm}
 use Rattle.mdv_store_law.specs.Site.{Site, sized, IsNewestOf, IsTableAt, Newest}
-use Rattle.mdv_store_law.specs.Standing.{IsOpened, IsNewestIn, Anything, GoesFrom, GoesOnTo, GoesOn, ShowsNothing, created_log}
+use Rattle.mdv_store_law.specs.Standing.{IsOpened, IsNewestIn, Anything, GoesFrom, GoesOnTo, GoesOn, ShowsNothing, ShowsReplica, created_log}
 use Rattle.mdv_store_law.specs.Steps.{MayTake, Takes, Rewritten, Rewrites, IsTheReplica, IsAdopted, adopted_newest, next_newest}
 
 -- what a boot that adopts starts from: synced drives with this one replica, whose newest table isn't in the spare slot
@@ -88,6 +88,9 @@ pub record CreationsGo : Type 0 where
   -- while the table is written
   pub goes : (site : Site) (identity : Identity) (table : Table) (t u m : Tale) → Creates site identity table → ShowsNothing site t → IsFormatted site.at (master_of site.at site.key identity) 1 u
       → Leaves (MayTake site.at First first_mark table) u m → GoesOn site (IsThis identity) t m
+  -- the replica is there from then on, whether the table is written or not
+  pub formatted : (site : Site) (identity : Identity) (table : Table) (u m : Tale) → Creates site identity table → IsFormatted site.at (master_of site.at site.key identity) 1 u
+      → Leaves (MayTake site.at First first_mark table) u m → ShowsReplica site identity m
   -- in the end
   pub shows : (site : Site) (identity : Identity) (table : Table) (u v : Tale) → Creates site identity table → IsFormatted site.at (master_of site.at site.key identity) 1 u
       → Leaves (Takes site.at First first_mark table) u v → (image : Image) → IsImage v image → IsNewestOf site (image site.at.drive.0) (created_head site identity table) (created_newest site table)

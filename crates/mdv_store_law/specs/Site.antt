@@ -9,9 +9,9 @@ pub record Site : Type 0 where
   pub at : PlaceAt
   pub size : ℕ
 
--- the blocks that a replica there may have
+-- the blocks that a replica there may have: those of the place, whose length is the most
 abbrev pub area_of : Site → Area
-area_of site = range site.at.drive.0 site.at.first 8192
+area_of site = range site.at.drive.0 site.at.first site.at.place.blocks
 
 -- the place, with the length of the replica that lies there
 abbrev pub sized : Site → Head → PlaceAt

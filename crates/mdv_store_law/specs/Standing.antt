@@ -54,6 +54,16 @@ pub record Stands (site : Site) (log : Log) (m : Tale) : Type 0 where
 abbrev pub ShowsNothing : Site → Tale → Type 0
 ShowsNothing site m = (image : Image) → IsImage m image → IsFound site (image site.at.drive.0) None
 
+-- a replica is readable there, of the database that the creation with this identity made
+pub record IsReplicaMade (site : Site) (identity : Identity) (content : ℕ → List ℕ) : Type 0 where
+  pub head : Head
+  pub replica : IsReplica site content head
+  pub as_made : head.master.identity ≡ identity
+
+-- whatever a crash leaves, the place has such a replica
+abbrev pub ShowsReplica : Site → Identity → Tale → Type 0
+ShowsReplica site identity m = (image : Image) → IsImage m image → IsReplicaMade site identity (image site.at.drive.0)
+
 -- whatever a crash leaves, the place has one and the same replica, whose newest table is this one
 pub record IsOpened (site : Site) (newest : Newest) (m : Tale) : Type 0 where
   pub head : Head

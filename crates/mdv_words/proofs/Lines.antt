@@ -1,4 +1,4 @@
--- A line spells one command at most.
+-- A line spells `boot` or one command, and one thing at most.
 use Rattle.std.proofs.Common.{◌≡◌, ℕ, Bool, true, false, Option, Some, None, IfNone, refl, sym, ◌∙◌, ap, subst, List, ◌∷◌, ◌++◌, get_or, drop, codes, decimal, arith}
 use Rattle.std.proofs.lemmas.Fmt.{decimal_injective}
 use Rattle.mdv_base.specs.declared.drive.SliceName.{SliceName}
@@ -6,10 +6,12 @@ use Rattle.mdv_base.specs.declared.name.VolId.{VolId}
 use Rattle.mdv_name.specs.Drive.{slice_text}
 use Rattle.mdv_name.proofs.Drives.{slice_text_injective}
 use Rattle.mdv_words.specs.declared.command.Command.{Command}
-use Rattle.mdv_words.specs.declared.command.Command.TheVariants.{Create, MakeStripe, Read, Write, Boot}
+use Rattle.mdv_words.specs.declared.command.Command.TheVariants.{Create, MakeStripe, Read, Write}
+use Rattle.mdv_words.specs.declared.command.Line.{Line}
+use Rattle.mdv_words.specs.declared.command.Line.TheVariants as words
 use Rattle.mdv_words.specs.Field.{BeginsWithVolume, BeginsWithAddress}
 use Rattle.mdv_words.specs.Hex.{SpellsBlock}
-use Rattle.mdv_words.specs.Line.{IsCommand}
+use Rattle.mdv_words.specs.Line.{IsCommand, IsLine}
 use Rattle.mdv_words.proofs.Fronts.{one_volume, one_address}
 use Rattle.mdv_words.proofs.Pairs.{one_block}
 
@@ -74,7 +76,6 @@ fifth (Create slice force) = 100
 fifth (MakeStripe volume slice) = 105
 fifth (Read volume at count) = 32
 fifth (Write volume at block) = 101
-fifth Boot = 0
 
 fifth_of : (text : List ℕ) (c : Command) → IsCommand text c → get_or text 4 0 ≡ fifth c
 fifth_of text (Create slice true) is = ap (λ (l : List ℕ). get_or l 4 0) is.1
@@ -82,26 +83,39 @@ fifth_of text (Create slice false) is = ap (λ (l : List ℕ). get_or l 4 0) is.
 fifth_of text (MakeStripe volume slice) is = ap (λ (l : List ℕ). get_or l 4 0) is.2
 fifth_of text (Read volume at count) is = ap (λ (l : List ℕ). get_or l 4 0) is.4
 fifth_of text (Write volume at block) is = ap (λ (l : List ℕ). get_or l 4 0) is.4
-fifth_of text Boot is = ap (λ (l : List ℕ). get_or l 4 0) is
 
 pub one_command : (text : List ℕ) (a b : Command) → IsCommand text a → IsCommand text b → a ≡ b
 one_command text (Create s f) (Create t g) first second = one_creation text s t f g first second
 one_command text (MakeStripe v s) (MakeStripe w t) first second = one_stripe text v w s t first second
 one_command text (Read v m i) (Read w n j) first second = one_read text v w m n i j first second
 one_command text (Write v m x) (Write w n y) first second = one_write text v w m n x y first second
-one_command text Boot Boot first second = refl
 one_command text a b first second = let bytes : fifth a ≡ fifth b = sym (fifth_of text a first) ∙ fifth_of text b second in absurd (omega (arith, bytes))
+
+-- and no command has four letters
+no_boot : (text : List ℕ) (c : Command) → text ≡ codes "boot" → IsCommand text c → ⊥
+no_boot text c is command = never c (sym (ap (λ (l : List ℕ). get_or l 4 0) is) ∙ fifth_of text c command)
+  where
+    never : (c : Command) → 0 ≡ fifth c → ⊥
+    never (Create slice force) same = omega (arith, same)
+    never (MakeStripe volume slice) same = omega (arith, same)
+    never (Read volume at count) same = omega (arith, same)
+    never (Write volume at block) same = omega (arith, same)
+
+pub one_line : (text : List ℕ) (a b : Line) → IsLine text a → IsLine text b → a ≡ b
+one_line text words.Boot words.Boot first second = refl
+one_line text words.Boot (words.Command b) first second = absurd (no_boot text b first second)
+one_line text (words.Command a) words.Boot first second = absurd (no_boot text a second first)
+one_line text (words.Command a) (words.Command b) first second = ap (λ (c : Command). words.Command c) (one_command text a b first second)
 
 -- a line that spells no command of each kind spells none
 pub no_command :
-    (text : List ℕ) (read : Option Command) → (text ≡ codes "boot" → ⊥) → ((slice : SliceName) (force : Bool) → IsCommand text (Create slice force) → ⊥) →
+    (text : List ℕ) (read : Option Command) → ((slice : SliceName) (force : Bool) → IsCommand text (Create slice force) → ⊥) →
     ((volume : VolId) (slice : SliceName) → IsCommand text (MakeStripe volume slice) → ⊥) → ((volume : VolId) (at count : ℕ) → IsCommand text (Read volume at count) → ⊥) →
     IfNone read ((volume : VolId) (at : ℕ) (block : List ℕ) → IsCommand text (Write volume at block) → ⊥) → IfNone read ((c : Command) → IsCommand text c → ⊥)
-no_command text (Some c) boot create make look put = tt
-no_command text None boot create make look put = λ c is. elim c as (λ k. IsCommand text k → ⊥) [
+no_command text (Some c) create make look put = tt
+no_command text None create make look put = λ c is. elim c as (λ k. IsCommand text k → ⊥) [
   | Create slice force ↦ create slice force
   | MakeStripe volume slice ↦ make volume slice
   | Read volume at count ↦ look volume at count
   | Write volume at block ↦ put volume at block
-  | Boot ↦ boot
 ] is

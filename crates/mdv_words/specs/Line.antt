@@ -1,9 +1,11 @@
--- The command that a line spells.
+-- What a line spells: `boot`, or a command.
 use Rattle.std.specs.Prelude.{◌≡◌, ◌<◌, ◌≤◌, ◌^◌, true, false, ℕ, List, [], ◌∷◌, ◌++◌, codes, decimal}
 use Rattle.mdv_name.specs.Drive.{IsSliceName, slice_text}
 use Rattle.mdv_name.specs.Volume.{number_text}
 use Rattle.mdv_words.specs.declared.command.Command.{Command}
-use Rattle.mdv_words.specs.declared.command.Command.TheVariants.{Create, MakeStripe, Read, Write, Boot}
+use Rattle.mdv_words.specs.declared.command.Command.TheVariants.{Create, MakeStripe, Read, Write}
+use Rattle.mdv_words.specs.declared.command.Line.{Line}
+use Rattle.mdv_words.specs.declared.command.Line.TheVariants as words
 use Rattle.mdv_words.specs.Hex.{SpellsBlock}
 
 -- the words, parted by exactly one blank
@@ -19,4 +21,8 @@ IsCommand text (Create slice false) = IsSliceName slice × (text ≡ spaced (cod
 IsCommand text (MakeStripe volume slice) = (volume.0 < 8192) × IsSliceName slice × (text ≡ spaced (codes "metainit" ∷ number_text volume.0 ∷ codes "1" ∷ codes "1" ∷ slice_text slice ∷ []))
 IsCommand text (Read volume at count) = (volume.0 < 8192) × (at < 2 ^ 64) × (1 ≤ count) × (count ≤ 1024) × (text ≡ spaced (codes "read" ∷ number_text volume.0 ∷ decimal at ∷ decimal count ∷ []))
 IsCommand text (Write volume at block) = (hex : List ℕ) × (volume.0 < 8192) × (at < 2 ^ 64) × SpellsBlock hex block × (text ≡ spaced (codes "write" ∷ number_text volume.0 ∷ decimal at ∷ hex ∷ []))
-IsCommand text Boot = text ≡ codes "boot"
+
+-- `boot`, or one of these
+abbrev pub IsLine : List ℕ → Line → Type 0
+IsLine text words.Boot = text ≡ codes "boot"
+IsLine text (words.Command command) = IsCommand text command

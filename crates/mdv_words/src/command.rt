@@ -2,7 +2,8 @@ ghost use Rattle.std.specs.Prelude.{◌≡◌, ℕ, Bool, List, IfSome, IfNone};
 ghost use Rattle.mdv_base.specs.declared.drive.SliceName.{SliceName};
 ghost use Rattle.mdv_base.specs.declared.name.VolId.{VolId};
 ghost use Rattle.mdv_words.specs.declared.command.Command.{Command};
-ghost use Rattle.mdv_words.specs.Line.{IsCommand};
+ghost use Rattle.mdv_words.specs.declared.command.Line.{Line};
+ghost use Rattle.mdv_words.specs.Line.{IsCommand, IsLine};
 
 use crate::fields::{split_address, split_volume, strip};
 use crate::hex::read_block;
@@ -15,7 +16,15 @@ const BOOT: &[u8] = b"boot";
 /// The most blocks that one line reads.
 pub const MAX_READ: u64 = 1024;
 
-/// What a line of a script asks for.
+/// A line of a script. The host boots itself; an engine carries the commands out.
+#[derive(Clone, Copy, Debug, PartialEq, Eq)]
+pub enum Line {
+    /// `boot`
+    Boot,
+    Command(Command),
+}
+
+/// What a line asks an engine for.
 #[derive(Clone, Copy, Debug, PartialEq, Eq)]
 pub enum Command {
     /// `metadb -a SLICE`, or with `-f`
@@ -40,18 +49,24 @@ pub enum Command {
         at: u64,
         block: Block,
     },
-    /// `boot`
-    Boot,
 }
 
-/// The command of a line; None for a line that isn't in the grammar.
-pub fn read_line(text: &[u8]) -> Option<Command>
-    ensures value { IfSome result (λ c. IsCommand text.now c) }
-    ensures none { IfNone result ((c : Command) → IsCommand text.now c → ⊥) }
+/// What a line spells; None for a line that isn't in the grammar.
+pub fn read_line(text: &[u8]) -> Option<Line>
+    ensures value { IfSome result (IsLine text.now) }
+    ensures none { IfNone result ((line : Line) → IsLine text.now line → ⊥) }
 {
     if text == BOOT {
-        return Some(Command::Boot);
+        return Some(Line::Boot);
     }
+    let command = read_command(text)?;
+    Some(Line::Command(command))
+}
+
+fn read_command(text: &[u8]) -> Option<Command>
+    ensures value { IfSome result (IsCommand text.now) }
+    ensures none { IfNone result ((c : Command) → IsCommand text.now c → ⊥) }
+{
     if let Some(command) = creation(text) {
         return Some(command);
     }

@@ -6,5 +6,5 @@ mod fields;
 mod hex;
 mod law;
 
-pub use command::{Command, MAX_READ, read_line};
-pub use law::reads_one_command;
+pub use command::{Command, Line, MAX_READ, read_line};
+pub use law::reads_one_line;

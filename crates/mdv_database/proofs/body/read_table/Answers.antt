@@ -1,14 +1,23 @@
-use Rattle.std.proofs.Common.{arith}
+use Rattle.std.proofs.Common.{arith, rules}
 use Rattle.mdv_shelf.specs.Tale.{last}
 use Rattle.mdv_shelf.proofs.Between.{between_of}
-use Rattle.mdv_database.proofs.Bodies.{read_is}
+use Rattle.mdv_database.proofs.Bodies.{fitting, read_is}
 use Rattle.mdv_database.proofs.Counting.{found_few}
 use Rattle.mdv_database.proofs.body.read_table.Goals as goal
 
-pub returns-in-Ok-clause-read : goal.returns-in-Ok-clause-read
-returns-in-Ok-clause-read g c = λ t is.
-    read_is c.args.drives.now c.args.at c.args.slot c.args.bytes c.read_body.new.out c.table_in.ensures.size (omega arith) c.table_in.result (last t c.args.at.drive.0) (omega arith)
-    (c.in-Ok.ensures.reads.gave t is) c.table_in.ensures.table c.table_in.ensures.none
+pub returns-in-Ok-clause-reads : goal.returns-in-Ok-clause-reads
+returns-in-Ok-clause-reads g c = record {
+  same = c.in-Ok.ensures.reads.same;
+  gave = λ t is.
+      read_is c.args.drives.now c.args.at c.args.slot c.args.bytes c.read_body.new.out c.table_in.ensures.size (omega arith) c.table_in.result (last t c.args.at.drive.0) (omega arith)
+      (c.in-Ok.ensures.reads.gave t is) c.table_in.ensures.table c.table_in.ensures.none;
+}
+
+pub returns-in-Ok-clause-answer : goal.returns-in-Ok-clause-answer
+returns-in-Ok-clause-answer g c = record {
+  is = fitting c.args.drives.now c.args.at c.args.slot c.args.bytes c.read_body.new.out c.table_in.ensures.size (omega arith) c.table_in.result (omega arith) c.table_in.ensures.table;
+  cause = search rules;
+}
 
 pub returns-in-Ok-clause-counted : goal.returns-in-Ok-clause-counted
 returns-in-Ok-clause-counted g c = between_of g.S.Shelf.calls g.S.Shelf.written _ _ 1 0 _ 1 0 (found_few 1 _) (omega arith) (omega arith) c.read_body.ensures.counted

@@ -1,9 +1,6 @@
-use Rattle.std.proofs.Common.{◌≡◌, ◌<◌, ◌+◌, ◌^◌, ℕ, ap, subst, arith}
-use Rattle.mdv_database.specs.Below.{Mark, Key, Geometry, Moments, PlaceAt, greatest, with_blocks, drawn, NoCreation, Newest, GoesOn, adopted_newest}
-use Rattle.mdv_shelf.proofs.Moments.{moments_weaker, moments_end}
-use Rattle.mdv_database.specs.Database.{IsFoundIn, IsQuiet, site_of}
-use Rattle.mdv_database.proofs.Booting.{adopting_goes, adoption_ends, adoption_stands}
-use Rattle.mdv_database.proofs.Quiet.{quiet_sized}
+use Rattle.std.proofs.Common.{◌≡◌, ◌<◌, ◌+◌, ◌^◌, ℕ, ap, arith, rules}
+use Rattle.mdv_database.specs.Below.{Mark, greatest, drawn, Newest, adopted_newest}
+use Rattle.mdv_database.proofs.Booting.{adopt_ends, adopt_lost, adopt_moments, adopt_spent, adopt_still}
 use Rattle.mdv_database.proofs.database.adopt.Goals as goal
 use Rattle.mdv_database.proofs.database.adopt.Goals.{After-rewrite}
 
@@ -13,18 +10,6 @@ drawn_is g c = ap (λ (n : ℕ). record { boot = n + 1; count = 0 }) c.greatest_
 fits : (g : _) (c : After-rewrite g) → greatest c.args.found.head + 1 < 2 ^ 63
 fits g c = omega (arith, c.greatest_of-number.ensures, c.if-number-ge-NUMBER_LIMIT.false)
 
--- at each moment
-quiet : (g : _) (c : After-rewrite g) → Moments (IsQuiet c.args.at) (g.S.Shelf.tale c.args.shelf.now) (g.S.Shelf.tale c.rewrite.new.shelf)
-quiet g c =
-    let moments : Moments (IsQuiet (with_blocks c.args.at c.args.found.head.master.blocks)) (g.S.Shelf.tale c.args.shelf.now) (g.S.Shelf.tale c.rewrite.new.shelf) =
-    subst (λ (p : PlaceAt). Moments (IsQuiet p) (g.S.Shelf.tale c.args.shelf.now) (g.S.Shelf.tale c.rewrite.new.shelf)) c.at_length.ensures c.rewrite.ensures.moments in
-    moments_weaker _ (IsQuiet c.args.at) _ _ (quiet_sized c.args.at c.args.found.head.master.blocks) moments
-
-goes : (g : _) (c : After-rewrite g) → Moments (λ t m. (drives : Geometry) (key : Key) → IsFoundIn (site_of drives key c.args.at (g.S.Shelf.sizes c.args.shelf.now)) c.args.found t → GoesOn (site_of drives key c.args.at (g.S.Shelf.sizes c.args.shelf.now)) NoCreation t m) (g.S.Shelf.tale c.args.shelf.now) (g.S.Shelf.tale c.rewrite.new.shelf)
-goes g c =
-    moments_weaker _ _ _ _ (λ t m rewrites drives key is. adopting_goes (site_of drives key c.args.at (g.S.Shelf.sizes c.args.shelf.now)) c.args.found (fits g c) c.requires.in_hand.spare c.at_length.result (record { boot = c.greatest_of-number.result + 1; count = 0 }) c.at_length.ensures (drawn_is g c) t m rewrites is)
-    c.rewrite.ensures.leaves
-
 newest : (g : _) (c : After-rewrite g) → Newest
 newest g c = record { blocks = c.args.found.head.master.blocks; slot = c.args.found.spare; mark = record { boot = c.greatest_of-number.result + 1; count = 0 }; table = c.args.found.table }
 
@@ -32,31 +17,48 @@ newest_is : (g : _) (c : After-rewrite g) → newest g c ≡ adopted_newest c.ar
 unfolding newest
 newest_is g c = ap (λ (n : ℕ). record { blocks = c.args.found.head.master.blocks; slot = c.args.found.spare; mark = record { boot = n + 1; count = 0 }; table = c.args.found.table }) c.greatest_of-number.ensures
 
+pub returns-in-Ok-clause-answer : goal.returns-in-Ok-clause-answer
+unfolding newest
+returns-in-Ok-clause-answer g c = record {
+  is = newest_is g (goal.at.returns-in-Ok-clause-answer g c).After-rewrite;
+  fits = fits g (goal.at.returns-in-Ok-clause-answer g c).After-rewrite;
+  laid = record {
+    placed = record {
+      drive = c.requires.on_drive.drive;
+      least = c.requires.in_hand.form.of_place.least;
+      within = c.requires.in_hand.form.of_place.within;
+      size = c.requires.on_drive.size;
+    };
+    in_place = c.requires.in_hand.form.of_place.in_place;
+  };
+}
+
+pub returns-in-Err-clause-answer : goal.returns-in-Err-clause-answer
+returns-in-Err-clause-answer g c = (search rules, fits g (goal.at.returns-in-Err-clause-answer g c).After-rewrite)
+
 pub returns-in-Ok-clause-moments : goal.returns-in-Ok-clause-moments
-returns-in-Ok-clause-moments g c = quiet g (goal.at.returns-in-Ok-clause-moments g c).After-rewrite
+returns-in-Ok-clause-moments g c =
+    let before = (goal.at.returns-in-Ok-clause-moments g c).After-rewrite in
+    adopt_moments c.args.at (g.S.Shelf.sizes c.args.shelf.now) c.args.found (fits g before) c.requires.in_hand.spare c.requires.in_hand.form.of_place.in_place _ _ c.at_length.ensures (drawn_is g before) _ _ c.rewrite.ensures.moments
 
 pub returns-in-Err-clause-moments : goal.returns-in-Err-clause-moments
-returns-in-Err-clause-moments g c = quiet g (goal.at.returns-in-Err-clause-moments g c).After-rewrite
+returns-in-Err-clause-moments g c =
+    let before = (goal.at.returns-in-Err-clause-moments g c).After-rewrite in
+    adopt_moments c.args.at (g.S.Shelf.sizes c.args.shelf.now) c.args.found (fits g before) c.requires.in_hand.spare c.requires.in_hand.form.of_place.in_place _ _ c.at_length.ensures (drawn_is g before) _ _ c.rewrite.ensures.moments
 
-pub returns-in-Ok-clause-stays : goal.returns-in-Ok-clause-stays
-returns-in-Ok-clause-stays g c = goes g (goal.at.returns-in-Ok-clause-stays g c).After-rewrite
-
-pub returns-in-Err-clause-stays : goal.returns-in-Err-clause-stays
-returns-in-Err-clause-stays g c = goes g (goal.at.returns-in-Err-clause-stays g c).After-rewrite
-
-pub returns-in-Err-clause-ends : goal.returns-in-Err-clause-ends
-returns-in-Err-clause-ends g c = moments_end _ _ _ (goes g (goal.at.returns-in-Err-clause-ends g c).After-rewrite)
-
-pub returns-in-Ok-clause-ends : goal.returns-in-Ok-clause-ends
+pub returns-in-Ok-clause-end : goal.returns-in-Ok-clause-end
 unfolding newest
-returns-in-Ok-clause-ends g c = λ t is. (
-    let before = (goal.at.returns-in-Ok-clause-ends g c).After-rewrite in
-    let end = c.in-Ok.ensures.written t is in
-    (end.0, end.1, λ drives key found. adoption_ends (site_of drives key c.args.at (g.S.Shelf.sizes c.args.shelf.now)) c.args.found (fits g before) c.requires.in_hand.spare c.at_length.result (record { boot = c.greatest_of-number.result + 1; count = 0 }) c.at_length.ensures (drawn_is g before) (newest g before) (newest_is g before) t end.0 end.2 found))
+returns-in-Ok-clause-end g c =
+    let before = (goal.at.returns-in-Ok-clause-end g c).After-rewrite in
+    adopt_ends c.args.at (g.S.Shelf.sizes c.args.shelf.now) c.args.found (fits g before) c.requires.in_hand.spare c.requires.in_hand.form.of_place.in_place _ _ c.at_length.ensures (drawn_is g before) (newest g before) (newest_is g before) _ _ c.in-Ok.ensures.end
 
-pub returns-in-Ok-clause-adopted : goal.returns-in-Ok-clause-adopted
-unfolding newest
-returns-in-Ok-clause-adopted g c = λ t is. (
-    let before = (goal.at.returns-in-Ok-clause-adopted g c).After-rewrite in
-    let end = c.in-Ok.ensures.written t is in
-    (end.0, end.1, λ drives key found. adoption_stands (site_of drives key c.args.at (g.S.Shelf.sizes c.args.shelf.now)) c.args.found (fits g before) c.requires.in_hand.spare c.at_length.result (record { boot = c.greatest_of-number.result + 1; count = 0 }) c.at_length.ensures (drawn_is g before) (newest g before) (newest_is g before) t end.0 end.2 found))
+pub returns-in-Err-clause-end : goal.returns-in-Err-clause-end
+returns-in-Err-clause-end g c =
+    let before = (goal.at.returns-in-Err-clause-end g c).After-rewrite in
+    adopt_lost c.args.at (g.S.Shelf.sizes c.args.shelf.now) c.args.found (fits g before) c.requires.in_hand.spare c.requires.in_hand.form.of_place.in_place _ _ c.at_length.ensures (drawn_is g before) _ _ c.rewrite.ensures.moments
+
+pub returns-then-number-ge-NUMBER_LIMIT-clause-moments : goal.returns-then-number-ge-NUMBER_LIMIT-clause-moments
+returns-then-number-ge-NUMBER_LIMIT-clause-moments g c = adopt_still c.args.at (g.S.Shelf.sizes c.args.shelf.now) c.args.found _
+
+pub returns-then-number-ge-NUMBER_LIMIT-clause-end : goal.returns-then-number-ge-NUMBER_LIMIT-clause-end
+returns-then-number-ge-NUMBER_LIMIT-clause-end g c = adopt_spent c.args.at (g.S.Shelf.sizes c.args.shelf.now) c.args.found _

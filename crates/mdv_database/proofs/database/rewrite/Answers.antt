@@ -1,53 +1,79 @@
-use Rattle.std.proofs.Common.{inl, inr, ◌+◌, arith}
-use Rattle.mdv_database.specs.Below.{Moments, Ends, claim_text, block_of, claim_blocks, Leaves, Claims, Rewrites}
+use Rattle.std.proofs.Common.{inl, inr, ◌+◌, length, arith, rules}
+use Rattle.mdv_database.specs.Below.{Moments, Ends, Tale, claim_text, block_of, claim_blocks, Leaves, Claims, record_text}
+use Rattle.mdv_replica.specs.Replica.{Claiming}
+use Rattle.mdv_shelf.proofs.Between.{between_then, between_wider}
 use Rattle.mdv_shelf.proofs.Counts.{took_more}
-use Rattle.mdv_shelf.proofs.Moments.{moments_weaker, moments_more, moments_after, moments_end, ends_both, ends_more}
+use Rattle.mdv_shelf.proofs.Moments.{moments_weaker, moments_after, moments_end, ends_both, ends_more}
 use Rattle.mdv_replica.proofs.Leaving.{leaves_settling, leaves_settled}
+use Rattle.mdv_database.specs.Boot.{RewriteEnds, RewriteMoment}
 use Rattle.mdv_database.specs.Database.{IsQuiet}
+use Rattle.mdv_database.specs.Slots.{blocks_for}
 use Rattle.mdv_database.proofs.Quiet.{quiet_settling, quiet_more}
 use Rattle.mdv_database.proofs.Booting.{rewriting, rewritten}
 use Rattle.mdv_database.proofs.database.rewrite.Goals as goal
-use Rattle.mdv_database.proofs.database.rewrite.Goals.{After-write, In_ok-write_claim}
+use Rattle.mdv_database.proofs.database.rewrite.Goals.{After-write, After-write_claim, In_ok-write_claim}
 
-claimed : (g : _) (c : In_ok-write_claim g) → Ends (Leaves (Claims c.args.at c.args.mark.boot)) (g.S.Shelf.tale c.args.shelf.now) (g.S.Shelf.tale c.write_claim.new.shelf)
+-- the claim alone
+claiming : (g : _) (c : After-write_claim g) (t m : Tale) → Claiming c.args.at c.args.mark.boot t m → RewriteMoment c.args.at c.args.slot c.args.mark c.args.table.now t m
+claiming g c t m one = record {
+  quiet = quiet_settling c.args.at (c.args.at.first + 1) (claim_blocks c.args.mark.boot) t m (omega arith) (omega arith) one;
+  rewrites = inl (leaves_settling c.args.at.drive.0 (c.args.at.first + 1) (block_of (claim_text c.args.mark.boot)) t m one);
+}
+
+claimed : (g : _) (c : In_ok-write_claim g) → Ends (λ t u. IsQuiet c.args.at t u × Leaves (Claims c.args.at c.args.mark.boot) t u) (g.S.Shelf.tale c.args.shelf.now) (g.S.Shelf.tale c.write_claim.new.shelf)
 claimed g c =
-    ends_both _ _ _ _ _ (λ t u way end. leaves_settled c.args.at.drive.0 (c.args.at.first + 1) (claim_blocks c.args.mark.boot) t u way.outside end) (moments_end _ _ _ c.write_claim.ensures.moments) c.in_ok-write_claim.ensures.settled
+    ends_both _ _ _ _ _
+    (λ t u way end. (quiet_settling c.args.at (c.args.at.first + 1) (claim_blocks c.args.mark.boot) t u (omega arith) (omega arith) way, leaves_settled c.args.at.drive.0 (c.args.at.first + 1) (claim_blocks c.args.mark.boot) t u way.outside end))
+    (moments_end _ _ _ c.write_claim.ensures.moments) c.in_ok-write_claim.ensures.settled
 
 pub returns-in_err-write_claim-clause-moments : goal.returns-in_err-write_claim-clause-moments
 returns-in_err-write_claim-clause-moments g c =
-    moments_weaker _ (IsQuiet c.args.at) _ _ (λ t m. quiet_settling c.args.at (c.args.at.first + 1) (claim_blocks c.args.mark.boot) t m (omega arith) (omega arith)) c.write_claim.ensures.moments
+    moments_weaker _ (RewriteMoment c.args.at c.args.slot c.args.mark c.args.table.now) _ _ (claiming g (goal.at.returns-in_err-write_claim-clause-moments g c).After-write_claim) c.write_claim.ensures.moments
 
-pub returns-in_err-write_claim-clause-leaves : goal.returns-in_err-write_claim-clause-leaves
-returns-in_err-write_claim-clause-leaves g c =
-    moments_weaker _ (Rewrites c.args.at c.args.slot c.args.mark c.args.table.now) _ _ (λ t m settling. inl (leaves_settling c.args.at.drive.0 (c.args.at.first + 1) (block_of (claim_text c.args.mark.boot)) t m settling)) c.write_claim.ensures.moments
-
-quiet_both : (g : _) (c : After-write g) → Moments (IsQuiet c.args.at) (g.S.Shelf.tale c.args.shelf.now) (g.S.Shelf.tale c.write.new.shelf)
-quiet_both g c =
-    moments_more (IsQuiet c.args.at) (IsQuiet c.args.at) (IsQuiet c.args.at) _ _ _ (λ t m q. q) (λ t u m. quiet_more c.args.at t u m)
-    (moments_weaker _ (IsQuiet c.args.at) _ _ (λ t m. quiet_settling c.args.at (c.args.at.first + 1) (claim_blocks c.args.mark.boot) t m (omega arith) (omega arith)) c.write_claim.ensures.moments) c.write.ensures.moments
-
-leaves_both : (g : _) (c : After-write g) → Moments (Rewrites c.args.at c.args.slot c.args.mark c.args.table.now) (g.S.Shelf.tale c.args.shelf.now) (g.S.Shelf.tale c.write.new.shelf)
-leaves_both g c =
-    moments_after _ (Leaves (Claims c.args.at c.args.mark.boot)) _ (Rewrites c.args.at c.args.slot c.args.mark c.args.table.now) _ _ _ (λ t m settling. inl (leaves_settling c.args.at.drive.0 (c.args.at.first + 1) (block_of (claim_text c.args.mark.boot)) t m settling))
-    (λ t u m first second. inr (rewriting c.args.at c.args.slot c.args.mark c.args.table.now t u m first second)) c.write_claim.ensures.moments
-    (ends_both _ _ _ _ _ (λ t u way end. leaves_settled c.args.at.drive.0 (c.args.at.first + 1) (claim_blocks c.args.mark.boot) t u way.outside end) (moments_end _ _ _ c.write_claim.ensures.moments) c.in_ok-write_claim.ensures.settled)
-    c.write.ensures.leaves
+-- the claim, and then the table
+both : (g : _) (c : After-write g) → Moments (RewriteMoment c.args.at c.args.slot c.args.mark c.args.table.now) (g.S.Shelf.tale c.args.shelf.now) (g.S.Shelf.tale c.write.new.shelf)
+both g c =
+    moments_after _ (λ t u. IsQuiet c.args.at t u × Leaves (Claims c.args.at c.args.mark.boot) t u) _ (RewriteMoment c.args.at c.args.slot c.args.mark c.args.table.now) _ _ _
+    (λ t m one. record {
+      quiet = quiet_settling c.args.at (c.args.at.first + 1) (claim_blocks c.args.mark.boot) t m (omega arith) (omega arith) one;
+      rewrites = inl (leaves_settling c.args.at.drive.0 (c.args.at.first + 1) (block_of (claim_text c.args.mark.boot)) t m one);
+    })
+    (λ t u m first second. record {
+      quiet = quiet_more c.args.at t u m first.0 second.quiet;
+      rewrites = inr (rewriting c.args.at c.args.slot c.args.mark c.args.table.now t u m first.1 second.leaves);
+    })
+    c.write_claim.ensures.moments
+    (ends_both _ _ _ _ _
+    (λ t u way end. (quiet_settling c.args.at (c.args.at.first + 1) (claim_blocks c.args.mark.boot) t u (omega arith) (omega arith) way, leaves_settled c.args.at.drive.0 (c.args.at.first + 1) (claim_blocks c.args.mark.boot) t u way.outside end))
+    (moments_end _ _ _ c.write_claim.ensures.moments) c.in_ok-write_claim.ensures.settled)
+    c.write.ensures.moments
 
 pub returns-in_err-write-clause-moments : goal.returns-in_err-write-clause-moments
-returns-in_err-write-clause-moments g c = quiet_both g (goal.at.returns-in_err-write-clause-moments g c).After-write
-
-pub returns-in_err-write-clause-leaves : goal.returns-in_err-write-clause-leaves
-returns-in_err-write-clause-leaves g c = leaves_both g (goal.at.returns-in_err-write-clause-leaves g c).After-write
+returns-in_err-write-clause-moments g c = both g (goal.at.returns-in_err-write-clause-moments g c).After-write
 
 pub returns-clause-moments : goal.returns-clause-moments
-returns-clause-moments g c = quiet_both g (goal.at.returns-clause-moments g c).After-write
+returns-clause-moments g c = both g (goal.at.returns-clause-moments g c).After-write
 
-pub returns-clause-leaves : goal.returns-clause-leaves
-returns-clause-leaves g c = leaves_both g (goal.at.returns-clause-leaves g c).After-write
+pub returns-clause-end : goal.returns-clause-end
+returns-clause-end g c =
+    ends_more (λ t u. IsQuiet c.args.at t u × Leaves (Claims c.args.at c.args.mark.boot) t u) _ (RewriteEnds c.args.at c.args.slot c.args.mark c.args.table.now) _ _ _
+    (λ t u v first second. record { rewritten = rewritten c.args.at c.args.slot c.args.mark c.args.table.now t u v first.1 second.written; synced = second.synced })
+    (claimed g (goal.at.returns-clause-end g c).In_ok-write_claim) c.in_ok-write.ensures.end
 
-pub returns-clause-written : goal.returns-clause-written
-returns-clause-written g c =
-    ends_more (Leaves (Claims c.args.at c.args.mark.boot)) _ _ _ _ _ (λ t u v. rewritten c.args.at c.args.slot c.args.mark c.args.table.now t u v) (claimed g (goal.at.returns-clause-written g c).In_ok-write_claim) c.in_ok-write.ensures.written
+pub returns-in_err-write_claim-clause-counted : goal.returns-in_err-write_claim-clause-counted
+returns-in_err-write_claim-clause-counted g c = record {
+  done = search rules;
+  any = between_wider g.S.Shelf.calls g.S.Shelf.written _ _ 1 2 1 1 8 (3 + blocks_for (length (record_text c.args.table.now))) (omega arith) (omega arith) (omega arith) c.write_claim.ensures.counted.any;
+}
+
+pub returns-in_err-write-clause-counted : goal.returns-in_err-write-clause-counted
+returns-in_err-write-clause-counted g c = record {
+  done = search rules;
+  any = between_then g.S.Shelf.calls g.S.Shelf.written _ _ _ 1 2 1 1 6 _ 1 8 (3 + blocks_for (length (record_text c.args.table.now))) (omega arith) (omega arith) (omega arith) c.write_claim.ensures.counted.any c.write.ensures.counted.any;
+}
 
 pub returns-clause-counted : goal.returns-clause-counted
-returns-clause-counted g c = took_more g.S.Shelf.calls g.S.Shelf.written _ _ _ 2 6 1 _ 8 _ (omega arith) (omega arith) c.in_ok-write_claim.ensures.counted c.in_ok-write.ensures.counted
+returns-clause-counted g c = record {
+  done = took_more g.S.Shelf.calls g.S.Shelf.written _ _ _ 2 6 1 _ 8 _ (omega arith) (omega arith) c.in_ok-write_claim.ensures.counted.done c.in_ok-write.ensures.counted.done;
+  any = between_then g.S.Shelf.calls g.S.Shelf.written _ _ _ 1 2 1 1 6 _ 1 8 (3 + blocks_for (length (record_text c.args.table.now))) (omega arith) (omega arith) (omega arith) c.write_claim.ensures.counted.any c.write.ensures.counted.any;
+}

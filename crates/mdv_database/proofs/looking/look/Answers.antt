@@ -1,12 +1,14 @@
-use Rattle.std.proofs.Common.{◌≡◌, ◌∙◌, ℕ, List, Option, Ok, ap, subst, refl, arith}
+use Rattle.std.proofs.Common.{◌≡◌, ◌∙◌, ℕ, List, Option, Ok, ap, subst, refl, arith, rules}
 use Rattle.mdv_database.specs.Below.{Tale, Then, Synced, last, and_then}
 use Rattle.mdv_shelf.specs.Between.{TookBetween}
 use Rattle.mdv_shelf.proofs.Between.{between_of, between_one, between_then}
 use Rattle.mdv_shelf.proofs.Blocks.{last_unwritten}
 use Rattle.mdv_shelf.proofs.Counts.{took_one}
+use Rattle.mdv_shelf.proofs.Settled.{synced_drive}
 use Rattle.mdv_database.proofs.Counting.{looked_err, looked_few}
 use Rattle.mdv_database.specs.Database.{IsLookedAt, site_of}
-use Rattle.mdv_database.proofs.Quiet.{moments_synced, ends_synced, unwritten_synced}
+use Rattle.mdv_database.proofs.Quiet.{unwritten_synced}
+use Rattle.mdv_shelf.proofs.Noted.{kept_call, kept_more}
 use Rattle.mdv_database.proofs.looking.look.Goals as goal
 use Rattle.mdv_database.proofs.looking.look.Goals.{After-find}
 
@@ -15,28 +17,39 @@ synced_tale : (g : _) (c : After-find g) → g.S.Shelf.tale c.sync.new.self ≡ 
 synced_tale g c = c.in-Ok-sync.ensures.syncs ∙ ap (λ (o : Option Tale). and_then o (Synced c.args.at.drive.0)) c.read.ensures.reads.same
 
 pub returns-in_err-found-clause-moments : goal.returns-in_err-found-clause-moments
-returns-in_err-found-clause-moments g c = moments_synced c.args.at _ _ (c.find.ensures.same ∙ synced_tale g (goal.at.returns-in_err-found-clause-moments g c).After-find)
+returns-in_err-found-clause-moments g c = unwritten_synced c.args.at.drive.0 _ _ (c.find.ensures.reads.same ∙ synced_tale g (goal.at.returns-in_err-found-clause-moments g c).After-find)
 
-pub returns-in_err-found-clause-unwritten : goal.returns-in_err-found-clause-unwritten
-returns-in_err-found-clause-unwritten g c = unwritten_synced c.args.at.drive.0 _ _ (c.find.ensures.same ∙ synced_tale g (goal.at.returns-in_err-found-clause-unwritten g c).After-find)
+pub returns-in_err-found-clause-end : goal.returns-in_err-found-clause-end
+returns-in_err-found-clause-end g c = λ t is. (
+  Then t (Synced c.args.at.drive.0),
+  c.find.ensures.reads.same ∙ synced_tale g (goal.at.returns-in_err-found-clause-end g c).After-find ∙ ap (λ (o : Option Tale). and_then o (Synced c.args.at.drive.0)) is,
+  record { found = search rules; synced = search rules },
+)
 
 pub returns-clause-moments : goal.returns-clause-moments
-returns-clause-moments g c = moments_synced c.args.at _ _ (c.find.ensures.same ∙ synced_tale g (goal.at.returns-clause-moments g c).After-find)
+returns-clause-moments g c = unwritten_synced c.args.at.drive.0 _ _ (c.find.ensures.reads.same ∙ synced_tale g (goal.at.returns-clause-moments g c).After-find)
 
-pub returns-clause-unwritten : goal.returns-clause-unwritten
-returns-clause-unwritten g c = unwritten_synced c.args.at.drive.0 _ _ (c.find.ensures.same ∙ synced_tale g (goal.at.returns-clause-unwritten g c).After-find)
-
-pub returns-clause-synced : goal.returns-clause-synced
-returns-clause-synced g c = ends_synced c.args.at.drive.0 _ _ (c.find.ensures.same ∙ synced_tale g (goal.at.returns-clause-synced g c).After-find)
-
-pub returns-clause-found : goal.returns-clause-found
-returns-clause-found g c = λ t is.
-    let step = synced_tale g (goal.at.returns-clause-found g c).After-find in
-    let now = c.in_ok-found.ensures.found (Then t (Synced c.args.at.drive.0)) (step ∙ ap (λ (o : Option Tale). and_then o (Synced c.args.at.drive.0)) is) in
+pub returns-clause-end : goal.returns-clause-end
+returns-clause-end g c = λ t is.
+    let step = synced_tale g (goal.at.returns-clause-end g c).After-find in
+    let told = step ∙ ap (λ (o : Option Tale). and_then o (Synced c.args.at.drive.0)) is in
+    let now = c.in_ok-found.ensures.reads.gave (Then t (Synced c.args.at.drive.0)) told in
     let content : last (Then t (Synced c.args.at.drive.0)) c.args.at.drive.0 ≡ last t c.args.at.drive.0 = λ i block. last_unwritten t (Synced c.args.at.drive.0) c.args.at.drive.0 block refl i in
-    let sizes : g.S.Shelf.sizes c.sync.new.self ≡ g.S.Shelf.sizes c.args.shelf.now = c.sync.ensures.keeps.same_sizes ∙ c.read.ensures.keeps.same_sizes in
-    subst (λ (s : List ℕ). IsLookedAt (site_of c.args.drives.now c.args.key.now c.args.at s) (last t c.args.at.drive.0) c.in_ok-found.found) sizes
-    (subst (λ (f : ℕ → List ℕ). IsLookedAt (site_of c.args.drives.now c.args.key.now c.args.at (g.S.Shelf.sizes c.sync.new.self)) f c.in_ok-found.found) content now)
+    let sizes : g.S.Shelf.sizes c.sync.new.self ≡ g.S.Shelf.sizes c.args.shelf.now = c.sync.ensures.keeps.same_sizes ∙ c.read.ensures.keeps.same_sizes in (
+      Then t (Synced c.args.at.drive.0),
+      c.find.ensures.reads.same ∙ told,
+      record {
+        found = subst (λ (s : List ℕ). IsLookedAt (site_of c.args.drives.now c.args.key.now c.args.at s) (last t c.args.at.drive.0) c.in_ok-found.found) sizes
+            (subst (λ (f : ℕ → List ℕ). IsLookedAt (site_of c.args.drives.now c.args.key.now c.args.at (g.S.Shelf.sizes c.sync.new.self)) f c.in_ok-found.found) content now);
+        synced = synced_drive t c.args.at.drive.0;
+      },
+    )
+
+pub returns-in-Err-clause-end : goal.returns-in-Err-clause-end
+returns-in-Err-clause-end g c = λ t is. (t, c.read.ensures.reads.same ∙ is, record { found = tt; synced = tt })
+
+pub returns-in-Err-sync-clause-end : goal.returns-in-Err-sync-clause-end
+returns-in-Err-sync-clause-end g c = λ t is. (t, c.in-Err-sync.ensures.syncs ∙ c.read.ensures.reads.same ∙ is, record { found = tt; synced = tt })
 
 -- the read and the sync
 two : (g : _) (c : After-find g) → TookBetween g.S.Shelf.calls g.S.Shelf.written c.args.shelf.now c.sync.new.self 2 2 0
@@ -59,3 +72,15 @@ returns-in_err-found-clause-counted g c =
 pub returns-clause-counted : goal.returns-clause-counted
 returns-clause-counted g c =
     between_then g.S.Shelf.calls g.S.Shelf.written _ _ _ 2 2 0 _ 3 0 _ 5 0 (looked_few (Ok c.in_ok-found.found)) (omega arith) (omega arith) (two g (goal.at.returns-clause-counted g c).After-find) c.in_ok-found.ensures.counted
+
+pub returns-in-Err-clause-kept : goal.returns-in-Err-clause-kept
+returns-in-Err-clause-kept g c = kept_call g.S.Shelf _ _ c.read.ensures.noted c.read.ensures.keeps
+
+pub returns-in-Err-sync-clause-kept : goal.returns-in-Err-sync-clause-kept
+returns-in-Err-sync-clause-kept g c = kept_more (kept_call g.S.Shelf _ _ c.read.ensures.noted c.read.ensures.keeps) (kept_call g.S.Shelf _ _ c.sync.ensures.noted c.sync.ensures.keeps)
+
+pub returns-in_err-found-clause-kept : goal.returns-in_err-found-clause-kept
+returns-in_err-found-clause-kept g c = kept_more (kept_more (kept_call g.S.Shelf _ _ c.read.ensures.noted c.read.ensures.keeps) (kept_call g.S.Shelf _ _ c.sync.ensures.noted c.sync.ensures.keeps)) c.find.ensures.kept
+
+pub returns-clause-kept : goal.returns-clause-kept
+returns-clause-kept g c = kept_more (kept_more (kept_call g.S.Shelf _ _ c.read.ensures.noted c.read.ensures.keeps) (kept_call g.S.Shelf _ _ c.sync.ensures.noted c.sync.ensures.keeps)) c.find.ensures.kept

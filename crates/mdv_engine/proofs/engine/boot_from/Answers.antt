@@ -1,8 +1,11 @@
-use Rattle.std.proofs.Common.{sym, subst, refl, ap, ◌∙◌, arith}
-use Rattle.mdv_engine.specs.Below.{Rose, PlaceAt, OnDrive, Memory, lost, spent, wanting, Ends, BootedTo}
+use Rattle.std.proofs.Common.{true, false, sym, subst, refl, ap, arith}
+use Rattle.mdv_engine.specs.Below.{Rose, PlaceAt, OnDrive, Memory, lost, spent, wanting, unbooted}
+use Rattle.mdv_engine_law.specs.declared.answer.BootRefusal.TheVariants as unanswered
+use Rattle.mdv_engine.proofs.Ending.{answered_ends, closed_well, unanswered_ends}
 use Rattle.mdv_shelf.proofs.Moments.{moments_end}
 use Rattle.mdv_engine.specs.Counts.{IsOpenedCounted}
 use Rattle.mdv_engine.proofs.Booting.{boot_moments, adopted_rebooted, adopted_booted, empty_rebooted, empty_booted, down_rebooted, down_booted, spent_here, adoptable_here, adopted_well}
+use Rattle.mdv_engine.proofs.Parts.{adopted_there, boot_goes, boot_quiet, goes_to, shown, shows_nothing, synced, unwritten}
 use Rattle.mdv_engine.proofs.Sites.{on_drive}
 use Rattle.mdv_shelf.proofs.Between.{between_wider}
 use Rattle.mdv_engine.proofs.engine.boot_from.Goals as goal
@@ -11,86 +14,96 @@ pub boot-requires-clause-on_drive : goal.boot-requires-clause-on_drive
 boot-requires-clause-on_drive g c = on_drive c.args.host.now (g.S.Shelf.sizes c.args.shelf.now) c.requires c.place_at.result c.place_at.ensures
 
 pub returns-in-Adopted-clause-moments : goal.returns-in-Adopted-clause-moments
-returns-in-Adopted-clause-moments g c = boot_moments c.args.host.now (g.S.Shelf.sizes c.args.shelf.now) c.requires c.place_at.result c.place_at.ensures _ _ c.boot.ensures.moments c.boot.ensures.stays
+returns-in-Adopted-clause-moments g c = boot_moments c.args.host.now (g.S.Shelf.sizes c.args.shelf.now) c.requires c.place_at.result c.place_at.ensures _ _ (boot_quiet _ _ _ c.boot.ensures.moments) (boot_goes _ _ _ c.boot.ensures.moments)
 
 pub returns-in-Empty-clause-moments : goal.returns-in-Empty-clause-moments
-returns-in-Empty-clause-moments g c = boot_moments c.args.host.now (g.S.Shelf.sizes c.args.shelf.now) c.requires c.place_at.result c.place_at.ensures _ _ c.boot.ensures.moments c.boot.ensures.stays
+returns-in-Empty-clause-moments g c = boot_moments c.args.host.now (g.S.Shelf.sizes c.args.shelf.now) c.requires c.place_at.result c.place_at.ensures _ _ (boot_quiet _ _ _ c.boot.ensures.moments) (boot_goes _ _ _ c.boot.ensures.moments)
 
 pub returns-in-Down-clause-moments : goal.returns-in-Down-clause-moments
-returns-in-Down-clause-moments g c = boot_moments c.args.host.now (g.S.Shelf.sizes c.args.shelf.now) c.requires c.place_at.result c.place_at.ensures _ _ c.boot.ensures.moments c.boot.ensures.stays
+returns-in-Down-clause-moments g c = boot_moments c.args.host.now (g.S.Shelf.sizes c.args.shelf.now) c.requires c.place_at.result c.place_at.ensures _ _ (boot_quiet _ _ _ c.boot.ensures.moments) (boot_goes _ _ _ c.boot.ensures.moments)
 
 pub returns-in-Lost-clause-moments : goal.returns-in-Lost-clause-moments
-returns-in-Lost-clause-moments g c = boot_moments c.args.host.now (g.S.Shelf.sizes c.args.shelf.now) c.requires c.place_at.result c.place_at.ensures _ _ c.boot.ensures.moments c.boot.ensures.stays
+returns-in-Lost-clause-moments g c = boot_moments c.args.host.now (g.S.Shelf.sizes c.args.shelf.now) c.requires c.place_at.result c.place_at.ensures _ _ (boot_quiet _ _ _ c.boot.ensures.moments) (boot_goes _ _ _ c.boot.ensures.moments)
 
 pub returns-in-Spent-clause-moments : goal.returns-in-Spent-clause-moments
-returns-in-Spent-clause-moments g c = boot_moments c.args.host.now (g.S.Shelf.sizes c.args.shelf.now) c.requires c.place_at.result c.place_at.ensures _ _ c.boot.ensures.moments c.boot.ensures.stays
+returns-in-Spent-clause-moments g c = boot_moments c.args.host.now (g.S.Shelf.sizes c.args.shelf.now) c.requires c.place_at.result c.place_at.ensures _ _ (boot_quiet _ _ _ c.boot.ensures.moments) (boot_goes _ _ _ c.boot.ensures.moments)
 
 pub returns-in-Memory-clause-moments : goal.returns-in-Memory-clause-moments
-returns-in-Memory-clause-moments g c = boot_moments c.args.host.now (g.S.Shelf.sizes c.args.shelf.now) c.requires c.place_at.result c.place_at.ensures _ _ c.boot.ensures.moments c.boot.ensures.stays
+returns-in-Memory-clause-moments g c = boot_moments c.args.host.now (g.S.Shelf.sizes c.args.shelf.now) c.requires c.place_at.result c.place_at.ensures _ _ (boot_quiet _ _ _ c.boot.ensures.moments) (boot_goes _ _ _ c.boot.ensures.moments)
 
-pub returns-in-Adopted-clause-rebooted : goal.returns-in-Adopted-clause-rebooted
-returns-in-Adopted-clause-rebooted g c = adopted_rebooted c.args.host.now (g.S.Shelf.sizes c.args.shelf.now) c.requires c.place_at.result c.place_at.ensures c.args.begun c.in-Adopted.database _ _ _ c.boot.ensures.moments c.in-Adopted.ensures.booted c.in-Adopted.ensures.adopted
+pub returns-in-Adopted-clause-end : goal.returns-in-Adopted-clause-end
+returns-in-Adopted-clause-end g c =
+    answered_ends _ c.args.host.now (unbooted c.args.begun) _ _ _ _ refl
+    (λ t start.
+    let end = adopted_rebooted c.args.host.now (g.S.Shelf.sizes c.args.shelf.now) c.requires c.place_at.result c.place_at.ensures c.args.begun c.in-Adopted.database _ _ _ (boot_quiet _ _ _ c.boot.ensures.moments) (shown _ _ _ _ _ c.in-Adopted.ensures.end) (adopted_there _ _ _ _ _ c.in-Adopted.ensures.end) t start in
+    (end.0, end.1, end.2 (unbooted c.args.begun) _ refl refl))
+    (adopted_booted c.args.host.now (g.S.Shelf.sizes c.args.shelf.now) c.requires c.place_at.result c.place_at.ensures c.args.begun c.in-Adopted.database _ _ (boot_quiet _ _ _ c.boot.ensures.moments) (adopted_there _ _ _ _ _ c.in-Adopted.ensures.end) (synced _ _ _ _ _ c.in-Adopted.ensures.end tt) (goes_to _ _ _ _ _ c.in-Adopted.ensures.end))
 
-pub returns-in-Adopted-clause-booted : goal.returns-in-Adopted-clause-booted
-returns-in-Adopted-clause-booted g c = adopted_booted c.args.host.now (g.S.Shelf.sizes c.args.shelf.now) c.requires c.place_at.result c.place_at.ensures c.args.begun c.in-Adopted.database _ _ c.boot.ensures.moments c.in-Adopted.ensures.adopted (c.in-Adopted.ensures.synced tt) c.in-Adopted.ensures.ends
+pub returns-in-Empty-clause-end : goal.returns-in-Empty-clause-end
+returns-in-Empty-clause-end g c =
+    answered_ends _ c.args.host.now (unbooted c.args.begun) _ _ _ _ c.without_database.ensures
+    (λ t start.
+    let end = empty_rebooted c.args.host.now (g.S.Shelf.sizes c.args.shelf.now) c.requires c.place_at.result c.place_at.ensures c.args.begun _ _ _ (shown _ _ _ _ _ c.in-Empty.ensures.end) (unwritten _ _ _ _ _ c.in-Empty.ensures.end tt) t start in
+    (end.0, end.1, end.2 (unbooted c.args.begun) _ refl c.without_database.ensures))
+    (empty_booted c.args.host.now (g.S.Shelf.sizes c.args.shelf.now) c.requires c.place_at.result c.place_at.ensures c.args.begun _ _ (boot_quiet _ _ _ c.boot.ensures.moments) (synced _ _ _ _ _ c.in-Empty.ensures.end tt) (shows_nothing _ _ _ _ _ c.in-Empty.ensures.end refl) (goes_to _ _ _ _ _ c.in-Empty.ensures.end))
 
-pub returns-in-Empty-clause-rebooted : goal.returns-in-Empty-clause-rebooted
-returns-in-Empty-clause-rebooted g c = λ t start.
-    let end = empty_rebooted c.args.host.now (g.S.Shelf.sizes c.args.shelf.now) c.requires c.place_at.result c.place_at.ensures c.args.begun _ _ _ c.in-Empty.ensures.booted (c.in-Empty.ensures.refuses tt) t start in
-    (end.0, end.1, λ old new same now. end.2 old new same (now ∙ c.without_database.ensures))
-
-pub returns-in-Empty-clause-booted : goal.returns-in-Empty-clause-booted
-returns-in-Empty-clause-booted g c =
-    subst (λ (m : Memory). Ends (BootedTo c.args.host.now m) (g.S.Shelf.tale c.args.shelf.now) (g.S.Shelf.tale c.boot.new.shelf)) (sym c.without_database.ensures)
-    (empty_booted c.args.host.now (g.S.Shelf.sizes c.args.shelf.now) c.requires c.place_at.result c.place_at.ensures c.args.begun _ _ c.boot.ensures.moments (c.in-Empty.ensures.synced tt) (c.in-Empty.ensures.empty refl) c.in-Empty.ensures.ends)
-
-pub returns-in-Down-clause-rebooted : goal.returns-in-Down-clause-rebooted
-returns-in-Down-clause-rebooted g c = λ t start.
+pub returns-in-Down-clause-end : goal.returns-in-Down-clause-end
+returns-in-Down-clause-end g c =
+    answered_ends _ c.args.host.now (unbooted c.args.begun) _ _ _ _ c.without_database-in-Down.ensures
+    (λ t start.
     let end = down_rebooted c.args.host.now (g.S.Shelf.sizes c.args.shelf.now) c.requires c.place_at.result c.place_at.ensures c.args.begun _ _ (Rose (g.S.Shelf.faults c.args.shelf.now (OnDrive 0)) (g.S.Shelf.faults c.boot.new.shelf (OnDrive 0)))
-    (subst (λ (p : PlaceAt). Rose (g.S.Shelf.faults c.args.shelf.now (OnDrive p.drive.0)) (g.S.Shelf.faults c.boot.new.shelf (OnDrive p.drive.0))) c.place_at.ensures (c.in-Down.ensures.down refl))
-    (c.in-Down.ensures.refuses tt) t start in
-    (end.0, end.1, λ old new same now. end.2 old new same (now ∙ c.without_database-in-Down.ensures))
+    (subst (λ (p : PlaceAt). Rose (g.S.Shelf.faults c.args.shelf.now (OnDrive p.drive.0)) (g.S.Shelf.faults c.boot.new.shelf (OnDrive p.drive.0))) c.place_at.ensures c.in-Down.ensures.answer.cause)
+    (unwritten _ _ _ _ _ c.in-Down.ensures.end tt) t start in
+    (end.0, end.1, end.2 (unbooted c.args.begun) _ refl c.without_database-in-Down.ensures))
+    (down_booted c.args.host.now (g.S.Shelf.sizes c.args.shelf.now) c.requires c.place_at.result c.place_at.ensures c.args.begun _ _ (boot_quiet _ _ _ c.boot.ensures.moments) (unwritten _ _ _ _ _ c.in-Down.ensures.end tt))
 
-pub returns-in-Down-clause-booted : goal.returns-in-Down-clause-booted
-returns-in-Down-clause-booted g c =
-    subst (λ (m : Memory). Ends (BootedTo c.args.host.now m) (g.S.Shelf.tale c.args.shelf.now) (g.S.Shelf.tale c.boot.new.shelf)) (sym c.without_database-in-Down.ensures)
-    (down_booted c.args.host.now (g.S.Shelf.sizes c.args.shelf.now) c.requires c.place_at.result c.place_at.ensures c.args.begun _ _ c.boot.ensures.moments (c.in-Down.ensures.refuses tt))
-
-pub returns-in-Adopted-clause-well : goal.returns-in-Adopted-clause-well
-returns-in-Adopted-clause-well g c = adopted_well c.args.host.now c.args.begun c.in-Adopted.database c.place_at.result c.place_at.ensures c.in-Adopted.ensures.table
-
-pub returns-in-Spent-clause-rebooted : goal.returns-in-Spent-clause-rebooted
-returns-in-Spent-clause-rebooted g c = λ t start.
+pub returns-in-Lost-clause-end : goal.returns-in-Lost-clause-end
+returns-in-Lost-clause-end g c =
+    unanswered_ends _ c.args.host.now (unbooted c.args.begun) (unbooted c.args.begun) (unanswered.Lost 0 1) _ _ (λ t start.
     let end = moments_end _ _ _ c.boot.ensures.moments t start in
-    (end.0, end.1, λ old new same now. spent refl (spent_here c.args.host.now (g.S.Shelf.sizes c.args.shelf.now) c.requires c.place_at.result c.place_at.ensures t (c.in-Spent.ensures.booted t start)))
+    (end.0, end.1, lost (subst (λ (p : PlaceAt). Rose (g.S.Shelf.faults c.args.shelf.now (OnDrive p.drive.0)) (g.S.Shelf.faults c.boot.new.shelf (OnDrive p.drive.0))) c.place_at.ensures c.in-Lost.ensures.answer.cause) (adoptable_here c.args.host.now (g.S.Shelf.sizes c.args.shelf.now) c.requires c.place_at.result c.place_at.ensures t (shown _ _ _ _ _ c.in-Lost.ensures.end t start).1) refl))
 
-pub returns-in-Lost-clause-rebooted : goal.returns-in-Lost-clause-rebooted
-returns-in-Lost-clause-rebooted g c = λ t start.
+pub returns-in-Spent-clause-end : goal.returns-in-Spent-clause-end
+returns-in-Spent-clause-end g c =
+    unanswered_ends _ c.args.host.now (unbooted c.args.begun) (unbooted c.args.begun) unanswered.Spent _ _ (λ t start.
     let end = moments_end _ _ _ c.boot.ensures.moments t start in
-    (end.0, end.1, λ old new same now. lost (subst (λ (p : PlaceAt). Rose (g.S.Shelf.faults c.args.shelf.now (OnDrive p.drive.0)) (g.S.Shelf.faults c.boot.new.shelf (OnDrive p.drive.0))) c.place_at.ensures (c.in-Lost.ensures.lost refl)) (adoptable_here c.args.host.now (g.S.Shelf.sizes c.args.shelf.now) c.requires c.place_at.result c.place_at.ensures t (c.in-Lost.ensures.booted t start).1) refl)
+    (end.0, end.1, spent refl (spent_here c.args.host.now (g.S.Shelf.sizes c.args.shelf.now) c.requires c.place_at.result c.place_at.ensures t (shown _ _ _ _ _ c.in-Spent.ensures.end t start))))
 
-pub returns-in-Memory-clause-rebooted : goal.returns-in-Memory-clause-rebooted
-returns-in-Memory-clause-rebooted g c = λ t start.
+pub returns-in-Memory-clause-end : goal.returns-in-Memory-clause-end
+returns-in-Memory-clause-end g c =
+    unanswered_ends _ c.args.host.now (unbooted c.args.begun) (unbooted c.args.begun) unanswered.Memory _ _ (λ t start.
     let end = moments_end _ _ _ c.boot.ensures.moments t start in
-    (end.0, end.1, λ old new same now. wanting refl)
+    (end.0, end.1, wanting refl))
+
+pub returns-in-Adopted-clause-answer : goal.returns-in-Adopted-clause-answer
+returns-in-Adopted-clause-answer g c = record { cause = tt; well = adopted_well c.args.host.now c.args.begun c.in-Adopted.database c.place_at.result c.place_at.ensures c.in-Adopted.ensures.answer.table }
+
+pub returns-in-Empty-clause-answer : goal.returns-in-Empty-clause-answer
+returns-in-Empty-clause-answer g c = record { cause = tt; well = closed_well c.args.host.now _ false c.args.begun c.without_database.ensures }
+
+pub returns-in-Down-clause-answer : goal.returns-in-Down-clause-answer
+returns-in-Down-clause-answer g c = record { cause = tt; well = closed_well c.args.host.now _ true c.args.begun c.without_database-in-Down.ensures }
+
+pub returns-in-Lost-clause-answer : goal.returns-in-Lost-clause-answer
+returns-in-Lost-clause-answer g c = record { cause = ((subst (λ (p : PlaceAt). Rose (g.S.Shelf.faults c.args.shelf.now (OnDrive p.drive.0)) (g.S.Shelf.faults c.boot.new.shelf (OnDrive p.drive.0))) c.place_at.ensures c.in-Lost.ensures.answer.cause), refl, refl); well = tt }
 
 pub returns-in-Adopted-clause-counted : goal.returns-in-Adopted-clause-counted
-returns-in-Adopted-clause-counted g c = λ memory same. subst (IsOpenedCounted g.S.Shelf.calls g.S.Shelf.written _ _) (sym (ap (λ (m : Memory). m.opened) same)) c.in-Adopted.ensures.counted
+returns-in-Adopted-clause-counted g c = c.in-Adopted.ensures.counted
 
 pub returns-in-Empty-clause-counted : goal.returns-in-Empty-clause-counted
-returns-in-Empty-clause-counted g c = λ memory same.
-    subst (IsOpenedCounted g.S.Shelf.calls g.S.Shelf.written _ _) (sym (ap (λ (m : Memory). m.opened) (same ∙ c.without_database.ensures)))
+returns-in-Empty-clause-counted g c =
+    subst (IsOpenedCounted g.S.Shelf.calls g.S.Shelf.written _ _) (sym (ap (λ (m : Memory). m.opened) c.without_database.ensures))
     (between_wider g.S.Shelf.calls g.S.Shelf.written _ _ 2 5 0 1 5 0 (omega arith) (omega arith) (omega arith) c.in-Empty.ensures.counted)
 
 pub returns-in-Down-clause-counted : goal.returns-in-Down-clause-counted
-returns-in-Down-clause-counted g c = λ memory same.
-    subst (IsOpenedCounted g.S.Shelf.calls g.S.Shelf.written _ _) (sym (ap (λ (m : Memory). m.opened) (same ∙ c.without_database-in-Down.ensures))) c.in-Down.ensures.counted
+returns-in-Down-clause-counted g c =
+    subst (IsOpenedCounted g.S.Shelf.calls g.S.Shelf.written _ _) (sym (ap (λ (m : Memory). m.opened) c.without_database-in-Down.ensures)) c.in-Down.ensures.counted
 
 pub returns-in-Lost-clause-counted : goal.returns-in-Lost-clause-counted
-returns-in-Lost-clause-counted g c = λ memory same. c.in-Lost.ensures.counted
+returns-in-Lost-clause-counted g c = c.in-Lost.ensures.counted.at_most
 
 pub returns-in-Spent-clause-counted : goal.returns-in-Spent-clause-counted
-returns-in-Spent-clause-counted g c = λ memory same. c.in-Spent.ensures.counted.at_most
+returns-in-Spent-clause-counted g c = c.in-Spent.ensures.counted.at_most
 
 pub returns-in-Memory-clause-counted : goal.returns-in-Memory-clause-counted
-returns-in-Memory-clause-counted g c = λ memory same. c.in-Memory.ensures.counted.at_most
+returns-in-Memory-clause-counted g c = c.in-Memory.ensures.counted.at_most

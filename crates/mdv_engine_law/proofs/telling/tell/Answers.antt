@@ -1,6 +1,7 @@
 use Rattle.std.proofs.Common.{◌≡◌, ◌∙◌, sym, subst, refl, take, length, ap, []}
 use Rattle.mdv_shelf.proofs.Between.{at_most_one}
 use Rattle.mdv_shelf.proofs.Counts.{took_one}
+use Rattle.mdv_shelf.proofs.Noted.{kept_call}
 use Rattle.mdv_engine_law.specs.Below.{Rose, OnReplies}
 use Rattle.mdv_engine_law.specs.Replies.{IsTold, ok_line, refusal_line, text_of}
 use Rattle.mdv_engine_law.specs.declared.answer.Answer.{Answer}
@@ -134,3 +135,21 @@ returns-in-Ok-give-2-clause-given g c = λ told. took_one g.B.Shelf.calls g.B.Sh
 
 pub returns-in-Ok-give-3-clause-given : goal.returns-in-Ok-give-3-clause-given
 returns-in-Ok-give-3-clause-given g c = λ told. took_one g.B.Shelf.calls g.B.Shelf.written _ _ 0 c.give-in-Refused.ensures.counted
+
+pub returns-in-Ok-give-clause-kept : goal.returns-in-Ok-give-clause-kept
+returns-in-Ok-give-clause-kept g c = kept_call g.B.Shelf _ _ c.give.ensures.noted c.give.ensures.keeps
+
+pub returns-in-Err-clause-kept : goal.returns-in-Err-clause-kept
+returns-in-Err-clause-kept g c = kept_call g.B.Shelf _ _ c.give.ensures.noted c.give.ensures.keeps
+
+pub returns-in-Ok-give-2-clause-kept : goal.returns-in-Ok-give-2-clause-kept
+returns-in-Ok-give-2-clause-kept g c = kept_call g.B.Shelf _ _ c.give-in-Values.ensures.noted c.give-in-Values.ensures.keeps
+
+pub returns-in-Err-give-clause-kept : goal.returns-in-Err-give-clause-kept
+returns-in-Err-give-clause-kept g c = kept_call g.B.Shelf _ _ c.give-in-Values.ensures.noted c.give-in-Values.ensures.keeps
+
+pub returns-in-Ok-give-3-clause-kept : goal.returns-in-Ok-give-3-clause-kept
+returns-in-Ok-give-3-clause-kept g c = kept_call g.B.Shelf _ _ c.give-in-Refused.ensures.noted c.give-in-Refused.ensures.keeps
+
+pub returns-in-Err-give-2-clause-kept : goal.returns-in-Err-give-2-clause-kept
+returns-in-Err-give-2-clause-kept g c = kept_call g.B.Shelf _ _ c.give-in-Refused.ensures.noted c.give-in-Refused.ensures.keeps

@@ -1,5 +1,6 @@
 use Rattle.std.proofs.Common.{inl, inr, []}
 use Rattle.mdv_replica.proofs.Looks.{contents_of, contents_are, look_was_read}
+use Rattle.mdv_shelf.proofs.Noted.{kept_call}
 use Rattle.mdv_replica.proofs.looking.inspect.Goals as goal
 
 pub returns-in-Ok-clause-form : goal.returns-in-Ok-clause-form
@@ -12,3 +13,9 @@ returns-in-Ok-clause-cause g c = λ failed.
 
 pub returns-in-Err-clause-form : goal.returns-in-Err-clause-form
 returns-in-Err-clause-form g c = (contents_of c.args.at.first [], inl c.unread.ensures)
+
+pub returns-in-Ok-clause-kept : goal.returns-in-Ok-clause-kept
+returns-in-Ok-clause-kept g c = kept_call g.S.Shelf _ _ c.read.ensures.noted c.read.ensures.keeps
+
+pub returns-in-Err-clause-kept : goal.returns-in-Err-clause-kept
+returns-in-Err-clause-kept g c = kept_call g.S.Shelf _ _ c.read.ensures.noted c.read.ensures.keeps

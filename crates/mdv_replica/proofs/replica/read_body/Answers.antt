@@ -1,4 +1,5 @@
 use Rattle.mdv_shelf.proofs.Counts.{took_one}
+use Rattle.mdv_shelf.proofs.Noted.{kept_call}
 use Rattle.mdv_replica.proofs.replica.read_body.Goals as goal
 
 pub returns-in_err-read-clause-counted : goal.returns-in_err-read-clause-counted
@@ -6,3 +7,9 @@ returns-in_err-read-clause-counted g c = took_one g.S.Shelf.calls g.S.Shelf.writ
 
 pub returns-clause-counted : goal.returns-clause-counted
 returns-clause-counted g c = took_one g.S.Shelf.calls g.S.Shelf.written _ _ _ c.read.ensures.counted
+
+pub returns-in_err-read-clause-kept : goal.returns-in_err-read-clause-kept
+returns-in_err-read-clause-kept g c = kept_call g.S.Shelf _ _ c.read.ensures.noted c.read.ensures.keeps
+
+pub returns-clause-kept : goal.returns-clause-kept
+returns-clause-kept g c = kept_call g.S.Shelf _ _ c.read.ensures.noted c.read.ensures.keeps

@@ -1,8 +1,14 @@
-use Rattle.std.proofs.Common.{◌+◌, length, arith}
-use Rattle.mdv_shelf.proofs.Counts.{took_more, at_most_then}
-use Rattle.mdv_replica.proofs.Counted.{took_wider}
+use Rattle.std.proofs.Common.{◌+◌, length, arith, rules}
+use Rattle.mdv_shelf.specs.Between.{TookBetween}
+use Rattle.mdv_shelf.proofs.Between.{between_then, between_wider}
+use Rattle.mdv_shelf.proofs.Counts.{took_more}
+use Rattle.mdv_shelf.specs.Settle.{Settling}
+use Rattle.mdv_shelf.specs.Story.{OfTales}
+use Rattle.mdv_shelf.proofs.Noted.{kept_each, kept_more}
+use Rattle.mdv_replica.proofs.Counted.{between_both}
 use Rattle.mdv_replica.proofs.Writing.{slot_closes, slot_fills, slot_opens, slot_ends}
 use Rattle.mdv_replica.proofs.replica.write_slot.Goals as goal
+use Rattle.mdv_replica.proofs.replica.write_slot.Goals.{After-settle, After-settle-2, After-settle-3}
 
 pub returns-in_err-settle-clause-moments : goal.returns-in_err-settle-clause-moments
 returns-in_err-settle-clause-moments g c =
@@ -34,25 +40,54 @@ returns-clause-settled g c =
     (rw (c.gate_block_of-gate.ensures, c.gate_block.ensures) at c.in_ok-settle.ensures.settled) (rw c.body_block_of-first.ensures at c.in_ok-settle-2.ensures.settled)
     (rw (c.gate_block_of-gate.ensures, c.gate_block-2.ensures) at c.settle-3.ensures.moments) (rw (c.gate_block_of-gate.ensures, c.gate_block-2.ensures) at c.in_ok-settle-3.ensures.settled)
 
+-- each settling takes one call at least and two at most
+gate : (g : _) (c : After-settle g) → TookBetween g.S.Shelf.calls g.S.Shelf.written c.args.shelf.now c.settle.new.shelf 1 2 1
+gate g c = between_both g.S.Shelf.calls g.S.Shelf.written _ _ 1 2 1 c.settle.ensures.counted_at_least c.settle.ensures.counted_at_most
+
+both : (g : _) (c : After-settle-2 g) → TookBetween g.S.Shelf.calls g.S.Shelf.written c.args.shelf.now c.settle-2.new.shelf 1 4 (1 + length c.args.body.now)
+both g c =
+    between_then g.S.Shelf.calls g.S.Shelf.written _ _ _ 1 2 1 1 2 (length c.args.body.now) 1 4 (1 + length c.args.body.now) (omega arith) (omega arith) (omega arith)
+    (between_both g.S.Shelf.calls g.S.Shelf.written _ _ 1 2 1 c.settle.ensures.counted_at_least c.settle.ensures.counted_at_most)
+    (between_both g.S.Shelf.calls g.S.Shelf.written _ _ 1 2 (length c.args.body.now) c.settle-2.ensures.counted_at_least c.settle-2.ensures.counted_at_most)
+
+all : (g : _) (c : After-settle-3 g) → TookBetween g.S.Shelf.calls g.S.Shelf.written c.args.shelf.now c.settle-3.new.shelf 1 6 (2 + length c.args.body.now)
+all g c =
+    between_then g.S.Shelf.calls g.S.Shelf.written _ _ _ 1 4 (1 + length c.args.body.now) 1 2 1 1 6 (2 + length c.args.body.now) (omega arith) (omega arith) (omega arith)
+    (between_then g.S.Shelf.calls g.S.Shelf.written _ _ _ 1 2 1 1 2 (length c.args.body.now) 1 4 (1 + length c.args.body.now) (omega arith) (omega arith) (omega arith)
+    (between_both g.S.Shelf.calls g.S.Shelf.written _ _ 1 2 1 c.settle.ensures.counted_at_least c.settle.ensures.counted_at_most)
+    (between_both g.S.Shelf.calls g.S.Shelf.written _ _ 1 2 (length c.args.body.now) c.settle-2.ensures.counted_at_least c.settle-2.ensures.counted_at_most))
+    (between_both g.S.Shelf.calls g.S.Shelf.written _ _ 1 2 1 c.settle-3.ensures.counted_at_least c.settle-3.ensures.counted_at_most)
+
+pub returns-in_err-settle-clause-counted : goal.returns-in_err-settle-clause-counted
+returns-in_err-settle-clause-counted g c = record {
+  done = search rules;
+  any = between_wider g.S.Shelf.calls g.S.Shelf.written _ _ 1 2 1 1 6 (2 + length c.args.body.now) (omega arith) (omega arith) (omega arith) (gate g (goal.at.returns-in_err-settle-clause-counted g c).After-settle);
+}
+
+pub returns-in_err-settle-2-clause-counted : goal.returns-in_err-settle-2-clause-counted
+returns-in_err-settle-2-clause-counted g c = record {
+  done = search rules;
+  any = between_wider g.S.Shelf.calls g.S.Shelf.written _ _ 1 4 (1 + length c.args.body.now) 1 6 (2 + length c.args.body.now) (omega arith) (omega arith) (omega arith) (both g (goal.at.returns-in_err-settle-2-clause-counted g c).After-settle-2);
+}
+
+pub returns-in_err-settle-3-clause-counted : goal.returns-in_err-settle-3-clause-counted
+returns-in_err-settle-3-clause-counted g c = record { done = search rules; any = all g (goal.at.returns-in_err-settle-3-clause-counted g c).After-settle-3 }
+
 pub returns-clause-counted : goal.returns-clause-counted
-returns-clause-counted g c =
-    took_more g.S.Shelf.calls g.S.Shelf.written _ _ _ 4 2 (1 + length c.args.body.now) 1 6 (2 + length c.args.body.now) (omega arith) (omega arith)
-    (took_more g.S.Shelf.calls g.S.Shelf.written _ _ _ 2 2 1 (length c.args.body.now) 4 (1 + length c.args.body.now) (omega arith) (omega arith) c.in_ok-settle.ensures.counted c.in_ok-settle-2.ensures.counted) c.in_ok-settle-3.ensures.counted
+returns-clause-counted g c = record {
+  done = took_more g.S.Shelf.calls g.S.Shelf.written _ _ _ 4 2 (1 + length c.args.body.now) 1 6 (2 + length c.args.body.now) (omega arith) (omega arith)
+      (took_more g.S.Shelf.calls g.S.Shelf.written _ _ _ 2 2 1 (length c.args.body.now) 4 (1 + length c.args.body.now) (omega arith) (omega arith) c.in_ok-settle.ensures.counted c.in_ok-settle-2.ensures.counted) c.in_ok-settle-3.ensures.counted;
+  any = all g (goal.at.returns-clause-counted g c).After-settle-3;
+}
 
-pub returns-in_err-settle-clause-counted_at_most : goal.returns-in_err-settle-clause-counted_at_most
-returns-in_err-settle-clause-counted_at_most g c =
-    took_wider g.S.Shelf.calls g.S.Shelf.written _ _ 2 1 6 (2 + length c.args.body.now) (omega arith) (omega arith) c.settle.ensures.counted_at_most
+pub returns-in_err-settle-clause-kept : goal.returns-in_err-settle-clause-kept
+returns-in_err-settle-clause-kept g c = kept_each g.S.Shelf (OfTales (Settling _ _ _)) _ _ c.settle.ensures.each c.settle.ensures.keeps
 
-pub returns-in_err-settle-2-clause-counted_at_most : goal.returns-in_err-settle-2-clause-counted_at_most
-returns-in_err-settle-2-clause-counted_at_most g c =
-    at_most_then g.S.Shelf.calls g.S.Shelf.written _ _ _ 2 2 1 (length c.args.body.now) 6 (2 + length c.args.body.now) (omega arith) (omega arith) c.settle.ensures.counted_at_most c.settle-2.ensures.counted_at_most
+pub returns-in_err-settle-2-clause-kept : goal.returns-in_err-settle-2-clause-kept
+returns-in_err-settle-2-clause-kept g c = kept_more (kept_each g.S.Shelf (OfTales (Settling _ _ _)) _ _ c.settle.ensures.each c.settle.ensures.keeps) (kept_each g.S.Shelf (OfTales (Settling _ _ _)) _ _ c.settle-2.ensures.each c.settle-2.ensures.keeps)
 
-pub returns-in_err-settle-3-clause-counted_at_most : goal.returns-in_err-settle-3-clause-counted_at_most
-returns-in_err-settle-3-clause-counted_at_most g c =
-    at_most_then g.S.Shelf.calls g.S.Shelf.written _ _ _ 4 2 (1 + length c.args.body.now) 1 6 (2 + length c.args.body.now) (omega arith) (omega arith)
-    (at_most_then g.S.Shelf.calls g.S.Shelf.written _ _ _ 2 2 1 (length c.args.body.now) 4 (1 + length c.args.body.now) (omega arith) (omega arith) c.settle.ensures.counted_at_most c.settle-2.ensures.counted_at_most) c.settle-3.ensures.counted_at_most
+pub returns-in_err-settle-3-clause-kept : goal.returns-in_err-settle-3-clause-kept
+returns-in_err-settle-3-clause-kept g c = kept_more (kept_more (kept_each g.S.Shelf (OfTales (Settling _ _ _)) _ _ c.settle.ensures.each c.settle.ensures.keeps) (kept_each g.S.Shelf (OfTales (Settling _ _ _)) _ _ c.settle-2.ensures.each c.settle-2.ensures.keeps)) (kept_each g.S.Shelf (OfTales (Settling _ _ _)) _ _ c.settle-3.ensures.each c.settle-3.ensures.keeps)
 
-pub returns-clause-counted_at_most : goal.returns-clause-counted_at_most
-returns-clause-counted_at_most g c =
-    at_most_then g.S.Shelf.calls g.S.Shelf.written _ _ _ 4 2 (1 + length c.args.body.now) 1 6 (2 + length c.args.body.now) (omega arith) (omega arith)
-    (at_most_then g.S.Shelf.calls g.S.Shelf.written _ _ _ 2 2 1 (length c.args.body.now) 4 (1 + length c.args.body.now) (omega arith) (omega arith) c.settle.ensures.counted_at_most c.settle-2.ensures.counted_at_most) c.settle-3.ensures.counted_at_most
+pub returns-clause-kept : goal.returns-clause-kept
+returns-clause-kept g c = kept_more (kept_more (kept_each g.S.Shelf (OfTales (Settling _ _ _)) _ _ c.settle.ensures.each c.settle.ensures.keeps) (kept_each g.S.Shelf (OfTales (Settling _ _ _)) _ _ c.settle-2.ensures.each c.settle-2.ensures.keeps)) (kept_each g.S.Shelf (OfTales (Settling _ _ _)) _ _ c.settle-3.ensures.each c.settle-3.ensures.keeps)

@@ -1,13 +1,14 @@
 use Rattle.std.proofs.Common.{[], inr, refl, sym, ◌∙◌, ap, subst, arith}
 use Rattle.std.proofs.lemmas.List.{append-nil}
 use Rattle.mdv_shelf.specs.Shelves.{DriveFailed, GivingFailed}
+use Rattle.mdv_run.specs.Below.{OnDrive, OnReplies, Moments, Ends, told, Boot, Host, StaysHome, BootMoment, BootedTo, TurnMoment, Engine}
 use Rattle.mdv_run.specs.Promise.{LineEnd}
-use Rattle.mdv_run.proofs.Answering.{joined_end, line_executed}
-use Rattle.mdv_run.specs.Below.{line, OnDrive, OnReplies, Moments, Ends, told, Boot, Host, StaysHome, BootMoment, BootedTo, TurnMoment, Turned, Knows, Engine, RanTo}
-use Rattle.mdv_shelf.proofs.Moments.{moments_after, moments_weaker, moments_end, ends_more, some_is}
+use Rattle.mdv_run.proofs.Answering.{line_executed, accepted_turned}
+use Rattle.mdv_shelf.proofs.Moments.{moments_after, moments_weaker, moments_end, some_is}
 use Rattle.mdv_engine_law.specs.declared.answer.Answer.TheVariants as outcome
 use Rattle.mdv_engine_law.proofs.Executing.{executed, rose_within}
-use Rattle.mdv_engine_law.proofs.Staying.{both_stay, boot_stays}
+use Rattle.mdv_engine_law.proofs.Knowing.{knows_kept}
+use Rattle.mdv_engine_law.proofs.Staying.{both_stay, boot_stays, turn_stays}
 use Rattle.mdv_run_law.proofs.Booting.{boot_turn, booted_turn, booted_ran}
 use Rattle.mdv_run.proofs.session.boot_anew.Goals as goal
 
@@ -17,8 +18,8 @@ returns-in-Ok-clause-moments g c =
     let old = c.args.engine.now.state in
     let new = c.reboot.new.self.state in
     moments_after (BootMoment host) (BootedTo host new) (TurnMoment c.reboot.new.self.host [] new) (TurnMoment host [] old) _ _ _ (λ t m moment. boot_turn host old t m moment)
-    (λ t u m booted turn. booted_turn host old new t u booted m (subst (λ (h : Host). TurnMoment h [] new u m) c.in-Ok.ensures.host turn))
-    c.reboot.ensures.moments c.in-Ok.ensures.booted c.accept.ensures.moments
+    (λ t u m booted turn. booted_turn host old new t u booted m (subst (λ (h : Host). TurnMoment h [] new u m) c.in-Ok.ensures.answer.host turn))
+    c.reboot.ensures.moments (λ t is. (let up = c.in-Ok.ensures.end t is in (up.0, up.1, up.2.booted refl))) c.accept.ensures.moments
 
 pub returns-in-Ok-clause-end : goal.returns-in-Ok-clause-end
 returns-in-Ok-clause-end g c = λ text boots.
@@ -27,52 +28,48 @@ returns-in-Ok-clause-end g c = λ text boots.
     let new = c.reboot.new.self.state in
     let drive = DriveFailed g.B.Shelf c.args.bench.now c.accept.new.bench 0 in
     let replies = GivingFailed g.B.Shelf c.args.bench.now c.accept.new.bench in
-    subst (λ (e : Engine). Ends (LineEnd drive replies host text old e.state c.accept.result) (g.B.Shelf.tale c.args.bench.now) (g.B.Shelf.tale c.accept.new.bench)) (sym c.accept.ensures.same)
-    (joined_end host text drive replies old new c.accept.result _ _
+    subst (λ (e : Engine). Ends (LineEnd drive replies host text old e.state c.accept.result) (g.B.Shelf.tale c.args.bench.now) (g.B.Shelf.tale c.accept.new.bench)) (sym c.accept.ensures.answer.same)
     (λ t is. (
     let quiet = moments_end (BootMoment host) _ _ c.reboot.ensures.moments t is in
-    let done = c.in-Ok.ensures.rebooted t is in
-    let end = c.accept.ensures.told done.0 done.1 in (
+    let up = c.in-Ok.ensures.end t is in
+    let end = c.accept.ensures.end up.0 up.1 in (
       end.0,
       end.1,
-      λ knows. line_executed text Boot boots drive replies host old new c.accept.result t end.0
-          (executed _ _ _ _ host Boot old new outcome.Ok c.accept.result t done.0 end.0
-          (λ rose. rose_within _ _ _ _ (omega arith) (c.accept.ensures.keeps.no_fewer_faults (OnDrive 0)) rose)
-          (λ rose. rose_within _ _ _ _ (c.reboot.ensures.keeps.no_fewer_faults OnReplies) (omega arith) rose)
-          (ap told (some_is _ done.0 quiet.0 done.1 quiet.1) ∙ quiet.2.quiet) done.2 end.2),
+      record {
+        answered = λ knows. line_executed text Boot boots drive replies host old new c.accept.result t end.0
+            (executed _ _ _ _ host Boot old new outcome.Ok c.accept.result t up.0 end.0
+            (λ rose. rose_within _ _ _ _ (omega arith) (c.accept.ensures.kept.keeps.no_fewer_faults (OnDrive 0)) rose)
+            (λ rose. rose_within _ _ _ _ (c.reboot.ensures.kept.keeps.no_fewer_faults OnReplies) (omega arith) rose)
+            (ap told (some_is _ up.0 quiet.0 up.1 quiet.1) ∙ quiet.2.quiet) up.2.rebooted end.2);
+        ran = λ on more. booted_ran host old new t up.0 (up.2.booted refl) text more boots end.0 (accepted_turned host new _ c.accept.result up.0 end.0 end.2 on);
+        knows = λ kept known. knows_kept host up.0 end.0 end.2.kept new (up.2.booted refl).knows;
+      },
     )))
-    (λ on more. ends_more (BootedTo host new) (Turned c.reboot.new.self.host [] new new) (RanTo host (line text more) old new more) _ _ _
-    (λ t u v booted turn. booted_ran host old new t u booted text more boots v (subst (λ (h : Host). Turned h [] new new u v) c.in-Ok.ensures.host turn))
-    c.in-Ok.ensures.booted (c.accept.ensures.turned on))
-    (λ kept. ends_more (BootedTo host new) (λ t u. Knows c.reboot.new.self.host new t → Knows c.reboot.new.self.host new u) (λ t u. Knows host old t → Knows host new u) _ _ _
-    (λ t u v booted told known. subst (λ (h : Host). Knows h new v) c.in-Ok.ensures.host (told (subst (λ (h : Host). Knows h new u) (sym c.in-Ok.ensures.host) booted.knows)))
-    c.in-Ok.ensures.booted c.accept.ensures.knows))
 
 pub returns-in-Ok-clause-home : goal.returns-in-Ok-clause-home
 returns-in-Ok-clause-home g c =
     let host = c.args.engine.now.host in
     both_stay host _ _ _ (boot_stays host _ _ c.reboot.ensures.moments)
-    (subst (λ (h : Host). Moments (StaysHome h) (g.B.Shelf.tale c.reboot.new.shelf) (g.B.Shelf.tale c.accept.new.bench)) c.in-Ok.ensures.host c.accept.ensures.home)
+    (subst (λ (h : Host). Moments (StaysHome h) (g.B.Shelf.tale c.reboot.new.shelf) (g.B.Shelf.tale c.accept.new.bench)) c.in-Ok.ensures.answer.host (turn_stays c.reboot.new.self.host [] c.reboot.new.self.state _ _ c.accept.ensures.moments))
 
 pub returns-in-Err-Lost-clause-end : goal.returns-in-Err-Lost-clause-end
-returns-in-Err-Lost-clause-end g c = λ text boots.
+returns-in-Err-Lost-clause-end g c = λ text boots t is.
     let host = c.args.engine.now.host in
-    let old = c.args.engine.now.state in
-    let new = c.reboot.new.self.state in
-    joined_end host text _ _ old new _ _ _
-    (λ t is. (
     let quiet = moments_end (BootMoment host) _ _ c.reboot.ensures.moments t is in
-    let why = (rw c.in-Err-Lost.field-0-is at c.in-Err-Lost.ensures.cause) in
-    let done = (rw c.in-Err-Lost.field-0-is at c.in-Err-Lost.ensures.rebooted) t is in (
+    let why = (rw c.in-Err-Lost.field-0-is at c.in-Err-Lost.ensures.answer.cause) in
+    let done = (rw c.in-Err-Lost.field-0-is at c.in-Err-Lost.ensures.end) t is in (
       done.0,
       done.1,
-      λ knows. record {
-        answer = outcome.Panic;
-        done = inr (Boot, boots, done.2);
-        replied = record { piece = []; is_told = ap told (some_is _ done.0 quiet.0 done.1 quiet.1) ∙ quiet.2.quiet ∙ sym (append-nil (told t)); as_told = (why.1, why.2, refl) };
+      record {
+        answered = λ knows. record {
+          answer = outcome.Panic;
+          done = inr (Boot, boots, done.2.rebooted);
+          replied = record { piece = []; is_told = ap told (some_is _ done.0 quiet.0 done.1 quiet.1) ∙ quiet.2.quiet ∙ sym (append-nil (told t)); as_told = (why.1, why.2, refl) };
+        };
+        ran = λ on more. absurd on;
+        knows = λ kept. absurd (kept tt);
       },
-    )))
-    (λ on more. absurd on) (λ kept. absurd (kept tt))
+    )
 
 pub returns-in-Err-Lost-clause-moments : goal.returns-in-Err-Lost-clause-moments
 returns-in-Err-Lost-clause-moments g c =
@@ -84,23 +81,22 @@ pub returns-in-Err-Lost-clause-home : goal.returns-in-Err-Lost-clause-home
 returns-in-Err-Lost-clause-home g c = boot_stays c.args.engine.now.host _ _ c.reboot.ensures.moments
 
 pub returns-in-Err-Spent-clause-end : goal.returns-in-Err-Spent-clause-end
-returns-in-Err-Spent-clause-end g c = λ text boots.
+returns-in-Err-Spent-clause-end g c = λ text boots t is.
     let host = c.args.engine.now.host in
-    let old = c.args.engine.now.state in
-    let new = c.reboot.new.self.state in
-    joined_end host text _ _ old new _ _ _
-    (λ t is. (
     let quiet = moments_end (BootMoment host) _ _ c.reboot.ensures.moments t is in
-    let done = (rw c.in-Err-Spent.field-0-is at c.in-Err-Spent.ensures.rebooted) t is in (
+    let done = (rw c.in-Err-Spent.field-0-is at c.in-Err-Spent.ensures.end) t is in (
       done.0,
       done.1,
-      λ knows. record {
-        answer = outcome.Spent;
-        done = inr (Boot, boots, done.2);
-        replied = record { piece = []; is_told = ap told (some_is _ done.0 quiet.0 done.1 quiet.1) ∙ quiet.2.quiet ∙ sym (append-nil (told t)); as_told = refl };
+      record {
+        answered = λ knows. record {
+          answer = outcome.Spent;
+          done = inr (Boot, boots, done.2.rebooted);
+          replied = record { piece = []; is_told = ap told (some_is _ done.0 quiet.0 done.1 quiet.1) ∙ quiet.2.quiet ∙ sym (append-nil (told t)); as_told = refl };
+        };
+        ran = λ on more. absurd on;
+        knows = λ kept. absurd (kept tt);
       },
-    )))
-    (λ on more. absurd on) (λ kept. absurd (kept tt))
+    )
 
 pub returns-in-Err-Spent-clause-moments : goal.returns-in-Err-Spent-clause-moments
 returns-in-Err-Spent-clause-moments g c =
@@ -112,23 +108,22 @@ pub returns-in-Err-Spent-clause-home : goal.returns-in-Err-Spent-clause-home
 returns-in-Err-Spent-clause-home g c = boot_stays c.args.engine.now.host _ _ c.reboot.ensures.moments
 
 pub returns-in-Err-Memory-clause-end : goal.returns-in-Err-Memory-clause-end
-returns-in-Err-Memory-clause-end g c = λ text boots.
+returns-in-Err-Memory-clause-end g c = λ text boots t is.
     let host = c.args.engine.now.host in
-    let old = c.args.engine.now.state in
-    let new = c.reboot.new.self.state in
-    joined_end host text _ _ old new _ _ _
-    (λ t is. (
     let quiet = moments_end (BootMoment host) _ _ c.reboot.ensures.moments t is in
-    let done = (rw c.in-Err-Memory.field-0-is at c.in-Err-Memory.ensures.rebooted) t is in (
+    let done = (rw c.in-Err-Memory.field-0-is at c.in-Err-Memory.ensures.end) t is in (
       done.0,
       done.1,
-      λ knows. record {
-        answer = outcome.NoMemory;
-        done = inr (Boot, boots, done.2);
-        replied = record { piece = []; is_told = ap told (some_is _ done.0 quiet.0 done.1 quiet.1) ∙ quiet.2.quiet ∙ sym (append-nil (told t)); as_told = refl };
+      record {
+        answered = λ knows. record {
+          answer = outcome.NoMemory;
+          done = inr (Boot, boots, done.2.rebooted);
+          replied = record { piece = []; is_told = ap told (some_is _ done.0 quiet.0 done.1 quiet.1) ∙ quiet.2.quiet ∙ sym (append-nil (told t)); as_told = refl };
+        };
+        ran = λ on more. absurd on;
+        knows = λ kept. absurd (kept tt);
       },
-    )))
-    (λ on more. absurd on) (λ kept. absurd (kept tt))
+    )
 
 pub returns-in-Err-Memory-clause-moments : goal.returns-in-Err-Memory-clause-moments
 returns-in-Err-Memory-clause-moments g c =

@@ -2,7 +2,9 @@ use Rattle.std.proofs.Common.{refl, ap, subst, inl, Err}
 use Rattle.mdv_run.specs.Below.{script_of, Host, RunMoment, host_of}
 use Rattle.mdv_run.specs.Promise.{HasRun}
 use Rattle.mdv_shelf.proofs.Moments.{moments_none}
+use Rattle.mdv_engine_law.proofs.Kept.{kept_itself}
 use Rattle.mdv_engine_law.proofs.Staying.{nothing_stays}
+use Rattle.mdv_shelf.proofs.Noted.{moments_of_tales}
 use Rattle.mdv_run_law.proofs.Booting.{nothing_run}
 use Rattle.mdv_run.proofs.Used.{one_host, ready_host}
 use Rattle.mdv_run.proofs.session.run.Goals as goal
@@ -30,7 +32,8 @@ pub returns-in-Err-Memory-clause-used : goal.returns-in-Err-Memory-clause-used
 returns-in-Err-Memory-clause-used g c = λ drives home used.
     let host : Host = host_of drives home c.args.fresh in record {
       runs = λ t is input left. inl (record { wanting = refl; same = is });
-      stands = λ input left. moments_none (RunMoment host (script_of input)) _ _ refl (λ t. nothing_run host (script_of input) t);
+      stands = λ input left. moments_of_tales g.B.Shelf g.met.B.Shelf.telling _ _ (RunMoment host (script_of input)) (kept_itself g.B.Shelf c.args.bench.now).goes
+          (moments_none (RunMoment host (script_of input)) _ _ refl (λ t. nothing_run host (script_of input) t));
       home = nothing_stays host _ _ refl;
       causes = inl refl;
     }

@@ -6,6 +6,7 @@ use Rattle.mdv_run_law.proofs.Booting.{boot_run, lines_run}
 use Rattle.mdv_run.proofs.Whole.{whole_over, whole_lines, over_cause}
 use Rattle.mdv_run.proofs.Went.{cause_within}
 use Rattle.mdv_engine_law.proofs.Staying.{both_stay, boot_stays}
+use Rattle.mdv_shelf.proofs.Noted.{kept_more, moments_of_tales}
 use Rattle.mdv_run.proofs.session.run_host.Goals as goal
 
 pub returns-in-Ok-clause-has_run : goal.returns-in-Ok-clause-has_run
@@ -13,29 +14,29 @@ returns-in-Ok-clause-has_run g c = record {
   runs = λ t is input left.
       let host = c.args.host in
       let quiet = moments_end (BootMoment host) _ _ c.boot.ensures.moments t is in
-      let done = c.in-Ok.ensures.rebooted c.in-Ok.engine.state refl t is in
-      let booted = c.in-Ok.ensures.booted t is in
+      let done = c.in-Ok.ensures.end t is in
       let lines = c.run_lines.ensures.lines.runs input left done.0 done.1 in
-      let knows : Knows c.in-Ok.engine.host c.in-Ok.engine.state done.0 = subst (λ (h : Host). Knows h c.in-Ok.engine.state done.0) (sym c.in-Ok.ensures.host.0) (subst (λ (u : Tale). Knows host c.in-Ok.engine.state u) (some_is _ booted.0 done.0 booted.1 done.1) booted.2.knows) in
+      let knows : Knows c.in-Ok.engine.host c.in-Ok.engine.state done.0 = subst (λ (h : Host). Knows h c.in-Ok.engine.state done.0) (sym c.in-Ok.ensures.answer.engine.0) (done.2.booted refl).knows in
       let start = counts (g.B.Shelf.faults c.args.bench.now) (g.I.Source.faults c.args.script.now) in
       let mid = counts (g.B.Shelf.faults c.boot.new.shelf) (g.I.Source.faults c.args.script.now) in
       let end = counts (g.B.Shelf.faults c.run_lines.new.bench) (g.I.Source.faults c.run_lines.new.script) in
-      inr (whole_lines host start t (script_of input) _ mid end (record { drive = c.boot.ensures.keeps.no_fewer_faults (OnDrive 0); source = omega arith; replies = c.boot.ensures.keeps.no_fewer_faults OnReplies })
-      done.0 lines.0 c.in-Ok.engine.state c.run_lines.result lines.1 (ap told (some_is _ done.0 quiet.0 done.1 quiet.1) ∙ quiet.2.quiet) done.2
-      (subst (λ (h : Host). LinesRun h mid end c.in-Ok.engine.state false (script_of input) c.run_lines.result done.0 lines.0) c.in-Ok.ensures.host.0 (lines.2 knows)));
+      inr (whole_lines host start t (script_of input) _ mid end (record { drive = c.boot.ensures.kept.keeps.no_fewer_faults (OnDrive 0); source = omega arith; replies = c.boot.ensures.kept.keeps.no_fewer_faults OnReplies })
+      done.0 lines.0 c.in-Ok.engine.state c.run_lines.result lines.1 (ap told (some_is _ done.0 quiet.0 done.1 quiet.1) ∙ quiet.2.quiet) done.2.rebooted
+      (subst (λ (h : Host). LinesRun h mid end c.in-Ok.engine.state false (script_of input) c.run_lines.result done.0 lines.0) c.in-Ok.ensures.answer.engine.0 (lines.2 knows)));
   stands = λ input left.
       let host = c.args.host in
+      moments_of_tales g.B.Shelf g.met.B.Shelf.telling _ _ (RunMoment host (script_of input)) (kept_more c.boot.ensures.kept c.run_lines.ensures.kept).goes
       (moments_after (BootMoment host) (BootedTo host c.in-Ok.engine.state) (LinesMoment host (script_of input) c.in-Ok.engine.state) (RunMoment host (script_of input)) _ _ _
       (λ t m moment. boot_run host (script_of input) t m moment)
       (λ t u m booted lines. lines_run host (script_of input) c.in-Ok.engine.state t u m booted lines)
-      c.boot.ensures.moments c.in-Ok.ensures.booted
-      (subst (λ (h : Host). Moments (LinesMoment h (script_of input) c.in-Ok.engine.state) (g.B.Shelf.tale c.boot.new.shelf) (g.B.Shelf.tale c.run_lines.new.bench)) c.in-Ok.ensures.host.0 (c.run_lines.ensures.lines.moments input left)));
+      c.boot.ensures.moments (λ t is. (let up = c.in-Ok.ensures.end t is in (up.0, up.1, up.2.booted refl)))
+      (subst (λ (h : Host). Moments (LinesMoment h (script_of input) c.in-Ok.engine.state) (g.B.Shelf.tale c.boot.new.shelf) (g.B.Shelf.tale c.run_lines.new.bench)) c.in-Ok.ensures.answer.engine.0 (c.run_lines.ensures.lines.moments input left)));
   home = let host = c.args.host in
       both_stay host _ _ _ (boot_stays host _ _ c.boot.ensures.moments)
-      (subst (λ (h : Host). Moments (StaysHome h) (g.B.Shelf.tale c.boot.new.shelf) (g.B.Shelf.tale c.run_lines.new.bench)) c.in-Ok.ensures.host.0 c.run_lines.ensures.lines.home);
+      (subst (λ (h : Host). Moments (StaysHome h) (g.B.Shelf.tale c.boot.new.shelf) (g.B.Shelf.tale c.run_lines.new.bench)) c.in-Ok.ensures.answer.engine.0 c.run_lines.ensures.lines.home);
   causes = inr (cause_within (counts (g.B.Shelf.faults c.args.bench.now) (g.I.Source.faults c.args.script.now)) (counts (g.B.Shelf.faults c.boot.new.shelf) (g.I.Source.faults c.args.script.now))
       (counts (g.B.Shelf.faults c.run_lines.new.bench) (g.I.Source.faults c.run_lines.new.script)) (counts (g.B.Shelf.faults c.run_lines.new.bench) (g.I.Source.faults c.run_lines.new.script)) c.run_lines.result
-      (record { drive = c.boot.ensures.keeps.no_fewer_faults (OnDrive 0); source = omega arith; replies = c.boot.ensures.keeps.no_fewer_faults OnReplies }) (record { drive = omega arith; source = omega arith; replies = omega arith }) c.run_lines.ensures.lines.causes);
+      (record { drive = c.boot.ensures.kept.keeps.no_fewer_faults (OnDrive 0); source = omega arith; replies = c.boot.ensures.kept.keeps.no_fewer_faults OnReplies }) (record { drive = omega arith; source = omega arith; replies = omega arith }) c.run_lines.ensures.lines.causes);
 }
 
 pub returns-in-Err-clause-has_run : goal.returns-in-Err-clause-has_run
@@ -43,16 +44,17 @@ returns-in-Err-clause-has_run g c = record {
   runs = λ t is input left.
       let host = c.args.host in
       let quiet = moments_end (BootMoment host) _ _ c.boot.ensures.moments t is in
-      let done = c.in-Err.ensures.rebooted (unbooted 0) tt t is in
+      let done = c.in-Err.ensures.end t is in
       let start = counts (g.B.Shelf.faults c.args.bench.now) (g.I.Source.faults c.args.script.now) in
       let end = counts (g.B.Shelf.faults c.boot.new.shelf) (g.I.Source.faults c.args.script.now) in
       inr (subst (λ (s : RunStatus). IsWholeRun host start end t (script_of input) (g.B.Shelf.tale c.boot.new.shelf) s) (sym c.over.ensures)
-      (whole_over host start t (script_of input) _ Engine end (record { drive = c.boot.ensures.keeps.no_fewer_faults (OnDrive 0); source = omega arith; replies = c.boot.ensures.keeps.no_fewer_faults OnReplies })
-      done.0 (kept_at (unbooted 0) done.0) c.in-Err.refusal done.1 (ap told (some_is _ done.0 quiet.0 done.1 quiet.1) ∙ quiet.2.quiet) done.2 c.in-Err.ensures.cause));
+      (whole_over host start t (script_of input) _ Engine end (record { drive = c.boot.ensures.kept.keeps.no_fewer_faults (OnDrive 0); source = omega arith; replies = c.boot.ensures.kept.keeps.no_fewer_faults OnReplies })
+      done.0 (kept_at (unbooted 0) done.0) c.in-Err.refusal done.1 (ap told (some_is _ done.0 quiet.0 done.1 quiet.1) ∙ quiet.2.quiet) done.2.rebooted c.in-Err.ensures.answer.cause));
   stands = λ input left.
       let host = c.args.host in
+      moments_of_tales g.B.Shelf g.met.B.Shelf.telling _ _ (RunMoment host (script_of input)) c.boot.ensures.kept.goes
       (moments_weaker (BootMoment host) (RunMoment host (script_of input)) _ _ (λ t m moment. boot_run host (script_of input) t m moment) c.boot.ensures.moments);
   home = boot_stays c.args.host _ _ c.boot.ensures.moments;
   causes = inr (subst (λ (s : RunStatus). HasStatusCause (counts (g.B.Shelf.faults c.args.bench.now) (g.I.Source.faults c.args.script.now)) (counts (g.B.Shelf.faults c.boot.new.shelf) (g.I.Source.faults c.args.script.now)) s) (sym c.over.ensures)
-      (over_cause Engine _ _ c.in-Err.refusal c.in-Err.ensures.cause));
+      (over_cause Engine _ _ c.in-Err.refusal c.in-Err.ensures.answer.cause));
 }

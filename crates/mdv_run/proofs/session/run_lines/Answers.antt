@@ -1,7 +1,9 @@
 use Rattle.std.proofs.Common.{◌≤◌, false, refl, sym, ◌∙◌, subst, arith}
 use Rattle.mdv_run.specs.Below.{Reader, script_of, script_before, OnDrive, OnReplies, Moments, Ends, Host, IsReady, Knows, IsWell, counts, LinesMoment, StaysHome}
 use Rattle.mdv_run.specs.Turns.{LinesRun}
-use Rattle.mdv_run.proofs.Went.{SoFar, so_far_start, so_far_more, moments_over, over_ends, cause_within, script_at_start, keeps_more}
+use Rattle.mdv_run.proofs.Went.{SoFar, so_far_start, so_far_more, moments_over, over_ends, cause_within, script_at_start}
+use Rattle.mdv_shelf.proofs.Noted.{kept_more}
+use Rattle.mdv_engine_law.proofs.Kept.{kept_itself}
 use Rattle.mdv_engine_law.proofs.Staying.{nothing_stays, both_stay}
 use Rattle.mdv_run.proofs.session.run_lines.Goals as goal
 
@@ -12,7 +14,7 @@ loop-refused-init g c = record {
   well = c.requires.well;
   begun = subst (λ (r : Reader). c.args.engine.now.state.begun ≤ r.lines) (sym c.new-reader.ensures) (let none = c.requires.begun in omega arith);
   limit = subst (λ (r : Reader). r.lines ≤ 1048576) (sym c.new-reader.ensures) (omega arith);
-  keeps = record { same_sizes = refl; same_rest = refl; same_held = refl; no_fewer_faults = λ part. omega arith };
+  kept = kept_itself g.B.Shelf c.args.bench.now;
   source = omega arith;
   home = nothing_stays c.args.engine.now.host _ _ refl;
   so_far = λ input left. so_far_start c.args.engine.now.host c.args.engine.now.state input _ _ _ (script_at_start _ _ _ c.new-reader.ensures left);
@@ -24,11 +26,11 @@ loop-refused-preserved g c =
     let before = c.loop-refused.invariant in record {
       host = answer.same ∙ before.host;
       ready = subst (λ (h : Host). IsReady h (g.B.Shelf.sizes c.take_turn.new.bench)) (sym answer.same)
-          (record { table = before.ready.table; sound = before.ready.sound; home = before.ready.home; small = before.ready.small; fresh = before.ready.fresh; drive = c.in-On.ensures.keeps.same_sizes ∙ before.ready.drive });
+          (record { table = before.ready.table; sound = before.ready.sound; home = before.ready.home; small = before.ready.small; fresh = before.ready.fresh; drive = c.in-On.ensures.kept.keeps.same_sizes ∙ before.ready.drive });
       well = subst (λ (h : Host). IsWell h c.take_turn.new.engine.state) (sym answer.same) answer.well;
       begun = answer.begun;
       limit = (answer.on tt).1;
-      keeps = keeps_more _ _ _ _ _ _ _ before.keeps c.in-On.ensures.keeps;
+      kept = kept_more before.kept c.in-On.ensures.kept;
       source = let first = before.source in let more = answer.source in omega arith;
       home = both_stay c.args.engine.now.host _ _ _ before.home
           (subst (λ (h : Host). Moments (StaysHome h) (g.B.Shelf.tale c.loop-refused.bench) (g.B.Shelf.tale c.take_turn.new.bench)) before.host c.in-On.ensures.home);
@@ -55,6 +57,6 @@ returns-in-Over-clause-lines g c =
       home = both_stay c.args.engine.now.host _ _ _ before.home
           (subst (λ (h : Host). Moments (StaysHome h) (g.B.Shelf.tale c.loop-refused.bench) (g.B.Shelf.tale c.take_turn.new.bench)) before.host c.in-Over.ensures.home);
       causes = cause_within (counts (g.B.Shelf.faults c.args.bench.now) (g.I.Source.faults c.args.script.now)) (counts (g.B.Shelf.faults c.loop-refused.bench) (g.I.Source.faults c.loop-refused.script)) (counts (g.B.Shelf.faults c.take_turn.new.bench) (g.I.Source.faults c.take_turn.new.script)) (counts (g.B.Shelf.faults c.take_turn.new.bench) (g.I.Source.faults c.take_turn.new.script)) c.in-Over.status
-          (record { drive = before.keeps.no_fewer_faults (OnDrive 0); source = before.source; replies = before.keeps.no_fewer_faults OnReplies })
+          (record { drive = before.kept.keeps.no_fewer_faults (OnDrive 0); source = before.source; replies = before.kept.keeps.no_fewer_faults OnReplies })
           (record { drive = omega arith; source = omega arith; replies = omega arith }) c.in-Over.ensures.answer.cause;
     }

@@ -1,5 +1,6 @@
 use Rattle.std.proofs.Common.{◌≡◌, ◌≤◌, ◌-◌, ℕ, List, Some}
-use Rattle.mdv_run.specs.Below.{Keeps, script_before, Moments, IsReady, StaysHome, IsWell, counts}
+use Rattle.mdv_run.specs.Below.{script_before, Moments, IsReady, StaysHome, IsWell, counts}
+use Rattle.mdv_shelf.specs.Shelves.{Kept}
 use Rattle.mdv_run.proofs.Went.{SoFar}
 use Rattle.mdv_run.proofs.session.run_lines.Given as goal
 
@@ -10,7 +11,7 @@ invariant-loop-refused g l = record {
   well : IsWell l.engine.host l.engine.state;
   begun : l.engine.state.begun ≤ l.reader.lines;
   limit : l.reader.lines ≤ 1048576;
-  keeps : Keeps g.B.Shelf.sizes g.B.Shelf.faults g.B.Shelf.rest g.B.Shelf.held l.fn.bench l.bench;
+  kept : Kept g.B.Shelf l.fn.bench l.bench;
   source : g.I.Source.faults l.fn.script ≤ g.I.Source.faults l.script;
   home : Moments (StaysHome l.fn.engine.host) (g.B.Shelf.tale l.fn.bench) (g.B.Shelf.tale l.bench);
   so_far : (input : List ℕ) → g.I.Source.left l.fn.script ≡ Some input → SoFar l.engine.host (counts (g.B.Shelf.faults l.fn.bench) (g.I.Source.faults l.fn.script)) (counts (g.B.Shelf.faults l.bench) (g.I.Source.faults l.script)) l.fn.engine.state l.engine.state l.any_refused input (script_before l.reader (g.I.Source.left l.script)) (g.B.Shelf.tale l.fn.bench) (g.B.Shelf.tale l.bench);

@@ -9,7 +9,9 @@ use Rattle.mdv_run.specs.Turns.{HasTurnCause}
 use Rattle.mdv_run_law.proofs.Lining.{lines_start}
 use Rattle.mdv_run_law.proofs.Turning.{long_moment, long_ran}
 use Rattle.mdv_run.proofs.Leading.{end_is, spent_is, long_is, line_is, leads_line, leads_long, on_replied, lost_reply, ended_turn, unread_turn, ended_known, same_left, turn_cause}
-use Rattle.mdv_engine_law.proofs.Staying.{nothing_stays}
+use Rattle.mdv_engine_law.proofs.Staying.{nothing_stays, turn_stays}
+use Rattle.mdv_base.specs.declared.refusal.Refusal.TheVariants.{LineTooLong}
+use Rattle.mdv_run.proofs.Answering.{refused_turned, refused_down, refused_knows}
 use Rattle.mdv_run.proofs.session.take_turn.Goals as goal
 
 pub refuse-requires : goal.refuse-requires
@@ -39,7 +41,7 @@ returns-in-Ok-Line-clause-end g c = λ lines before t told.
       end.1,
       subst (λ (turn : Turn). TurnEnd host now last old new c.args.any_refused lines rest turn t end.0) (sym c.turn_of.ensures)
           (record {
-            turns = λ knows. leads_line now last (record { drive = c.answer.ensures.keeps.no_fewer_faults (OnDrive 0); source = c.next.ensures.cause.later; replies = c.answer.ensures.keeps.no_fewer_faults OnReplies })
+            turns = λ knows. leads_line now last (record { drive = c.answer.ensures.kept.keeps.no_fewer_faults (OnDrive 0); source = c.next.ensures.cause.later; replies = c.answer.ensures.kept.keeps.no_fewer_faults OnReplies })
                 host old new c.args.any_refused lines script.0 c.line.result.now c.answer.result rest t end.0 script.1 script.2 (end.2.answered knows);
             ran = λ on left is. subst (λ (s : Script). RanTo host s old new left t end.0) (sym script.1)
                 (subst (λ (s : Script). RanTo host (line c.line.result.now s) old new left t end.0) (sym (same_left left script.0 is script.2)) (end.2.ran (on_replied c.answer.result c.args.any_refused _ refl on) left));
@@ -80,36 +82,38 @@ returns-in-Ok-TooLong-clause-end g c = λ lines before t told.
     let rest = script_before c.next.new.self (g.I.Source.left c.next.new.source) in
     let reads : IsTurn lines TooLong c.next.new.self (g.I.Source.left c.next.new.source) = rw c.in-Ok-TooLong.field-0-is at (c.in-Ok-TooLong.ensures.reads lines before) in
     let script = long_is lines c.next.new.self (g.I.Source.left c.next.new.source) reads in
-    let end = c.refuse.ensures.told t told in (
+    let end = c.refuse.ensures.end t told in (
       end.0,
       end.1,
-      subst (λ (e : Engine). TurnEnd host now last old e.state c.args.any_refused lines rest c.turn_of-in-Ok-TooLong.result t end.0) (sym c.refuse.ensures.same)
+      subst (λ (e : Engine). TurnEnd host now last old e.state c.args.any_refused lines rest c.turn_of-in-Ok-TooLong.result t end.0) (sym c.refuse.ensures.answer.same)
           (subst (λ (turn : Turn). TurnEnd host now last old old c.args.any_refused lines rest turn t end.0) (sym c.turn_of-in-Ok-TooLong.ensures)
           (record {
-            turns = λ knows. leads_long now last (record { drive = c.refuse.ensures.keeps.no_fewer_faults (OnDrive 0); source = c.next.ensures.cause.later; replies = c.refuse.ensures.keeps.no_fewer_faults OnReplies })
-                host old c.args.any_refused lines script.0 c.refuse.result rest t end.0 script.1 script.2 (refl, record { memory = refl; content = λ block. (end.2.kept 0 block refl).last }) end.2.replied;
+            turns = λ knows. leads_long now last (record { drive = c.refuse.ensures.kept.keeps.no_fewer_faults (OnDrive 0); source = c.next.ensures.cause.later; replies = c.refuse.ensures.kept.keeps.no_fewer_faults OnReplies })
+                host old c.args.any_refused lines script.0 c.refuse.result rest t end.0 script.1 script.2 (refused_down host old LineTooLong too_long_plain _ c.refuse.result t end.0 end.2) end.2.replied;
             ran = λ on left is.
-                let turned = c.refuse.ensures.turned [] (on_replied c.refuse.result c.args.any_refused _ refl on) t told in
+                let turned = refused_turned host old LineTooLong too_long_plain _ c.refuse.result t end.0 end.2 [] (on_replied c.refuse.result c.args.any_refused _ refl on) in
                 subst (λ (s : Script). RanTo host s old old left t end.0) (sym script.1)
-                (subst (λ (s : Script). RanTo host (too_long s) old old left t end.0) (sym (same_left left script.0 is script.2))
-                (subst (λ (u : Tale). RanTo host (too_long left) old old left t u) (some_is _ turned.0 end.0 turned.1 end.1) (long_ran host left old t turned.0 turned.2)));
-            knows = λ kept known. (let knows = c.refuse.ensures.knows t told in subst (λ (u : Tale). Knows host old u) (some_is _ knows.0 end.0 knows.1 end.1) (knows.2 known));
+                (subst (λ (s : Script). RanTo host (too_long s) old old left t end.0) (sym (same_left left script.0 is script.2)) (long_ran host left old t end.0 turned));
+            knows = λ kept. refused_knows host old LineTooLong too_long_plain _ c.refuse.result t end.0 end.2;
           })),
     )
 
 pub returns-in-Ok-TooLong-clause-answer : goal.returns-in-Ok-TooLong-clause-answer
 returns-in-Ok-TooLong-clause-answer g c = record {
-  cause = subst (HasTurnCause (counts (g.B.Shelf.faults c.args.bench.now) (g.I.Source.faults c.args.script.now)) (counts (g.B.Shelf.faults c.refuse.new.bench) (g.I.Source.faults c.next.new.source))) (sym c.turn_of-in-Ok-TooLong.ensures) (turn_cause (counts (g.B.Shelf.faults c.args.bench.now) (g.I.Source.faults c.args.script.now)) (counts (g.B.Shelf.faults c.refuse.new.bench) (g.I.Source.faults c.next.new.source)) c.refuse.result c.args.any_refused c.refuse.ensures.cause);
+  cause = subst (HasTurnCause (counts (g.B.Shelf.faults c.args.bench.now) (g.I.Source.faults c.args.script.now)) (counts (g.B.Shelf.faults c.refuse.new.bench) (g.I.Source.faults c.next.new.source))) (sym c.turn_of-in-Ok-TooLong.ensures) (turn_cause (counts (g.B.Shelf.faults c.args.bench.now) (g.I.Source.faults c.args.script.now)) (counts (g.B.Shelf.faults c.refuse.new.bench) (g.I.Source.faults c.next.new.source)) c.refuse.result c.args.any_refused c.refuse.ensures.answer.cause);
   source = c.next.ensures.cause.later;
-  same = ap (λ (e : Engine). e.host) c.refuse.ensures.same;
-  well = subst (λ (e : Engine). IsWell c.args.engine.now.host e.state) (sym c.refuse.ensures.same) c.requires.well;
-  begun = subst (λ (e : Engine). e.state.begun ≤ c.next.new.self.lines) (sym c.refuse.ensures.same) (let up = (rw c.in-Ok-TooLong.field-0-is at c.in-Ok-TooLong.ensures.counts).lines in let before = c.requires.begun in omega arith);
+  same = ap (λ (e : Engine). e.host) c.refuse.ensures.answer.same;
+  well = subst (λ (e : Engine). IsWell c.args.engine.now.host e.state) (sym c.refuse.ensures.answer.same) c.requires.well;
+  begun = subst (λ (e : Engine). e.state.begun ≤ c.next.new.self.lines) (sym c.refuse.ensures.answer.same) (let up = (rw c.in-Ok-TooLong.field-0-is at c.in-Ok-TooLong.ensures.counts).lines in let before = c.requires.begun in omega arith);
   on = λ on. (let up = (rw c.in-Ok-TooLong.field-0-is at c.in-Ok-TooLong.ensures.counts).lines in omega arith, (rw c.in-Ok-TooLong.field-0-is at c.in-Ok-TooLong.ensures.counts).line_limit);
   goes_on = λ on lines before.
       let reads : IsTurn lines TooLong c.next.new.self (g.I.Source.left c.next.new.source) = rw c.in-Ok-TooLong.field-0-is at (c.in-Ok-TooLong.ensures.reads lines before) in
       let script = long_is lines c.next.new.self (g.I.Source.left c.next.new.source) reads in
       (script.0, script.2);
 }
+
+pub returns-in-Ok-TooLong-clause-home : goal.returns-in-Ok-TooLong-clause-home
+returns-in-Ok-TooLong-clause-home g c = turn_stays c.args.engine.now.host [] c.args.engine.now.state _ _ (c.refuse.ensures.moments [])
 
 -- the end of the script, a limit, and a source that failed
 pub returns-in-Ok-End-clause-moments : goal.returns-in-Ok-End-clause-moments

@@ -1,16 +1,16 @@
 use Rattle.mdv_engine.proofs.engine.Engine.carry_out.Goals as goal
 
-pub returns-in-Create-clause-answered : goal.returns-in-Create-clause-answered
-returns-in-Create-clause-answered g c = rw (c.in-Create.is) c.make.ensures.answered
+pub returns-in-Create-clause-end : goal.returns-in-Create-clause-end
+returns-in-Create-clause-end g c = rw (c.in-Create.is) c.make.ensures.end
 
-pub returns-in-MakeStripe-clause-answered : goal.returns-in-MakeStripe-clause-answered
-returns-in-MakeStripe-clause-answered g c = rw (c.in-MakeStripe.is) c.make_stripe.ensures.answered
+pub returns-in-MakeStripe-clause-end : goal.returns-in-MakeStripe-clause-end
+returns-in-MakeStripe-clause-end g c = rw (c.in-MakeStripe.is) c.make_stripe.ensures.end
 
-pub returns-in-Read-clause-answered : goal.returns-in-Read-clause-answered
-returns-in-Read-clause-answered g c = rw (c.in-Read.is) c.read.ensures.answered
+pub returns-in-Read-clause-end : goal.returns-in-Read-clause-end
+returns-in-Read-clause-end g c = rw (c.in-Read.is) c.read.ensures.end
 
-pub returns-in-Write-clause-answered : goal.returns-in-Write-clause-answered
-returns-in-Write-clause-answered g c = rw (c.in-Write.is) c.write.ensures.answered
+pub returns-in-Write-clause-end : goal.returns-in-Write-clause-end
+returns-in-Write-clause-end g c = rw (c.in-Write.is) c.write.ensures.end
 
 pub returns-in-Create-clause-counted : goal.returns-in-Create-clause-counted
 returns-in-Create-clause-counted g c = rw (c.in-Create.is) c.make.ensures.counted

@@ -1,13 +1,19 @@
-use Rattle.std.proofs.Common.{◌≡◌, ◌≤◌, ◌<◌, ◌∙◌, ⊎_elim, Some, Err, ap, sym, subst, length}
-use Rattle.mdv_engine.specs.Below.{Rose, Local, place_of, record_text, PlaceAt, room_of, OnDrive, CommitFault, HasCommitCause, IsCommitRefusal, Newest, IsPlainAnswer}
+use Rattle.std.proofs.Common.{arith, ◌≡◌, ◌≤◌, ◌<◌, ◌∙◌, ◌∷◌, [], rules, ⊎_elim, Some, Err, ap, sym, subst, length}
+use Rattle.mdv_base.specs.declared.refusal.Refusal.TheVariants.{NoDatabase}
+use Rattle.mdv_engine.specs.Below.{Changed, Rose, Local, place_of, record_text, PlaceAt, room_of, OnDrive, TooLong, HasCommitCause, Newest, IsPlainAnswer}
 use Rattle.mdv_engine_law.specs.declared.answer.Answer.TheVariants as outcome
 use Rattle.mdv_engine_law.proofs.Plain.{no_database_plain, numbers_plain}
 use Rattle.mdv_engine_law.proofs.Refusing.{opened_has}
+use Rattle.mdv_engine.specs.Ends.{HasAnswered}
 use Rattle.mdv_engine.specs.Engine.{IsTableOf}
 use Rattle.mdv_engine.specs.declared.engine.Engine.{Engine}
 use Rattle.mdv_engine.proofs.Committing.{changing_moments, committed_answer, committed_carried, lost_answer, lost_carried, long_answer, next_of, spent_answer}
-use Rattle.mdv_engine.proofs.Commits.{carried_as, commit_as, fits_or_long, lost_is_no_other, opened_as, opened_still, refused_carried, spent_carried, told_numbers}
-use Rattle.mdv_engine.proofs.Sites.{placed_open, quiet_stays}
+use Rattle.mdv_engine.proofs.Commits.{end_as, opened_as, opened_still, refused_carried, spent_carried}
+use Rattle.mdv_engine.proofs.Ending.{no_creation, refused_answer}
+use Rattle.mdv_engine.proofs.Parts.{commit_goes, commit_goes_to, commit_opened, commit_quiet}
+use Rattle.mdv_engine.specs.Counts.{IsCommandCounted}
+use Rattle.mdv_shelf.proofs.Between.{between_of}
+use Rattle.mdv_engine.proofs.Sites.{laid_open}
 use Rattle.mdv_engine.proofs.engine.Engine.commit.Goals as goal
 use Rattle.mdv_engine.proofs.engine.Engine.commit.Goals.{in-Ok, in-Err-Lost, in-Err-TooLong, in-Err-Spent}
 
@@ -18,13 +24,7 @@ commit-requires g c =
     let db = c.in-Some.database in
     let at_is : c.place_at-at.result ≡ place_of host.home = c.place_at-at.ensures ∙ ap (λ (e : Engine). place_of e.host.home) c.self.view_is in
     let opened : memory.opened ≡ Some db = ap (λ (e : Engine). e.state.opened) (sym c.self.view_is) ∙ c.in-Some.is in
-    placed_open host _ c.requires.ready _ at_is _ c.args.next (opened_has memory db (λ (n : Newest). IsTableOf host n.blocks c.args.next) opened c.requires.placed)
-
-pub returns-clause-home : goal.returns-clause-home
-returns-clause-home g c =
-    let host = c.args.self.now.host in
-    let at_is : c.place_at-at.result ≡ place_of host.home = c.place_at-at.ensures ∙ ap (λ (e : Engine). place_of e.host.home) c.self.view_is in
-    quiet_stays host _ c.requires.ready _ at_is _ _ c.commit.ensures.moments
+    laid_open host _ c.requires.ready _ at_is _ c.args.next (opened_has memory db (λ (n : Newest). IsTableOf host n.blocks c.args.next) opened c.requires.placed)
 
 pub returns-clause-moments : goal.returns-clause-moments
 returns-clause-moments g c = λ change is.
@@ -34,10 +34,10 @@ returns-clause-moments g c = λ change is.
     let at_is : c.place_at-at.result ≡ place_of host.home = c.place_at-at.ensures ∙ ap (λ (e : Engine). place_of e.host.home) c.self.view_is in
     let opened : memory.opened ≡ Some db = ap (λ (e : Engine). e.state.opened) (sym c.self.view_is) ∙ c.in-Some.is in
     let placed = opened_has memory db (λ (n : Newest). IsTableOf host n.blocks c.args.next) opened c.requires.placed in
-    changing_moments host _ c.requires.ready _ at_is memory change c.args.next db opened (next_of host memory change c.args.next db opened is) placed _ _ c.commit.ensures.moments (c.commit.ensures.stays host.drives (Local host.home.host) (Some change))
+    changing_moments host _ c.requires.ready _ at_is memory change c.args.next db opened (next_of host memory change c.args.next db opened is) placed _ _ (commit_quiet _ _ _ _ _ _ c.commit.ensures.moments) (commit_goes _ _ _ _ _ _ host.drives (Local host.home.host) (Some change) c.commit.ensures.moments)
 
-pub returns-clause-committed : goal.returns-clause-committed
-returns-clause-committed g c = λ change is.
+pub returns-clause-end : goal.returns-clause-end
+returns-clause-end g c = λ change is.
     let host = c.args.self.now.host in
     let memory = c.args.self.now.state in
     let db = c.in-Some.database in
@@ -47,63 +47,61 @@ returns-clause-committed g c = λ change is.
     let chosen = next_of host memory change next db opened is in
     let placed = opened_has memory db (λ (n : Newest). IsTableOf host n.blocks next) opened c.requires.placed in
     let same = ap (λ (e : Engine). e.state) c.self.view_is in
+    let stays = (commit_goes _ _ _ _ _ _ host.drives (Local host.home.host) (Some change) c.commit.ensures.moments) in
     elim c.match-commit.branch [
       | in-Ok w ↦
-          commit_as host memory change _ _ outcome.Ok _ w.result-is _ _ (opened_as _ memory same _ _ w.in-Ok.ensures.ok) _
-          (committed_answer host _ c.requires.ready _ at_is memory change next db opened chosen placed _ _ c.commit.ensures.moments _ w.in-Ok.ensures.fits.0 w.in-Ok.ensures.fits.1 (w.in-Ok.ensures.opened host.drives (Local host.home.host) (Some change)))
+          end_as host memory change _ _ outcome.Ok _ w.result-is _ _ (opened_as _ memory same _ _ w.in-Ok.ensures.answer.0) _
+          (committed_answer host _ c.requires.ready _ at_is memory change next db opened chosen placed _ _ (commit_quiet _ _ _ _ _ _ c.commit.ensures.moments) _ w.in-Ok.ensures.answer.1.in_room w.in-Ok.ensures.answer.1.countable (commit_opened _ _ _ _ _ _ host.drives (Local host.home.host) (Some change) w.in-Ok.ensures.end))
+          (committed_carried host _ c.requires.ready _ at_is memory change next db opened chosen placed _ _ (commit_quiet _ _ _ _ _ _ c.commit.ensures.moments) (commit_opened _ _ _ _ _ _ host.drives (Local host.home.host) (Some change) w.in-Ok.ensures.end) (commit_goes_to _ _ _ _ _ _ host.drives (Local host.home.host) (Some change) w.in-Ok.ensures.end))
       | in-Err-Lost w ↦
-          let failed = subst (HasCommitCause _ db next) w.in-Err-Lost.field-0-is w.in-Err-Lost.ensures.cause in
-          let rose = subst (λ (p : PlaceAt). Rose (g.S.Shelf.faults c.args.shelf.now (OnDrive p.drive.0)) (g.S.Shelf.faults c.commit.new.shelf (OnDrive p.drive.0))) at_is failed in
-          let fits : length (record_text next) ≤ room_of db.blocks = ⊎_elim (λ (short : length (record_text next) ≤ room_of db.blocks). short) (λ (long : room_of db.blocks < length (record_text next)). absurd (lost_is_no_other _ w.in-Err-Lost.field-0-is _ (w.in-Err-Lost.ensures.too_long long))) (fits_or_long (length (record_text next)) (room_of db.blocks)) in
-          commit_as host memory change _ _ outcome.Panic _ w.result-is memory _ (opened_still _ memory same _ db w.in-Err-Lost.ensures.err opened) _
-          (lost_answer host _ c.requires.ready _ at_is memory change next db opened chosen placed _ _ c.commit.ensures.moments _ memory rose fits)
+          let failed = subst (HasCommitCause _ db next) w.in-Err-Lost.field-0-is w.in-Err-Lost.ensures.answer.1 in
+          let rose = subst (λ (p : PlaceAt). Rose (g.S.Shelf.faults c.args.shelf.now (OnDrive p.drive.0)) (g.S.Shelf.faults c.commit.new.shelf (OnDrive p.drive.0))) at_is failed.0 in
+          end_as host memory change _ _ outcome.Panic _ w.result-is memory _ (opened_still _ memory same _ db w.in-Err-Lost.ensures.answer.0 opened) _
+          (lost_answer host _ c.requires.ready _ at_is memory change next db opened chosen placed _ _ (commit_quiet _ _ _ _ _ _ c.commit.ensures.moments) _ memory rose failed.1.in_room)
+          (lost_carried host _ c.requires.ready _ at_is memory change next db opened chosen placed _ _ (commit_quiet _ _ _ _ _ _ c.commit.ensures.moments) memory stays)
       | in-Err-TooLong w ↦
-          let nothing = ap g.S.Shelf.tale (w.in-Err-TooLong.ensures.refuses (subst IsCommitRefusal (sym w.in-Err-TooLong.field-0-is) tt)) in
-          let long = subst (HasCommitCause _ db next) w.in-Err-TooLong.field-0-is w.in-Err-TooLong.ensures.cause in
-          let numbers = told_numbers w.in-Err-TooLong.fault _ w.in-Err-TooLong.field-0-is _ _ (w.in-Err-TooLong.ensures.too_long long) in
-          commit_as host memory change _ _ _ _ w.result-is memory _ (opened_still _ memory same _ db w.in-Err-TooLong.ensures.err opened) _
-          (long_answer host _ c.requires.ready _ at_is memory change next db opened chosen placed _ _ nothing _ _ _ long numbers.0 numbers.1)
+          let nothing = ap g.S.Shelf.tale (rw w.in-Err-TooLong.field-0-is at w.in-Err-TooLong.ensures.counted) in
+          let long = subst (HasCommitCause _ db next) w.in-Err-TooLong.field-0-is w.in-Err-TooLong.ensures.answer.1 in
+          end_as host memory change _ _ _ _ w.result-is memory _ (opened_still _ memory same _ db w.in-Err-TooLong.ensures.answer.0 opened) _
+          (long_answer host _ c.requires.ready _ at_is memory change next db opened chosen placed _ _ nothing _ _ _ long.0 (ap (λ (f : TooLong). f.bytes) long.1) (ap (λ (f : TooLong). f.room) long.1))
+          (refused_carried host memory change _ _ (ap g.S.Shelf.tale (rw w.in-Err-TooLong.field-0-is at w.in-Err-TooLong.ensures.counted)) _)
       | in-Err-Spent w ↦
-          let nothing = ap g.S.Shelf.tale (w.in-Err-Spent.ensures.refuses (subst IsCommitRefusal (sym w.in-Err-Spent.field-0-is) tt)) in
-          let reached = w.in-Err-Spent.ensures.spent.0 (ap (λ (f : CommitFault). Err f) w.in-Err-Spent.field-0-is) in
-          commit_as host memory change _ _ outcome.Spent _ w.result-is memory _ (opened_still _ memory same _ db w.in-Err-Spent.ensures.err opened) _
+          let nothing = ap g.S.Shelf.tale (rw w.in-Err-Spent.field-0-is at w.in-Err-Spent.ensures.counted) in
+          let reached = subst (HasCommitCause _ db next) w.in-Err-Spent.field-0-is w.in-Err-Spent.ensures.answer.1 in
+          end_as host memory change _ _ outcome.Spent _ w.result-is memory _ (opened_still _ memory same _ db w.in-Err-Spent.ensures.answer.0 opened) _
           (spent_answer host _ c.requires.ready _ at_is memory change next db opened chosen placed _ _ nothing _ reached.0 reached.1)
+          (spent_carried host memory change _ _ (ap g.S.Shelf.tale (rw w.in-Err-Spent.field-0-is at w.in-Err-Spent.ensures.counted)))
     ]
 
-pub returns-clause-carried : goal.returns-clause-carried
-returns-clause-carried g c = λ change is.
-    let host = c.args.self.now.host in
-    let memory = c.args.self.now.state in
-    let db = c.in-Some.database in
-    let next = c.args.next in
-    let at_is : c.place_at-at.result ≡ place_of host.home = c.place_at-at.ensures ∙ ap (λ (e : Engine). place_of e.host.home) c.self.view_is in
-    let opened : memory.opened ≡ Some db = ap (λ (e : Engine). e.state.opened) (sym c.self.view_is) ∙ c.in-Some.is in
-    let chosen = next_of host memory change next db opened is in
-    let placed = opened_has memory db (λ (n : Newest). IsTableOf host n.blocks next) opened c.requires.placed in
-    let same = ap (λ (e : Engine). e.state) c.self.view_is in
-    let stays = c.commit.ensures.stays host.drives (Local host.home.host) (Some change) in
+pub returns-clause-answer : goal.returns-clause-answer
+returns-clause-answer g c = λ change. record {
+  plain = elim c.match-commit.branch [
+    | in-Ok w ↦ subst IsPlainAnswer (sym w.result-is) tt
+    | in-Err-Lost w ↦ subst IsPlainAnswer (sym w.result-is) tt
+    | in-Err-TooLong w ↦ subst IsPlainAnswer (sym w.result-is) (numbers_plain w.in-Err-TooLong.fault.bytes w.in-Err-TooLong.fault.room)
+    | in-Err-Spent w ↦ subst IsPlainAnswer (sym w.result-is) tt
+  ];
+  cause = search rules;
+  awake = search rules;
+  free = λ on has. absurd (no_creation (Changed change) (λ is. absurd (cc (is))) has);
+  host = search rules;
+  well = search rules;
+  begun = search rules;
+}
+
+pub returns-in_default-clause-answer : goal.returns-in_default-clause-answer
+returns-in_default-clause-answer g c = λ change.
+    let failed = Rose (g.S.Shelf.faults c.args.shelf.now (OnDrive 0)) (g.S.Shelf.faults c.args.shelf.now (OnDrive 0)) in
+    subst (λ (e : Engine). HasAnswered failed (Changed change ∷ []) c.args.self.now (outcome.Refused NoDatabase) e) (sym c.self.view_is)
+    (refused_answer failed (Changed change ∷ []) c.args.self.now c.requires.well NoDatabase no_database_plain)
+
+pub returns-clause-counted : goal.returns-clause-counted
+returns-clause-counted g c =
+    let calls = g.S.Shelf.calls in
+    let written = g.S.Shelf.written in
     elim c.match-commit.branch [
-      | in-Ok w ↦
-          carried_as host memory change _ _ outcome.Ok _ w.result-is _ _ (opened_as _ memory same _ _ w.in-Ok.ensures.ok)
-          (committed_carried host _ c.requires.ready _ at_is memory change next db opened chosen placed _ _ c.commit.ensures.moments (w.in-Ok.ensures.opened host.drives (Local host.home.host) (Some change)) (w.in-Ok.ensures.ends host.drives (Local host.home.host) (Some change)))
-      | in-Err-Lost w ↦
-          carried_as host memory change _ _ outcome.Panic _ w.result-is memory _ (opened_still _ memory same _ db w.in-Err-Lost.ensures.err opened)
-          (lost_carried host _ c.requires.ready _ at_is memory change next db opened chosen placed _ _ c.commit.ensures.moments memory stays)
-      | in-Err-TooLong w ↦
-          carried_as host memory change _ _ _ _ w.result-is memory _ (opened_still _ memory same _ db w.in-Err-TooLong.ensures.err opened)
-          (refused_carried host memory change _ _ (ap g.S.Shelf.tale (w.in-Err-TooLong.ensures.refuses (subst IsCommitRefusal (sym w.in-Err-TooLong.field-0-is) tt))) _)
-      | in-Err-Spent w ↦
-          carried_as host memory change _ _ outcome.Spent _ w.result-is memory _ (opened_still _ memory same _ db w.in-Err-Spent.ensures.err opened)
-          (spent_carried host memory change _ _ (ap g.S.Shelf.tale (w.in-Err-Spent.ensures.refuses (subst IsCommitRefusal (sym w.in-Err-Spent.field-0-is) tt))))
+      | in-Ok w ↦ subst (IsCommandCounted g.S.Shelf.tale calls written _ _ 6 4096) (sym w.result-is) (between_of calls written _ _ 6 _ 6 6 4096 (omega arith) (omega arith) w.in-Ok.ensures.counted.1 w.in-Ok.ensures.counted.0)
+      | in-Err-Lost w ↦ subst (IsCommandCounted g.S.Shelf.tale calls written _ _ 6 4096) (sym w.result-is) (rw w.in-Err-Lost.field-0-is at w.in-Err-Lost.ensures.counted).at_most
+      | in-Err-TooLong w ↦ subst (IsCommandCounted g.S.Shelf.tale calls written _ _ 6 4096) (sym w.result-is) (rw w.in-Err-TooLong.field-0-is at w.in-Err-TooLong.ensures.counted)
+      | in-Err-Spent w ↦ subst (IsCommandCounted g.S.Shelf.tale calls written _ _ 6 4096) (sym w.result-is) (rw w.in-Err-Spent.field-0-is at w.in-Err-Spent.ensures.counted)
     ]
-
-pub returns-clause-plain : goal.returns-clause-plain
-returns-clause-plain g c = elim c.match-commit.branch [
-  | in-Ok w ↦ subst IsPlainAnswer (sym w.result-is) tt
-  | in-Err-Lost w ↦ subst IsPlainAnswer (sym w.result-is) tt
-  | in-Err-TooLong w ↦ subst IsPlainAnswer (sym w.result-is) (numbers_plain w.in-Err-TooLong.fault.bytes w.in-Err-TooLong.fault.room)
-  | in-Err-Spent w ↦ subst IsPlainAnswer (sym w.result-is) tt
-]
-
-pub returns-in_default-clause-plain : goal.returns-in_default-clause-plain
-returns-in_default-clause-plain g c = no_database_plain

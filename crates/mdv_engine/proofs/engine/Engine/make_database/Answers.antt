@@ -1,14 +1,18 @@
-use Rattle.std.proofs.Common.{◌≡◌, ◌∙◌, ◌+◌, ◌≤◌, ◌∷◌, [], List, ℕ, false, Option, Some, None, Err, sym, ap, subst, arith}
-use Rattle.mdv_engine.specs.Below.{Rose, Local, IoFault, OutOfMemory, OnDrive, Ends, Moments, Tale, place_of, PlaceAt, IsPlaceOf, Geometry, IsCreated, Log, IsThis, is_firm, Site, Newest, Anything, GoesOnTo, IsOpened, ShowsNothing, Created, IsQuiet, IsSafe, first_newest, Answer, IsReady, StaysHome, identity_of, Memory, IsCreation, kept_at, CarriedTo, CarryMoment, Knows}
+use Rattle.std.proofs.Common.{◌≡◌, ◌∙◌, ◌+◌, ◌≤◌, ◌∷◌, [], List, ℕ, false, Option, Some, None, Err, sym, ap, subst, arith, rules}
+use Rattle.mdv_engine.specs.Below.{Rose, Local, IoFault, OutOfMemory, OnDrive, Ends, Moments, Tale, place_of, PlaceAt, IsPlaceOf, Geometry, IsCreated, Log, IsThis, is_firm, Site, Newest, Anything, GoesOnTo, IsOpened, ShowsNothing, Created, IsQuiet, IsSafe, first_newest, Answer, IsReady, identity_of, Memory, IsCreation, kept_at, CarriedTo, CarryMoment, Knows}
 use Rattle.mdv_database.specs.Database as database
+use Rattle.mdv_store_law.specs.Standing.{ShowsReplica}
 use Rattle.mdv_engine_law.specs.declared.answer.Answer.TheVariants as outcome
 use Rattle.mdv_engine_law.proofs.Plain.{fault_plain, memory_plain}
 use Rattle.mdv_engine.specs.declared.engine.Engine.{Engine}
-use Rattle.mdv_engine.proofs.Creating.{begun, lost_carried, made_carried, made_creation, making_moments, new_memory, unbegun_carried, unmade_carried, unmade_creation, with_new}
-use Rattle.mdv_engine.proofs.Sites.{place_is, quiet_stays}
+use Rattle.mdv_engine.proofs.Blocks.{moments_still}
+use Rattle.mdv_engine.proofs.Creating.{begun, lost_carried, lost_creation, made_carried, made_creation, making_moments, new_memory, unbegun_carried, unbegun_creation, unmade_carried, unmade_creation, with_new}
+use Rattle.mdv_engine.proofs.Parts.{create_failed, create_goes, create_goes_to, create_lost, create_opened, create_quiet, create_safe}
+use Rattle.mdv_engine.proofs.Sites.{place_is}
 use Rattle.mdv_shelf.proofs.Between.{between_of}
 use Rattle.mdv_replica.proofs.Counted.{took_wider}
 use Rattle.mdv_engine.proofs.Counting.{refused_counted}
+use Rattle.mdv_engine.proofs.Ending.{creation_ends}
 use Rattle.mdv_engine.proofs.engine.Engine.make_database.Goals as goal
 
 -- what a creation that came to this answer, and left this in memory, is to be
@@ -46,8 +50,9 @@ module _ (sizes : List ℕ) (e v : Engine) (is : e ≡ v) (readied : IsReady v.h
   on_ours : (P : Geometry → Type 0) → OnEach P → P e.host.drives
   on_ours P each = each e.host.drives (place_is e.host sizes ready at at_is room)
 
-  home : Moments (StaysHome v.host) a b
-  home = subst (λ (x : Engine). Moments (StaysHome x.host) a b) is (quiet_stays e.host sizes ready at at_is a b quiet)
+  lost_made : OnEach (λ drives. Ends (λ _ u. ShowsReplica (site drives) (identity_of e.host e.state.begun) u) a b) → (failed : Type 0) → failed → Creates failed outcome.Panic (begun e.state) a b v
+  lost_made shows failed so = subst (Creates failed outcome.Panic (begun e.state) a b) is
+      (lost_creation e.host sizes ready at at_is e.state room none up a b quiet failed so (on_ours (λ drives. Ends (λ _ u. ShowsReplica (site drives) (identity_of e.host e.state.begun) u) a b) shows))
 
   module _ (stays : OnEach (λ drives. Moments (Goes (λ s. Anything) drives) a b)) where
     moments : Moments (CarryMoment v.host (Created ∷ []) v.state) a b
@@ -89,63 +94,98 @@ module _ (sizes : List ℕ) (e v : Engine) (is : e ≡ v) (readied : IsReady v.h
 unbegun : (e v : Engine) → e ≡ v → (a b : Option Tale) → b ≡ a → Carries (outcome.Refused OutOfMemory) (begun e.state) a b v
 unbegun e v is a b same = subst (Carries (outcome.Refused OutOfMemory) (begun e.state) a b) is (unbegun_carried e.host e.state a b same)
 
+unbegun_made : (e v : Engine) → e ≡ v → (a b : Option Tale) → b ≡ a → (failed : Type 0) → Creates failed (outcome.Refused OutOfMemory) (begun e.state) a b v
+unbegun_made e v is a b same failed = subst (Creates failed (outcome.Refused OutOfMemory) (begun e.state) a b) is (unbegun_creation e.host e.state a b same failed)
+
+-- what is kept of the host
+same_host : (e v : Engine) → e ≡ v → e.host ≡ v.host
+same_host e v is = ap (λ (x : Engine). x.host) is
+
 pub returns-in-Ok-clause-moments : goal.returns-in-Ok-clause-moments
-returns-in-Ok-clause-moments g c = moments _ _ _ c.self.view_is c.requires.ready c.place_at.result c.place_at.ensures c.requires.room c.requires.none c.requires.up _ _ c.create.ensures.moments c.create.ensures.stays
+returns-in-Ok-clause-moments g c = moments _ _ _ c.self.view_is c.requires.ready c.place_at.result c.place_at.ensures c.requires.room c.requires.none c.requires.up _ _ (create_quiet _ _ _ _ _ _ c.create.ensures.moments) (create_goes _ _ _ _ _ _ c.create.ensures.moments)
 
 pub returns-in-Err-Failed-clause-moments : goal.returns-in-Err-Failed-clause-moments
-returns-in-Err-Failed-clause-moments g c = moments _ _ _ c.self.view_is c.requires.ready c.place_at.result c.place_at.ensures c.requires.room c.requires.none c.requires.up _ _ c.create.ensures.moments c.create.ensures.stays
+returns-in-Err-Failed-clause-moments g c = moments _ _ _ c.self.view_is c.requires.ready c.place_at.result c.place_at.ensures c.requires.room c.requires.none c.requires.up _ _ (create_quiet _ _ _ _ _ _ c.create.ensures.moments) (create_goes _ _ _ _ _ _ c.create.ensures.moments)
 
 pub returns-in-Err-Lost-clause-moments : goal.returns-in-Err-Lost-clause-moments
-returns-in-Err-Lost-clause-moments g c = moments _ _ _ c.self.view_is c.requires.ready c.place_at.result c.place_at.ensures c.requires.room c.requires.none c.requires.up _ _ c.create.ensures.moments c.create.ensures.stays
+returns-in-Err-Lost-clause-moments g c = moments _ _ _ c.self.view_is c.requires.ready c.place_at.result c.place_at.ensures c.requires.room c.requires.none c.requires.up _ _ (create_quiet _ _ _ _ _ _ c.create.ensures.moments) (create_goes _ _ _ _ _ _ c.create.ensures.moments)
 
-pub returns-in-Ok-clause-home : goal.returns-in-Ok-clause-home
-returns-in-Ok-clause-home g c = home _ _ _ c.self.view_is c.requires.ready c.place_at.result c.place_at.ensures c.requires.room c.requires.none c.requires.up _ _ c.create.ensures.moments
+pub returns-in-Err-Memory-clause-moments : goal.returns-in-Err-Memory-clause-moments
+returns-in-Err-Memory-clause-moments g c = moments_still c.args.self.now.host (Created ∷ []) c.args.self.now.state _ _ (ap g.S.Shelf.tale (rw (c.in-Err-Memory.is ∙ ap Err c.in-Err-Memory.field-0-is) at c.create.ensures.counted))
 
-pub returns-in-Err-Failed-clause-home : goal.returns-in-Err-Failed-clause-home
-returns-in-Err-Failed-clause-home g c = home _ _ _ c.self.view_is c.requires.ready c.place_at.result c.place_at.ensures c.requires.room c.requires.none c.requires.up _ _ c.create.ensures.moments
+pub returns-in-Ok-clause-end : goal.returns-in-Ok-clause-end
+returns-in-Ok-clause-end g c =
+    creation_ends _ c.args.self.now outcome.Ok _ _ _
+    (made _ _ _ c.self.view_is c.requires.ready c.place_at.result c.place_at.ensures c.requires.room c.requires.none c.requires.up _ _ (create_quiet _ _ _ _ _ _ c.create.ensures.moments) c.in-Ok.database c.in-Ok.ensures.answer.is (create_safe _ _ _ _ _ _ _ c.in-Ok.ensures.end) (Rose (g.S.Shelf.faults c.args.shelf.now (OnDrive 0)) (g.S.Shelf.faults c.create.new.shelf (OnDrive 0))))
+    (carried _ _ _ c.self.view_is c.requires.ready c.place_at.result c.place_at.ensures c.requires.room c.requires.none c.requires.up _ _ (create_quiet _ _ _ _ _ _ c.create.ensures.moments) c.in-Ok.database c.in-Ok.ensures.answer.is (create_safe _ _ _ _ _ _ _ c.in-Ok.ensures.end) (create_opened _ _ _ _ _ _ _ c.in-Ok.ensures.end c.in-Ok.ensures.answer.is) (create_goes_to _ _ _ _ _ _ _ c.in-Ok.ensures.end))
 
-pub returns-in-Err-Lost-clause-home : goal.returns-in-Err-Lost-clause-home
-returns-in-Err-Lost-clause-home g c = home _ _ _ c.self.view_is c.requires.ready c.place_at.result c.place_at.ensures c.requires.room c.requires.none c.requires.up _ _ c.create.ensures.moments
+pub returns-in-Err-Failed-clause-end : goal.returns-in-Err-Failed-clause-end
+returns-in-Err-Failed-clause-end g c =
+    creation_ends _ c.args.self.now (outcome.Refused IoFault) _ _ _
+    (unmade _ _ _ c.self.view_is c.requires.ready c.place_at.result c.place_at.ensures c.requires.room c.requires.none c.requires.up _ _ (create_quiet _ _ _ _ _ _ c.create.ensures.moments) (λ drives has. create_failed _ _ _ _ _ _ _ c.create.ensures.end (c.in-Err-Failed.is ∙ ap Err c.in-Err-Failed.field-0-is) drives) (Rose (g.S.Shelf.faults c.args.shelf.now (OnDrive 0)) (g.S.Shelf.faults c.create.new.shelf (OnDrive 0))) (subst (λ (n : ℕ). Rose (g.S.Shelf.faults c.args.shelf.now (OnDrive n)) (g.S.Shelf.faults c.create.new.shelf (OnDrive n))) (ap (λ (p : PlaceAt). p.drive.0) c.place_at.ensures) (rw c.in-Err-Failed.field-0-is at c.in-Err-Failed.ensures.answer)))
+    (unmade_carries _ _ _ c.self.view_is c.requires.ready c.place_at.result c.place_at.ensures c.requires.room c.requires.none c.requires.up _ _ (create_quiet _ _ _ _ _ _ c.create.ensures.moments) (λ drives has. create_failed _ _ _ _ _ _ _ c.create.ensures.end (c.in-Err-Failed.is ∙ ap Err c.in-Err-Failed.field-0-is) drives) (create_goes_to _ _ _ _ _ _ _ (rw c.in-Err-Failed.field-0-is at c.in-Err-Failed.ensures.end)))
 
-pub returns-in-Ok-clause-made : goal.returns-in-Ok-clause-made
-returns-in-Ok-clause-made g c = made _ _ _ c.self.view_is c.requires.ready c.place_at.result c.place_at.ensures c.requires.room c.requires.none c.requires.up _ _ c.create.ensures.moments c.in-Ok.database c.in-Ok.ensures.made c.in-Ok.ensures.safe _
+pub returns-in-Err-Lost-clause-end : goal.returns-in-Err-Lost-clause-end
+returns-in-Err-Lost-clause-end g c =
+    creation_ends _ c.args.self.now outcome.Panic _ _ _ (lost_made _ _ _ c.self.view_is c.requires.ready c.place_at.result c.place_at.ensures c.requires.room c.requires.none c.requires.up _ _ (create_quiet _ _ _ _ _ _ c.create.ensures.moments) (create_lost _ _ _ _ _ _ _ c.create.ensures.end (c.in-Err-Lost.is ∙ ap Err c.in-Err-Lost.field-0-is)) (Rose (g.S.Shelf.faults c.args.shelf.now (OnDrive 0)) (g.S.Shelf.faults c.create.new.shelf (OnDrive 0))) (subst (λ (n : ℕ). Rose (g.S.Shelf.faults c.args.shelf.now (OnDrive n)) (g.S.Shelf.faults c.create.new.shelf (OnDrive n))) (ap (λ (p : PlaceAt). p.drive.0) c.place_at.ensures) (rw c.in-Err-Lost.field-0-is at c.in-Err-Lost.ensures.answer))) (lost _ _ _ c.self.view_is c.requires.ready c.place_at.result c.place_at.ensures c.requires.room c.requires.none c.requires.up _ _ (create_quiet _ _ _ _ _ _ c.create.ensures.moments) (create_goes _ _ _ _ _ _ c.create.ensures.moments) _)
 
-pub returns-in-Ok-clause-carried : goal.returns-in-Ok-clause-carried
-returns-in-Ok-clause-carried g c = carried _ _ _ c.self.view_is c.requires.ready c.place_at.result c.place_at.ensures c.requires.room c.requires.none c.requires.up _ _ c.create.ensures.moments c.in-Ok.database c.in-Ok.ensures.made c.in-Ok.ensures.safe c.in-Ok.ensures.opened c.in-Ok.ensures.ends
+pub returns-in-Err-Memory-clause-end : goal.returns-in-Err-Memory-clause-end
+returns-in-Err-Memory-clause-end g c =
+    creation_ends _ c.args.self.now (outcome.Refused OutOfMemory) _ _ _ (unbegun_made _ _ c.self.view_is _ _ (ap g.S.Shelf.tale (rw (c.in-Err-Memory.is ∙ ap Err c.in-Err-Memory.field-0-is) at c.create.ensures.counted)) (Rose (g.S.Shelf.faults c.args.shelf.now (OnDrive 0)) (g.S.Shelf.faults c.create.new.shelf (OnDrive 0)))) (unbegun _ _ c.self.view_is _ _ (ap g.S.Shelf.tale (rw (c.in-Err-Memory.is ∙ ap Err c.in-Err-Memory.field-0-is) at c.create.ensures.counted)))
 
-pub returns-in-Err-Failed-clause-made : goal.returns-in-Err-Failed-clause-made
-returns-in-Err-Failed-clause-made g c =
-    unmade _ _ _ c.self.view_is c.requires.ready c.place_at.result c.place_at.ensures c.requires.room c.requires.none c.requires.up _ _ c.create.ensures.moments
-    (λ drives has. c.create.ensures.failed (c.in-Err-Failed.is ∙ ap Err c.in-Err-Failed.field-0-is) drives) _
-    (subst (λ (n : ℕ). Rose (g.S.Shelf.faults c.args.shelf.now (OnDrive n)) (g.S.Shelf.faults c.create.new.shelf (OnDrive n))) (ap (λ (p : PlaceAt). p.drive.0) c.place_at.ensures) (rw c.in-Err-Failed.field-0-is at c.in-Err-Failed.ensures.cause))
+pub returns-in-Ok-clause-answer : goal.returns-in-Ok-clause-answer
+returns-in-Ok-clause-answer g c = record {
+  plain = tt;
+  cause = tt;
+  awake = λ on. c.requires.up;
+  free = λ on has. c.requires.none;
+  host = same_host _ _ c.self.view_is;
+  well = search rules;
+  begun = search rules;
+}
 
-pub returns-in-Err-Failed-clause-carried : goal.returns-in-Err-Failed-clause-carried
-returns-in-Err-Failed-clause-carried g c =
-    unmade_carries _ _ _ c.self.view_is c.requires.ready c.place_at.result c.place_at.ensures c.requires.room c.requires.none c.requires.up _ _ c.create.ensures.moments
-    (λ drives has. c.create.ensures.failed (c.in-Err-Failed.is ∙ ap Err c.in-Err-Failed.field-0-is) drives)
-    (rw c.in-Err-Failed.field-0-is at c.in-Err-Failed.ensures.ends)
+pub returns-in-Err-Failed-clause-answer : goal.returns-in-Err-Failed-clause-answer
+returns-in-Err-Failed-clause-answer g c = record {
+  plain = fault_plain;
+  cause = tt;
+  awake = λ on. c.requires.up;
+  free = λ on has. c.requires.none;
+  host = same_host _ _ c.self.view_is;
+  well = search rules;
+  begun = search rules;
+}
 
-pub returns-in-Err-Lost-clause-carried : goal.returns-in-Err-Lost-clause-carried
-returns-in-Err-Lost-clause-carried g c = lost _ _ _ c.self.view_is c.requires.ready c.place_at.result c.place_at.ensures c.requires.room c.requires.none c.requires.up _ _ c.create.ensures.moments c.create.ensures.stays _
+pub returns-in-Err-Lost-clause-answer : goal.returns-in-Err-Lost-clause-answer
+returns-in-Err-Lost-clause-answer g c = record {
+  plain = tt;
+  cause = (subst (λ (n : ℕ). Rose (g.S.Shelf.faults c.args.shelf.now (OnDrive n)) (g.S.Shelf.faults c.create.new.shelf (OnDrive n))) (ap (λ (p : PlaceAt). p.drive.0) c.place_at.ensures) (rw c.in-Err-Lost.field-0-is at c.in-Err-Lost.ensures.answer));
+  awake = λ on. c.requires.up;
+  free = λ on has. c.requires.none;
+  host = same_host _ _ c.self.view_is;
+  well = search rules;
+  begun = search rules;
+}
 
-pub returns-in-Err-Memory-clause-carried : goal.returns-in-Err-Memory-clause-carried
-returns-in-Err-Memory-clause-carried g c = unbegun _ _ c.self.view_is _ _ (ap g.S.Shelf.tale (c.create.ensures.memory (c.in-Err-Memory.is ∙ ap Err c.in-Err-Memory.field-0-is)))
-
-pub returns-in-Err-Failed-clause-plain : goal.returns-in-Err-Failed-clause-plain
-returns-in-Err-Failed-clause-plain g c = fault_plain
-
-pub returns-in-Err-Memory-clause-plain : goal.returns-in-Err-Memory-clause-plain
-returns-in-Err-Memory-clause-plain g c = memory_plain
+pub returns-in-Err-Memory-clause-answer : goal.returns-in-Err-Memory-clause-answer
+returns-in-Err-Memory-clause-answer g c = record {
+  plain = memory_plain;
+  cause = tt;
+  awake = λ on. c.requires.up;
+  free = λ on has. c.requires.none;
+  host = same_host _ _ c.self.view_is;
+  well = search rules;
+  begun = search rules;
+}
 
 pub returns-in-Ok-clause-counted : goal.returns-in-Ok-clause-counted
 returns-in-Ok-clause-counted g c = between_of g.S.Shelf.calls g.S.Shelf.written _ _ 12 8 12 12 8 (omega arith) (omega arith) (omega arith) c.in-Ok.ensures.counted
 
 pub returns-in-Err-Failed-clause-counted : goal.returns-in-Err-Failed-clause-counted
-returns-in-Err-Failed-clause-counted g c = took_wider g.S.Shelf.calls g.S.Shelf.written _ _ 6 5 12 8 (omega arith) (omega arith) (rw (c.in-Err-Failed.is ∙ ap Err c.in-Err-Failed.field-0-is) at c.create.ensures.counted)
+returns-in-Err-Failed-clause-counted g c = took_wider g.S.Shelf.calls g.S.Shelf.written _ _ 6 5 12 8 (omega arith) (omega arith) (rw (c.in-Err-Failed.is ∙ ap Err c.in-Err-Failed.field-0-is) at c.create.ensures.counted).at_most
 
 pub returns-in-Err-Lost-clause-counted : goal.returns-in-Err-Lost-clause-counted
-returns-in-Err-Lost-clause-counted g c = rw (c.in-Err-Lost.is ∙ ap Err c.in-Err-Lost.field-0-is) at c.create.ensures.counted
+returns-in-Err-Lost-clause-counted g c = (rw (c.in-Err-Lost.is ∙ ap Err c.in-Err-Lost.field-0-is) at c.create.ensures.counted).at_most
 
 pub returns-in-Err-Memory-clause-counted : goal.returns-in-Err-Memory-clause-counted
 returns-in-Err-Memory-clause-counted g c =
-    refused_counted g.S.Shelf.tale g.S.Shelf.calls g.S.Shelf.written _ _ 12 8 OutOfMemory (c.create.ensures.memory (c.in-Err-Memory.is ∙ ap Err c.in-Err-Memory.field-0-is))
+    refused_counted g.S.Shelf.tale g.S.Shelf.calls g.S.Shelf.written _ _ 12 8 OutOfMemory (rw (c.in-Err-Memory.is ∙ ap Err c.in-Err-Memory.field-0-is) at c.create.ensures.counted)

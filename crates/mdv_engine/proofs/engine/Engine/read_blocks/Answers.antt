@@ -1,18 +1,33 @@
-use Rattle.std.proofs.Common.{sym, subst, ℕ, arith}
+use Rattle.std.proofs.Common.{sym, subst, ℕ, refl, arith}
 use Rattle.mdv_shelf.proofs.Counts.{took_at_most, took_one}
 use Rattle.mdv_engine_law.specs.Line.{AreBlocksAt}
 use Rattle.mdv_engine_law.proofs.Keeping.{blocks_shown}
+use Rattle.mdv_shelf.proofs.Noted.{kept_call}
 use Rattle.mdv_engine.proofs.engine.Engine.read_blocks.Goals as goal
 
 pub returns-in-Ok-clause-ok : goal.returns-in-Ok-clause-ok
-returns-in-Ok-clause-ok g c = (
-  c.in_ok-first.first,
-  subst (λ (n : ℕ). AreBlocksAt c.args.self.now.host c.args.self.now.state c.args.volume c.args.at n c.in_ok-first.first) (sym c.read.auto.out) c.in_ok-first.ensures.ok,
-  λ t start. sym (blocks_shown t c.in_ok-first.first c.read.new.out (c.in-Ok.ensures.reads.gave t start)),
-)
+returns-in-Ok-clause-ok g c = record {
+  block = c.in_ok-first.first;
+  there = subst (λ (n : ℕ). AreBlocksAt c.args.self.now.host c.args.self.now.state c.args.volume c.args.at n c.in_ok-first.first) (sym c.read.auto.out) c.in_ok-first.ensures.ok;
+  blocks = c.read.new.out;
+  as_told = refl;
+  as_there = λ t start. sym (blocks_shown t c.in_ok-first.first c.read.new.out (c.in-Ok.ensures.reads.gave t start));
+}
 
-pub returns-in-Ok-clause-counted_at_most : goal.returns-in-Ok-clause-counted_at_most
-returns-in-Ok-clause-counted_at_most g c = took_at_most g.S.Shelf.calls g.S.Shelf.written _ _ 1 0 1 0 (omega arith) (omega arith) (took_one g.S.Shelf.calls g.S.Shelf.written _ _ _ c.read.ensures.counted)
+pub returns-in-Ok-clause-counted : goal.returns-in-Ok-clause-counted
+returns-in-Ok-clause-counted g c =
+    let took = took_one g.S.Shelf.calls g.S.Shelf.written _ _ _ c.read.ensures.counted in
+    record { done = took; most = took_at_most g.S.Shelf.calls g.S.Shelf.written _ _ 1 0 1 0 (omega arith) (omega arith) took; refused = tt }
 
-pub returns-in-Err-clause-counted_at_most : goal.returns-in-Err-clause-counted_at_most
-returns-in-Err-clause-counted_at_most g c = took_at_most g.S.Shelf.calls g.S.Shelf.written _ _ 1 0 1 0 (omega arith) (omega arith) (took_one g.S.Shelf.calls g.S.Shelf.written _ _ _ c.read.ensures.counted)
+pub returns-in-Err-clause-counted : goal.returns-in-Err-clause-counted
+returns-in-Err-clause-counted g c = record {
+  done = tt;
+  most = took_at_most g.S.Shelf.calls g.S.Shelf.written _ _ 1 0 1 0 (omega arith) (omega arith) (took_one g.S.Shelf.calls g.S.Shelf.written _ _ _ c.read.ensures.counted);
+  refused = λ is. absurd is;
+}
+
+pub returns-in-Ok-clause-kept : goal.returns-in-Ok-clause-kept
+returns-in-Ok-clause-kept g c = kept_call g.S.Shelf _ _ c.read.ensures.noted c.read.ensures.keeps
+
+pub returns-in-Err-clause-kept : goal.returns-in-Err-clause-kept
+returns-in-Err-clause-kept g c = kept_call g.S.Shelf _ _ c.read.ensures.noted c.read.ensures.keeps

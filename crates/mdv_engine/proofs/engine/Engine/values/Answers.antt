@@ -1,8 +1,10 @@
-use Rattle.std.proofs.Common.{◌≡◌, ◌∙◌, ℕ, length, take, ◌++◌, drop, sym, subst, ap}
+use Rattle.std.proofs.Common.{◌≡◌, ◌∙◌, ℕ, length, take, ◌++◌, drop, sym, subst, ap, arith}
 use Rattle.std.proofs.Math.Seq.{take-append_seam}
 use Rattle.mdv_engine.specs.Below.{Rose, OnDrive, last, values_reply, AreBlocksAt, blocks_of}
 use Rattle.mdv_engine.specs.Engine.{HasBlocksCause}
 use Rattle.mdv_engine.proofs.Blocks.{as_read_cause}
+use Rattle.mdv_engine.proofs.Counting.{blocks_counted}
+use Rattle.mdv_shelf.proofs.Between.{between_of}
 use Rattle.mdv_engine.proofs.engine.Engine.values.Goals as goal
 
 pub returns-in-Err-clause-err : goal.returns-in-Err-clause-err
@@ -18,8 +20,17 @@ returns-in-Ok-new-clause-ok g c =
     let whole : c.in_ok-blocks.blocks.len ≡ length c.read_blocks.new.out = sym (c.read_blocks.auto.out ∙ c.as_mut_slice.ensures.len) in
     let all : c.as_slice.result.now ≡ c.read_blocks.new.out =
     c.as_slice.ensures.value ∙ ap (λ (n : ℕ). take n (c.read_blocks.new.out ++ drop (length c.read_blocks.new.out) c.in_ok-blocks.blocks.items)) whole ∙ take-append_seam c.read_blocks.new.out _ in
-    let read = c.in-Ok.ensures.ok in (
-      read.0,
-      subst (λ (n : ℕ). AreBlocksAt c.args.self.now.host c.args.self.now.state c.args.volume c.args.at n read.0) counted read.1,
-      λ t start. c.in-Ok-new.ensures ∙ ap (values_reply c.args.at) (all ∙ read.2 t start ∙ ap (blocks_of (last t 0) read.0) counted),
-    )
+    let read = c.in-Ok.ensures.ok in record {
+      block = read.block;
+      there = subst (λ (n : ℕ). AreBlocksAt c.args.self.now.host c.args.self.now.state c.args.volume c.args.at n read.block) counted read.there;
+      blocks = c.read_blocks.new.out;
+      as_told = c.in-Ok-new.ensures ∙ ap (values_reply c.args.at) all;
+      as_there = λ t start. read.as_told ∙ read.as_there t start ∙ ap (blocks_of (last t 0) read.block) counted;
+    }
+
+pub returns-in-Err-clause-counted : goal.returns-in-Err-clause-counted
+returns-in-Err-clause-counted g c =
+    blocks_counted g.S.Shelf.tale g.S.Shelf.calls g.S.Shelf.written _ _ 1 0 _ c.args.self.now.host c.args.self.now.state c.args.volume c.args.at _ c.in-Err.refusal c.in-Err.ensures.err c.in-Err.ensures.counted.refused c.in-Err.ensures.counted.most
+
+pub returns-in-Ok-new-clause-counted : goal.returns-in-Ok-new-clause-counted
+returns-in-Ok-new-clause-counted g c = between_of g.S.Shelf.calls g.S.Shelf.written _ _ 1 0 1 1 0 (omega arith) (omega arith) (omega arith) c.in-Ok.ensures.counted.done

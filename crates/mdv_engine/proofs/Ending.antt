@@ -1,0 +1,70 @@
+-- The end of a command and of a boot, put together, and what the answer says of a command that ended before anything was done.
+use Rattle.std.proofs.Common.{◌≡◌, ◌≤◌, ◌+◌, ℕ, zero, suc, List, [], ◌∷◌, Option, None, Bool, Contains, Err, refl, sym, subst, arith}
+use Rattle.mdv_shelf.proofs.Moments.{ends_both}
+use Rattle.mdv_words.specs.declared.command.Command.{Command}
+use Rattle.mdv_engine.specs.Below.{Refusal, Ends, Tale, Deed, Created, Answer, BootRefusal, Host, Memory, kept_at, unbooted, asked_by, IsCarriedOut, IsCreation, IsRebooted, adopted, empty, down, lost, spent, wanting, IsPlain, BootedTo, CarriedTo, Knows}
+use Rattle.mdv_engine_law.specs.declared.answer.Answer.TheVariants as outcome
+use Rattle.mdv_engine_law.specs.declared.answer.BootRefusal.TheVariants as unanswered
+use Rattle.mdv_engine.specs.declared.engine.Engine.{Engine}
+use Rattle.mdv_engine.specs.Ends.{CommandEnd, CreationEnd, HasAnswered, IsBootEnd}
+use Rattle.mdv_engine.specs.Engine.{IsWell, boot_answer}
+
+pub command_ends : (failed : Type 0) (old : Engine) (command : Command) (answer : Answer) (new : Engine) (a b : Option Tale)
+    → Ends (λ t u. Knows old.host old.state t → IsCarriedOut failed old.host (kept_at old.state t) command answer (kept_at new.state u)) a b
+    → Ends (CarriedTo old.host (asked_by command) old.state answer new.state) a b → Ends (CommandEnd failed old command answer new) a b
+command_ends failed old command answer new a b =
+    ends_both (λ t u. Knows old.host old.state t → IsCarriedOut failed old.host (kept_at old.state t) command answer (kept_at new.state u)) (CarriedTo old.host (asked_by command) old.state answer new.state) (CommandEnd failed old command answer new) a b
+    (λ t u answered carried. record { answered = answered; carried = carried })
+
+pub creation_ends : (failed : Type 0) (old : Engine) (answer : Answer) (new : Memory) (a b : Option Tale)
+    → Ends (λ t u. Knows old.host old.state t → IsCreation failed old.host (kept_at old.state t) answer (kept_at new u)) a b
+    → Ends (CarriedTo old.host (Created ∷ []) old.state answer new) a b → Ends (CreationEnd failed old answer new) a b
+creation_ends failed old answer new a b =
+    ends_both (λ t u. Knows old.host old.state t → IsCreation failed old.host (kept_at old.state t) answer (kept_at new u)) (CarriedTo old.host (Created ∷ []) old.state answer new) (CreationEnd failed old answer new) a b
+    (λ t u answered carried. record { answered = answered; carried = carried })
+
+-- a refusal before anything was done
+pub refused_answer : (failed : Type 0) (asked : List Deed) (old : Engine) → IsWell old.host old.state → (r : Refusal) → IsPlain r → HasAnswered failed asked old (outcome.Refused r) old
+refused_answer failed asked old well r plain = record { plain = plain; cause = tt; awake = λ on. absurd on; free = λ on has. absurd on; host = refl; well = well; begun = at_most old.state.begun }
+  where
+    at_most : (n : ℕ) → n ≤ n + 1
+    at_most n = omega arith
+
+-- a deed that is no creation
+pub no_creation : (deed : Deed) → (deed ≡ Created → ⊥) → Contains (deed ∷ []) Created → ⊥
+no_creation deed other (zero, less, is) = other is
+no_creation deed other (suc n, less, is) = absurd (omega (arith, less))
+
+-- a boot that was answered
+pub answered_ends : (failed : Type 0) (host : Host) (old new memory : Memory) (a b : Option Tale) → new ≡ memory
+    → Ends (λ t u. IsRebooted failed host (kept_at old t) outcome.Ok (kept_at new u)) a b → Ends (BootedTo host memory) a b → Ends (IsBootEnd failed host old outcome.Ok new) a b
+answered_ends failed host old new memory a b is =
+    ends_both (λ t u. IsRebooted failed host (kept_at old t) outcome.Ok (kept_at new u)) (BootedTo host memory) (IsBootEnd failed host old outcome.Ok new) a b
+    (λ t u rebooted booted. record { rebooted = rebooted; booted = λ ok. subst (λ (m : Memory). BootedTo host m t u) (sym is) booted })
+
+-- what is in memory before a boot is forgotten, but for how many creations were begun
+pub from_state : (failed : Type 0) (host : Host) (old next new : Memory) (answer : Answer) (t u : Tale) → next ≡ new → IsBootEnd failed host (unbooted old.begun) answer new t u → IsBootEnd failed host old answer next t u
+from_state failed host old next new answer t u same end = subst (λ (m : Memory). IsBootEnd failed host old answer m t u) (sym same) (record { rebooted = from end.rebooted; booted = end.booted })
+  where
+    from : IsRebooted failed host (kept_at (unbooted old.begun) t) answer (kept_at new u) → IsRebooted failed host (kept_at old t) answer (kept_at new u)
+    from (adopted newest ok memory is) = adopted newest ok memory is
+    from (empty ok memory none same) = empty ok memory none same
+    from (down so ok memory same) = down so ok memory same
+    from (lost so found panic) = lost so found panic
+    from (spent is used) = spent is used
+    from (wanting is) = wanting is
+
+-- what a boot leaves that found no database
+pub closed_well : (host : Host) (memory : Memory) (unread : Bool) (begun : ℕ) → memory ≡ record { opened = None; down = unread; begun = begun } → IsWell host memory × (memory.begun ≡ begun)
+closed_well host memory unread begun is = subst (λ (m : Memory). IsWell host m × (m.begun ≡ begun)) (sym is) (record { sound = λ was. refl; table = tt }, refl)
+
+-- one that wasn't
+never_ok : (refusal : BootRefusal) → boot_answer {T = Unit {0}} (Err refusal) ≡ outcome.Ok → ⊥
+never_ok (unanswered.Lost active listed) ok = absurd (cc (ok))
+never_ok unanswered.Spent ok = absurd (cc (ok))
+never_ok unanswered.Memory ok = absurd (cc (ok))
+
+pub unanswered_ends : (failed : Type 0) (host : Host) (old new : Memory) (refusal : BootRefusal) (a b : Option Tale)
+    → Ends (λ t u. IsRebooted failed host (kept_at old t) (boot_answer {T = Unit {0}} (Err refusal)) (kept_at new u)) a b → Ends (IsBootEnd failed host old (boot_answer {T = Unit {0}} (Err refusal)) new) a b
+unanswered_ends failed host old new refusal a b rebooted t start =
+    (let end = rebooted t start in (end.0, end.1, record { rebooted = end.2; booted = λ ok. absurd (never_ok refusal ok) }))

@@ -1,0 +1,131 @@
+-- What the calls of an engine say of their answers, and of the drive in the end.
+use Rattle.std.specs.Prelude.{◌≡◌, ◌≤◌, ◌+◌, ℕ, List, [], ◌∷◌, Some, None, Result, Ok, Err, IfOk, IfErr, OnOk, Contains, length}
+use Rattle.mdv_shelf.specs.Between.{TookBetween}
+use Rattle.mdv_shelf.specs.Shelves.{AtEachTale, AtEnd, MadeCalls, MadeCallsAtMost}
+use Rattle.mdv_shelf.specs.declared.shelf.Shelf.{Ghosts}
+use Rattle.mdv_words.specs.declared.command.Command.{Command}
+use Rattle.mdv_words.specs.declared.command.Line.TheVariants as words
+use Rattle.mdv_engine.specs.Below.{VolId, Refusal, IoFault, KeptOutside, nowhere, IsSettled, Settling, Tale, last, Change, Table, Changed, Created, Deed, Answer, BootRefusal, Host, Memory, kept_at, unbooted, asked_by, blocks_of, AreBlocksAt, AreBlocksRefused, IsCarriedOut, IsCreation, IsRebooted, IsPlainAnswer, BootedTo, CarryEnd, Executed, Knows, Turned}
+use Rattle.mdv_engine_law.specs.declared.answer.Answer.TheVariants as outcome
+use Rattle.mdv_engine_law.specs.declared.answer.Reply.{Reply}
+use Rattle.mdv_engine_law.specs.declared.answer.Reply.TheVariants as reply
+use Rattle.mdv_engine_law.specs.Replies.{HasAnswerCause, HasReplyCause, IsAccepted, IsLost, IsReplied}
+use Rattle.mdv_engine_law.specs.Standing.{IsAwake}
+use Rattle.mdv_engine.specs.declared.engine.Engine.{Engine}
+use Rattle.mdv_engine.specs.Counts as counts
+use Rattle.mdv_engine.specs.Counts.{IsQuietRefusal, IsUnlooked, calls_of}
+use Rattle.mdv_engine.specs.Engine.{HasBootCause, IsCommit, IsNextTable, IsWell}
+
+-- the end of a command
+abbrev pub CommandEnd : Type 0 → Engine → Command → Answer → Engine → Tale → Tale → Type 0
+CommandEnd failed old command answer new t u = CarryEnd (λ kept a next. IsCarriedOut failed old.host kept command a next) old.host (asked_by command) old.state answer new.state t u
+
+-- the end of a creation that may begin
+abbrev pub CreationEnd : Type 0 → Engine → Answer → Memory → Tale → Tale → Type 0
+CreationEnd failed old answer new t u = CarryEnd (IsCreation failed old.host) old.host (Created ∷ []) old.state answer new t u
+
+-- the table that the change makes of the engine's, and the end of its commit
+abbrev pub IsNext : Engine → Change → Table → Type 0
+IsNext engine change next = IsNextTable engine.host engine.state change next
+
+abbrev pub CommitEnd : Type 0 → Engine → Change → Answer → Memory → Tale → Tale → Type 0
+CommitEnd failed old change answer new t u = CarryEnd (λ kept a next. IsCommit failed old.host kept change a next) old.host (Changed change ∷ []) old.state answer new t u
+
+-- What an answer says, whatever the shelf tells: its text is a reply's, it has its cause, a deed is accepted only where the last boot read
+-- the drive, and a creation only where no database is open; and what the engine keeps.
+pub record HasAnswered (failed : Type 0) (asked : List Deed) (old : Engine) (answer : Answer) (new : Engine) : Type 0 where
+  pub plain : IsPlainAnswer answer
+  pub cause : HasAnswerCause failed answer
+  pub awake : IsAccepted answer → IsAwake old.state
+  pub free : IsAccepted answer → Contains asked Created → old.state.opened ≡ None
+  pub host : new.host ≡ old.host
+  pub well : IsWell old.host new.state
+  pub begun : new.state.begun ≤ old.state.begun + 1
+
+-- The end of a command and its reply: what it came to, what it led to, what is known where the run isn't lost; and a refusal behind which
+-- nothing was written.
+pub record TurnEnd (drive replies : Type 0) (old : Engine) (command : Command) (given : Reply) (new : Engine) (t u : Tale) : Type 0 where
+  pub answered : Knows old.host old.state t → Executed drive replies old.host (words.Command command) old.state new.state given t u
+  pub turned : IsReplied given → Turned old.host (asked_by command) old.state new.state t u
+  pub knows : (IsLost given → ⊥) → Knows old.host old.state t → Knows old.host new.state u
+  pub quiet : IsQuietRefusal given → KeptOutside nowhere t u
+
+-- a reply has its cause, and what the engine keeps
+pub record HasReplied (drive replies : Type 0) (old : Engine) (given : Reply) (new : Engine) : Type 0 where
+  pub cause : HasReplyCause drive replies given
+  pub host : new.host ≡ old.host
+  pub well : IsWell old.host new.state
+  pub begun : new.state.begun ≤ old.state.begun + 1
+
+-- and the engine is as it was
+pub record HasOnlyReplied (drive replies : Type 0) (old : Engine) (given : Reply) (new : Engine) : Type 0 where
+  pub cause : HasReplyCause drive replies given
+  pub same : new ≡ old
+
+-- The calls of a command and of its reply: as many as the command takes, and one. A refused command writes nothing, unless a call failed, and
+-- makes no call on the drive, unless memory was wanting behind it.
+pub record IsTurnCounted {S : Type 0} (shelf : Ghosts S) (old new : S) (command : Command) (given : Reply) : Type 0 where
+  pub most : MadeCallsAtMost shelf old new (1 + calls_of command) (counts.blocks_of command)
+  pub done : given ≡ reply.Ok → TookBetween shelf.calls shelf.written old new (1 + calls_of command) (1 + calls_of command) (counts.blocks_of command)
+  pub unlooked : IsUnlooked given → MadeCallsAtMost shelf old new 1 0
+  pub unwritten : IsQuietRefusal given → MadeCallsAtMost shelf old new (1 + calls_of command) 0
+
+-- what a boot leaves in memory: how many creations were begun alone, where it isn't answered
+abbrev pub kept_by : ℕ → Result Memory BootRefusal → Memory
+kept_by begun (Ok memory) = memory
+kept_by begun (Err refusal) = unbooted begun
+
+abbrev pub left_by : Result Engine BootRefusal → Memory
+left_by (Ok engine) = engine.state
+left_by (Err refusal) = unbooted 0
+
+-- the end of a boot: what it came to; and where it was answered, what is known
+pub record IsBootEnd (failed : Type 0) (host : Host) (old : Memory) (answer : Answer) (new : Memory) (t u : Tale) : Type 0 where
+  pub rebooted : IsRebooted failed host (kept_at old t) answer (kept_at new u)
+  pub booted : answer ≡ outcome.Ok → BootedTo host new t u
+
+-- why a boot isn't answered, and what it leaves that is
+pub record HasBootedFrom (failed : Type 0) (host : Host) (begun : ℕ) (result : Result Memory BootRefusal) : Type 0 where
+  pub cause : HasBootCause failed result
+  pub well : IfOk result (λ memory. IsWell host memory × (memory.begun ≡ begun))
+
+pub record HasBooted (failed : Type 0) (host : Host) (result : Result Engine BootRefusal) : Type 0 where
+  pub cause : HasBootCause failed result
+  pub engine : IfOk result (λ engine. (engine.host ≡ host) × IsWell host engine.state × (engine.state.begun ≡ 0))
+
+pub record HasRebooted (failed : Type 0) (old : Engine) (result : Result (Unit {0}) BootRefusal) (new : Engine) : Type 0 where
+  pub cause : HasBootCause failed result
+  pub host : new.host ≡ old.host
+  pub well : IsWell old.host new.state
+  pub begun : new.state.begun ≡ old.state.begun
+
+-- what was read is what the drive has in these blocks of the volume
+pub record AreRead {S : Type 0} (shelf : Ghosts S) (s : S) (engine : Engine) (volume : VolId) (at count : ℕ) (IsTold : List (List ℕ) → Type 0) : Type 0 where
+  pub block : ℕ
+  pub there : AreBlocksAt engine.host engine.state volume at count block
+  pub blocks : List (List ℕ)
+  pub as_told : IsTold blocks
+  pub as_there : (t : Tale) → shelf.tale s ≡ Some t → blocks ≡ blocks_of (last t 0) block count
+
+-- the volume has these blocks, and at each moment each of them was old or new
+pub record ArePutting {S : Type 0} (shelf : Ghosts S) (old new : S) (engine : Engine) (volume : VolId) (at : ℕ) (blocks : List (List ℕ)) : Type 0 where
+  pub block : ℕ
+  pub there : AreBlocksAt engine.host engine.state volume at (length blocks) block
+  pub moments : AtEachTale shelf (Settling 0 block blocks) old new
+
+-- they are on the disk in the end
+pub record ArePut {S : Type 0} (shelf : Ghosts S) (old new : S) (engine : Engine) (volume : VolId) (at : ℕ) (blocks : List (List ℕ)) : Type 0 where
+  pub putting : ArePutting shelf old new engine volume at blocks
+  pub settled : AtEnd shelf (λ _ u. IsSettled 0 putting.block blocks u) old new
+
+-- what a write did that was answered so
+abbrev pub AreWritten : {S : Type 0} → Ghosts S → S → S → Engine → VolId → ℕ → List (List ℕ) → Result (Unit {0}) Refusal → Type 0
+AreWritten shelf old new engine volume at blocks (Ok done) = ArePut shelf old new engine volume at blocks
+AreWritten shelf old new engine volume at blocks (Err IoFault) = ArePutting shelf old new engine volume at blocks
+AreWritten shelf old new engine volume at blocks (Err other) = Unit {0}
+
+-- the calls of a read or a write of blocks: just so many where it was done, and none where it was refused for another cause than a failed call
+pub record AreBlocksCounted {S : Type 0} (shelf : Ghosts S) (old new : S) (calls written : ℕ) (engine : Engine) (volume : VolId) (at count : ℕ) (result : Result (Unit {0}) Refusal) : Type 0 where
+  pub done : OnOk result (MadeCalls shelf old new calls written)
+  pub most : MadeCallsAtMost shelf old new calls written
+  pub refused : IfErr result (λ refusal. AreBlocksRefused engine.host engine.state volume at count refusal → new ≡ old)
