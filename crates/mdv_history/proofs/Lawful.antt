@@ -1,6 +1,6 @@
 -- Crashes, new drives, and what reads give.
 use Rattle.std.proofs.Common.{inl, inr, ℕ, List, sym, subst}
-use Rattle.mdv_history.specs.Below.{blank, Tale, Among, last, restarted, Site}
+use Rattle.mdv_history.specs.Below.{Image, Tale, Among, last, restarted, Site}
 use Rattle.mdv_shelf.specs.Tale.{values, MayLeave}
 use Rattle.mdv_shelf.proofs.Blocks.{last_may_be_left}
 use Rattle.mdv_store_law.proofs.Lawful as database
@@ -20,12 +20,12 @@ crashes_stand site history m image told stands is = record {
   values = crashed_values site history m image told is.each stands.values;
 }
 
-new_values : (site : Site) (sizes : List ℕ) → ValuesHold site (new_history site sizes).allowed (blank sizes)
+new_values : (site : Site) (image : Image) (told : List ℕ) → ValuesHold site (new_history site image).allowed (restarted image told)
 unfolding MayLeave values
-new_values site sizes block out x left = left
+new_values site image told block out x left = left
 
 pub new_drives_stand : NewDrivesStand
-new_drives_stand site sizes = record { database = database.new_drives_stand site sizes; values = new_values site sizes }
+new_drives_stand site image told none = record { database = database.new_drives_stand.stand site image told none; values = new_values site image told }
 
 pub reads_hold : ReadsHold
 reads_hold site history t block stands out = stands.values block out (last t site.at.drive.0 block) (last_may_be_left t site.at.drive.0 block)

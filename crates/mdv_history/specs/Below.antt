@@ -6,7 +6,6 @@ pub use Rattle.mdv_name.specs.SliceIndex.{HasSlice}
 pub use Rattle.mdv_name.specs.declared.slice_lines.SliceAt.{SliceAt}
 pub use Rattle.mdv_replica.specs.Images.{Image}
 pub use Rattle.mdv_shelf.specs.Area.{AreApart, KeptOutside, nowhere, range}
-pub use Rattle.mdv_shelf.specs.MemHistory.{blank, blank_block}
 pub use Rattle.mdv_shelf.specs.Settle.{IsFixed, IsSettled, IsSynced, Settling}
 pub use Rattle.mdv_shelf.specs.Tale.{Among, IsImage, MayLeave, Tale, covers, last, values}
 pub use Rattle.mdv_store_law.specs.Laws.{restarted}

@@ -1,6 +1,7 @@
 -- Laws of histories: over crashes and new drives, over what is done to the database and to blocks of volumes, and over boots.
 use Rattle.std.specs.Prelude.{◌≡◌, ℕ, false, List, [], ◌∷◌, length, Some, None}
-use Rattle.mdv_history.specs.Below.{Image, KeptOutside, nowhere, blank, blank_block, Settling, IsSettled, IsFixed, IsSynced, Tale, Among, last, IsImage, restarted, Log, IsTellable, NoCreation, Site, area_of}
+use Rattle.mdv_history.specs.Below.{Image, KeptOutside, nowhere, Settling, IsSettled, IsFixed, IsSynced, Tale, Among, last, IsImage, restarted, Log, IsTellable, NoCreation, Site, area_of}
+use Rattle.mdv_store_law.specs.Site.{IsFound}
 use Rattle.mdv_store_law.specs.Log as log
 use Rattle.mdv_history.specs.History.{History, Deed, Created, Changed, Wrote, Saw, Extent, HasExtent, HasWoken, AreNewest, NoDeed}
 use Rattle.mdv_history.specs.Standing.{Stands, Goes, Reached, Anything}
@@ -9,12 +10,13 @@ use Rattle.mdv_history.specs.Standing.{Stands, Goes, Reached, Anything}
 abbrev pub CrashesStand : Type 0
 CrashesStand = (site : Site) (history : History) (m : Tale) (image : Image) (told : List ℕ) → Stands site history m → IsImage m image → Stands site history (restarted image told)
 
--- a new drive's history: nothing happened, and each block has the value that it was made with
-abbrev pub new_history : Site → List ℕ → History
-new_history site sizes = record { database = log.empty_log; allowed = λ block. blank_block sizes site.at.drive.0 block ∷ [] }
+-- a new drive's history: nothing happened, and each block has the value that it holds
+abbrev pub new_history : Site → Image → History
+new_history site image = record { database = log.empty_log; allowed = λ block. image site.at.drive.0 block ∷ [] }
 
+-- drives that show no database stand with it
 abbrev pub NewDrivesStand : Type 0
-NewDrivesStand = (site : Site) (sizes : List ℕ) → Stands site (new_history site sizes) (blank sizes)
+NewDrivesStand = (site : Site) (image : Image) (told : List ℕ) → IsFound site (image site.at.drive.0) None → Stands site (new_history site image) (restarted image told)
 
 -- each block that a read gives is one of its values: the last acknowledged write's, or one that was issued later
 abbrev pub ReadsHold : Type 0

@@ -5,7 +5,7 @@ pub fn crashes_stand()
     ensures { CrashesStand }
 {}
 
-/// Drives of zeros stand with the history in which nothing happened.
+/// Drives that show no database stand with the history in which nothing happened.
 pub fn new_drives_stand()
     ensures { NewDrivesStand }
 {}

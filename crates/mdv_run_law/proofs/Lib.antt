@@ -1,3 +1,4 @@
+mod Asked
 pub mod Coming
 pub mod Made
 pub mod Turning

@@ -1,7 +1,7 @@
 -- Standing over every life.
 use Rattle.std.proofs.Common.{◌≡◌, inl, inr, ◌≤◌, ℕ, List, [], ◌∷◌, ◌++◌, Option, Some, None, IfSome, Contains, refl, sym, ◌∙◌, ap, subst, arith}
 use Rattle.std.proofs.lemmas.List.Elements.{Contains-append_left, Contains-append_right}
-use Rattle.mdv_run_law.specs.Below.{Identity, Mark, Home, Geometry, Head, Slot, IsNewest, Tale, last, replies_in, Change, Table, IsSound, Log, IsLog, IsTellable, with_asked, empty_log, Extends, restarted, Site, HasTable, IsFound, IsReplica, nothing, replica, History, Deed, Created, Changed, Event, history_after_all, told_by, new_history, site_of, StandsAt}
+use Rattle.mdv_run_law.specs.Below.{Identity, Mark, Home, Geometry, Image, Head, Slot, IsNewest, Tale, last, replies_in, Change, Table, IsSound, Log, IsLog, IsTellable, with_asked, empty_log, Extends, restarted, Site, HasTable, IsFound, IsReplica, nothing, replica, History, Deed, Created, Changed, Event, history_after_all, told_by, new_history, site_of, StandsAt}
 use Rattle.mdv_store_law.specs.Log as log
 use Rattle.mdv_store_law.proofs.Covering.{last_image}
 use Rattle.mdv_store_law.proofs.Lawful.{finds_hold, nothing_holds}
@@ -10,7 +10,8 @@ use Rattle.mdv_history.proofs.Histories.{history_after_more, course_more, told_m
 use Rattle.mdv_history.proofs.Lawful.{crashes_stand, new_drives_stand, reads_hold}
 use Rattle.mdv_history.proofs.Parts.{of_database, database_after, database_course, told_of_database, database_told, told_created, told_changed, first_or_behind}
 use Rattle.mdv_run_law.specs.Standing.{InWork}
-use Rattle.mdv_run_law.specs.Lives.{Ran, Life, new_drives, run_and_crash, AreOfRuns, IsSaid, IsHistoryOf, HasToldChanges, LivesStand, RunsHaveHome, DatabaseIsFound, BlocksHold, host_of}
+use Rattle.mdv_run_law.specs.Lives.{Ran, MayBeFound, as_it_was, crashed, Life, new_drives, run_on, AreOfRuns, IsSaid, IsHistoryOf, HasToldChanges, LivesStand, RunsHaveHome, DatabaseIsFound, BlocksHold, host_of}
+use Rattle.mdv_run_law.proofs.Asked.{version_issued}
 use Rattle.mdv_run_law.proofs.Coming.{come_told}
 use Rattle.mdv_run_law.proofs.Made.{empty_is_log, some_told}
 
@@ -54,29 +55,33 @@ module _ (drives : Geometry) (home : Home) where
   stands_fresh : (fresh other : ℕ) (h : History) (m : Tale) → StandsAt (host_of drives home fresh) h m → StandsAt (host_of drives home other) h m
   stands_fresh fresh other h m is = record { stands = is.stands; room = is.room }
 
-  module _ (sizes : List ℕ) where
+  module _ (made : Image) where
     abbrev site : Site
     site = site_of (host_of drives home 0)
 
     abbrev start : History
-    start = new_history site sizes
+    start = new_history site made
 
-    lives : (ran : List Ran) (t : Tale) → Life drives home sizes ran t → IsHistoryOf drives home sizes ran t
-    lives ran t new_drives = record { es = []; course = tt; come = refl; stands = record { stands = new_drives_stand site sizes; room = tt } }
-    lives ran t (run_and_crash before fresh from m image told script life moment is) =
+    -- what is found stands with what was there
+    still_stands : (h : History) (m next : Tale) → MayBeFound m next → StandsAt (host_of drives home 0) h m → StandsAt (host_of drives home 0) h next
+    still_stands h m next as_it_was stands = stands
+    still_stands h m next (crashed image told is) stands = record { stands = crashes_stand site h m image told stands.stands is; room = stands.room }
+
+    lives : (ran : List Ran) (t : Tale) → Life drives home made ran t → IsHistoryOf drives home made ran t
+    lives ran t (new_drives told none) = record { es = []; course = tt; come = refl; stands = record { stands = new_drives_stand site made told none; room = tt } }
+    lives ran t (run_on before fresh from m next script life moment found) =
         let old = lives before from life in
         let more = moment.stands (history_after_all start old.es) (stands_fresh 0 fresh (history_after_all start old.es) from old.stands) in
-        let now = history_after_all (history_after_all start old.es) more.es in
         record {
           es = old.es ++ more.es;
           course = course_more site start old.es more.es old.course more.course;
           come = (old.es, more.es, refl, old.come, more.come);
-          stands = subst (λ (h : History). StandsAt (host_of drives home 0) h (restarted image told)) (sym (history_after_more start old.es more.es))
-              (record { stands = crashes_stand site now m image told more.stands.stands is; room = more.stands.room });
+          stands = subst (λ (h : History). StandsAt (host_of drives home 0) h next) (sym (history_after_more start old.es more.es))
+              (still_stands (history_after_all (history_after_all start old.es) more.es) m next found (stands_fresh fresh 0 (history_after_all (history_after_all start old.es) more.es) m more.stands));
         }
 
     -- the log of such a history
-    module _ (ran : List Ran) (t : Tale) (is : IsHistoryOf drives home sizes ran t) where
+    module _ (ran : List Ran) (t : Tale) (is : IsHistoryOf drives home made ran t) where
       abbrev events : List log.Event
       events = of_database is.es
 
@@ -116,6 +121,7 @@ module _ (drives : Geometry) (home : Home) where
           record {
             changes = found.version.changes;
             made = found.made;
+            asked = version_issued drives home ran is.es database is.come its_log its_course found.version found.one_of;
             told = λ change said. (let later = change_is_acknowledged change said in contains_extended found.version.changes later.0 change (found.told later.0 later.1) later.2);
           }
 
@@ -129,18 +135,18 @@ module _ (drives : Geometry) (home : Home) where
       ]
 
 pub lives_stand : LivesStand
-lives_stand = λ drives home sizes ran t sound is_home life. lives drives home sizes ran t life
+lives_stand = λ drives home made ran t sound is_home life. lives drives home made ran t life
 
 pub runs_have_home : RunsHaveHome
-runs_have_home = λ drives home sizes ran t fresh sound is_home life. record { sound = sound; home = is_home; room = has_room drives home sizes ran t (lives drives home sizes ran t life) }
+runs_have_home = λ drives home made ran t fresh sound is_home life. record { sound = sound; home = is_home; room = has_room drives home made ran t (lives drives home made ran t life) }
 
 pub database_is_found : DatabaseIsFound
 database_is_found = record {
-  found = λ drives home sizes ran t sound is_home life said none. is_found drives home sizes ran t (lives drives home sizes ran t life) said none;
-  table = λ drives home sizes ran t head slot mark newest sound is_home life its_replica is_newest has. has_changes drives home sizes ran t (lives drives home sizes ran t life) head slot mark newest sound its_replica is_newest has;
+  found = λ drives home made ran t sound is_home life said none. is_found drives home made ran t (lives drives home made ran t life) said none;
+  table = λ drives home made ran t head slot mark newest sound is_home life its_replica is_newest has. has_changes drives home made ran t (lives drives home made ran t life) head slot mark newest sound its_replica is_newest has;
 }
 
 pub blocks_hold : BlocksHold
-blocks_hold = λ drives home sizes ran t sound is_home life.
-    let is = lives drives home sizes ran t life in
-    (is, λ block out. reads_hold (site_of (host_of drives home 0)) (history_after_all (new_history (site_of (host_of drives home 0)) sizes) is.es) t block is.stands.stands out)
+blocks_hold = λ drives home made ran t sound is_home life.
+    let is = lives drives home made ran t life in
+    (is, λ block out. reads_hold (site_of (host_of drives home 0)) (history_after_all (new_history (site_of (host_of drives home 0)) made) is.es) t block is.stands.stands out)

@@ -42,7 +42,7 @@ pub use Rattle.mdv_replica.specs.declared.replica.Head.{Head}
 pub use Rattle.mdv_replica.specs.declared.replica.Slot.{Slot}
 pub use Rattle.mdv_replica.specs.declared.replica.Slot.TheVariants.{First, Second}
 pub use Rattle.mdv_shelf.specs.Calls.{OnDrive, OnReplies, Part}
-pub use Rattle.mdv_shelf.specs.MemHistory.{blank}
+pub use Rattle.mdv_replica.specs.Images.{Image}
 pub use Rattle.mdv_shelf.specs.Tale.{Among, IsImage, MayLeave, Tale, covers, last, told, values}
 pub use Rattle.mdv_status.specs.Telling.{begins_with_digit, replies_in}
 pub use Rattle.mdv_status.specs.Values.{values_reply}

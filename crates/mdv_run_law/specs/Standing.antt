@@ -52,6 +52,15 @@ IsTold (too_long more) (reply ∷ replies) deed = IsTold more replies deed
 IsTold (line text more) [] deed = ⊥
 IsTold (line text more) (reply ∷ replies) deed = ((asked : List Deed) × Asks text asked × Contains (acked_by asked reply) deed) ⊎ IsTold more replies deed
 
+-- a line may have issued the deed: it asks it, and its reply is `ok` or tells that a call failed, or none was told of it yet
+abbrev pub IsIssued : Script → List (List ℕ) → Deed → Type 0
+IsIssued at_end replies deed = ⊥
+IsIssued (spent lines bytes) replies deed = ⊥
+IsIssued (too_long more) [] deed = ⊥
+IsIssued (too_long more) (reply ∷ replies) deed = IsIssued more replies deed
+IsIssued (line text more) [] deed = (asked : List Deed) × Asks text asked × Contains asked deed
+IsIssued (line text more) (reply ∷ replies) deed = ((asked : List Deed) × Asks text asked × Contains (issuable asked reply) deed) ⊎ IsIssued more replies deed
+
 -- the events of a run, of which these bytes were told: those of its boot, and those of the lines so far
 pub record AreOfRun (host : Host) (script : Script) (bytes : List ℕ) (es : List Event) : Type 0 where
   pub boot : List Event

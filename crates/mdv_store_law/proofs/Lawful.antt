@@ -6,10 +6,10 @@ use Rattle.mdv_shelf.specs.Tale.{MayLeave, values}
 use Rattle.mdv_shelf.proofs.Blocks.{both_ways}
 use Rattle.mdv_replica.proofs.Heads.{no_blank_master}
 use Rattle.mdv_replica.proofs.Parts.{master_parts}
-use Rattle.mdv_store_law.specs.Laws.{CrashesStand, NewDrivesStand, FoundHolds, FindsHold, NothingHolds}
-use Rattle.mdv_store_law.specs.Log.{Version, Log, is_firm, Extends, AreMade, IsLog}
-use Rattle.mdv_store_law.specs.Site.{Site, HasTable}
-use Rattle.mdv_store_law.specs.Standing.{IsVersion, ShowsAtLeast, Agrees, Holds, nothing, replica}
+use Rattle.mdv_store_law.specs.Laws.{restarted, CrashesStand, NewDrivesStand, FoundHolds, FindsHold, NothingHolds}
+use Rattle.mdv_store_law.specs.Log.{Version, Log, empty_log, is_firm, Extends, AreMade, IsLog}
+use Rattle.mdv_store_law.specs.Site.{Site, HasTable, IsFound}
+use Rattle.mdv_store_law.specs.Standing.{IsVersion, ShowsAtLeast, Agrees, Holds, Stands, nothing, replica}
 use Rattle.mdv_store_law.proofs.Families.{extends_more, extends_written}
 use Rattle.mdv_store_law.proofs.Logs.{told_firm}
 use Rattle.mdv_store_law.proofs.Shown.{shown_slot, none_above_newest, agrees_with, shown_version, its_table}
@@ -36,14 +36,19 @@ blank_is sizes drive block = ⊎_elim
 no_master : (m : Master) → ◌≡◌ {A = List ℕ} [] (block_of (master_text m)) → ⊥
 no_master m is = absurd (cc (is ∙ master_parts m))
 
-pub new_drives_stand : NewDrivesStand
-new_drives_stand = λ site sizes. record {
+new_stand : (site : Site) (image : Image) (told : List ℕ) → IsFound site (image site.at.drive.0) None → Stands site empty_log (restarted image told)
+new_stand site image told none = record {
   is_log = record { rising = tt; made = All-nil (λ (v : Version). AreMade site.drives v.changes v.table); descended = tt; held = λ told same. absurd (cc (same)) };
-  covers = λ image is. nothing refl (λ head found shown.
-      let at = site.at in
-      let first : blank_block sizes at.drive.0 at.first ≡ block_of (master_text head.master) = sym (ap (λ (f : ℕ → List ℕ). f at.first) (begun_image (record { block = blank_block sizes; told = [] }) image is at.drive.0)) ∙ found.readable.of_head.master_block in
-      ⊎_elim (λ zeros. no_blank_master head.master (sym zeros ∙ first)) (λ none. no_master head.master (sym none ∙ first)) (blank_is sizes at.drive.0 at.first));
+  covers = λ other is. nothing refl (subst (λ (c : ℕ → List ℕ). IsFound site c None) (sym (begun_image (record { block = image; told = told }) other is site.at.drive.0)) none);
 }
+
+blank_shows : (site : Site) (sizes : List ℕ) → IsFound site (blank_block sizes site.at.drive.0) None
+blank_shows site sizes head found shown =
+    let first : blank_block sizes site.at.drive.0 site.at.first ≡ block_of (master_text head.master) = found.readable.of_head.master_block in
+    ⊎_elim (λ zeros. no_blank_master head.master (sym zeros ∙ first)) (λ none. no_master head.master (sym none ∙ first)) (blank_is sizes site.at.drive.0 site.at.first)
+
+pub new_drives_stand : NewDrivesStand
+new_drives_stand = record { stand = new_stand; zeros = blank_shows }
 
 module _ (site : Site) (log : Log) (content : ℕ → List ℕ) (head : Head) (slot : Slot) (mark : Mark) (table : Table) (has : HasTable site content head slot mark table) where
   module _ (sound : IsSound site.drives) (is_log : IsLog site.drives log) (newest : IsNewest head slot) (agrees : Agrees site log content head) (found : IsVersion site content head slot log.family mark has.bytes) where

@@ -1,6 +1,6 @@
 -- Laws of standing: over crashes, over new drives, and over what a boot finds.
 use Rattle.std.specs.Prelude.{◌≡◌, ℕ, ◌+◌, ◌<◌, List, Some, None, All, Contains}
-use Rattle.mdv_store_law.specs.Below.{Mark, Head, Slot, IsNewest, greatest, Image, Area, AreApart, KeptOutside, blank, Tale, Begun, IsImage, Change, Table, IsSound}
+use Rattle.mdv_store_law.specs.Below.{Mark, Head, Slot, IsNewest, greatest, Image, Area, AreApart, KeptOutside, blank_block, Tale, Begun, IsImage, Change, Table, IsSound}
 use Rattle.mdv_store_law.specs.Log.{Version, Log, Event, empty_log, log_after_all, AreMade, Extends, IsCourse, IsLog}
 use Rattle.mdv_store_law.specs.Site.{Site, area_of, IsReplica, IsFound, HasTable, Newest}
 use Rattle.mdv_store_law.specs.Standing.{Holds, Covers, Stands, ShowsNothing, IsOpened}
@@ -13,9 +13,10 @@ restarted image told = Begun (record { block = image; told = told })
 abbrev pub CrashesStand : Type 0
 CrashesStand = (site : Site) (log : Log) (m : Tale) (image : Image) (told : List ℕ) → Stands site log m → IsImage m image → Stands site log (restarted image told)
 
--- new drives stand with the empty log
-abbrev pub NewDrivesStand : Type 0
-NewDrivesStand = (site : Site) (sizes : List ℕ) → Stands site empty_log (blank sizes)
+-- drives that show no database, as blank ones do, stand with the empty log, whatever else they hold
+pub record NewDrivesStand : Type 0 where
+  pub stand : (site : Site) (image : Image) (told : List ℕ) → IsFound site (image site.at.drive.0) None → Stands site empty_log (restarted image told)
+  pub zeros : (site : Site) (sizes : List ℕ) → IsFound site (blank_block sizes site.at.drive.0) None
 
 -- a log that goes on as it may stays one
 abbrev pub CoursesAreLogs : Type 0

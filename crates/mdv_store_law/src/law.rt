@@ -7,7 +7,7 @@ pub fn crashes_stand()
     ensures { CrashesStand }
 {}
 
-/// Drives of zeros stand with the empty log.
+/// Drives that show no database stand with the empty log, and drives of zeros show none.
 pub fn new_drives_stand()
     ensures { NewDrivesStand }
 {}
