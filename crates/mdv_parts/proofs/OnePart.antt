@@ -188,7 +188,7 @@ kind_of scope w (Pool p) is = ap code_of is.spelled ∙ code_pool_text is.set p.
 kind_of scope w (Replicas n) is = ap code_of is.1 ∙ ap (λ (l : List ℕ). code 109 (get_or l 0 0) (get_or (replicas_text n) 5 0)) (behind_plain (replicas_text n) (plain_replicas n))
 kind_of scope w (Letter b) is = ap code_of is
 
-one_blocks : (w : List ℕ) (m n : ℕ) → IsSize w m → IsSize w n → m ≡ n
+pub one_blocks : (w : List ℕ) (m n : ℕ) → IsSize w m → IsSize w n → m ≡ n
 one_blocks w m n first second =
     let one = one_size w m second.count second.unit first (size_front w n second) in
     let per : second.per ≡ first.per = let same : Some second.per ≡ Some first.per = sym second.named ∙ one.0 in cc in

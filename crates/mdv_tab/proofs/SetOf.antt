@@ -16,23 +16,23 @@ use Rattle.mdv_tab.specs.Form.{entry_of}
 use Rattle.mdv_tab.specs.Gather.{IsSetOf, IsReadWith}
 use Rattle.mdv_tab.specs.Text.{IsEntry}
 
-same : (s t : Option (List ℕ)) → same_set s t ≡ true → s ≡ t
+pub same : (s t : Option (List ℕ)) → same_set s t ≡ true → s ≡ t
 same None None is = refl
 same None (Some t) is = cc
 same (Some s) None is = cc
 same (Some s) (Some t) is = ap (λ (l : List ℕ). Some l) ((bytes_eq-Decides s t).0 is)
 
-same_again : (s : Option (List ℕ)) → same_set s s ≡ true
+pub same_again : (s : Option (List ℕ)) → same_set s s ≡ true
 same_again None = refl
 same_again (Some s) = (bytes_eq-Decides s s).1 refl
 
-volume_part : (w : List ℕ) (v : VolName) → IsVolName v → SpellsVolume v w → IsPart (Scope.Only v.set) w (Volume v.volume)
+pub volume_part : (w : List ℕ) (v : VolName) → IsVolName v → SpellsVolume v w → IsPart (Scope.Only v.set) w (Volume v.volume)
 volume_part w v form is = record { set = v.set; fits = same_again v.set; form = form; spelled = is }
 
-pool_part : (w : List ℕ) (p : PoolName) → IsPoolName p → w ≡ pool_text p → IsPart (Scope.Only p.set) w (Pool p.pool)
+pub pool_part : (w : List ℕ) (p : PoolName) → IsPoolName p → w ≡ pool_text p → IsPart (Scope.Only p.set) w (Pool p.pool)
 pool_part w p form is = record { set = p.set; fits = same_again p.set; form = form; spelled = is }
 
-kinds : (s t : Scope) (w : List ℕ) (p q : Part) → IsPart s w p → IsPart t w q → kind p ≡ kind q
+pub kinds : (s t : Scope) (w : List ℕ) (p q : Part) → IsPart s w p → IsPart t w q → kind p ≡ kind q
 kinds s t w p q first second = sym (kind_of s w p first) ∙ kind_of t w q second
 
 -- no word spells both a volume and a pool

@@ -113,8 +113,8 @@ pub(crate) fn gather(alloc: Global, text: &[u8]) -> Result<(Group, &[u8]), Alloc
     Ok((group, rest))
 }
 
-// The set of the volume or pool that the word names.
-fn set_of(word: &[u8]) -> Option<Name>
+/// The set of the volume or pool that the word names, and None for any other word.
+pub fn set_of(word: &[u8]) -> Option<Name>
     ensures { IsSetOf word.now result }
 {
     if let Some(volume) = parse_volume(word) {

@@ -14,6 +14,7 @@ mod tests;
 
 pub use entry::{Entry, Extent, MirrorOptions, RaidOptions, ReadFrom, Room, Row};
 pub use form::read_entry;
-pub use group::MAX_TEXT;
+pub use group::{MAX_TEXT, set_of};
 pub use law::reads_as_one_tab;
+pub use lines::is_ascii_line;
 pub use read::{MAX_ENTRIES, TabFault, read_tab};

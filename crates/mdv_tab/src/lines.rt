@@ -57,7 +57,8 @@ fn begins_with_newline(text: &[u8]) -> bool
     }
 }
 
-pub(crate) fn is_ascii_line(line: &[u8]) -> bool
+/// Whether all bytes of the line are of ASCII.
+pub fn is_ascii_line(line: &[u8]) -> bool
     ensures { result ≡ spec_is_ascii_line line.now }
 {
     line.iter().all(|b| is_ascii(*b))

@@ -1,0 +1,3 @@
+pub mod OneOption
+pub mod Reading
+pub mod Values

@@ -1,0 +1,5 @@
+pub mod Below
+pub mod Given
+pub mod Options
+pub mod Spares
+pub mod Volumes
