@@ -1,0 +1,6 @@
+pub mod Below
+pub mod Hex
+pub mod Line
+pub mod Operands
+pub mod Sets
+pub mod Verb

@@ -1,0 +1,15 @@
+//! A line of a script, read by its whole grammar.
+#![tactic(auto)]
+
+mod blocks;
+mod hex;
+mod law;
+mod line;
+mod operands;
+mod sets;
+#[cfg(test)]
+mod tests;
+mod verb;
+
+pub use law::asks_one_thing;
+pub use line::{Line, WordsFault, read_line};
