@@ -1,0 +1,4 @@
+pub mod Ascending
+pub mod Finding
+pub mod Pairs
+pub mod Sound

@@ -1,0 +1,70 @@
+-- What a table of drives says of its slices, and which new uses of a slice clash with those that there are.
+use Rattle.std.specs.Prelude.{◌≡◌, ◌<◌, ◌≤◌, ◌+◌, ◌^◌, ◌==◌, ◌&&◌, ℕ, Bool, true, false, not, nat_lt, List, [], ◌∷◌, Option, None, Some, if◌then◌else◌}
+use Rattle.std.specs.List.{list_any}
+use Rattle.mdv_plan.specs.Below.{SliceName, Geometry, SliceAt, SliceLine, IsSliceName, HasSlice}
+use Rattle.mdv_plan.specs.Uses.{same_slice}
+use Rattle.mdv_plan.specs.declared.clash.Asked.{Asked}
+use Rattle.mdv_plan.specs.declared.clash.Asked.TheVariants.{ReplicasTo, OneComponent, Extents, OneSpare}
+use Rattle.mdv_plan.specs.declared.uses.SliceUse.{SliceUse}
+use Rattle.mdv_plan.specs.declared.uses.User.{User}
+use Rattle.mdv_plan.specs.declared.uses.User.TheVariants.{Replica, Component, Extent, Spare}
+
+-- a slice of the first 256 drives, of one block at least, that ends within 2 ^ 40 blocks
+pub record IsSoundSlice (slice : SliceName) (at : SliceAt) : Type 0 where
+  pub named : IsSliceName slice
+  pub drive : at.drive.0 < 256
+  pub some : 0 < at.blocks
+  pub within : at.start + at.blocks ≤ 2 ^ 40
+
+-- each slice is named once
+pub record IsSound (g : Geometry) : Type 0 where
+  pub each : (name : SliceName) (at : SliceAt) → HasSlice g.slices name at → IsSoundSlice name at
+  pub once : (name : SliceName) (a b : SliceAt) → HasSlice g.slices name a → HasSlice g.slices name b → a ≡ b
+
+-- where the slice of this name lies
+abbrev pub slice_at : List SliceLine → SliceName → Option SliceAt
+slice_at [] name = None
+slice_at (line ∷ lines) name = if same_slice line.name name then Some line.at else slice_at lines name
+
+-- they lie on one drive and share a block, as each slice does with itself
+abbrev pub share_a_block : SliceAt → SliceAt → Bool
+share_a_block a b = (a.drive.0 == b.drive.0) && (nat_lt a.start (b.start + b.blocks) && nat_lt b.start (a.start + a.blocks))
+
+abbrev pub overlap_at : Option SliceAt → Option SliceAt → Bool
+overlap_at (Some a) (Some b) = share_a_block a b
+overlap_at (Some a) None = false
+overlap_at None b = false
+
+-- the slices of these names share a block
+abbrev pub overlap : Geometry → SliceName → SliceName → Bool
+overlap g m n = overlap_at (slice_at g.slices m) (slice_at g.slices n)
+
+-- What may stand beside a use of the same slice: other uses behind replicas, several soft partitions, and one spare in several pools. Replicas may be
+-- put in front of another use where they end at its start or before.
+abbrev pub can_share : Asked → User → ℕ → Bool
+can_share (ReplicasTo end) Replica start = false
+can_share (ReplicasTo end) _ start = not (nat_lt start end)
+can_share OneComponent Replica start = true
+can_share OneComponent _ start = false
+can_share Extents Replica start = true
+can_share Extents (Component v) start = false
+can_share Extents (Extent v) start = true
+can_share Extents (Spare p) start = false
+can_share OneSpare Replica start = true
+can_share OneSpare (Component v) start = false
+can_share OneSpare (Extent v) start = false
+can_share OneSpare (Spare p) start = true
+
+-- a use that stands in the way: of the same slice one that can't share it, of another slice any where the slices overlap
+abbrev pub clashes_with : Geometry → Asked → SliceName → SliceUse → Bool
+clashes_with g asked name u = if same_slice u.slice name then not (can_share asked u.by u.start) else overlap g u.slice name
+
+abbrev pub clashes : Geometry → Asked → SliceName → List SliceUse → Bool
+clashes g asked name uses = list_any (clashes_with g asked name) uses
+
+-- another slice that overlaps it is set aside for replicas
+abbrev pub is_other_db : Geometry → SliceName → SliceLine → Bool
+is_other_db g name line = (line.at.db && not (same_slice line.name name)) && overlap g line.name name
+
+abbrev pub meets_db : Geometry → SliceName → Bool
+meets_db g name = list_any (is_other_db g name) g.slices

@@ -1,0 +1,103 @@
+//! Which new uses of a slice clash with those that there are.
+ghost use Rattle.std.specs.Prelude.{◌≡◌, ◌≤◌, ◌+◌, ◌^◌, not, IfSome};
+ghost use Rattle.mdv_plan.specs.Slices.{IsSound, IsSoundSlice, slice_at as spec_slice_at, share_a_block as spec_share_a_block, overlap as spec_overlap};
+ghost use Rattle.mdv_plan.specs.Slices.{can_share as spec_can_share, clashes_with as spec_clashes_with, clashes as spec_clashes};
+ghost use Rattle.mdv_plan.specs.Slices.{is_other_db as spec_is_other_db, meets_db as spec_meets_db};
+
+use crate::uses::{SliceUse, User, Uses, same_slice};
+use mdv_base::SliceName;
+use mdv_name::{Geometry, SliceAt, SliceLine};
+
+/// A use of a slice that is asked for.
+#[derive(Clone, Copy, Debug, PartialEq, Eq)]
+pub enum Asked {
+    /// Replicas that end before this block of the slice.
+    ReplicasTo(u64),
+    OneComponent,
+    /// Extents of a soft partition.
+    Extents,
+    /// A spare of a pool that doesn't have the slice yet.
+    OneSpare,
+}
+
+impl Uses {
+    /// Whether one of the uses stands in the way of the one that is asked for. The work is linear in the
+    /// number of uses.
+    pub fn clash(&self, geometry: &Geometry, asked: Asked, slice: SliceName) -> bool
+        requires { IsSound geometry.now }
+        ensures { result ≡ spec_clashes geometry.now asked slice self.now }
+    {
+        let uses = self.as_slice();
+        uses.iter()
+            .any(|one| clashes_with(geometry, asked, slice, one))
+    }
+}
+
+/// Whether another slice that overlaps this one is set aside for replicas: then it takes none of these
+/// uses.
+pub fn meets_db(geometry: &Geometry, slice: SliceName) -> bool
+    requires { IsSound geometry.now }
+    ensures { result ≡ spec_meets_db geometry.now slice }
+{
+    let lines = geometry.slices.as_slice();
+    lines.iter().any(|line| is_other_db(geometry, slice, line))
+}
+
+fn is_other_db(geometry: &Geometry, slice: SliceName, line: &SliceLine) -> bool
+    requires { IsSound geometry.now }
+    ensures { result ≡ spec_is_other_db geometry.now slice line.now }
+{
+    (line.at.db && !same_slice(line.name, slice)) && overlap(geometry, line.name, slice)
+}
+
+fn clashes_with(geometry: &Geometry, asked: Asked, slice: SliceName, one: &SliceUse) -> bool
+    requires { IsSound geometry.now }
+    ensures { result ≡ spec_clashes_with geometry.now asked slice one.now }
+{
+    if same_slice(one.slice, slice) {
+        !can_share(asked, one.by, one.start)
+    } else {
+        overlap(geometry, one.slice, slice)
+    }
+}
+
+fn can_share(asked: Asked, by: User, start: u64) -> bool
+    ensures { result ≡ spec_can_share asked by start }
+{
+    match (asked, by) {
+        (Asked::ReplicasTo(_), User::Replica) => false,
+        (Asked::ReplicasTo(end), _) => end <= start,
+        (_, User::Replica) => true,
+        (Asked::Extents, User::Extent(_)) | (Asked::OneSpare, User::Spare(_)) => true,
+        _ => false,
+    }
+}
+
+/// Whether the slices share a block. A slice overlaps itself, and nothing where there is no slice of
+/// the name.
+pub fn overlap(geometry: &Geometry, m: SliceName, n: SliceName) -> bool
+    requires { IsSound geometry.now }
+    ensures { result ≡ spec_overlap geometry.now m n }
+{
+    match (slice_at(geometry, m), slice_at(geometry, n)) {
+        (Some(a), Some(b)) => share_a_block(a, b),
+        _ => false,
+    }
+}
+
+/// Where the slice lies, found in logarithmic time.
+pub fn slice_at(geometry: &Geometry, name: SliceName) -> Option<SliceAt>
+    requires { IsSound geometry.now }
+    ensures value { result ≡ spec_slice_at geometry.now.slices name }
+    ensures sound { IfSome result (IsSoundSlice name) }
+{
+    geometry.slices.find(name)
+}
+
+fn share_a_block(a: SliceAt, b: SliceAt) -> bool
+    requires first { a.start + a.blocks ≤ 2 ^ 40 }
+    requires second { b.start + b.blocks ≤ 2 ^ 40 }
+    ensures { result ≡ spec_share_a_block a b }
+{
+    a.drive.0 == b.drive.0 && a.start < b.start + b.blocks && b.start < a.start + a.blocks
+}

@@ -1,0 +1,5 @@
+//! Tests of the configuration of a database.
+#![tactic(auto)]
+
+#[cfg(test)]
+mod plan_tests;
