@@ -1,0 +1,40 @@
+-- Why a change isn't made, and which changes there are.
+use Rattle.std.specs.Prelude.{◌≡◌, ◌<◌, List, Option, None, Some, Result, Ok, Err}
+use Rattle.mdv_change.specs.Below.{Refusal, DriveNo, Geometry, Table, VolId, PoolId}
+use Rattle.mdv_change.specs.declared.making.ApplyFault.{ApplyFault}
+use Rattle.mdv_change.specs.declared.making.ApplyFault.TheVariants.{Refused, Memory}
+use Rattle.mdv_change.specs.Change.{refusal_of, table_after}
+use Rattle.mdv_change.specs.declared.change.RaidAsked.{RaidAsked}
+use Rattle.mdv_change.specs.declared.change.RowAsked.{RowAsked}
+use Rattle.mdv_change.specs.declared.change.Change.{Change}
+use Rattle.mdv_change.specs.declared.change.Change.TheVariants.{MakeStripe, MakeRaid}
+
+-- what refuses the change, or want of memory, which has no cause
+abbrev pub HasFault : Option Refusal → ApplyFault → Type 0
+HasFault refusal (Refused r) = refusal ≡ Some r
+HasFault refusal Memory = Unit {0}
+
+-- the numbers of new volumes are below the limit
+abbrev pub IsNumbered : Change → Type 0
+IsNumbered (MakeStripe v rows pool) = v.0 < 8192
+IsNumbered (MakeRaid v raid) = v.0 < 8192
+
+abbrev pub stripe_change : VolId → List RowAsked → Option PoolId → Change
+stripe_change v rows pool = MakeStripe v rows pool
+
+abbrev pub raid_change : VolId → RaidAsked → Change
+raid_change v raid = MakeRaid v raid
+
+-- nothing refuses the change, and the table is the one after it
+pub record IsMade (g : Geometry) (drives : List DriveNo) (change : Change) (old new : Table) : Type 0 where
+  pub allowed : refusal_of g drives old change ≡ None
+  pub after : new ≡ table_after g old change
+
+-- the fault has its cause, and the table is as it was
+pub record IsUnmade (g : Geometry) (drives : List DriveNo) (change : Change) (old new : Table) (fault : ApplyFault) : Type 0 where
+  pub cause : HasFault (refusal_of g drives old change) fault
+  pub same : new ≡ old
+
+abbrev pub IsApplied : {T : Type 0} → Geometry → List DriveNo → Change → Table → Table → Result T ApplyFault → Type 0
+IsApplied g drives change old new (Ok done) = IsMade g drives change old new
+IsApplied g drives change old new (Err fault) = IsUnmade g drives change old new fault

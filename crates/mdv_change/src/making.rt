@@ -1,0 +1,128 @@
+//! A change of a table.
+ghost use Rattle.std.specs.Prelude.{◌≡◌, ◌<◌, ◌==◌, None, OnOk, OnErr};
+ghost use Rattle.std.specs.List.{find};
+ghost use Rattle.mdv_plan.specs.Slices.{IsSound};
+ghost use Rattle.mdv_change.specs.declared.making.ApplyFault.TheVariants.{Memory};
+ghost use Rattle.mdv_change.specs.Apply.{IsApplied, IsNumbered, raid_change, stripe_change};
+ghost use Rattle.mdv_change.specs.Change.{with_volume};
+
+use crate::change::{Change, RaidAsked, RowAsked};
+use crate::raids::{raid_on, raid_status, refuse_raid};
+use crate::stripes::{refuse_stripe, stripe_on, stripe_status};
+use mdv_base::{DriveNo, PoolId, Refusal, VolId};
+use mdv_name::Geometry;
+use mdv_plan::{Table, Volume, VolumeStatus};
+use std::alloc::{AllocError, Global};
+
+/// Why a change isn't made.
+#[derive(Clone, Copy, Debug, PartialEq, Eq)]
+pub enum ApplyFault {
+    Refused(Refusal),
+    Memory,
+}
+
+/// Makes the change, or tells why not. The drives are those of the database: of a local one the host's own,
+/// of a set its own. A refusal is the first cause in the one order. The work is linear in the uses of the
+/// table, once for each slice that the change names.
+pub fn apply(
+    alloc: Global,
+    geometry: &Geometry,
+    drives: &[DriveNo],
+    table: &mut Table,
+    change: &Change,
+) -> Result<(), ApplyFault>
+    requires sound { IsSound geometry.now }
+    requires numbered { IsNumbered change.now }
+    ensures { IsApplied geometry.now drives.now change.now table.old table.new result }
+{
+    match change {
+        Change::MakeStripe {
+            volume,
+            rows,
+            spares,
+        } => make_stripe(
+            alloc,
+            geometry,
+            drives,
+            table,
+            *volume,
+            rows.as_slice(),
+            *spares,
+        ),
+        Change::MakeRaid { volume, raid } => {
+            make_raid(alloc, geometry, drives, table, *volume, raid)
+        }
+    }
+}
+
+fn make_stripe(
+    alloc: Global,
+    geometry: &Geometry,
+    drives: &[DriveNo],
+    table: &mut Table,
+    volume: VolId,
+    rows: &[RowAsked],
+    spares: Option<PoolId>,
+) -> Result<(), ApplyFault>
+    requires sound { IsSound geometry.now }
+    requires number { volume.0 < 8192 }
+    ensures { IsApplied geometry.now drives.now (stripe_change volume rows.now spares) table.old table.new result }
+{
+    let plan = &table.plan;
+    if let Some(cause) = refuse_stripe(alloc, geometry, drives, plan, volume, rows, spares)? {
+        return Err(ApplyFault::Refused(cause.refusal()));
+    }
+    let made = stripe_on(alloc, geometry, plan, volume, rows, spares)?;
+    let status = stripe_status(alloc, volume, rows)?;
+    add_volume(table, made, status)?;
+    Ok(())
+}
+
+fn make_raid(
+    alloc: Global,
+    geometry: &Geometry,
+    drives: &[DriveNo],
+    table: &mut Table,
+    volume: VolId,
+    raid: &RaidAsked,
+) -> Result<(), ApplyFault>
+    requires sound { IsSound geometry.now }
+    requires number { volume.0 < 8192 }
+    ensures { IsApplied geometry.now drives.now (raid_change volume raid.now) table.old table.new result }
+{
+    let plan = &table.plan;
+    if let Some(cause) = refuse_raid(alloc, geometry, drives, plan, volume, raid)? {
+        return Err(ApplyFault::Refused(cause.refusal()));
+    }
+    let made = raid_on(alloc, geometry, plan, volume, raid)?;
+    let status = raid_status(alloc, volume, raid)?;
+    add_volume(table, made, status)?;
+    Ok(())
+}
+
+// The volume and its states, or neither.
+fn add_volume(table: &mut Table, volume: Volume, status: VolumeStatus) -> Result<(), AllocError>
+    requires volume { volume.number.0 < 8192 }
+    requires status { status.number.0 < 8192 }
+    requires fresh { find (λ w. w.number.0 == volume.number.0) table.old.plan.volumes ≡ None }
+    ensures ok { OnOk result (table.new ≡ with_volume volume status table.old) }
+    ensures err { OnErr result (table.new ≡ table.old) }
+{
+    let number = u32::from(volume.number.0);
+    table.plan.volumes.insert(volume)?;
+    match table.status.volumes.put(status) {
+        Ok(()) => Ok(()),
+        Err(error) => {
+            table.plan.volumes.remove(number);
+            Err(error)
+        }
+    }
+}
+
+impl From<AllocError> for ApplyFault {
+    ghost from_gives = { λ _ fault. fault ≡ Memory };
+
+    fn from(_error: AllocError) -> ApplyFault {
+        ApplyFault::Memory
+    }
+}
