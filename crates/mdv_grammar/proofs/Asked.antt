@@ -1,11 +1,10 @@
 -- What the readers of options and operands leave for those above.
-use Rattle.std.proofs.Common.{◌≡◌, ℕ, Bool, true, false, Option, None, Some, refl, sym, ◌∙◌, ap, subst, List, [], ◌∷◌, ◌++◌, codes, arith}
+use Rattle.std.proofs.Common.{◌≡◌, ℕ, true, false, Option, None, Some, sym, ◌∙◌, ap, subst, List, [], ◌∷◌, codes}
 use Rattle.mdv_command.specs.declared.command.Command.{Command}
 use Rattle.mdv_command.specs.declared.given.Given.{Given}
 use Rattle.mdv_grammar.specs.declared.sets.SetForm.{SetForm}
 use Rattle.mdv_grammar.specs.declared.verb.Verb.{Verb}
 use Rattle.mdv_grammar.specs.declared.verb.Head.{Head}
-use Rattle.mdv_grammar.specs.declared.verb.Head.TheVariants.{OfVerb, OfSets, OfRead, OfWrite, OfFill, OfIdle}
 use Rattle.mdv_grammar.specs.declared.line.Line.{Line}
 use Rattle.mdv_grammar.specs.declared.line.Line.TheVariants.{Nothing, Tab, End, Boot, Command as Asked}
 use Rattle.mdv_grammar.specs.Line.{AsksVerb, AsksBehind, IsCommand, IsBare, Asks, is_comment}

@@ -1,5 +1,5 @@
 -- The first word of a line tells what kind of line it is.
-use Rattle.std.proofs.Common.{◌≡◌, ℕ, Bool, true, false, cond, ◌==◌, ◌||◌, refl, sym, ◌∙◌, ap, List, get_or, codes, arith}
+use Rattle.std.proofs.Common.{◌≡◌, ℕ, Bool, true, false, cond, ◌==◌, ◌||◌, refl, sym, ◌∙◌, ap, List, get_or}
 use Rattle.mdv_grammar.specs.Line.{IsBare}
 use Rattle.mdv_grammar.specs.declared.line.Line.{Line}
 use Rattle.mdv_grammar.specs.declared.line.Line.TheVariants.{Nothing, Tab, End, Boot, Command as Asked}

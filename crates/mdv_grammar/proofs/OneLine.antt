@@ -1,5 +1,5 @@
 -- A line asks one thing at most.
-use Rattle.std.proofs.Common.{◌≡◌, ℕ, Bool, true, false, cond, ◌==◌, Option, None, Some, refl, sym, ◌∙◌, ap, subst, List, [], ◌∷◌, get_or, codes, decimal, arith}
+use Rattle.std.proofs.Common.{◌≡◌, ℕ, Bool, true, cond, ◌==◌, Some, refl, sym, ◌∙◌, ap, subst, List, [], ◌∷◌, codes, arith}
 use Rattle.std.proofs.lemmas.Fmt.{decimal_injective}
 use Rattle.mdv_base.specs.declared.drive.DriveName.{DriveName}
 use Rattle.mdv_name.specs.declared.volume.VolName.{VolName}
@@ -19,7 +19,7 @@ use Rattle.mdv_grammar.specs.declared.verb.Head.TheVariants.{OfVerb, OfSets, OfR
 use Rattle.mdv_grammar.specs.declared.verb.Verb.{Verb}
 use Rattle.mdv_grammar.specs.declared.verb.Verb.TheVariants.{Metadb, Metainit, Metaclear, Metattach, Metadetach, Metaoffline, Metaonline, Metareplace, Metahs, Metastat}
 use Rattle.mdv_command.specs.Given.{has, length_given}
-use Rattle.mdv_grammar.specs.Hex.{IsPair, SpellsBlock}
+use Rattle.mdv_grammar.specs.Hex.{SpellsBlock}
 use Rattle.mdv_grammar.specs.Line.{AsksVerb, AsksRead, AsksWrite, AsksFill, AsksIdle, AsksBehind, IsByte, IsCommand, Asks, IsLine, is_comment}
 use Rattle.mdv_grammar.specs.Operands.{AsksParts}
 use Rattle.mdv_grammar.specs.Sets.{EachIsDrive, host_change, IsChange, AsksSets, AsksSet, set_form}

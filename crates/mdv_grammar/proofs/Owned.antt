@@ -14,7 +14,7 @@ use Rattle.mdv_command.specs.declared.command.Command.{Command}
 use Rattle.mdv_command.specs.declared.given.Given.{Given}
 use Rattle.mdv_grammar.specs.declared.verb.Verb.{Verb}
 use Rattle.mdv_command.specs.Given.{set_given}
-use Rattle.mdv_grammar.specs.Operands.{command_of, begins_with_name, IsSetOfLine, scope_of, all_words, AsksParts, IsSetFor, begins_with_all}
+use Rattle.mdv_grammar.specs.Operands.{command_of, IsSetOfLine, scope_of, all_words, AsksParts, IsSetFor, begins_with_all}
 use Rattle.mdv_grammar.proofs.Addresses.{tail_words}
 
 -- a word that is no volume and no pool

@@ -1,5 +1,3 @@
-use Rattle.std.proofs.Common.{sym, ◌∙◌, ap}
-use Rattle.mdv_parts.specs.Part.{AreReadAs}
 use Rattle.mdv_grammar.proofs.Owned.{asks_parts, no_parts, no_form}
 use Rattle.mdv_grammar.proofs.operands.read_operands.Goals as goal
 

@@ -1,4 +1,4 @@
-use Rattle.std.proofs.Common.{◌≡◌, ◌<◌, length, sym, ◌∙◌, ap, arith}
+use Rattle.std.proofs.Common.{◌≡◌, length, arith}
 use Rattle.std.proofs.lemmas.Bool.Decides.{nat_tests}
 use Rattle.mdv_grammar.proofs.Hosts.{drives_more, drives_stop, drives_wanting}
 use Rattle.mdv_grammar.proofs.sets.read_drives.Goals as goal
