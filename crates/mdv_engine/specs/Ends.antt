@@ -95,6 +95,7 @@ pub record HasBooted (failed : Type 0) (host : Host) (result : Result Engine Boo
 
 pub record HasRebooted (failed : Type 0) (old : Engine) (result : Result (Unit {0}) BootRefusal) (new : Engine) : Type 0 where
   pub cause : HasBootCause failed result
+  pub closed : IfErr result (λ refusal. new.state.opened ≡ None)
   pub host : new.host ≡ old.host
   pub well : IsWell old.host new.state
   pub begun : new.state.begun ≡ old.state.begun

@@ -25,7 +25,7 @@ pub record IsUsageOf (None Untouched : Type 0) (status : RunStatus) : Type 0 whe
 
 -- The run of a host. Where bench and source tell what they hold, memory was wanting for the table of drives and nothing was done, or the
 -- bytes told, the status and what is left are those that the script asks for; and at each moment the drive stands with its history so
--- far. Whatever they tell, nothing happens outside the host's area, and a status that tells of a failure comes only where one came.
+-- far; nothing happens outside the host's area. Whatever they tell, a status that tells of a failure comes only where one came.
 pub record HasRun {B I : Type 0} (shelf : Shelf B) (source : Source I) (host : Host) (old : B) (from : I) (new : B) (to : I) (status : RunStatus) : Type 0 where
   pub runs : (t : Tale) → shelf.tale old ≡ Some t → (input : List ℕ) → source.left from ≡ Some input
       → IsUnbegun t (shelf.tale new) status ⊎ IsWholeRun host (by shelf source old from) (by shelf source new to) t (script_of input) (shelf.tale new) status

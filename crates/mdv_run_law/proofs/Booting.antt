@@ -85,7 +85,7 @@ module _ (host : Host) where
               record {
                 es = both.es;
                 course = both.course;
-                come = reply_come host text [] asks more old new turned.bytes turned.reply (λ some. absurd (some none)) both.es both.does (λ up. inl (woken up));
+                come = reply_come host text [] asks more old new turned.bytes turned.reply (λ some. absurd (some none)) both.es both.does (λ up. inl (is, woken up));
                 stands = both.stands;
                 after = both.after.4;
               };

@@ -59,7 +59,7 @@ module _ (host : Host) (script : Script) (asked : List Deed) (old : Memory) (t :
 module _ (host : Host) (text : List ℕ) (asked : List Deed) (asks : Asks text asked) (more : Script) where
   -- what was acknowledged by this one line of a reply
   of_line : (old : Memory) (then : Bool) (bytes reply : List ℕ) → replies_in bytes ≡ reply ∷ [] → (acked asked bytes ≢ [] → IsAwake old) → (es : List Event) → Does host (IsAsked (issuable_of asked bytes)) (acked asked bytes) es
-      → (then ≡ false → HasWoken es ⊎ (IsAwake old × (IsLine text Boot → ⊥))) → AreOfLine host text old.down reply es then
+      → (then ≡ false → (IsLine text Boot × HasWoken es) ⊎ (IsAwake old × (IsLine text Boot → ⊥))) → AreOfLine host text old.down reply es then
   of_line old then bytes reply one awake es does up =
       let same : acked asked bytes ≡ acked_by asked reply = ap (acked_in asked) one in
       let line : Does host (IsAsked (issuable asked reply)) (acked_by asked reply) es = subst (λ (lines : List (List ℕ)). Does host (IsAsked (issuable_in asked lines)) (acked_in asked lines) es) one does in
@@ -87,7 +87,7 @@ module _ (host : Host) (text : List ℕ) (asked : List Deed) (asks : Asks text a
   line_moment old t m moment = turn_lines host (line text more) asked old t m moment (front_come old moment.bytes moment.front moment.awake) (front_told moment.bytes Created moment.front)
 
   pub reply_come : (old new : Memory) (bytes : List ℕ) (is : IsReply bytes) → (acked asked bytes ≢ [] → IsAwake old) → (es : List Event) → Does host (IsAsked (issuable_of asked bytes)) (acked asked bytes) es
-      → (IsAwake new → HasWoken es ⊎ (IsAwake old × (IsLine text Boot → ⊥))) → ComeOf host (NothingLeft new.down) old.down (line text more) (replies_in bytes) es
+      → (IsAwake new → (IsLine text Boot × HasWoken es) ⊎ (IsAwake old × (IsLine text Boot → ⊥))) → ComeOf host (NothingLeft new.down) old.down (line text more) (replies_in bytes) es
   reply_come old new bytes is awake es does up =
       let here = of_line old new.down bytes is.line is.alone awake es does up in
       subst (λ (l : List (List ℕ)). ComeOf host (NothingLeft new.down) old.down (line text more) l es) (sym is.alone) (come_line host (NothingLeft new.down) old.down new.down text more is.line es here (refl, refl))

@@ -56,8 +56,7 @@ pub record At : Type 0 where
   pub refused : Bool
   pub script : Script
 
--- What the next line comes to, and the script behind it. It is excused by the calls alone that failed between these counts, from the line
--- before it to its own answer.
+-- What the next line comes to, and the script behind it. It is excused by a count that rose between these counts alone.
 abbrev pub NextLine : Host → Counts → Kept → Script → Answer → Counts → Kept → Script → Type 0
 NextLine host now kept at_end answer later next more = ⊥
 NextLine host now kept (spent lines bytes) answer later next more = ⊥
@@ -127,7 +126,8 @@ pub data Over (host : Host) (end : Counts) (now : At) (told : List ℕ) (status 
   broken : (answer : Answer) (later : Counts) (next : Kept) (more : Script) → NextLine host now.counts now.kept now.script answer later next more → RoseTo later end → EndsWith (replies_failed later end) answer next told status last
       → Over host end now told status last
 
--- The run of a script, from there on: line after line, each excused by its own failures alone, until it is over.
+-- The run of a script, from there on: line after line, until it is over. The counts between two lines are any that never fall, from those at the
+-- start to those at the end: so many failures excuse so many answers.
 pub record Runs (host : Host) (end : Counts) (now : At) (told : List ℕ) (status : RunStatus) (last : Option Kept) : Type 0 where
   pub so_far : List ℕ
   pub rest : List ℕ

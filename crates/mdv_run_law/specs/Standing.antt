@@ -12,14 +12,14 @@ abbrev pub AreIdle : Host → List Event → Type 0
 AreIdle host es = Does host NoDeed [] es
 
 -- Events of a line that was answered by this line of reply: they issue what it asks only where the reply is `ok`, or tells that a call on
--- a drive failed, and else nothing; they tell it exactly where the reply is `ok`, which comes only where the last boot has read the drive. Behind it the last boot has read the drive only where the line is a boot
--- that did, or where it had and the line is none.
+-- a drive failed, and else nothing; they tell it exactly where the reply is `ok`, which comes only where the last boot has read the drive.
+-- Behind it the last boot has read the drive only where the line is a boot that did, or where it had and the line is none.
 pub record AreOfLine (host : Host) (text : List ℕ) (down : Bool) (reply : List ℕ) (es : List Event) (then : Bool) : Type 0 where
   pub asked : List Deed
   pub asks : Asks text asked
   pub does : Does host (IsAsked (issuable asked reply)) (acked_by asked reply) es
   pub awake : acked_by asked reply ≢ [] → down ≡ false
-  pub up : then ≡ false → HasWoken es ⊎ ((down ≡ false) × (IsLine text Boot → ⊥))
+  pub up : then ≡ false → (IsLine text Boot × HasWoken es) ⊎ ((down ≡ false) × (IsLine text Boot → ⊥))
 
 -- Events that come, in order, of the lines of the script that these replies answer, one line of reply for each, where the last boot
 -- before them has read the drive, or was down; behind them come events of what is left of the script.

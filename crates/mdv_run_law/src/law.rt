@@ -8,8 +8,8 @@ pub fn one_course()
     ensures { OneCourse }
 {}
 
-/// Over every life, any number of runs with any scripts and failures, each stopped at any moment by a crash that may
-/// leave whatever a crash may leave, the drive stands with a history that acknowledges exactly what was told. So every
+/// Over every life, any number of runs with any scripts and failures, each up to any of its moments, stopped there by a
+/// crash that may leave whatever a crash may leave, or not stopped, the drive stands with a history that acknowledges exactly what was told. So every
 /// boot that can read the drive finds the database whose creation was told, with every change that was told; and each
 /// block of a volume reads as its last acknowledged write, or one that was issued later.
 pub fn lives_stand()
