@@ -4,7 +4,7 @@ use Rattle.std.proofs.lemmas.Fmt.{decimal_injective}
 use Rattle.mdv_name.proofs.Volumes.{one_volume}
 use Rattle.mdv_name.specs.declared.volume.VolName.{VolName}
 use Rattle.mdv_command.specs.declared.command.Command.{Command}
-use Rattle.mdv_grammar.specs.Hex.{SpellsBlock}
+use Rattle.mdv_text.specs.Hex.{SpellsBlock}
 use Rattle.mdv_grammar.specs.Line.{IsAddress, BeginsWithAddress, IsCount, IsByte, AsksRead, AsksWrite, AsksFill}
 
 abbrev pub head_word : List (List ℕ) → List ℕ

@@ -4,4 +4,3 @@ pub mod Heads
 pub mod Hosts
 pub mod OneLine
 pub mod Owned
-pub mod Pairs

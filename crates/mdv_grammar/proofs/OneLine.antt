@@ -19,7 +19,7 @@ use Rattle.mdv_grammar.specs.declared.verb.Head.TheVariants.{OfVerb, OfSets, OfR
 use Rattle.mdv_grammar.specs.declared.verb.Verb.{Verb}
 use Rattle.mdv_grammar.specs.declared.verb.Verb.TheVariants.{Metadb, Metainit, Metaclear, Metattach, Metadetach, Metaoffline, Metaonline, Metareplace, Metahs, Metastat}
 use Rattle.mdv_command.specs.Given.{has, length_given}
-use Rattle.mdv_grammar.specs.Hex.{SpellsBlock}
+use Rattle.mdv_text.specs.Hex.{SpellsBlock}
 use Rattle.mdv_grammar.specs.Line.{AsksVerb, AsksRead, AsksWrite, AsksFill, AsksIdle, AsksBehind, IsByte, IsCommand, Asks, IsLine, is_comment}
 use Rattle.mdv_grammar.specs.Operands.{AsksParts}
 use Rattle.mdv_grammar.specs.Sets.{EachIsDrive, host_change, IsChange, AsksSets, AsksSet, set_form}
@@ -29,7 +29,7 @@ use Rattle.mdv_grammar.proofs.Asked.{or_form}
 use Rattle.mdv_grammar.proofs.Heads.{one_head}
 use Rattle.mdv_command.proofs.OneOption.{one_options}
 use Rattle.mdv_grammar.proofs.Owned.{one_parts}
-use Rattle.mdv_grammar.proofs.Pairs.{one_block, one_pair}
+use Rattle.mdv_text.proofs.Pairs.{one_block, one_pair}
 
 one_drives : (ws : List (List ℕ)) (ds es : List DriveName) → EachIsDrive ws ds → EachIsDrive ws es → ds ≡ es
 one_drives [] [] [] first second = refl

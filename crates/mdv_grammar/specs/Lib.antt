@@ -1,5 +1,4 @@
 pub mod Below
-pub mod Hex
 pub mod Line
 pub mod Operands
 pub mod Sets

@@ -1,7 +1,7 @@
 -- What a line of a script asks for.
 use Rattle.std.specs.Prelude.{◌≡◌, ◌<◌, ◌≤◌, ◌^◌, ◌==◌, ℕ, Bool, true, false, List, [], ◌∷◌, codes, decimal}
 use Rattle.mdv_grammar.specs.Below.{IsVolName, SpellsVolume, VolName, is_ascii_line, words}
-use Rattle.mdv_grammar.specs.Hex.{IsPair, SpellsBlock}
+use Rattle.mdv_text.specs.Hex.{IsPair, SpellsBlock}
 use Rattle.mdv_command.specs.Options.{AreOptions}
 use Rattle.mdv_grammar.specs.Sets.{AsksSet}
 use Rattle.mdv_grammar.specs.Operands.{AsksParts}

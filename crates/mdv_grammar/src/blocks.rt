@@ -3,11 +3,10 @@ ghost use Rattle.mdv_grammar.specs.Below.{VolName, words};
 ghost use Rattle.mdv_command.specs.declared.command.Command.{Command};
 ghost use Rattle.mdv_grammar.specs.Line.{IsAddress, BeginsWithAddress, IsCount, IsByte, AsksRead, AsksWrite, AsksFill, AsksIdle};
 
-use crate::hex::{read_block, read_pair};
 use crate::sets::has_words;
 use mdv_command::Command;
 use mdv_name::{VolName, parse_volume};
-use mdv_text::{first_word, number};
+use mdv_text::{first_word, number, read_block, read_pair};
 
 // The only word.
 fn only_word(text: &[u8]) -> Option<&[u8]>

@@ -2,7 +2,6 @@
 #![tactic(auto)]
 
 mod blocks;
-mod hex;
 mod law;
 mod line;
 mod operands;

@@ -1,3 +1,4 @@
+pub mod Hex
 pub mod Numeral
 pub mod Size
 pub mod Token

@@ -10,10 +10,10 @@ use Rattle.mdv_words.specs.declared.command.Command.TheVariants.{Create, MakeStr
 use Rattle.mdv_words.specs.declared.command.Line.{Line}
 use Rattle.mdv_words.specs.declared.command.Line.TheVariants as words
 use Rattle.mdv_words.specs.Field.{BeginsWithVolume, BeginsWithAddress}
-use Rattle.mdv_words.specs.Hex.{SpellsBlock}
+use Rattle.mdv_text.specs.Hex.{SpellsBlock}
 use Rattle.mdv_words.specs.Line.{IsCommand, IsLine}
 use Rattle.mdv_words.proofs.Fronts.{one_volume, one_address}
-use Rattle.mdv_words.proofs.Pairs.{one_block}
+use Rattle.mdv_text.proofs.Pairs.{one_block}
 
 -- what stands behind the first word
 pub stripe_words : (text rest : List ℕ) (v : VolId) (slice : SliceName) → text ≡ codes "metainit " ++ rest → IsCommand text (MakeStripe v slice) → BeginsWithVolume rest v (codes "1 1 " ++ slice_text slice)

@@ -1,3 +1,2 @@
 pub mod Field
-pub mod Hex
 pub mod Line

@@ -6,7 +6,7 @@ use Rattle.mdv_words.specs.declared.command.Command.{Command}
 use Rattle.mdv_words.specs.declared.command.Command.TheVariants.{Create, MakeStripe, Read, Write}
 use Rattle.mdv_words.specs.declared.command.Line.{Line}
 use Rattle.mdv_words.specs.declared.command.Line.TheVariants as words
-use Rattle.mdv_words.specs.Hex.{SpellsBlock}
+use Rattle.mdv_text.specs.Hex.{SpellsBlock}
 
 -- the words, parted by exactly one blank
 abbrev pub spaced : List (List ℕ) → List ℕ

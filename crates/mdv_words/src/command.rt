@@ -6,10 +6,9 @@ ghost use Rattle.mdv_words.specs.declared.command.Line.{Line};
 ghost use Rattle.mdv_words.specs.Line.{IsCommand, IsLine};
 
 use crate::fields::{split_address, split_volume, strip};
-use crate::hex::read_block;
 use mdv_base::{Block, SliceName, VolId};
 use mdv_name::parse_plain_slice;
-use mdv_text::number;
+use mdv_text::{number, read_block};
 
 const BOOT: &[u8] = b"boot";
 

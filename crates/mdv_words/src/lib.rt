@@ -3,7 +3,6 @@
 
 mod command;
 mod fields;
-mod hex;
 mod law;
 
 pub use command::{Command, Line, MAX_READ, read_line};

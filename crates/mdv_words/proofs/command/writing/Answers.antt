@@ -1,5 +1,5 @@
 use Rattle.std.proofs.Common.{ℕ, List, subst, sym}
-use Rattle.mdv_words.specs.Hex.{SpellsBlock}
+use Rattle.mdv_text.specs.Hex.{SpellsBlock}
 use Rattle.mdv_words.proofs.Fronts.{one_address}
 use Rattle.mdv_words.proofs.Lines.{write_words}
 use Rattle.mdv_words.proofs.command.writing.Goals as goal

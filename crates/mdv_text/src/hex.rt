@@ -1,10 +1,10 @@
 ghost use Rattle.std.specs.Prelude.{◌≡◌, ℕ, List, IfSome, IfNone};
-ghost use Rattle.mdv_words.specs.Hex.{IsDigit, IsPair, SpellsBlock};
+ghost use Rattle.mdv_text.specs.Hex.{IsDigit, IsPair, SpellsBlock};
 
 use mdv_base::{BLOCK_BYTES, Block, ZERO_BLOCK};
 
-// The block that 1 to 512 pairs of digits spell, with zeros behind them.
-pub(crate) fn read_block(hex: &[u8]) -> Option<Block>
+/// The block of 512 bytes that 1 to 512 pairs of digits spell, with zeros behind them.
+pub fn read_block(hex: &[u8]) -> Option<Block>
     ensures value { IfSome result (SpellsBlock hex.now) }
     ensures none { IfNone result ((block : List ℕ) → SpellsBlock hex.now block → ⊥) }
 {
@@ -22,7 +22,8 @@ pub(crate) fn read_block(hex: &[u8]) -> Option<Block>
     if rest.is_empty() { Some(block) } else { None }
 }
 
-fn read_pair(first: u8, second: u8) -> Option<u8>
+/// The byte that two digits spell, of either case, the high one first.
+pub fn read_pair(first: u8, second: u8) -> Option<u8>
     ensures value { IfSome result (IsPair first second) }
     ensures none { IfNone result ((byte : ℕ) → IsPair first second byte → ⊥) }
 {

@@ -1,4 +1,4 @@
-use Rattle.mdv_words.proofs.hex.read_pair.Goals as goal
+use Rattle.mdv_text.proofs.hex.read_pair.Goals as goal
 
 pub returns-in_err-digit-clause-none : goal.returns-in_err-digit-clause-none
 returns-in_err-digit-clause-none c = rw c.from_residual.ensures (λ byte pair. c.in_err-digit.ensures.none pair.high pair.front)

@@ -1,8 +1,8 @@
 use Rattle.std.proofs.Common.{◌≡◌, ◌<◌, length, [], refl, arith}
 use Rattle.std.proofs.lemmas.Bool.Decides.{nat_tests}
-use Rattle.mdv_grammar.proofs.Pairs.{read_more, read_all, no_pair, far-length, block-length}
-use Rattle.mdv_grammar.proofs.hex.read_block.Goals as goal
-use Rattle.mdv_grammar.proofs.hex.read_block.Goals.{then-is_empty-via-then-is_empty, then-is_empty-via-else-is_empty+then-hex}
+use Rattle.mdv_text.proofs.Pairs.{read_more, read_all, no_pair, far-length, block-length}
+use Rattle.mdv_text.proofs.hex.read_block.Goals as goal
+use Rattle.mdv_text.proofs.hex.read_block.Goals.{then-is_empty-via-then-is_empty, then-is_empty-via-else-is_empty+then-hex}
 
 pub returns-then-is_empty-clause-none : goal.returns-then-is_empty-clause-none
 returns-then-is_empty-clause-none c = λ block spells.

@@ -4,12 +4,12 @@ use Rattle.std.proofs.Math.ListN.{set}
 use Rattle.std.proofs.lemmas.List.{take_all}
 use Rattle.std.proofs.Math.Seq.{set-append_seam, append_snoc}
 use Rattle.mdv_base.specs.Bytes.{padded_to}
-use Rattle.mdv_words.specs.Hex.{IsDigit, IsPair, SpellsBytes, SpellsBlock}
+use Rattle.mdv_text.specs.Hex.{IsDigit, IsPair, SpellsBytes, SpellsBlock}
 
 one_digit : (letter m n : ℕ) → IsDigit letter m → IsDigit letter n → m ≡ n
 one_digit letter m n first second = grind arith
 
-one_pair : (first second m n : ℕ) → IsPair first second m → IsPair first second n → m ≡ n
+pub one_pair : (first second m n : ℕ) → IsPair first second m → IsPair first second n → m ≡ n
 one_pair first second m n a b = omega (arith, one_digit first a.high b.high a.front b.front, one_digit second a.low b.low a.back b.back)
 
 -- two digits for each byte
