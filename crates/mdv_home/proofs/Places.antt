@@ -6,7 +6,7 @@ use Rattle.mdv_name.specs.declared.slice_lines.SliceAt.{SliceAt}
 use Rattle.mdv_name.specs.declared.slice_lines.SliceLine.{SliceLine}
 use Rattle.mdv_shelf.specs.Area.{AreApart, range}
 use Rattle.mdv_table.specs.Slices.{HasBlock, Overlap}
-use Rattle.mdv_table.proofs.Sound.{sound_geometry}
+use Rattle.mdv_name.proofs.Sound.{sound_geometry}
 use Rattle.mdv_home.specs.declared.geometry.Home.{Home}
 use Rattle.mdv_home.specs.Home.{line_of, place_of}
 use Rattle.mdv_home.specs.Placed.{slice_area, SlicesWithin, SlicesApart, ReplicaApart, PlainApart, OnePlace}

@@ -11,5 +11,6 @@ pub mod Places
 pub mod Reading
 pub mod Sets
 pub mod SliceIndexes
+pub mod Sound
 pub mod Texts
 pub mod Volumes

@@ -9,4 +9,5 @@ pub mod Lines
 pub mod Numeral
 pub mod Path
 pub mod SliceIndex
+pub mod Sound
 pub mod Volume

@@ -5,6 +5,7 @@ ghost use Rattle.mdv_name.specs.declared.volume.PoolName.{PoolName};
 ghost use Rattle.mdv_name.specs.Drive.{IsSliceName, SpellsSlice};
 ghost use Rattle.mdv_name.specs.declared.geometry.Geometry.{Geometry};
 ghost use Rattle.mdv_name.specs.Geometry.{IsGeometry, IsBadLine};
+ghost use Rattle.mdv_name.specs.Sound.{IsSound};
 ghost use Rattle.mdv_name.specs.Volume.{IsVolName, IsPoolName, SpellsVolume, pool_text};
 
 /// A text spells one name at most. So a printed name is read again, as that name: its text spells
@@ -25,4 +26,9 @@ pub fn reads_as_one_table()
     ensures wrong { (text : List ℕ) (g : Geometry) (n : ℕ) → IsGeometry text g →
         IsBadLine text n → ⊥ }
     ensures first { (text : List ℕ) (m n : ℕ) → IsBadLine text m → IsBadLine text n → m ≡ n }
+{}
+
+/// What is read as a table of drives is sound.
+pub fn read_geometries_are_sound()
+    ensures { (text : List ℕ) (g : Geometry) → IsGeometry text g → IsSound g }
 {}

@@ -27,7 +27,7 @@ pub use drive_line::{DriveKind, DriveLine};
 pub use drive_list::{DriveList, MAX_DRIVES};
 pub use file_name::FileName;
 pub use geometry::{Geometry, GeometryFault};
-pub use law::{reads_as_one_table, spells_one_name};
+pub use law::{read_geometries_are_sound, reads_as_one_table, spells_one_name};
 pub use name::parse_name;
 pub use name_list::NameList;
 pub use parse::{parse_pool, parse_slice, parse_volume};

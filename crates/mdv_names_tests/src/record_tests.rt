@@ -2,9 +2,9 @@ ghost use Rattle.std.specs.Prelude.{IfOk};
 ghost use Rattle.mdv_table.specs.Slices.{IsSound};
 
 use mdv_base::{Place, Places, VolId};
-use mdv_name::{Geometry, parse_slice};
+use mdv_name::{Geometry, parse_slice, read_geometries_are_sound};
 use mdv_record::*;
-use mdv_table::{Change, Table, read_geometries_are_sound};
+use mdv_table::{Change, Table};
 use std::alloc::Global;
 use std::process::Abort;
 use std::test::Fail;

@@ -2,7 +2,7 @@ ghost use Rattle.std.specs.Prelude.{◌<◌, IfOk};
 ghost use Rattle.mdv_table.specs.Slices.{IsSound};
 
 use mdv_base::{Place, Places, Refusal, SliceName, VolId};
-use mdv_name::{Geometry, parse_slice};
+use mdv_name::{Geometry, parse_slice, read_geometries_are_sound};
 use mdv_table::*;
 use std::alloc::Global;
 use std::process::Abort;

@@ -1,4 +1,3 @@
 pub mod Ascending
 pub mod Finding
 pub mod Pairs
-pub mod Sound

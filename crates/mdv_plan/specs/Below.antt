@@ -1,20 +1,10 @@
 -- The words of the crates below in which this crate speaks, so that a file of it needs one line of import.
-pub use Rattle.mdv_base.specs.declared.drive.DriveNo.{DriveNo}
 pub use Rattle.mdv_base.specs.declared.drive.SliceName.{SliceName}
 pub use Rattle.mdv_base.specs.declared.name.PoolId.{PoolId}
 pub use Rattle.mdv_base.specs.declared.name.VolId.{VolId}
 pub use Rattle.mdv_base.specs.declared.place.Place.{Place}
 pub use Rattle.mdv_extent.specs.declared.run.Run.{Run}
-pub use Rattle.mdv_name.specs.Drive.{IsSliceName}
-pub use Rattle.mdv_name.specs.DriveIndex.{drive_of}
-pub use Rattle.mdv_name.specs.Entry.{IsEntry, IsSliceEntry}
-pub use Rattle.mdv_name.specs.Geometry.{Adds, AddsLine, IsFreshSlice, IsGeometry, ReadsLines, empty, slice_line}
-pub use Rattle.mdv_name.specs.Lines.{lines}
 pub use Rattle.mdv_name.specs.SliceIndex.{HasNoSlice, HasSlice}
-pub use Rattle.mdv_name.specs.declared.drive_line.DriveLine.{DriveLine}
-pub use Rattle.mdv_name.specs.declared.entry.Entry.{Entry}
-pub use Rattle.mdv_name.specs.declared.entry.Entry.TheVariants.{Drive, Host, Slice}
-pub use Rattle.mdv_name.specs.declared.entry.SliceEntry.{SliceEntry}
 pub use Rattle.mdv_name.specs.declared.geometry.Geometry.{Geometry}
 pub use Rattle.mdv_name.specs.declared.slice_lines.SliceAt.{SliceAt}
 pub use Rattle.mdv_name.specs.declared.slice_lines.SliceLine.{SliceLine}

@@ -1,25 +1,14 @@
 -- What a table of drives says of its slices, and which new uses of a slice clash with those that there are.
-use Rattle.std.specs.Prelude.{◌≡◌, ◌<◌, ◌≤◌, ◌+◌, ◌^◌, ◌==◌, ◌&&◌, ℕ, Bool, true, false, not, nat_lt, List, [], ◌∷◌, Option, None, Some, if◌then◌else◌}
+use Rattle.std.specs.Prelude.{◌+◌, ◌==◌, ◌&&◌, ℕ, Bool, true, false, not, nat_lt, List, [], ◌∷◌, Option, None, Some, if◌then◌else◌}
 use Rattle.std.specs.List.{list_any}
-use Rattle.mdv_plan.specs.Below.{SliceName, Geometry, SliceAt, SliceLine, IsSliceName, HasSlice}
+use Rattle.mdv_plan.specs.Below.{SliceName, Geometry, SliceAt, SliceLine}
 use Rattle.mdv_plan.specs.Uses.{same_slice}
 use Rattle.mdv_plan.specs.declared.clash.Asked.{Asked}
 use Rattle.mdv_plan.specs.declared.clash.Asked.TheVariants.{ReplicasTo, OneComponent, Extents, OneSpare}
 use Rattle.mdv_plan.specs.declared.uses.SliceUse.{SliceUse}
 use Rattle.mdv_plan.specs.declared.uses.User.{User}
 use Rattle.mdv_plan.specs.declared.uses.User.TheVariants.{Replica, Component, Extent, Spare}
-
--- a slice of the first 256 drives, of one block at least, that ends within 2 ^ 40 blocks
-pub record IsSoundSlice (slice : SliceName) (at : SliceAt) : Type 0 where
-  pub named : IsSliceName slice
-  pub drive : at.drive.0 < 256
-  pub some : 0 < at.blocks
-  pub within : at.start + at.blocks ≤ 2 ^ 40
-
--- each slice is named once
-pub record IsSound (g : Geometry) : Type 0 where
-  pub each : (name : SliceName) (at : SliceAt) → HasSlice g.slices name at → IsSoundSlice name at
-  pub once : (name : SliceName) (a b : SliceAt) → HasSlice g.slices name a → HasSlice g.slices name b → a ≡ b
+pub use Rattle.mdv_name.specs.Sound.{IsSound, IsSoundSlice}
 
 -- where the slice of this name lies
 abbrev pub slice_at : List SliceLine → SliceName → Option SliceAt

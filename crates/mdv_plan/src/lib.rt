@@ -3,7 +3,6 @@
 #![tactic(auto)]
 
 mod clash;
-mod law;
 mod listed;
 mod lists;
 mod parents;
@@ -17,9 +16,9 @@ mod uses;
 mod volume;
 
 pub use clash::{Asked, meets_db, overlap, slice_at};
-pub use law::read_geometries_are_sound;
 pub use listed::{Copied, Listed};
 pub use lists::Lists;
+pub use mdv_name::read_geometries_are_sound;
 pub use parents::{names_pool, names_volume};
 pub use plan::Plan;
 pub use pool::{MAX_POOLS, MAX_SPARES, Pool, Spare};

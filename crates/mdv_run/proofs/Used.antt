@@ -3,7 +3,7 @@ use Rattle.std.proofs.Common.{◌≡◌, ◌<◌, ◌^◌, ℕ, List, subst}
 use Rattle.mdv_run.specs.Below.{Geometry, Home, IsHome, Host, IsReady, IsUsed}
 use Rattle.mdv_name.proofs.OneTable.{one_table}
 use Rattle.mdv_home.proofs.Homes.{one_home, small_home}
-use Rattle.mdv_table.proofs.Sound.{sound_geometry}
+use Rattle.mdv_name.proofs.Sound.{sound_geometry}
 
 pub one_host : (words : List (List ℕ)) (text sizes : List ℕ) (fresh : ℕ) (a b : Geometry) (g h : Home) → IsUsed words text sizes a g → IsUsed words text sizes b h
     → let first : Host = record { drives = a; home = g; fresh = fresh } in let second : Host = record { drives = b; home = h; fresh = fresh } in first ≡ second

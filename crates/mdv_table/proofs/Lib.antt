@@ -4,4 +4,3 @@ pub mod Causes
 pub mod Making
 pub mod Marks
 pub mod Pairs
-pub mod Sound

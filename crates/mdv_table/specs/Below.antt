@@ -5,16 +5,7 @@ pub use Rattle.mdv_base.specs.declared.name.VolId.{VolId}
 pub use Rattle.mdv_base.specs.declared.place.Place.{Place}
 pub use Rattle.mdv_base.specs.declared.refusal.Refusal.{Refusal}
 pub use Rattle.mdv_base.specs.declared.refusal.Refusal.TheVariants.{NameTaken, NoSuchSlice, SliceInUse, WrongKind}
-pub use Rattle.mdv_name.specs.Drive.{IsSliceName}
-pub use Rattle.mdv_name.specs.DriveIndex.{drive_of}
-pub use Rattle.mdv_name.specs.Entry.{IsEntry, IsSliceEntry}
-pub use Rattle.mdv_name.specs.Geometry.{Adds, AddsLine, IsFreshSlice, IsGeometry, ReadsLines, empty, slice_line}
-pub use Rattle.mdv_name.specs.Lines.{lines}
 pub use Rattle.mdv_name.specs.SliceIndex.{HasNoSlice, HasSlice}
-pub use Rattle.mdv_name.specs.declared.drive_line.DriveLine.{DriveLine}
-pub use Rattle.mdv_name.specs.declared.entry.Entry.{Entry}
-pub use Rattle.mdv_name.specs.declared.entry.Entry.TheVariants.{Drive, Host, Slice}
-pub use Rattle.mdv_name.specs.declared.entry.SliceEntry.{SliceEntry}
 pub use Rattle.mdv_name.specs.declared.geometry.Geometry.{Geometry}
 pub use Rattle.mdv_name.specs.declared.slice_lines.SliceAt.{SliceAt}
 pub use Rattle.mdv_name.specs.declared.slice_lines.SliceLine.{SliceLine}

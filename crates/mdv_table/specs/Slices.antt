@@ -1,19 +1,7 @@
 -- What a table of drives says of its slices.
-use Rattle.std.specs.Prelude.{◌≡◌, ◌<◌, ◌≤◌, ◌+◌, ◌^◌, ℕ, List}
-use Rattle.mdv_table.specs.Below.{SliceName, Geometry, SliceAt, SliceLine, IsSliceName, HasSlice}
-
--- a slice of the first 256 drives, of one block at least, that ends within 2 ^ 40 blocks
-pub record IsSoundSlice (slice : SliceName) (at : SliceAt) : Type 0 where
-  pub named : IsSliceName slice
-  pub drive : at.drive.0 < 256
-  pub some : 0 < at.blocks
-  pub within : at.start + at.blocks ≤ 2 ^ 40
-
--- each slice is named once, and a drive's number stands for one drive
-pub record IsSound (g : Geometry) : Type 0 where
-  pub each : (name : SliceName) (at : SliceAt) → HasSlice g.slices name at → IsSoundSlice name at
-  pub once : (name : SliceName) (a b : SliceAt) → HasSlice g.slices name a → HasSlice g.slices name b → a ≡ b
-  pub drives : (m n : SliceName) (a b : SliceAt) → HasSlice g.slices m a → HasSlice g.slices n b → a.drive ≡ b.drive → m.drive ≡ n.drive
+use Rattle.std.specs.Prelude.{◌≡◌, ◌<◌, ◌≤◌, ◌+◌, ℕ, List}
+use Rattle.mdv_table.specs.Below.{SliceName, SliceAt, SliceLine, HasSlice}
+pub use Rattle.mdv_name.specs.Sound.{IsSound, IsSoundSlice}
 
 -- the block of the drive is one of the slice
 pub record HasBlock (at : SliceAt) (block : ℕ) : Type 0 where

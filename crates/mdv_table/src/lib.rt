@@ -3,7 +3,6 @@
 #![tactic(auto)]
 
 mod change;
-mod law;
 mod of_geometry;
 mod plan;
 mod table;
@@ -12,7 +11,6 @@ mod volume;
 mod volumes;
 
 pub use change::{ApplyFault, Change};
-pub use law::read_geometries_are_sound;
 pub use plan::{Lists, Plan};
 pub use table::{Status, Table};
 pub use volume::{Base, Component, DEFAULT_INTERLACE, Stripe, Volume, VolumeKind};

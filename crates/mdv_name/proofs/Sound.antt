@@ -4,8 +4,22 @@ use Rattle.std.proofs.lemmas.List.{length_push}
 use Rattle.std.proofs.lemmas.List.Elements.{All-nil, All-push, Contains-push_cases}
 use Rattle.std.proofs.lemmas.Option.{slice_get_within, get_or_from_slice_get}
 use Rattle.std.specs.Prelude.{All, slice_get}
-use Rattle.mdv_table.specs.Below.{DriveNo, SliceName, DriveLine, Entry, Host, Drive, Slice, SliceEntry, Geometry, SliceAt, SliceLine, IsSliceName, drive_of, IsEntry, IsSliceEntry, empty, Adds, AddsLine, ReadsLines, IsGeometry, IsFreshSlice, slice_line, lines, HasSlice}
-use Rattle.mdv_table.specs.Slices.{IsSound}
+use Rattle.mdv_base.specs.declared.drive.DriveNo.{DriveNo}
+use Rattle.mdv_base.specs.declared.drive.SliceName.{SliceName}
+use Rattle.mdv_name.specs.Drive.{IsSliceName}
+use Rattle.mdv_name.specs.DriveIndex.{drive_of}
+use Rattle.mdv_name.specs.Entry.{IsEntry, IsSliceEntry}
+use Rattle.mdv_name.specs.Geometry.{Adds, AddsLine, IsFreshSlice, IsGeometry, ReadsLines, empty, slice_line}
+use Rattle.mdv_name.specs.Lines.{lines}
+use Rattle.mdv_name.specs.SliceIndex.{HasSlice}
+use Rattle.mdv_name.specs.Sound.{IsSound}
+use Rattle.mdv_name.specs.declared.drive_line.DriveLine.{DriveLine}
+use Rattle.mdv_name.specs.declared.entry.Entry.{Entry}
+use Rattle.mdv_name.specs.declared.entry.Entry.TheVariants.{Drive, Host, Slice}
+use Rattle.mdv_name.specs.declared.entry.SliceEntry.{SliceEntry}
+use Rattle.mdv_name.specs.declared.geometry.Geometry.{Geometry}
+use Rattle.mdv_name.specs.declared.slice_lines.SliceAt.{SliceAt}
+use Rattle.mdv_name.specs.declared.slice_lines.SliceLine.{SliceLine}
 
 -- a slice lies within the drive of its name
 record LiesOn (drives : List DriveLine) (name : SliceName) (at : SliceAt) : Type 0 where

@@ -1,5 +1,0 @@
-use Rattle.mdv_plan.proofs.Sound.{sound_geometry}
-use Rattle.mdv_plan.proofs.law.read_geometries_are_sound.Goals as goal
-
-pub returns : goal.returns
-returns c = sound_geometry
