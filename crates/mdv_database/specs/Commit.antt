@@ -1,4 +1,5 @@
 -- What a commit says: of each moment, of the end, and of its answer.
+use Rattle.mdv_record.specs.declared.record.TooLong.{TooLong}
 use Rattle.std.specs.Prelude.{◌≡◌, ℕ, ◌+◌, ◌≤◌, ◌<◌, ◌^◌, List, length, Option, Result, Ok, Err}
 use Rattle.mdv_database.specs.Below.{Key, Geometry, record_text, PlaceAt, room_of, IsSynced, Tale, Change, Table, IsWithNewest, IsThisChange, NoCreation, Newest, Anything, GoesFrom, IsOpened, next_newest}
 use Rattle.mdv_database.specs.declared.database.CommitFault.{CommitFault}
@@ -26,10 +27,14 @@ pub record IsCommittable (newest : Newest) (next : Table) : Type 0 where
   pub in_room : length (record_text next) ≤ room_of newest.blocks
   pub countable : newest.mark.count + 1 < 2 ^ 63
 
+-- so many bytes have no room, and the fault tells both
+abbrev pub IsOver : ℕ → ℕ → TooLong → Type 0
+IsOver room bytes fault = (room < bytes) × (fault ≡ record { bytes = bytes; room = room })
+
 -- a text that is too long is told before a count that is spent; what fits is lost only where a call failed
 abbrev pub HasCommitCause : Type 0 → Newest → Table → CommitFault → Type 0
 HasCommitCause failed newest next unwritten.Lost = failed × IsCommittable newest next
-HasCommitCause failed newest next (unwritten.TooLong fault) = (room_of newest.blocks < length (record_text next)) × (fault ≡ record { bytes = length (record_text next); room = room_of newest.blocks })
+HasCommitCause failed newest next (unwritten.TooLong fault) = IsOver (room_of newest.blocks) (length (record_text next)) fault
 HasCommitCause failed newest next unwritten.Spent = (length (record_text next) ≤ room_of newest.blocks) × (2 ^ 63 ≤ newest.mark.count + 1)
 
 -- the database goes on from the next table, or stays as it was

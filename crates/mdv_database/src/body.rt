@@ -5,7 +5,7 @@ ghost use Rattle.mdv_base.specs.Causes.{HasCause};
 ghost use Rattle.mdv_shelf.specs.Calls.{OnDrive};
 ghost use Rattle.mdv_shelf.specs.Shelves.{AtEachTale, AtEnd, DriveFailed, Kept};
 ghost use Rattle.mdv_shelf.specs.Tale.{last};
-ghost use Rattle.mdv_replica.specs.Counts.{MakesCalls};
+ghost use Rattle.mdv_shelf.specs.Between.{MakesCalls};
 ghost use Rattle.mdv_replica.specs.Forms.{IsMark};
 ghost use Rattle.mdv_replica.specs.Form.{room_of};
 ghost use Rattle.mdv_replica.specs.Replica.{IsPlaced, slot_blocks as spec_slot_blocks};

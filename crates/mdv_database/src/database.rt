@@ -3,16 +3,15 @@ ghost use Rattle.mdv_name.specs.declared.geometry.Geometry.{Geometry as Drives};
 ghost use Rattle.mdv_record.specs.Text.{record_text};
 ghost use Rattle.mdv_shelf.specs.Calls.{OnDrive};
 ghost use Rattle.mdv_shelf.specs.Shelves.{AtEachTale, AtEnd, DriveFailed, Kept};
-ghost use Rattle.mdv_replica.specs.Counts.{MakesCalls};
+ghost use Rattle.mdv_shelf.specs.Between.{MakesCalls};
 ghost use Rattle.mdv_replica.specs.Form.{room_of};
 ghost use Rattle.mdv_replica.specs.Forms.{IsMark};
-ghost use Rattle.mdv_replica.specs.Replica.{IsPlaced, slot_blocks, with_blocks};
+ghost use Rattle.mdv_replica.specs.Replica.{IsPlaced, slot_blocks};
 ghost use Rattle.mdv_table.specs.Slices.{IsSound};
 ghost use Rattle.mdv_table.specs.Table.{IsPlaceOf};
 ghost use Rattle.mdv_store_law.specs.Site.{IsTableAt};
-ghost use Rattle.mdv_store_law.specs.Steps.{next_newest};
 ghost use Rattle.mdv_database.specs.Boot.{AdoptEnds, AdoptMoment, BootAnswer, BootEnds, BootMoment, IsAdoption, RewriteEnds, RewriteMoment};
-ghost use Rattle.mdv_database.specs.Commit.{CommitAnswer, CommitDone, CommitMoment};
+ghost use Rattle.mdv_database.specs.Commit.{CommitAnswer, CommitDone, CommitMoment, IsOver};
 ghost use Rattle.mdv_database.specs.Counts.{IsAdoptionCounted, IsBootCounted, IsCommitCounted, IsCreationCounted};
 ghost use Rattle.mdv_database.specs.Create.{CreateAnswer, CreateEnds, CreateMoment};
 ghost use Rattle.mdv_database.specs.Database.{IsOnDrive, IsInHand, IsLaid, site_of, first_table as spec_first_table};
@@ -295,7 +294,7 @@ impl Database {
 
     fn check_room(&self, next: &Table) -> Result<(), TooLong>
         ensures ok { OnOk result (length (record_text next.now) ≤ room_of self.now.blocks) }
-        ensures err { IfErr result (λ fault. (room_of self.now.blocks < length (record_text next.now)) × (fault ≡ record { bytes = length (record_text next.now); room = room_of self.now.blocks })) }
+        ensures err { IfErr result (IsOver (room_of self.now.blocks) (length (record_text next.now))) }
     {
         let bytes = text_bytes(next);
         let room = u64::from((self.blocks - 4) / 2) * BLOCK_BYTES as u64;

@@ -3,7 +3,7 @@ use Rattle.std.proofs.Common.{◌≡◌, ℕ, List, Option, sym, subst, ap, arit
 use Rattle.mdv_shelf.specs.Calls.{TookAtMost}
 use Rattle.mdv_shelf.specs.Between.{TookBetween}
 use Rattle.mdv_shelf.proofs.Between.{between_none}
-use Rattle.mdv_replica.proofs.Counted.{took_wider}
+use Rattle.mdv_shelf.proofs.Counts.{took_wider}
 use Rattle.mdv_engine.specs.Below.{Refusal, IoFault, OutOfMemory, VolId, Tale, Answer, Host, Memory, AreBlocksRefused}
 use Rattle.mdv_engine_law.specs.declared.answer.Answer.TheVariants as outcome
 use Rattle.mdv_engine_law.specs.declared.answer.Reply.{Reply}

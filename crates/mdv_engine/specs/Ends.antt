@@ -1,7 +1,7 @@
 -- What the calls of an engine say of their answers, and of the drive in the end.
 use Rattle.std.specs.Prelude.{◌≡◌, ◌≤◌, ◌+◌, ℕ, List, [], ◌∷◌, Some, None, Result, Ok, Err, IfOk, IfErr, OnOk, Contains, length}
 use Rattle.mdv_shelf.specs.Between.{TookBetween}
-use Rattle.mdv_shelf.specs.Shelves.{AtEachTale, AtEnd, MadeCalls, MadeCallsAtMost}
+use Rattle.mdv_shelf.specs.Shelves.{AtEachTale, AtEnd, DriveFailed, EndsTold, MadeCalls, MadeCallsAtMost}
 use Rattle.mdv_shelf.specs.declared.shelf.Shelf.{Ghosts}
 use Rattle.mdv_words.specs.declared.command.Command.{Command}
 use Rattle.mdv_words.specs.declared.command.Line.TheVariants as words
@@ -30,6 +30,9 @@ IsNext engine change next = IsNextTable engine.host engine.state change next
 
 abbrev pub CommitEnd : Type 0 → Engine → Change → Answer → Memory → Tale → Tale → Type 0
 CommitEnd failed old change answer new t u = CarryEnd (λ kept a next. IsCommit failed old.host kept change a next) old.host (Changed change ∷ []) old.state answer new t u
+
+abbrev pub CommitEnds : {S : Type 0} → Ghosts S → S → S → Engine → Change → Answer → Memory → Type 0
+CommitEnds shelf from to old change answer new = AtEnd shelf (CommitEnd (DriveFailed shelf from to 0) old change answer new) from to
 
 -- What an answer says, whatever the shelf tells: its text is a reply's, it has its cause, a deed is accepted only where the last boot read
 -- the drive, and a creation only where no database is open; and what the engine keeps.
@@ -63,12 +66,18 @@ pub record HasOnlyReplied (drive replies : Type 0) (old : Engine) (given : Reply
   pub same : new ≡ old
 
 -- The calls of a command and of its reply: as many as the command takes, and one. A refused command writes nothing, unless a call failed, and
--- makes no call on the drive, unless memory was wanting behind it.
+-- makes no call on the drive, unless memory was wanting behind it. Where the reply was told whole, none failed behind its last byte.
 pub record IsTurnCounted {S : Type 0} (shelf : Ghosts S) (old new : S) (command : Command) (given : Reply) : Type 0 where
   pub most : MadeCallsAtMost shelf old new (1 + calls_of command) (counts.blocks_of command)
   pub done : given ≡ reply.Ok → TookBetween shelf.calls shelf.written old new (1 + calls_of command) (1 + calls_of command) (counts.blocks_of command)
   pub unlooked : IsUnlooked given → MadeCallsAtMost shelf old new 1 0
   pub unwritten : IsQuietRefusal given → MadeCallsAtMost shelf old new (1 + calls_of command) 0
+  pub told : IsReplied given → EndsTold shelf old new
+
+-- The call of a reply alone, where the same holds.
+pub record IsReplyCounted {S : Type 0} (shelf : Ghosts S) (old new : S) (given : Reply) : Type 0 where
+  pub most : MadeCallsAtMost shelf old new 1 0
+  pub told : IsReplied given → EndsTold shelf old new
 
 -- what a boot leaves in memory: how many creations were begun alone, where it isn't answered
 abbrev pub kept_by : ℕ → Result Memory BootRefusal → Memory

@@ -1,4 +1,4 @@
-ghost use Rattle.std.specs.Prelude.{◌≡◌, [], ◌∷◌, ◌<◌, Some, IfOk, IfErr, IfSome, OnOk};
+ghost use Rattle.std.specs.Prelude.{[], ◌∷◌, ◌<◌, Some, IfOk, IfErr, IfSome, OnOk};
 ghost use Rattle.mdv_base.specs.declared.refusal.Refusal.{Refusal as AnyRefusal};
 ghost use Rattle.mdv_table.specs.declared.change.Change.{Change as AnyChange};
 ghost use Rattle.mdv_table.specs.Change.{HasFault, IsNumbered, IsRefused};
@@ -11,7 +11,7 @@ ghost use Rattle.mdv_engine.specs.Counts.{IsCommandCounted};
 ghost use Rattle.mdv_shelf.specs.Shelves.{AtEachTale, AtEnd, DriveFailed, Kept};
 ghost use Rattle.mdv_engine_law.specs.Home.{IsReady};
 ghost use Rattle.mdv_engine_law.specs.Standing.{CarryMoment};
-ghost use Rattle.mdv_engine.specs.Ends.{CommandEnd, CommitEnd, HasAnswered, IsNext};
+ghost use Rattle.mdv_engine.specs.Ends.{CommandEnd, CommitEnds, HasAnswered, IsNext};
 ghost use Rattle.mdv_engine.specs.Engine.{HasChangeCause, IsNextTable, IsTableOf, IsWell};
 
 use crate::engine::Engine;
@@ -75,7 +75,7 @@ impl Engine {
         requires well { IsWell self.old.host self.old.state }
         requires placed { IfSome self.old.state.opened (λ newest. IsTableOf self.old.host newest.blocks next) }
         ensures moments { (change : AnyChange) → IsNext self.old change next → AtEachTale S.Shelf (CarryMoment self.old.host (Changed change ∷ []) self.old.state) shelf.old shelf.new }
-        ensures end { (change : AnyChange) → IsNext self.old change next → AtEnd S.Shelf (CommitEnd (DriveFailed S.Shelf shelf.old shelf.new 0) self.old change result self.new.state) shelf.old shelf.new }
+        ensures end { (change : AnyChange) → IsNext self.old change next → CommitEnds S.Shelf shelf.old shelf.new self.old change result self.new.state }
         ensures answer { (change : AnyChange) → HasAnswered (DriveFailed S.Shelf shelf.old shelf.new 0) (Changed change ∷ []) self.old result self.new }
         ensures counted { IsCommandCounted S.tale S.calls S.written shelf.old shelf.new 6 4096 result }
         ensures kept { Kept S.Shelf shelf.old shelf.new }

@@ -1,12 +1,12 @@
 ghost use Rattle.std.specs.Prelude.{◌<◌, ◌+◌, ◌^◌, [], List};
-ghost use Rattle.mdv_shelf.specs.Shelves.{AtEachTale, AtEnd, DriveFailed, GivingFailed, Kept, MadeCallsAtMost};
+ghost use Rattle.mdv_shelf.specs.Shelves.{AtEachTale, AtEnd, DriveFailed, GivingFailed, Kept};
 ghost use Rattle.mdv_history.specs.History.{Deed};
 ghost use Rattle.mdv_engine_law.specs.Home.{IsReady};
 ghost use Rattle.mdv_engine_law.specs.Line.{IsExecuted, asked_by, unbooted};
 ghost use Rattle.mdv_engine_law.specs.Replies.{IsPlain};
 ghost use Rattle.mdv_engine_law.specs.Standing.{BootMoment, CarryMoment, OnlyReplied, TurnMoment};
 ghost use Rattle.mdv_engine.specs.Counts.{IsBootedCounted, IsCommandCounted, blocks_of, calls_of};
-ghost use Rattle.mdv_engine.specs.Ends.{IsBootEnd, CommandEnd, HasAnswered, HasBooted, HasBootedFrom, HasOnlyReplied, HasRebooted, HasReplied, IsTurnCounted, TurnEnd, kept_by, left_by};
+ghost use Rattle.mdv_engine.specs.Ends.{IsBootEnd, CommandEnd, HasAnswered, HasBooted, HasBootedFrom, HasOnlyReplied, HasRebooted, HasReplied, IsReplyCounted, IsTurnCounted, TurnEnd, kept_by, left_by};
 ghost use Rattle.mdv_engine.specs.Engine.{IsWell, boot_answer};
 
 use crate::state::State;
@@ -88,7 +88,7 @@ impl Engine {
         ensures moments { (asked : List Deed) → AtEachTale B.Shelf (TurnMoment self.old.host asked self.old.state) bench.old bench.new }
         ensures end { AtEnd B.Shelf (OnlyReplied (GivingFailed B.Shelf bench.old bench.new) (Answer.Refused refusal.now) result) bench.old bench.new }
         ensures answer { HasOnlyReplied (DriveFailed B.Shelf bench.old bench.new 0) (GivingFailed B.Shelf bench.old bench.new) self.old result self.new }
-        ensures counted { MadeCallsAtMost B.Shelf bench.old bench.new 1 0 }
+        ensures counted { IsReplyCounted B.Shelf bench.old bench.new result }
         ensures kept { Kept B.Shelf bench.old bench.new }
     {
         tell(bench, &Answer::Refused(*refusal))
@@ -100,7 +100,7 @@ impl Engine {
         ensures moments { AtEachTale B.Shelf (TurnMoment self.old.host [] self.old.state) bench.old bench.new }
         ensures end { AtEnd B.Shelf (OnlyReplied (GivingFailed B.Shelf bench.old bench.new) Answer.Ok result) bench.old bench.new }
         ensures answer { HasOnlyReplied (DriveFailed B.Shelf bench.old bench.new 0) (GivingFailed B.Shelf bench.old bench.new) self.old result self.new }
-        ensures counted { MadeCallsAtMost B.Shelf bench.old bench.new 1 0 }
+        ensures counted { IsReplyCounted B.Shelf bench.old bench.new result }
         ensures kept { Kept B.Shelf bench.old bench.new }
     {
         tell(bench, &Answer::Ok)

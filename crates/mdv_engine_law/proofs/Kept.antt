@@ -1,5 +1,5 @@
 -- What a stretch of no calls keeps.
-use Rattle.std.proofs.Common.{ℕ, [], refl, arith}
+use Rattle.std.proofs.Common.{[], refl, arith}
 use Rattle.mdv_shelf.specs.Shelves.{Kept}
 use Rattle.mdv_shelf.specs.declared.shelf.Shelf.{Ghosts}
 

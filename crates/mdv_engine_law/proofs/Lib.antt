@@ -2,6 +2,7 @@ pub mod Giving
 pub mod Executing
 pub mod Plain
 pub mod Knowing
+pub mod Longer
 pub mod Going
 pub mod Deeds
 pub mod Turning

@@ -1,6 +1,9 @@
 -- The bytes of replies, how they are told, and what they acknowledge.
 use Rattle.std.specs.Prelude.{◌≡◌, ◌⊎◌, ℕ, true, ◌||◌, List, [], ◌∷◌, ◌++◌, take, codes, if◌then◌else◌}
 use Rattle.std.specs.Str.{bytes_eq}
+use Rattle.mdv_shelf.specs.Shelves.{MadeCalls, MadeCallsAtMost}
+use Rattle.mdv_shelf.specs.Story.{NoFewer}
+use Rattle.mdv_shelf.specs.declared.shelf.Shelf.{Ghosts}
 use Rattle.mdv_engine_law.specs.Below.{refusal_text, Refusal, IoFault, Deed, lacks, replies_in, values_reply}
 use Rattle.mdv_engine_law.specs.declared.answer.Answer.{Answer}
 use Rattle.mdv_engine_law.specs.declared.answer.Answer.TheVariants as outcome
@@ -149,3 +152,9 @@ HasAnswerCause drive (outcome.Refused refusal) = Unit {0}
 HasAnswerCause drive outcome.Panic = drive
 HasAnswerCause drive outcome.Spent = Unit {0}
 HasAnswerCause drive outcome.NoMemory = Unit {0}
+
+-- The calls of a telling: one at most, and one where the reply was told whole, by which no count rose.
+pub record IsTellingCounted {S : Type 0} (shelf : Ghosts S) (old new : S) (given : Reply) : Type 0 where
+  pub most : MadeCallsAtMost shelf old new 1 0
+  pub once : IsReplied given → MadeCalls shelf old new 1 0
+  pub calm : IsReplied given → NoFewer (shelf.faults new) (shelf.faults old)

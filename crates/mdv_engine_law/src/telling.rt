@@ -1,9 +1,9 @@
 ghost use Rattle.std.specs.Prelude.{◌≡◌, ℕ, List};
 ghost use Rattle.mdv_base.specs.Causes.{Rose};
-ghost use Rattle.mdv_shelf.specs.Calls.{OnReplies, Took, TookAtMost};
+ghost use Rattle.mdv_shelf.specs.Calls.{OnReplies};
 ghost use Rattle.mdv_shelf.specs.Moments.{Moments, Ends};
 ghost use Rattle.mdv_shelf.specs.Shelves.{Kept};
-ghost use Rattle.mdv_engine_law.specs.Replies.{refusal_line, IsReplied, IsTold, text_of};
+ghost use Rattle.mdv_engine_law.specs.Replies.{refusal_line, IsTold, IsTellingCounted, text_of};
 ghost use Rattle.mdv_engine_law.specs.Standing.{OnlyReplied, TellMoment};
 
 use crate::answer::{Answer, Reply};
@@ -17,8 +17,7 @@ pub fn tell<B: Bench>(bench: &mut B, answer: &Answer) -> Reply
     ensures told { Ends (OnlyReplied (Rose (B.faults bench.old OnReplies) (B.faults bench.new OnReplies)) answer.now result) (B.tale bench.old) (B.tale bench.new) }
     ensures fronts { Moments (TellMoment (text_of answer.now)) (B.tale bench.old) (B.tale bench.new) }
     ensures answers { (piece : List ℕ) × IsTold (Rose (B.faults bench.old OnReplies) (B.faults bench.new OnReplies)) answer.now result piece }
-    ensures counted { TookAtMost B.calls B.written bench.old bench.new 1 0 }
-    ensures given { IsReplied result → Took B.calls B.written bench.old bench.new 1 0 }
+    ensures counted { IsTellingCounted B.Shelf bench.old bench.new result }
     ensures kept { Kept B.Shelf bench.old bench.new }
 {
     match answer {

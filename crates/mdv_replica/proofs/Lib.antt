@@ -1,5 +1,4 @@
 pub mod Bodies
-pub mod Counted
 pub mod Heads
 pub mod Leaving
 pub mod Looks

@@ -1,10 +1,11 @@
 -- What a look at the head of a replica answers, from what the drive's blocks hold.
-use Rattle.std.specs.Prelude.{◌≡◌, ◌⊎◌, ◌↔◌, ℕ, ◌+◌, ◌≤◌, ◌<◌, ◌^◌, Bool, true, false, not, IsTrue, List, Some, None}
+use Rattle.std.specs.Prelude.{◌≡◌, ◌⊎◌, ◌↔◌, ℕ, ◌+◌, ◌≤◌, ◌<◌, ◌^◌, Bool, true, false, not, IsTrue, List, [], length, slice_index_or, Some, None}
 use Rattle.mdv_base.specs.declared.flags.Flags.{Flags}
 use Rattle.mdv_replica.specs.declared.forms.Master.{Master}
 use Rattle.mdv_replica.specs.declared.forms.Gate.{Gate}
 use Rattle.mdv_replica.specs.declared.replica.PlaceAt.{PlaceAt}
 use Rattle.mdv_replica.specs.declared.replica.Head.{Head}
+use Rattle.mdv_replica.specs.declared.looking.ClaimAndGates.{ClaimAndGates}
 use Rattle.mdv_replica.specs.declared.looking.Seen.{Seen}
 use Rattle.mdv_replica.specs.Forms.{master_text, claim_text, gate_text, block_of, IsMaster, IsGate}
 use Rattle.mdv_replica.specs.Replica.{LiesAt, IsHead, with_blocks}
@@ -23,6 +24,18 @@ pub record AreClaimAndGates (one two three : List ℕ) (claim : ℕ) (first seco
   pub first_block : two ≡ block_of (gate_text first)
   pub second_form : IsGate second
   pub second_block : three ≡ block_of (gate_text second)
+
+-- so are the three behind the first of these blocks
+abbrev pub AreBehindFirst : List (List ℕ) → ℕ → Gate → Gate → Type 0
+AreBehindFirst blocks claim first second = AreClaimAndGates (slice_index_or blocks 1 []) (slice_index_or blocks 2 []) (slice_index_or blocks 3 []) claim first second
+
+-- the head that they make with a master
+abbrev pub head_with : Master → ClaimAndGates → Head
+head_with master rest = record { master = master; claim = rest.claim; first = rest.first; second = rest.second }
+
+-- the blocks are those of the contents from the first on
+abbrev pub AreBlocksOf : (ℕ → List ℕ) → ℕ → List (List ℕ) → Type 0
+AreBlocksOf content first blocks = (k : ℕ) → k < length blocks → slice_index_or blocks k [] ≡ content (first + k)
 
 -- the drive has the three blocks behind the master, and they are a claim and two gates
 pub record HasClaimAndGates (at : PlaceAt) (size : ℕ) (content : ℕ → List ℕ) : Type 0 where

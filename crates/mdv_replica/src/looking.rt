@@ -1,11 +1,11 @@
 // What the head of a replica says, and the letters that a place is told with.
-ghost use Rattle.std.specs.Prelude.{◌≡◌, ◌↔◌, ◌<◌, ◌-◌, ◌+◌, min, ℕ, List, [], length, slice_index_or, true, is_some, is_none, IsTrue, IfSome, MatchOption, Some, None};
+ghost use Rattle.std.specs.Prelude.{◌≡◌, ◌↔◌, ◌<◌, ◌-◌, min, ℕ, List, length, slice_index_or, true, is_some, is_none, IsTrue, IfSome, MatchOption, Some, None};
 ghost use Rattle.mdv_base.specs.Causes.{Rose};
 ghost use Rattle.mdv_shelf.specs.Tale.{Tale, last};
 ghost use Rattle.mdv_shelf.specs.Calls.{OnDrive, Took};
 ghost use Rattle.mdv_shelf.specs.Shelves.{Kept};
 ghost use Rattle.mdv_replica.specs.Replica.{LiesAt, with_blocks};
-ghost use Rattle.mdv_replica.specs.Seen.{AreClaimAndGates, IsMasterAt, IsSeen, IsLook, head_flags, unread_at};
+ghost use Rattle.mdv_replica.specs.Seen.{AreBehindFirst, AreBlocksOf, IsMasterAt, IsSeen, IsLook, head_flags, head_with, unread_at};
 
 use crate::forms::{Gate, Master};
 use crate::reading::{read_claim, read_gate, read_master};
@@ -72,7 +72,7 @@ fn unread(at: &PlaceAt) -> Seen
 fn looked(at: &PlaceAt, size: u64, blocks: &[Block]) -> Seen
     requires within { at.now.first < size }
     requires count { length blocks.now ≡ min 4 (size - at.now.first) }
-    ensures { (content : ℕ → List ℕ) → ((k : ℕ) → k < length blocks.now → slice_index_or blocks.now k [] ≡ content (at.now.first + k)) → IsLook at.now size content result }
+    ensures { (content : ℕ → List ℕ) → AreBlocksOf content at.now.first blocks.now → IsLook at.now size content result }
 {
     let master = master_in(at, size, &blocks[0]);
     let rest = rest_in(blocks);
@@ -82,7 +82,7 @@ fn looked(at: &PlaceAt, size: u64, blocks: &[Block]) -> Seen
 fn seen_of(at: &PlaceAt, master: Option<Master>, rest: Option<ClaimAndGates>) -> Seen
     ensures flags { result.flags ≡ head_flags (is_some master) (is_none rest) }
     ensures place { MatchOption master (result.place ≡ at.now.place) (λ m. result.place ≡ (with_blocks at.now m.blocks).place) }
-    ensures head { MatchOption master (result.head ≡ None) (λ m. MatchOption rest (result.head ≡ None) (λ r. result.head ≡ Some (record { master = m; claim = r.claim; first = r.first; second = r.second }))) }
+    ensures head { MatchOption master (result.head ≡ None) (λ m. MatchOption rest (result.head ≡ None) (λ r. result.head ≡ Some (head_with m r))) }
 {
     Seen {
         place: place_in(at, &master),
@@ -110,7 +110,7 @@ fn place_in(at: &PlaceAt, master: &Option<Master>) -> Place
 }
 
 fn head_in(master: Option<Master>, rest: Option<ClaimAndGates>) -> Option<Head>
-    ensures { MatchOption master (result ≡ None) (λ m. MatchOption rest (result ≡ None) (λ r. result ≡ Some (record { master = m; claim = r.claim; first = r.first; second = r.second }))) }
+    ensures { MatchOption master (result ≡ None) (λ m. MatchOption rest (result ≡ None) (λ r. result ≡ Some (head_with m r))) }
 {
     let master = master?;
     let rest = rest?;
@@ -156,8 +156,8 @@ fn is_same_slice(one: &SliceName, other: &SliceName) -> bool
 
 // The claim and the gates behind the master, where the drive has them and they are of their form.
 fn rest_in(blocks: &[Block]) -> Option<ClaimAndGates>
-    ensures value { IfSome result (λ r. (length blocks.now ≡ 4) × AreClaimAndGates (slice_index_or blocks.now 1 []) (slice_index_or blocks.now 2 []) (slice_index_or blocks.now 3 []) r.claim r.first r.second) }
-    ensures spelled { (claim : ℕ) (first second : Gate) → length blocks.now ≡ 4 → AreClaimAndGates (slice_index_or blocks.now 1 []) (slice_index_or blocks.now 2 []) (slice_index_or blocks.now 3 []) claim first second → result ≡ Some (record { claim = claim; first = first; second = second }) }
+    ensures value { IfSome result (λ r. (length blocks.now ≡ 4) × AreBehindFirst blocks.now r.claim r.first r.second) }
+    ensures spelled { (claim : ℕ) (first second : Gate) → length blocks.now ≡ 4 → AreBehindFirst blocks.now claim first second → result ≡ Some (record { claim = claim; first = first; second = second }) }
 {
     let [_, claim, first, second] = blocks else {
         return None;

@@ -5,7 +5,7 @@ ghost use Rattle.mdv_base.specs.Causes.{HasCause};
 ghost use Rattle.mdv_shelf.specs.Calls.{OnDrive, Reads, Took};
 ghost use Rattle.mdv_shelf.specs.Moments.{Moments, Ends};
 ghost use Rattle.mdv_shelf.specs.Shelves.{Kept};
-ghost use Rattle.mdv_replica.specs.Counts.{MakesCalls};
+ghost use Rattle.mdv_shelf.specs.Between.{MakesCalls};
 ghost use Rattle.mdv_replica.specs.Forms.{IsMaster, IsMark};
 ghost use Rattle.mdv_replica.specs.Replica.{IsPlaced, Claiming, IsClaimed, Wiping, IsWiped, Formatting, IsFormatAnswer, IsFormatted, SlotWriting, IsSlotWritten, gate_at, body_at, slot_blocks, master_of};
 

@@ -1,5 +1,5 @@
 -- One line, answered.
-use Rattle.std.proofs.Common.{◌≡◌, inl, inr, ℕ, List, [], ◌++◌, refl, sym, ◌∙◌, ap, subst}
+use Rattle.std.proofs.Common.{inl, inr, ℕ, List, [], ◌++◌, refl, sym, ◌∙◌, ap}
 use Rattle.mdv_run.specs.Below.{Script, line, Tale, replies_in, Command, Create, MakeStripe, Read, Write, Spelled, Boot, IsCommand, IsLine, Deed, Reply, IsReplied, IsTurnedDown, Host, Memory, IsExecuted, Executed, Knows, IsAwake, Turned, Asks, RanTo, behind, kept_at}
 use Rattle.mdv_run.specs.Turns.{LineAnswered}
 use Rattle.mdv_shelf.proofs.Blocks.{both_ways}

@@ -3,3 +3,4 @@ pub mod Went
 pub mod Whole
 pub mod Answering
 pub mod Used
+pub mod Shown

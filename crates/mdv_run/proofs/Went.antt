@@ -1,7 +1,7 @@
 -- How the turns of a run add up.
-use Rattle.std.proofs.Common.{◌≡◌, ℕ, Bool, false, List, [], ◌++◌, Option, Some, None, IfSome, refl, sym, ◌∙◌, ap, subst, append_assoc, arith}
-use Rattle.std.proofs.lemmas.List.{append-nil}
-use Rattle.mdv_run.specs.Below.{Reader, Script, script_before, script_of, Tale, told, Moments, Ends, Host, Memory, Kept, kept_at, Knows, RunStatus, Done, SomeRefused, Usage, NoQuorum, Panic, ReadFault, WriteFault, NoMemory, TwoDatabases, ScriptTooLong, NumbersSpent, At, Counts, RoseTo, LineTold, LinesTold, IsLeft, HasStatusCause, LinesMoment, RanTo}
+use Rattle.std.proofs.Common.{◌≡◌, ℕ, ◌+◌, ◌≤◌, ◌<◌, Bool, false, List, [], ◌++◌, length, Option, Some, None, IfSome, refl, sym, ◌∙◌, ap, subst, append_assoc, arith}
+use Rattle.std.proofs.lemmas.List.{append-nil, length-append}
+use Rattle.mdv_run.specs.Below.{Reader, Script, script_before, script_of, Tale, told, Moments, Ends, Host, Memory, Kept, kept_at, Knows, RunStatus, Done, SomeRefused, Usage, NoQuorum, Panic, ReadFault, WriteFault, NoMemory, TwoDatabases, ScriptTooLong, NumbersSpent, At, Counts, RoseTo, LineTold, LinesTold, Stretch, IsShown, IsLeft, HasStatusCause, LinesMoment, RanTo}
 use Rattle.mdv_run_law.specs.Run.{no_line, one_more}
 use Rattle.mdv_shelf.proofs.Moments.{moments_none, moments_after, ends_more, some_is}
 use Rattle.mdv_engine_law.proofs.Executing.{rose_within}
@@ -10,56 +10,86 @@ use Rattle.mdv_run.specs.Turns.{at, IsLostStatus, Turns, LinesRun}
 use Rattle.mdv_run.specs.Promise.{TurnEnd}
 use Rattle.mdv_run_law.proofs.Lining.{lines_start, ran_start, lines_more_moment, ran_more}
 
--- one line more
-lines_then : (host : Host) (from mid to : At) (so_far piece : List ℕ) → LinesTold host from so_far mid → LineTold host mid piece to → LinesTold host from (so_far ++ piece) to
-lines_then host from mid to so_far piece (no_line now) line = subst (λ (l : List ℕ). LinesTold host from l to) (append-nil piece) (one_more from to to piece [] line (no_line to))
-lines_then host from mid to so_far piece (one_more now between last first rest one lines) line =
-    subst (λ (l : List ℕ). LinesTold host from l to) (sym (append_assoc first rest piece)) (one_more from between to first (rest ++ piece) one (lines_then host between mid to rest piece lines line))
+module _ (host : Host) (stretch : Stretch) where
+  -- one line more
+  lines_then : (n : ℕ) (from mid to : At) (so_far piece : List ℕ) → LinesTold host stretch n from so_far mid → 0 < length piece → LineTold host mid piece to → IsShown stretch (n + length (so_far ++ piece)) to.counts → LinesTold host stretch n from (so_far ++ piece) to
+  lines_then n from mid to so_far piece (no_line bytes now) some line shown =
+      subst (λ (l : List ℕ). LinesTold host stretch n from l to) (append-nil piece) (one_more n from to to piece [] some line shown (no_line (n + length piece) to))
+  lines_then n from mid to so_far piece (one_more bytes now mean last first rest few one seen lines) some line shown =
+      let at : n + length ((first ++ rest) ++ piece) ≡ (n + length first) + length (rest ++ piece) = add_up (length first) (length rest) (length piece) n (length (first ++ rest)) (length ((first ++ rest) ++ piece)) (length (rest ++ piece))
+      (length-append first rest) (length-append (first ++ rest) piece) (length-append rest piece) in
+      subst (λ (l : List ℕ). LinesTold host stretch n from l to) (sym (append_assoc first rest piece))
+      (one_more n from mean to first (rest ++ piece) few one seen (lines_then (n + length first) mean mid to rest piece lines some line (subst (λ (k : ℕ). IsShown stretch k to.counts) at shown)))
+    where
+      add_up : (x y z n xy xyz yz : ℕ) → xy ≡ x + y → xyz ≡ xy + z → yz ≡ y + z → n + xyz ≡ (n + x) + yz
+      add_up x y z n xy xyz yz one two three = omega (arith, one, two, three)
+
+  -- by another stretch, of which all these counts are shown too
+  pub lines_shown : (other : Stretch) (top : ℕ) → ((bytes : ℕ) (c : Counts) → 0 < bytes → bytes ≤ top → IsShown stretch bytes c → IsShown other bytes c) → (n : ℕ) (from to : At) (pieces : List ℕ) → n + length pieces ≤ top
+      → LinesTold host stretch n from pieces to → LinesTold host other n from pieces to
+  lines_shown other top shows n from to pieces le (no_line bytes now) = no_line n from
+  lines_shown other top shows n from to pieces le (one_more bytes now mid last first rest some one seen lines) =
+      one_more n from mid to first rest some one (shows (n + length first) mid.counts (omega (arith, some)) (omega (arith, le, length-append first rest)) seen)
+      (lines_shown other top shows (n + length first) mid to rest (omega (arith, le, length-append first rest)) lines)
 
 -- the turns so far, and what they told
-pub record Went (host : Host) (start here : Counts) (first now : Memory) (any : Bool) (script left : Script) (t u : Tale) : Type 0 where
+pub record Went (host : Host) (stretch : Stretch) (start here : Counts) (first now : Memory) (any : Bool) (script left : Script) (t u : Tale) : Type 0 where
   pub so_far : List ℕ
   pub is_told : told u ≡ told t ++ so_far
-  pub lines : LinesTold host (at start (kept_at first t) false script) so_far (at here (kept_at now u) any left)
+  pub lines : LinesTold host stretch 0 (at start (kept_at first t) false script) so_far (at here (kept_at now u) any left)
 
 -- the same of a shelf and a source that tell what they hold, with what is known of the history
-pub record SoFar (host : Host) (start here : Counts) (first now : Memory) (any : Bool) (input : List ℕ) (before : Option Script) (a b : Option Tale) : Type 0 where
+pub record SoFar (host : Host) (stretch : Stretch) (start here : Counts) (first now : Memory) (any : Bool) (input : List ℕ) (before : Option Script) (a b : Option Tale) : Type 0 where
   pub left : Script
   pub comes : before ≡ Some left
   pub moments : Moments (LinesMoment host (script_of input) first) a b
   pub ran : Ends (RanTo host (script_of input) first now left) a b
-  pub went : Ends (λ t u. Knows host first t → Went host start here first now any (script_of input) left t u) a b
+  pub went : Ends (λ t u. Knows host first t → Went host stretch start here first now any (script_of input) left t u) a b
 
 module _ (host : Host) (first : Memory) (input : List ℕ) (start : Counts) where
-  pub so_far_start : (before : Option Script) (a : Option Tale) → before ≡ Some (script_of input) → SoFar host start start first first false input before a a
-  so_far_start before a comes = record {
+  pub so_far_start : (stretch : Stretch) (before : Option Script) (a : Option Tale) → before ≡ Some (script_of input) → SoFar host stretch start start first first false input before a a
+  so_far_start stretch before a comes = record {
     left = script_of input;
     comes = comes;
     moments = moments_none (LinesMoment host (script_of input) first) a a refl (λ t. lines_start host (script_of input) first t);
     ran = λ t is. (t, is, ran_start host (script_of input) first t);
-    went = λ t is. (t, is, λ knows. record { so_far = []; is_told = sym (append-nil (told t)); lines = no_line (at start (kept_at first t) false (script_of input)) });
+    went = λ t is. (t, is, λ knows. record { so_far = []; is_told = sym (append-nil (told t)); lines = no_line 0 (at start (kept_at first t) false (script_of input)) });
   }
 
-  module _ (here end : Counts) (now new : Memory) (any : Bool) (before then : Option Script) (a b c : Option Tale) (so_far : SoFar host start here first now any input before a b) where
-    went_more : (r : Bool) (left : Script) (t u v : Tale) → then ≡ Some left → Went host start here first now any (script_of input) so_far.left t u → Turns host here end now new any so_far.left then (On r) u v
-        → Went host start end first new r (script_of input) left t v
-    went_more r left t u v comes went turns =
+  module _ (here end : Counts) (now new : Memory) (any : Bool) (before then : Option Script) (a b c : Option Tale) (stretch : Stretch) (so_far : SoFar host stretch start here first now any input before a b) where
+    -- a longer stretch shows what the one before did
+    abbrev pub ShowsStill : Stretch → Type 0
+    ShowsStill other = (t u : Tale) → a ≡ Some t → b ≡ Some u → (bytes : ℕ) (shown : Counts) → length (told t) + bytes ≤ length (told u) → IsShown stretch bytes shown → IsShown other bytes shown
+
+    -- and the counts at its end, by which more was told
+    pub record Shows (other : Stretch) : Type 0 where
+      pub still : ShowsStill other
+      pub grew : (u v : Tale) → b ≡ Some u → c ≡ Some v → length (told u) < length (told v)
+      pub last : (t v : Tale) → a ≡ Some t → c ≡ Some v → (bytes : ℕ) → length (told t) + bytes ≡ length (told v) → IsShown other bytes end
+
+    went_more : (other : Stretch) → Shows other → (r : Bool) (left : Script) (t u v : Tale) → a ≡ Some t → b ≡ Some u → c ≡ Some v → then ≡ Some left → Went host stretch start here first now any (script_of input) so_far.left t u
+        → Turns host here end now new any so_far.left then (On r) u v → Went host other start end first new r (script_of input) left t v
+    went_more other shows r left t u v is_t is_u is_v comes went turns =
+        let until : length (told u) ≡ length (told t) + length went.so_far = ap length went.is_told ∙ length-append (told t) went.so_far in
+        let then_told : length (told v) ≡ length (told u) + length turns.piece = ap length turns.is_told ∙ length-append (told u) turns.piece in
+        let both : length (went.so_far ++ turns.piece) ≡ length went.so_far + length turns.piece = length-append went.so_far turns.piece in
         let same : turns.leads.0 ≡ left = some_script (sym turns.leads.1 ∙ comes) in
         record {
           so_far = went.so_far ++ turns.piece;
           is_told = turns.is_told ∙ ap (λ (l : List ℕ). l ++ turns.piece) went.is_told ∙ append_assoc (told t) went.so_far turns.piece;
-          lines = lines_then host (at start (kept_at first t) false (script_of input)) (at here (kept_at now u) any so_far.left) (at end (kept_at new v) r left) went.so_far turns.piece went.lines
-              (subst (λ (s : Script). LineTold host (at here (kept_at now u) any so_far.left) turns.piece (at end (kept_at new v) r s)) same turns.leads.2);
+          lines = lines_then host other 0 (at start (kept_at first t) false (script_of input)) (at here (kept_at now u) any so_far.left) (at end (kept_at new v) r left) went.so_far turns.piece
+              (lines_shown host stretch other (length went.so_far) (λ bytes c some le seen. shows.still t u is_t is_u bytes c (omega (arith, until, le)) seen) 0 _ _ went.so_far (omega arith) went.lines)
+              (let more = shows.grew u v is_u is_v in omega (arith, more, then_told)) (subst (λ (s : Script). LineTold host (at here (kept_at now u) any so_far.left) turns.piece (at end (kept_at new v) r s)) same turns.leads.2) (shows.last t v is_t is_v (0 + length (went.so_far ++ turns.piece)) (omega (arith, until, then_told, both)));
         } where
           some_script : {x y : Script} → Some x ≡ Some y → x ≡ y
           some_script is = cc
 
     -- one turn more
-    pub so_far_more : (r : Bool) → ((lines : Script) → before ≡ Some lines → (left : Script) × (then ≡ Some left))
+    pub so_far_more : (other : Stretch) → (r : Bool) → Shows other → ((lines : Script) → before ≡ Some lines → (left : Script) × (then ≡ Some left))
         → ((lines : Script) → before ≡ Some lines → Ends (TurnEnd host here end now new any lines then (On r)) b c)
         → ((lines : Script) → before ≡ Some lines → Moments (LinesMoment host lines now) b c)
-        → SoFar host start end first new r input then a c
-    so_far_more r goes turns moments =
+        → SoFar host other start end first new r input then a c
+    so_far_more other r shows goes turns moments =
         let left = goes so_far.left so_far.comes in
         record {
           left = left.0;
@@ -73,7 +103,7 @@ module _ (host : Host) (first : Memory) (input : List ℕ) (start : Counts) wher
               let known = so_far.ran t is in
               let knows_so : Knows host first t → Knows host now one.0 = λ knows. subst (λ (u : Tale). Knows host now u) (some_is b known.0 one.0 known.1 one.1) (known.2.knows knows) in
               let two = turns so_far.left so_far.comes one.0 one.1 in
-              (two.0, two.1, λ knows. went_more r left.0 t one.0 two.0 left.1 (one.2 knows) (two.2.turns (knows_so knows)));
+              (two.0, two.1, λ knows. went_more other shows r left.0 t one.0 two.0 is one.1 two.1 left.1 (one.2 knows) (two.2.turns (knows_so knows)));
         }
 
     -- the moments of the last turn too
@@ -87,8 +117,8 @@ module _ (host : Host) (first : Memory) (input : List ℕ) (start : Counts) wher
     left_there status v (Some kept) (same, not_lost) knows = subst (λ (k : Kept). IsLeft host v k) (sym same) (record { content = λ block. refl; opened = (knows not_lost).opened })
 
     -- the turn that ends the run
-    pub over_ends : (status : RunStatus) → ((lines : Script) → before ≡ Some lines → Ends (TurnEnd host here end now new any lines then (Over status)) b c) → Ends (λ t u. Knows host first t → LinesRun host start end first false (script_of input) status t u) a c
-    over_ends status turns t is =
+    pub over_ends : (other : Stretch) (status : RunStatus) → ShowsStill other → ((lines : Script) → before ≡ Some lines → Ends (TurnEnd host here end now new any lines then (Over status)) b c) → Ends (λ t u. Knows host first t → LinesRun host other start end first false (script_of input) status t u) a c
+    over_ends other status shows turns t is =
         let one = so_far.went t is in
         let known = so_far.ran t is in
         let knows_so : Knows host first t → Knows host now one.0 = λ knows. subst (λ (u : Tale). Knows host now u) (some_is b known.0 one.0 known.1 one.1) (known.2.knows knows) in
@@ -104,9 +134,32 @@ module _ (host : Host) (first : Memory) (input : List ℕ) (start : Counts) wher
                 last = turn.leads.0;
                 left = left_there status two.0 turn.leads.0 turn.leads.1
                     (λ not_lost. two.2.knows not_lost (knows_so first_known));
-                runs = record { so_far = went.so_far; rest = turn.piece; parts = refl; at = at here (kept_at now one.0) any so_far.left; lines = went.lines; over = turn.leads.2 };
+                runs = record { so_far = went.so_far; rest = turn.piece; parts = refl; at = at here (kept_at now one.0) any so_far.left; lines = still t one.0 is one.1 went; over = turn.leads.2 };
               },
         )
+      where
+        still : (t u : Tale) → a ≡ Some t → b ≡ Some u → (went : Went host stretch start here first now any (script_of input) so_far.left t u) → LinesTold host other 0 (at start (kept_at first t) false (script_of input)) went.so_far (at here (kept_at now u) any so_far.left)
+        still t u is_t is_u went =
+            let until : length (told u) ≡ length (told t) + length went.so_far = ap length went.is_told ∙ length-append (told t) went.so_far in
+            lines_shown host stretch other (length went.so_far) (λ bytes c some le seen. shows t u is_t is_u bytes c (omega (arith, until, le)) seen) 0 _ _ went.so_far (omega arith) went.lines
+
+-- the same lines, by a stretch that begins earlier
+pub run_earlier : (host : Host) (stretch other : Stretch) → ((bytes : ℕ) (shown : Counts) → 0 < bytes → IsShown stretch bytes shown → IsShown other bytes shown) → (now end : Counts) (memory : Memory) (script : Script) (status : RunStatus) (t u : Tale)
+    → LinesRun host stretch now end memory false script status t u → LinesRun host other now end memory false script status t u
+run_earlier host stretch other shows now end memory script status t u run = record {
+  more = run.more;
+  is_told = run.is_told;
+  last = run.last;
+  left = run.left;
+  runs = record {
+    so_far = run.runs.so_far;
+    rest = run.runs.rest;
+    parts = run.runs.parts;
+    at = run.runs.at;
+    lines = lines_shown host stretch other (length run.runs.so_far) (λ bytes shown some le seen. shows bytes shown some seen) 0 _ _ run.runs.so_far (omega arith) run.runs.lines;
+    over = run.runs.over;
+  };
+}
 
 -- a cause within a stretch is one over the longer stretch
 pub cause_within : (start now then end : Counts) (status : RunStatus) → RoseTo start now → RoseTo then end → HasStatusCause now then status → HasStatusCause start end status

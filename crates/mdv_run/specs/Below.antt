@@ -18,7 +18,7 @@ pub use Rattle.mdv_name.specs.declared.geometry.Geometry.{Geometry}
 pub use Rattle.mdv_port.specs.Reader.{Reader}
 pub use Rattle.mdv_port.specs.Script.{IsTurn, Script, at_end, line, script_before, script_of, spent, too_long}
 pub use Rattle.mdv_port.specs.declared.reader.LineEnd.TheVariants.{End, Line, Spent, TooLong}
-pub use Rattle.mdv_run_law.specs.Run.{At, Counts, HasStatusCause, IsAnswered, IsLeft, IsWholeRun, LineTold, LinesTold, NextLine, RoseTo, Runs, counts}
+pub use Rattle.mdv_run_law.specs.Run.{AreShown, At, Counts, HasStatusCause, IsAnswered, IsLeft, IsShown, IsWholeRun, LineTold, LinesTold, NextLine, RoseTo, Runs, Stretch, counts}
 pub use Rattle.mdv_run_law.specs.Run.{drive_failed, replies_failed, source_failed, status_of}
 pub use Rattle.mdv_run_law.specs.Standing.{Asks, LinesMoment, RanTo, RunMoment, behind}
 pub use Rattle.mdv_run_law.specs.Lives.{host_of}

@@ -1,11 +1,14 @@
 -- What a run promises, of the whole bench and the whole source.
 use Rattle.std.specs.Prelude.{◌≡◌, ◌≢◌, ◌⊎◌, ◌↔◌, ◌≤◌, ◌<◌, ◌+◌, ℕ, Bool, false, List, Option, Some}
-use Rattle.mdv_run.specs.Below.{Reader, Script, line, script_before, script_of, Tale, Reply, IsReplied, Host, Memory, Engine, Knows, IsWell, StaysHome, RunStatus, NoMemory, Usage, Counts, counts, HasStatusCause, IsWholeRun, RunMoment, LinesMoment, RanTo}
-use Rattle.mdv_shelf.specs.Shelves.{AtEachMoment, AtEachTale, AtEnd}
+use Rattle.mdv_run.specs.Below.{Reader, Script, line, script_before, script_of, Tale, Reply, IsReplied, Host, Memory, Engine, Knows, IsWell, StaysHome, RunStatus, NoMemory, Usage, Counts, Stretch, counts, HasStatusCause, IsWholeRun, RunMoment, LinesMoment, RanTo}
+use Rattle.mdv_shelf.specs.Shelves.{AtEachMoment, AtEachTale, AtEnd, DriveFailed, EndsTold, GivingFailed}
 use Rattle.mdv_shelf.specs.Story.{OfTales}
 use Rattle.mdv_shelf.specs.declared.shelf.Shelf.{Ghosts as Shelf}
 use Rattle.mdv_port.specs.declared.source.Source.{Ghosts as Source}
 use Rattle.mdv_run_law.specs.Run.{IsUnbegun}
+use Rattle.mdv_run_law.specs.Usage.{IsUsed}
+use Rattle.mdv_home.specs.declared.geometry.Home.{Home}
+use Rattle.mdv_name.specs.declared.geometry.Geometry.{Geometry}
 use Rattle.mdv_run.specs.declared.session.Turn.{Turn}
 use Rattle.mdv_engine_law.specs.Replies.{IsLost, HasReplyCause}
 use Rattle.mdv_run.specs.Turns.{LineAnswered, LinesRun, Turns, HasTurnCause, IsOn, IsLostTurn}
@@ -14,9 +17,17 @@ use Rattle.mdv_run.specs.Turns.{LineAnswered, LinesRun, Turns, HasTurnCause, IsO
 abbrev pub by : {B I : Type 0} → Shelf B → Source I → B → I → Counts
 by shelf source bench script = counts (shelf.faults bench) (source.faults script)
 
+-- what the bench told and counted, from one point to another
+abbrev pub between : {B : Type 0} → Shelf B → B → B → Stretch
+between shelf old new = record { old = shelf.story old; before = shelf.faults old; new = shelf.story new; after = shelf.faults new }
+
 -- nothing was done, told or taken
 abbrev pub IsUntouched : {B I : Type 0} → Shelf B → Source I → B → I → B → I → Type 0
 IsUntouched shelf source old from new to = (shelf.tale new ≡ shelf.tale old) × (source.left to ≡ source.left from)
+
+-- what holds of each host whose words and table of drives these are, with a shelf of such drives
+abbrev pub OfEachUse : List (List ℕ) → List ℕ → List ℕ → (Geometry → Home → Type 0) → Type 0
+OfEachUse words text sizes P = (drives : Geometry) (home : Home) → IsUsed words text sizes drives home → P drives home
 
 -- a faulty use is told exactly where there is none of a host, but for want of memory; and then nothing was done
 pub record IsUsageOf (None Untouched : Type 0) (status : RunStatus) : Type 0 where
@@ -28,7 +39,7 @@ pub record IsUsageOf (None Untouched : Type 0) (status : RunStatus) : Type 0 whe
 -- far; nothing happens outside the host's area. Whatever they tell, a status that tells of a failure comes only where one came.
 pub record HasRun {B I : Type 0} (shelf : Shelf B) (source : Source I) (host : Host) (old : B) (from : I) (new : B) (to : I) (status : RunStatus) : Type 0 where
   pub runs : (t : Tale) → shelf.tale old ≡ Some t → (input : List ℕ) → source.left from ≡ Some input
-      → IsUnbegun t (shelf.tale new) status ⊎ IsWholeRun host (by shelf source old from) (by shelf source new to) t (script_of input) (shelf.tale new) status
+      → IsUnbegun t (shelf.tale new) status ⊎ IsWholeRun host (between shelf old new) (by shelf source old from) (by shelf source new to) t (script_of input) (shelf.tale new) status
   pub stands : (input : List ℕ) → source.left from ≡ Some input → AtEachMoment shelf (OfTales (RunMoment host (script_of input))) old new
   pub home : AtEachTale shelf (StaysHome host) old new
   pub causes : (status ≡ NoMemory) ⊎ HasStatusCause (by shelf source old from) (by shelf source new to) status
@@ -36,7 +47,7 @@ pub record HasRun {B I : Type 0} (shelf : Shelf B) (source : Source I) (host : H
 -- the lines of a run behind its boot, which left this memory
 pub record HaveRun {B I : Type 0} (shelf : Shelf B) (source : Source I) (host : Host) (memory : Memory) (old : B) (from : I) (new : B) (to : I) (status : RunStatus) : Type 0 where
   pub runs : (input : List ℕ) → source.left from ≡ Some input
-      → AtEnd shelf (λ t u. Knows host memory t → LinesRun host (by shelf source old from) (by shelf source new to) memory false (script_of input) status t u) old new
+      → AtEnd shelf (λ t u. Knows host memory t → LinesRun host (between shelf old new) (by shelf source old from) (by shelf source new to) memory false (script_of input) status t u) old new
   pub moments : (input : List ℕ) → source.left from ≡ Some input → AtEachTale shelf (LinesMoment host (script_of input) memory) old new
   pub home : AtEachTale shelf (StaysHome host) old new
   pub causes : HasStatusCause (by shelf source old from) (by shelf source new to) status
@@ -46,6 +57,12 @@ pub record TurnEnd (host : Host) (now later : Counts) (old new : Memory) (refuse
   pub turns : Knows host old t → Turns host now later old new refused script before turn t u
   pub ran : IsOn turn → (left : Script) → before ≡ Some left → RanTo host script old new left t u
   pub knows : (IsLostTurn turn → ⊥) → Knows host old t → Knows host new u
+
+-- each script before the turn leads so to the one behind it
+abbrev pub TurnEnds : {B I : Type 0} → Shelf B → Source I → Engine → Engine → B → B → I → I → Reader → Reader → Bool → Turn → Type 0
+TurnEnds shelf source engine then bench on from to before after refused turn =
+    (script : Script) → script_before before (source.left from) ≡ Some script
+    → AtEnd shelf (TurnEnd engine.host (by shelf source bench from) (by shelf source on to) engine.state then.state refused script (script_before after (source.left to)) turn) bench on
 
 -- what a turn says whatever bench and source tell: its cause, and what the engine and the reader are then
 pub record TurnAnswer (now later : Counts) (host : Host) (engine : Engine) (before after : Reader) (left rest : Option (List ℕ)) (turn : Turn) : Type 0 where
@@ -57,11 +74,22 @@ pub record TurnAnswer (now later : Counts) (host : Host) (engine : Engine) (befo
   pub on : IsOn turn → (before.lines < after.lines) × (after.lines ≤ 1048576)
   pub goes_on : IsOn turn → (script : Script) → script_before before left ≡ Some script → (more : Script) × (script_before after rest ≡ Some more)
 
+abbrev pub TurnAnswers : {B I : Type 0} → Shelf B → Source I → Host → Engine → B → B → I → I → Reader → Reader → Turn → Type 0
+TurnAnswers shelf source host engine bench on from to before after turn = TurnAnswer (by shelf source bench from) (by shelf source on to) host engine before after (source.left from) (source.left to) turn
+
+-- a line, or a turn: outside the host's area nothing happens; and where a reply was told whole, no call failed behind its last byte
+pub record LineStays {B : Type 0} (shelf : Shelf B) (host : Host) (replied : Type 0) (old new : B) : Type 0 where
+  pub home : AtEachTale shelf (StaysHome host) old new
+  pub told : replied → EndsTold shelf old new
+
 -- one line, in the end: its answer and its reply, what is left of the script, and what is known of the drive then
 pub record LineEnd (drive replies : Type 0) (host : Host) (text : List ℕ) (old new : Memory) (reply : Reply) (t u : Tale) : Type 0 where
   pub answered : Knows host old t → LineAnswered drive replies host text old new reply t u
   pub ran : IsReplied reply → (more : Script) → RanTo host (line text more) old new more t u
   pub knows : (IsLost reply → ⊥) → Knows host old t → Knows host new u
+
+abbrev pub LineEnds : {B : Type 0} → Shelf B → B → B → Host → List ℕ → Memory → Memory → Reply → Type 0
+LineEnds shelf bench on host text old new reply = AtEnd shelf (LineEnd (DriveFailed shelf bench on 0) (GivingFailed shelf bench on) host text old new reply) bench on
 
 -- what a reply says whatever the bench tells: its cause, and what the engine is then
 pub record LineReply (drive replies : Type 0) (host : Host) (old : Memory) (engine : Engine) (reply : Reply) : Type 0 where

@@ -1,6 +1,6 @@
 -- How the lines of a run follow one another.
 use Rattle.std.specs.Prelude.{◌≡◌, ℕ, Bool, true, List, ◌++◌, Option, Some, IfSome}
-use Rattle.mdv_run.specs.Below.{Script, Tale, told, Answer, BootRefusal, Reply, Host, Kept, Memory, kept_at, Replied, RunStatus, Panic, WriteFault, NoMemory, NumbersSpent, At, Counts, LineTold, Runs, IsAnswered, IsLeft, HasStatusCause}
+use Rattle.mdv_run.specs.Below.{Script, Tale, told, Answer, BootRefusal, Reply, Host, Kept, Memory, kept_at, Replied, RunStatus, Panic, WriteFault, NoMemory, NumbersSpent, At, Counts, LineTold, Runs, Stretch, IsAnswered, IsLeft, HasStatusCause}
 use Rattle.mdv_run_law.specs.Run.{Over as IsOver}
 use Rattle.mdv_engine_law.specs.declared.answer.BootRefusal.TheVariants as refusal
 use Rattle.mdv_engine_law.specs.declared.answer.Reply.TheVariants as reply
@@ -63,9 +63,9 @@ IsOn (On r) = Unit {0}
 IsOn (Over status) = ⊥
 
 -- the lines of a run from that state on
-pub record LinesRun (host : Host) (now then : Counts) (old : Memory) (refused : Bool) (script : Script) (status : RunStatus) (t u : Tale) : Type 0 where
+pub record LinesRun (host : Host) (stretch : Stretch) (now then : Counts) (old : Memory) (refused : Bool) (script : Script) (status : RunStatus) (t u : Tale) : Type 0 where
   pub more : List ℕ
   pub is_told : told u ≡ told t ++ more
   pub last : Option Kept
   pub left : IfSome last (IsLeft host u)
-  pub runs : Runs host then (at now (kept_at old t) refused script) more status last
+  pub runs : Runs host stretch then (at now (kept_at old t) refused script) more status last

@@ -1,10 +1,11 @@
 ghost use Rattle.std.specs.Prelude.{◌≡◌, Err, IfOk, ◌<◌, ◌≤◌, ◌+◌, ◌^◌, ◌↔◌, ℕ, List, [], ◌∷◌, map, string_bytes, Some, IsTrue};
-ghost use Rattle.mdv_shelf.specs.Shelves.{AtEachTale, AtEnd, DriveFailed, GivingFailed, Kept};
+ghost use Rattle.mdv_shelf.specs.Shelves.{AtEachTale, DriveFailed, GivingFailed, Kept};
 ghost use Rattle.mdv_port.specs.Script.{Script, line as line_of, script_before};
 ghost use Rattle.mdv_home.specs.declared.geometry.Home.{Home};
 ghost use Rattle.mdv_words.specs.declared.command.Line.TheVariants.{Boot};
 ghost use Rattle.mdv_words.specs.Line.{IsLine};
-ghost use Rattle.mdv_engine_law.specs.Home.{IsReady, StaysHome};
+ghost use Rattle.mdv_engine_law.specs.Home.{IsReady};
+ghost use Rattle.mdv_engine_law.specs.Replies.{IsReplied};
 ghost use Rattle.mdv_engine_law.specs.Standing.{TurnMoment};
 ghost use Rattle.mdv_engine.specs.Engine.{IsWell};
 ghost use Rattle.mdv_name.specs.declared.geometry.Geometry.{Geometry};
@@ -13,8 +14,8 @@ ghost use Rattle.mdv_run_law.specs.Lives.{host_of};
 ghost use Rattle.mdv_run_law.specs.Usage.{IsUsed};
 ghost use Rattle.mdv_run_law.specs.Run.{status_of};
 ghost use Rattle.mdv_run_law.specs.Standing.{LinesMoment};
-ghost use Rattle.mdv_run.specs.Promise.{HasRun, HaveRun, IsUntouched, IsUsageOf, LineEnd as EndOfLine, LineReply, TurnAnswer, TurnEnd, by};
-ghost use Rattle.mdv_run.specs.Turns.{over_status, turn_of as spec_turn_of};
+ghost use Rattle.mdv_run.specs.Promise.{HasRun, HaveRun, IsUntouched, IsUsageOf, LineEnds, LineReply, LineStays, OfEachUse, TurnAnswers, TurnEnds};
+ghost use Rattle.mdv_run.specs.Turns.{IsOn, over_status, turn_of as spec_turn_of};
 
 use mdv_base::{DriveNo, Failed, Refusal};
 use mdv_engine::Engine;
@@ -42,11 +43,11 @@ pub fn run<B: Bench, I: Source>(
 ) -> RunStatus
     // A faulty use is told exactly where the words, the table and the drives are none of a host's, but for
     // want of memory, and nothing was done then.
-    ensures usage { IsUsageOf ((drives : Geometry) (home : Home) → IsUsed (map string_bytes words.now) geometry.now (B.sizes bench.old) drives home → ⊥) (IsUntouched B.Shelf I.Source bench.old script.old bench.new script.new) result }
+    ensures usage { IsUsageOf (OfEachUse (map string_bytes words.now) geometry.now (B.sizes bench.old) (λ _ _. ⊥)) (IsUntouched B.Shelf I.Source bench.old script.old bench.new script.new) result }
 
     // Else all is as the run of that host promises: what is told and its status, what holds at each moment, and the cause of
     // each status.
-    ensures used { (drives : Geometry) (home : Home) → IsUsed (map string_bytes words.now) geometry.now (B.sizes bench.old) drives home → HasRun B.Shelf I.Source (host_of drives home fresh) bench.old script.old bench.new script.new result }
+    ensures used { OfEachUse (map string_bytes words.now) geometry.now (B.sizes bench.old) (λ d h. HasRun B.Shelf I.Source (host_of d h fresh) bench.old script.old bench.new script.new result) }
     ensures kept { Kept B.Shelf bench.old bench.new }
 {
     match usable(words, geometry, bench) {
@@ -110,7 +111,7 @@ enum Unusable {
 // drives.
 fn usable<B: Bench>(words: &[String], table: &[u8], bench: &B) -> Result<Start, Unusable>
     ensures value { IfOk result (λ used. IsUsed (map string_bytes words.now) table.now (B.sizes bench.now) used.drives used.home) }
-    ensures none { result ≡ Err Unusable.Usage → (drives : Geometry) (home : Home) → IsUsed (map string_bytes words.now) table.now (B.sizes bench.now) drives home → ⊥ }
+    ensures none { result ≡ Err Unusable.Usage → OfEachUse (map string_bytes words.now) table.now (B.sizes bench.now) (λ _ _. ⊥) }
 {
     let [host] = words else {
         return Err(Unusable::Usage);
@@ -191,9 +192,9 @@ fn take_turn<B: Bench, I: Source>(
     requires well { IsWell engine.old.host engine.old.state }
     requires begun { engine.old.state.begun ≤ reader.old.lines }
     ensures moments { (lines : Script) → script_before reader.old (I.left script.old) ≡ Some lines → AtEachTale B.Shelf (LinesMoment engine.old.host lines engine.old.state) bench.old bench.new }
-    ensures end { (lines : Script) → script_before reader.old (I.left script.old) ≡ Some lines → AtEnd B.Shelf (TurnEnd engine.old.host (by B.Shelf I.Source bench.old script.old) (by B.Shelf I.Source bench.new script.new) engine.old.state engine.new.state any_refused lines (script_before reader.new (I.left script.new)) result) bench.old bench.new }
-    ensures home { AtEachTale B.Shelf (StaysHome engine.old.host) bench.old bench.new }
-    ensures answer { TurnAnswer (by B.Shelf I.Source bench.old script.old) (by B.Shelf I.Source bench.new script.new) engine.old.host engine.new reader.old reader.new (I.left script.old) (I.left script.new) result }
+    ensures end { TurnEnds B.Shelf I.Source engine.old engine.new bench.old bench.new script.old script.new reader.old reader.new any_refused result }
+    ensures stays { LineStays B.Shelf engine.old.host (IsOn result) bench.old bench.new }
+    ensures answer { TurnAnswers B.Shelf I.Source engine.old.host engine.new bench.old bench.new script.old script.new reader.old reader.new result }
     ensures kept { Kept B.Shelf bench.old bench.new }
 {
     match reader.next(script) {
@@ -215,8 +216,8 @@ fn answer<B: Bench>(engine: &mut Engine, alloc: Global, bench: &mut B, line: &[u
     requires well { IsWell engine.old.host engine.old.state }
     requires begun { engine.old.state.begun + 1 < 2 ^ 32 }
     ensures moments { (more : Script) → AtEachTale B.Shelf (LinesMoment engine.old.host (line_of line.now more) engine.old.state) bench.old bench.new }
-    ensures end { AtEnd B.Shelf (EndOfLine (DriveFailed B.Shelf bench.old bench.new 0) (GivingFailed B.Shelf bench.old bench.new) engine.old.host line.now engine.old.state engine.new.state result) bench.old bench.new }
-    ensures home { AtEachTale B.Shelf (StaysHome engine.old.host) bench.old bench.new }
+    ensures end { LineEnds B.Shelf bench.old bench.new engine.old.host line.now engine.old.state engine.new.state result }
+    ensures stays { LineStays B.Shelf engine.old.host (IsReplied result) bench.old bench.new }
     ensures answer { LineReply (DriveFailed B.Shelf bench.old bench.new 0) (GivingFailed B.Shelf bench.old bench.new) engine.old.host engine.old.state engine.new result }
     ensures kept { Kept B.Shelf bench.old bench.new }
 {
@@ -234,8 +235,8 @@ fn boot_anew<B: Bench>(engine: &mut Engine, alloc: Global, bench: &mut B) -> Rep
     requires ready { IsReady engine.old.host (B.sizes bench.old) }
     requires well { IsWell engine.old.host engine.old.state }
     ensures moments { AtEachTale B.Shelf (TurnMoment engine.old.host [] engine.old.state) bench.old bench.new }
-    ensures end { (text : List ℕ) → IsLine text Boot → AtEnd B.Shelf (EndOfLine (DriveFailed B.Shelf bench.old bench.new 0) (GivingFailed B.Shelf bench.old bench.new) engine.old.host text engine.old.state engine.new.state result) bench.old bench.new }
-    ensures home { AtEachTale B.Shelf (StaysHome engine.old.host) bench.old bench.new }
+    ensures end { (text : List ℕ) → IsLine text Boot → LineEnds B.Shelf bench.old bench.new engine.old.host text engine.old.state engine.new.state result }
+    ensures stays { LineStays B.Shelf engine.old.host (IsReplied result) bench.old bench.new }
     ensures answer { LineReply (DriveFailed B.Shelf bench.old bench.new 0) (GivingFailed B.Shelf bench.old bench.new) engine.old.host engine.old.state engine.new result }
     ensures kept { Kept B.Shelf bench.old bench.new }
 {

@@ -1,13 +1,13 @@
 -- Each change of the tables of a history was asked by a line of its runs.
-use Rattle.std.proofs.Common.{◌≡◌, ◌⊎◌, inl, inr, ℕ, Bool, false, true, Option, refl, List, [], ◌∷◌, ◌++◌, Some, None, Contains, sym, ap, subst, arith}
+use Rattle.std.proofs.Common.{◌≡◌, ◌⊎◌, inl, inr, ℕ, Bool, false, true, Option, refl, List, [], ◌∷◌, ◌++◌, Some, None, Contains, sym, subst, arith}
 use Rattle.std.proofs.lemmas.List.Elements.{Contains-append_right}
 use Rattle.mdv_base.specs.declared.mark.Identity.{Identity}
-use Rattle.mdv_run_law.specs.Below.{Home, Geometry, Script, at_end, spent, too_long, line, replies_in, Change, Table, Version, Log, answered, with_asked, Deed, Changed, Event, NoDeed, Host, issuable}
+use Rattle.mdv_run_law.specs.Below.{Home, Geometry, Script, at_end, spent, too_long, line, replies_in, Change, Table, Version, Log, answered, with_asked, Deed, Changed, Event, NoDeed, Host}
 use Rattle.mdv_store_law.specs.Log as log
 use Rattle.mdv_history.specs.History.{IssuesOnly, OfDatabase, Issues, Acknowledges, Shows, Woke}
 use Rattle.mdv_history.proofs.Histories.{issues_more, issues_weaker}
 use Rattle.mdv_history.proofs.Parts.{of_database, first_or_behind}
-use Rattle.mdv_run_law.specs.Standing.{Asks, AreIdle, AreOfRun, ComeOf, InWork, IsIssued}
+use Rattle.mdv_run_law.specs.Standing.{AreIdle, AreOfRun, ComeOf, InWork, IsIssued}
 use Rattle.mdv_run_law.specs.Lives.{Ran, AreOfRuns, IsIssuedBy, host_of}
 
 -- what the events of a history issue, those of its log issue

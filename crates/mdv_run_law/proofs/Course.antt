@@ -1,7 +1,7 @@
 -- Where nothing failed and memory was never wanting, a run has one course.
-use Rattle.std.proofs.Common.{◌≡◌, ◌⊎◌, inl, inr, ℕ, Bool, false, true, List, [], ◌∷◌, ◌++◌, Option, Some, None, Contains, refl, sym, ◌∙◌, ap, subst, append_assoc, arith}
+use Rattle.std.proofs.Common.{◌≡◌, inl, inr, ℕ, Bool, false, List, [], ◌∷◌, ◌++◌, length, ◌+◌, Option, Some, None, Contains, refl, sym, ◌∙◌, ap, subst, append_assoc, arith}
 use Rattle.std.proofs.lemmas.List.Elements.{Contains-append_right}
-use Rattle.mdv_run_law.specs.Below.{refusal_text, Refusal, BadLine, OutOfMemory, Script, at_end, spent, too_long, line, begins_with_digit, replies_in, Command, Create, MakeStripe, Read, Write, Boot, Line, Answer, Host, site_of, Kept, IsCarriedOut, ComesTo, IsRebooted, adopted, empty, down, lost, wanting, IsPlain, IsPlainAnswer, IsReply, ok_line, refusal_line}
+use Rattle.mdv_run_law.specs.Below.{refusal_text, Refusal, BadLine, OutOfMemory, Script, at_end, spent, too_long, line, begins_with_digit, replies_in, Command, Create, MakeStripe, Read, Write, Boot, Line, Answer, Host, site_of, Kept, IsCarriedOut, ComesTo, IsRebooted, adopted, empty, down, lost, wanting, IsPlain, IsPlainAnswer, IsReply, refusal_line}
 use Rattle.mdv_words.specs.declared.command.Line.TheVariants as words
 use Rattle.mdv_status.proofs.Replies.{lines_tell_once}
 use Rattle.mdv_engine_law.specs.declared.answer.Answer.TheVariants as outcome
@@ -10,8 +10,8 @@ use Rattle.mdv_engine_law.specs.Replies.{text_of}
 use Rattle.mdv_engine_law.proofs.Executing.{rose_within, comes_more, rebooted_more}
 use Rattle.mdv_engine_law.proofs.Plain.{bad_line_plain, too_long_plain, memory_plain, create_plain, change_plain, blocks_plain, ok_reply, values_are_reply, refusal_reply}
 use Rattle.mdv_run_law.specs.declared.status.RunStatus.{RunStatus}
-use Rattle.mdv_run_law.specs.declared.status.RunStatus.TheVariants.{Panic, NoMemory, ScriptTooLong, NumbersSpent}
-use Rattle.mdv_run_law.specs.Run.{Counts, RoseTo, IsUndisturbed, IsSated, Stops, At, NextLine, IsSaid, refused_by, LineTold, LinesTold, no_line, one_more, EndsAs, EndsWith, Over, unread, ended, broken, Runs, RunsFrom, IsAnswered, IsSameEnd, HasHome, OneCourse, started, drive_failed}
+use Rattle.mdv_run_law.specs.declared.status.RunStatus.TheVariants.{Panic, NoMemory, NumbersSpent}
+use Rattle.mdv_run_law.specs.Run.{Counts, RoseTo, IsUndisturbed, IsSated, Stops, At, NextLine, IsSaid, refused_by, LineTold, LinesTold, Stretch, no_line, one_more, EndsAs, EndsWith, Over, unread, ended, broken, Runs, RunsFrom, IsAnswered, IsSameEnd, HasHome, OneCourse, started, drive_failed}
 use Rattle.mdv_run_law.proofs.Again.{Alike, neither, alike_itself}
 use Rattle.mdv_run_law.proofs.Carrying.{one_answer}
 use Rattle.mdv_run_law.proofs.Keeping.{IsSatisfied, Same, One, stays_same, one_boot}
@@ -116,10 +116,10 @@ module _ (host : Host) where
   over_rose end now told status last (ended how rose stops) = rose
   over_rose end now told status last (broken answer then next left is rose with) = rose_to_more now.counts then end (next_rose now.counts then now.kept next now.script left answer is) rose
 
-  lines_rose : (now then : At) (told : List ℕ) → LinesTold host now told then → RoseTo now.counts then.counts
-  lines_rose now then told (no_line at) = rose_itself now.counts
-  lines_rose now then told (one_more at mid last piece rest one lines) =
-      rose_to_more now.counts mid.counts then.counts (next_rose now.counts mid.counts now.kept mid.kept now.script mid.script one.answer one.comes) (lines_rose mid then rest lines)
+  lines_rose : (w : Stretch) (n : ℕ) (now then : At) (told : List ℕ) → LinesTold host w n now told then → RoseTo now.counts then.counts
+  lines_rose w n now then told (no_line bytes at) = rose_itself now.counts
+  lines_rose w n now then told (one_more bytes at mid last piece rest some one shown lines) =
+      rose_to_more now.counts mid.counts then.counts (next_rose now.counts mid.counts now.kept mid.kept now.script mid.script one.answer one.comes) (lines_rose w (n + length piece) mid then rest lines)
 
 -- an answer that no failure told, and what it was told by
 said_text : (answer : Answer) (failed : Type 0) → (failed → ⊥) → IsSaid answer → (next : Kept) (told : List ℕ) (status : RunStatus) (last : Option Kept) → EndsWith failed answer next told status last → ⊥
@@ -272,16 +272,16 @@ module _ (host : Host) (content : ℕ → List ℕ) (has : HasHome host content)
   sated_apart piece rest x status sated = subst (λ (l : List ℕ). IsSated l status) (append_assoc piece rest x) sated
 
   module _ (e f : Counts) (s r : RunStatus) (k j : Option Kept) where
-    one_run : (n m p q : At) (a b x y : List ℕ) → Beside n m → IsUndisturbed n.counts e → IsUndisturbed m.counts f → IsSated (a ++ x) s → IsSated (b ++ y) r
-        → LinesTold host n a p → LinesTold host m b q → Over host e p x s k → Over host f q y r j → SameEnds host (a ++ x) (b ++ y) s r k j
-    one_run n m p q a b x y beside calm calm_too sated sated_too (no_line at) (no_line also) one two = one_over e f s r k j n m x y beside calm calm_too sated sated_too one two
-    one_run n m p q a b x y beside calm calm_too sated sated_too (no_line at) (one_more from mid to piece rest said lines) one two =
-        absurd (one_stays e f s r k j n m mid x piece (rest ++ y) beside calm calm_too (rose_to_more mid.counts q.counts f (lines_rose host mid q rest lines) (over_rose host f q y r j two)) sated (sated_apart piece rest y r sated_too) one said)
-    one_run n m p q a b x y beside calm calm_too sated sated_too (one_more from mid to piece rest said lines) (no_line at) one two =
-        absurd (one_stays f e r s j k m n mid y piece (rest ++ x) (beside_back n m beside) calm_too calm (rose_to_more mid.counts p.counts e (lines_rose host mid p rest lines) (over_rose host e p x s k one)) sated_too (sated_apart piece rest x s sated) two said)
-    one_run n m p q a b x y beside calm calm_too sated sated_too (one_more from mid to piece rest said lines) (one_more start also last other behind turn turns) one two =
-        let up = rose_to_more mid.counts p.counts e (lines_rose host mid p rest lines) (over_rose host e p x s k one) in
-        let up_too = rose_to_more also.counts q.counts f (lines_rose host also q behind turns) (over_rose host f q y r j two) in
+    one_run : (w v : Stretch) (c d : ℕ) (n m p q : At) (a b x y : List ℕ) → Beside n m → IsUndisturbed n.counts e → IsUndisturbed m.counts f → IsSated (a ++ x) s → IsSated (b ++ y) r
+        → LinesTold host w c n a p → LinesTold host v d m b q → Over host e p x s k → Over host f q y r j → SameEnds host (a ++ x) (b ++ y) s r k j
+    one_run w v c d n m p q a b x y beside calm calm_too sated sated_too (no_line c_is at) (no_line d_is also) one two = one_over e f s r k j n m x y beside calm calm_too sated sated_too one two
+    one_run w v c d n m p q a b x y beside calm calm_too sated sated_too (no_line c_is at) (one_more d_is from mid to piece rest some said shown lines) one two =
+        absurd (one_stays e f s r k j n m mid x piece (rest ++ y) beside calm calm_too (rose_to_more mid.counts q.counts f (lines_rose host v (d + length piece) mid q rest lines) (over_rose host f q y r j two)) sated (sated_apart piece rest y r sated_too) one said)
+    one_run w v c d n m p q a b x y beside calm calm_too sated sated_too (one_more c_is from mid to piece rest some said shown lines) (no_line d_is at) one two =
+        absurd (one_stays f e r s j k m n mid y piece (rest ++ x) (beside_back n m beside) calm_too calm (rose_to_more mid.counts p.counts e (lines_rose host w (c + length piece) mid p rest lines) (over_rose host e p x s k one)) sated_too (sated_apart piece rest x s sated) two said)
+    one_run w v c d n m p q a b x y beside calm calm_too sated sated_too (one_more c_is from mid to piece rest some said shown lines) (one_more d_is start also last other behind some_too turn shown_too turns) one two =
+        let up = rose_to_more mid.counts p.counts e (lines_rose host w (c + length piece) mid p rest lines) (over_rose host e p x s k one) in
+        let up_too = rose_to_more also.counts q.counts f (lines_rose host v (d + length other) also q behind turns) (over_rose host f q y r j two) in
         let here = calm_within n.counts n.counts mid.counts e (rose_itself n.counts) up calm in
         let there = calm_within m.counts m.counts also.counts f (rose_itself m.counts) up_too calm_too in
         let left = calm_within n.counts mid.counts e e (next_rose host n.counts mid.counts n.kept mid.kept n.script mid.script said.answer said.comes) (rose_itself e) calm in
@@ -293,40 +293,40 @@ module _ (host : Host) (content : ℕ → List ℕ) (has : HasHome host content)
         said.comes (subst (λ (z : Script). NextLine host m.counts m.kept z turn.answer also.counts also.kept also.script) (sym beside.script) turn.comes) in
         let pieces : piece ≡ other = said.as_text ∙ sym (ap text_of both.same) ∙ sym turn.as_text in
         let whole : IsReply piece = subst IsReply (sym said.as_text) (said_reply said.answer both.plain said.said) in
-        let ends = one_run mid also p q rest behind x y
+        let ends = one_run w v (c + length piece) (d + length other) mid also p q rest behind x y
         (record { script = sym both.script; refused = said.as_refused ∙ same_refused said.answer turn.answer n.refused m.refused both.same beside.refused ∙ sym turn.as_refused; kept = both.kept (said_heard said.answer said.said) })
         left left_too (rest_sated piece (rest ++ x) s whole all) (rest_sated other (behind ++ y) r (subst IsReply pieces whole) all_too) lines turns one two in
         (append_assoc piece rest x ∙ (λ i. pieces i ++ ends.0 i) ∙ sym (append_assoc other behind y), ends.1, ends.2)
 
-    runs_rose : (n : At) (told : List ℕ) → Runs host e n told s k → RoseTo n.counts e
-    runs_rose n told runs = rose_to_more n.counts runs.at.counts e (lines_rose host n runs.at runs.so_far runs.lines) (over_rose host e runs.at runs.rest s k runs.over)
+    runs_rose : (w : Stretch) (n : At) (told : List ℕ) → Runs host w e n told s k → RoseTo n.counts e
+    runs_rose w n told runs = rose_to_more n.counts runs.at.counts e (lines_rose host w 0 n runs.at runs.so_far runs.lines) (over_rose host e runs.at runs.rest s k runs.over)
 
-    one_from : (answer : Answer) (now from : Counts) (n m : Kept) → (IsHeard answer → Same host n m) → (script : Script) (a b : List ℕ) → IsUndisturbed now e → IsUndisturbed from f → IsSated a s → IsSated b r
-        → RunsFrom host e answer now n script a s k → RunsFrom host f answer from m script b r j → SameEnds host a b s r k j
-    one_from outcome.Ok now from n m same script a b calm calm_too sated sated_too one two =
-        let ends = one_run (record { counts = now; kept = n; refused = false; script = script }) (record { counts = from; kept = m; refused = false; script = script }) one.at two.at one.so_far two.so_far one.rest two.rest
+    one_from : (w v : Stretch) (answer : Answer) (now from : Counts) (n m : Kept) → (IsHeard answer → Same host n m) → (script : Script) (a b : List ℕ) → IsUndisturbed now e → IsUndisturbed from f → IsSated a s → IsSated b r
+        → RunsFrom host w e answer now n script a s k → RunsFrom host v f answer from m script b r j → SameEnds host a b s r k j
+    one_from w v outcome.Ok now from n m same script a b calm calm_too sated sated_too one two =
+        let ends = one_run w v 0 0 (record { counts = now; kept = n; refused = false; script = script }) (record { counts = from; kept = m; refused = false; script = script }) one.at two.at one.so_far two.so_far one.rest two.rest
         (record { script = refl; refused = refl; kept = same tt }) calm calm_too (subst (λ (l : List ℕ). IsSated l s) one.parts sated) (subst (λ (l : List ℕ). IsSated l r) two.parts sated_too) one.lines two.lines one.over two.over in
         (one.parts ∙ ends.0 ∙ sym two.parts, ends.1, ends.2)
-    one_from (outcome.Values text) now from n m same script a b calm calm_too sated sated_too one two = absurd one
-    one_from (outcome.Refused refusal) now from n m same script a b calm calm_too sated sated_too one two = absurd one
-    one_from outcome.Panic now from n m same script a b calm calm_too sated sated_too one two = one_stop host None None (Panic 0 1) a b s r k j tt one.1 two.1
-    one_from outcome.Spent now from n m same script a b calm calm_too sated sated_too one two = one_stop host None None NumbersSpent a b s r k j tt one.1 two.1
-    one_from outcome.NoMemory now from n m same script a b calm calm_too sated sated_too one two = one_stop host None None NoMemory a b s r k j tt one.1 two.1
+    one_from w v (outcome.Values text) now from n m same script a b calm calm_too sated sated_too one two = absurd one
+    one_from w v (outcome.Refused refusal) now from n m same script a b calm calm_too sated sated_too one two = absurd one
+    one_from w v outcome.Panic now from n m same script a b calm calm_too sated sated_too one two = one_stop host None None (Panic 0 1) a b s r k j tt one.1 two.1
+    one_from w v outcome.Spent now from n m same script a b calm calm_too sated sated_too one two = one_stop host None None NumbersSpent a b s r k j tt one.1 two.1
+    one_from w v outcome.NoMemory now from n m same script a b calm calm_too sated sated_too one two = one_stop host None None NoMemory a b s r k j tt one.1 two.1
 
   -- the boot at a run's start
   module _ (e : Counts) (s : RunStatus) (k : Option Kept) where
-    from_rose : (answer : Answer) (now : Counts) (n : Kept) (script : Script) (told : List ℕ) → RunsFrom host e answer now n script told s k → RoseTo now e
-    from_rose outcome.Ok now n script told from = runs_rose e e s s k k (record { counts = now; kept = n; refused = false; script = script }) told from
-    from_rose (outcome.Values text) now n script told from = absurd from
-    from_rose (outcome.Refused refusal) now n script told from = absurd from
-    from_rose outcome.Panic now n script told from = from.0
-    from_rose outcome.Spent now n script told from = from.0
-    from_rose outcome.NoMemory now n script told from = from.0
+    from_rose : (w : Stretch) (answer : Answer) (now : Counts) (n : Kept) (script : Script) (told : List ℕ) → RunsFrom host w e answer now n script told s k → RoseTo now e
+    from_rose w outcome.Ok now n script told from = runs_rose e e s s k k w (record { counts = now; kept = n; refused = false; script = script }) told from
+    from_rose w (outcome.Values text) now n script told from = absurd from
+    from_rose w (outcome.Refused refusal) now n script told from = absurd from
+    from_rose w outcome.Panic now n script told from = from.0
+    from_rose w outcome.Spent now n script told from = from.0
+    from_rose w outcome.NoMemory now n script told from = from.0
 
-    satisfied_from : (answer : Answer) (now : Counts) (n : Kept) (script : Script) (told : List ℕ) → IsSated told s → RunsFrom host e answer now n script told s k → IsSatisfied answer
-    satisfied_from answer now n script told sated from = record {
-      not_refused = λ is. (let never : ⊥ = subst (λ (x : Answer). RunsFrom host e x now n script told s k) is from in never);
-      not_wanting = λ is. (let stops : RoseTo now e × Stops None NoMemory told s k = subst (λ (x : Answer). RunsFrom host e x now n script told s k) is from in sated.end stops.1.ended);
+    satisfied_from : (w : Stretch) (answer : Answer) (now : Counts) (n : Kept) (script : Script) (told : List ℕ) → IsSated told s → RunsFrom host w e answer now n script told s k → IsSatisfied answer
+    satisfied_from w answer now n script told sated from = record {
+      not_refused = λ is. (let never : ⊥ = subst (λ (x : Answer). RunsFrom host w e x now n script told s k) is from in never);
+      not_wanting = λ is. (let stops : RoseTo now e × Stops None NoMemory told s k = subst (λ (x : Answer). RunsFrom host w e x now n script told s k) is from in sated.end stops.1.ended);
     }
 
   alike_start : (kept next : Kept) (answer : Answer) → IsSatisfied answer → IsRebooted ⊥ host kept answer next → Alike (site_of host) has.sound kept.content kept.content
@@ -343,16 +343,16 @@ module _ (host : Host) (content : ℕ → List ℕ) (has : HasHome host content)
       (λ head replica shown. has.room head (replica, shown)) enough enough_too first second
 
 pub one_course : OneCourse
-one_course = λ host content has script start end from to calm calm_too a b s r k j sated sated_too first second.
-    let up = from_rose host content has end s k first.answer first.booted first.kept script a first.runs in
-    let up_too = from_rose host content has to r j second.answer second.booted second.kept script b second.runs in
+one_course = λ host content has script w v start end from to calm calm_too a b s r k j sated sated_too first second.
+    let up = from_rose host content has end s k w first.answer first.booted first.kept script a first.runs in
+    let up_too = from_rose host content has to r j v second.answer second.booted second.kept script b second.runs in
     let here = calm_within start start first.booted end (rose_itself start) up calm in
     let there = calm_within from from second.booted to (rose_itself from) up_too calm_too in
     let left = calm_within start first.booted end end first.rose (rose_itself end) calm in
     let left_too = calm_within from second.booted to to second.rose (rose_itself to) calm_too in
     let both = one_start host content has first.kept second.kept first.answer second.answer
-    (satisfied_from host content has end s k first.answer first.booted first.kept script a sated first.runs) (satisfied_from host content has to r j second.answer second.booted second.kept script b sated_too second.runs)
+    (satisfied_from host content has end s k w first.answer first.booted first.kept script a sated first.runs) (satisfied_from host content has to r j v second.answer second.booted second.kept script b sated_too second.runs)
     (rebooted_more (drive_failed start first.booted) ⊥ here.drive host (started content) first.kept first.answer first.boots)
     (rebooted_more (drive_failed from second.booted) ⊥ there.drive host (started content) second.kept second.answer second.boots) in
-    one_from host content has end to s r k j first.answer first.booted second.booted first.kept second.kept both.1 script a b left left_too sated sated_too first.runs
-    (subst (λ (x : Answer). RunsFrom host to x second.booted second.kept script b r j) (sym both.0) second.runs)
+    one_from host content has end to s r k j w v first.answer first.booted second.booted first.kept second.kept both.1 script a b left left_too sated sated_too first.runs
+    (subst (λ (x : Answer). RunsFrom host v to x second.booted second.kept script b r j) (sym both.0) second.runs)

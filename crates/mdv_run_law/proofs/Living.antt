@@ -1,7 +1,7 @@
 -- Standing over every life.
 use Rattle.std.proofs.Common.{◌≡◌, inl, inr, ◌≤◌, ℕ, List, [], ◌∷◌, ◌++◌, Option, Some, None, IfSome, Contains, refl, sym, ◌∙◌, ap, subst, arith}
 use Rattle.std.proofs.lemmas.List.Elements.{Contains-append_left, Contains-append_right}
-use Rattle.mdv_run_law.specs.Below.{Identity, Mark, Home, Geometry, Image, Head, Slot, IsNewest, Tale, last, replies_in, Change, Table, IsSound, Log, IsLog, IsTellable, with_asked, empty_log, Extends, restarted, Site, HasTable, IsFound, IsReplica, nothing, replica, History, Deed, Created, Changed, Event, history_after_all, told_by, new_history, site_of, StandsAt}
+use Rattle.mdv_run_law.specs.Below.{Identity, Mark, Home, Geometry, Image, Head, Slot, IsNewest, Tale, last, replies_in, Change, Table, IsSound, Log, IsLog, IsTellable, with_asked, empty_log, Extends, Site, HasTable, IsFound, IsReplica, nothing, replica, History, Deed, Created, Changed, Event, history_after_all, told_by, new_history, site_of, StandsAt}
 use Rattle.mdv_store_law.specs.Log as log
 use Rattle.mdv_store_law.proofs.Covering.{last_image}
 use Rattle.mdv_store_law.proofs.Lawful.{finds_hold, nothing_holds}

@@ -1,6 +1,7 @@
 -- The run of one host, told by what its script asks.
-use Rattle.std.specs.Prelude.{◌≡◌, ◌≢◌, ◌⊎◌, ◌≤◌, ℕ, Bool, true, false, List, [], ◌++◌, take, Option, Some, None, IfSome, Contains, if◌then◌else◌}
+use Rattle.std.specs.Prelude.{◌≡◌, ◌≢◌, ◌⊎◌, ◌≤◌, ◌<◌, ◌+◌, ℕ, Bool, true, false, List, [], ◌++◌, take, length, Option, Some, None, IfSome, Contains, if◌then◌else◌}
 use Rattle.mdv_run_law.specs.Below.{Rose, BadLine, LineTooLong, OutOfMemory, IsHome, Script, at_end, spent, too_long, line, Head, Part, OnDrive, OnReplies, Tale, told, replies_in, IsSound, Line, IsLine, IsFound, IsOpened, Answer, Host, site_of, Kept, IsSame, IsSameBeside, ComesTo, IsRebooted, IsTurnedDown, drive_content, unbooted, ok_line, refusal_line}
+use Rattle.mdv_shelf.specs.Story.{Moment, Story, AtEach}
 use Rattle.mdv_engine_law.specs.Replies.{text_of}
 use Rattle.mdv_engine_law.specs.declared.answer.Answer.TheVariants as outcome
 use Rattle.mdv_run_law.specs.declared.status.RunStatus.{RunStatus}
@@ -89,10 +90,28 @@ pub record LineTold (host : Host) (now : At) (piece : List ℕ) (later : At) : T
   pub as_text : piece ≡ text_of answer
   pub as_refused : later.refused ≡ refused_by answer now.refused
 
--- such lines, one behind the other, and what was told of them
-pub data LinesTold (host : Host) : At → List ℕ → At → Type 0 where
-  no_line : (now : At) → LinesTold host now [] now
-  one_more : (now mid later : At) (piece rest : List ℕ) → LineTold host now piece mid → LinesTold host mid rest later → LinesTold host now (piece ++ rest) later
+-- The counts by which the run had told so many bytes, and no more of them: at no moment before was one of them greater, and at none from there
+-- on is one less. So they are those at which the last of these bytes was told.
+pub record AreShown (bytes : ℕ) (now : Counts) (t m : Moment) : Type 0 where
+  pub before : length (told m.tale) < length (told t.tale) + bytes → RoseTo (counts m.faults now.source) now
+  pub behind : length (told t.tale) + bytes ≤ length (told m.tale) → RoseTo now (counts m.faults now.source)
+
+-- what a bench told and counted, from one point to another
+pub record Stretch : Type 0 where
+  pub old : Option Story
+  pub before : Part → ℕ
+  pub new : Option Story
+  pub after : Part → ℕ
+
+-- the counts are so shown by the moments between
+abbrev pub IsShown : Stretch → ℕ → Counts → Type 0
+IsShown stretch bytes now = AtEach (AreShown bytes now) stretch.old stretch.before stretch.new stretch.after
+
+-- Such lines, one behind the other, and what was told of them behind so many bytes, of each at least one. The counts between two lines are those that are shown by then.
+pub data LinesTold (host : Host) (stretch : Stretch) : ℕ → At → List ℕ → At → Type 0 where
+  no_line : (bytes : ℕ) (now : At) → LinesTold host stretch bytes now [] now
+  one_more : (bytes : ℕ) (now mid later : At) (piece rest : List ℕ) → 0 < length piece → LineTold host now piece mid → IsShown stretch (bytes + length piece) mid.counts → LinesTold host stretch (bytes + length piece) mid rest later
+      → LinesTold host stretch bytes now (piece ++ rest) later
 
 -- how a script is over
 abbrev pub EndsAs : Bool → Script → RunStatus → Type 0
@@ -126,14 +145,14 @@ pub data Over (host : Host) (end : Counts) (now : At) (told : List ℕ) (status 
   broken : (answer : Answer) (later : Counts) (next : Kept) (more : Script) → NextLine host now.counts now.kept now.script answer later next more → RoseTo later end → EndsWith (replies_failed later end) answer next told status last
       → Over host end now told status last
 
--- The run of a script, from there on: line after line, until it is over. The counts between two lines are any that never fall, from those at the
--- start to those at the end: so many failures excuse so many answers.
-pub record Runs (host : Host) (end : Counts) (now : At) (told : List ℕ) (status : RunStatus) (last : Option Kept) : Type 0 where
+-- The run of a script, from there on: line after line, until it is over. A line is excused by the calls alone that failed until the last byte of its
+-- reply was told, and behind that of the reply before.
+pub record Runs (host : Host) (stretch : Stretch) (end : Counts) (now : At) (told : List ℕ) (status : RunStatus) (last : Option Kept) : Type 0 where
   pub so_far : List ℕ
   pub rest : List ℕ
   pub parts : told ≡ so_far ++ rest
   pub at : At
-  pub lines : LinesTold host now so_far at
+  pub lines : LinesTold host stretch 0 now so_far at
   pub over : Over host end at rest status last
 
 -- what is there as a run begins
@@ -141,23 +160,23 @@ abbrev pub started : (ℕ → List ℕ) → Kept
 started content = record { memory = unbooted 0; content = content }
 
 -- what follows on the boot at a run's start, to which nothing is replied
-abbrev pub RunsFrom : Host → Counts → Answer → Counts → Kept → Script → List ℕ → RunStatus → Option Kept → Type 0
-RunsFrom host end outcome.Ok later kept script told status last = Runs host end (record { counts = later; kept = kept; refused = false; script = script }) told status last
-RunsFrom host end (outcome.Values text) later kept script told status last = ⊥
-RunsFrom host end (outcome.Refused refusal) later kept script told status last = ⊥
-RunsFrom host end outcome.Panic later kept script told status last = RoseTo later end × Stops None (Panic 0 1) told status last
-RunsFrom host end outcome.Spent later kept script told status last = RoseTo later end × Stops None NumbersSpent told status last
-RunsFrom host end outcome.NoMemory later kept script told status last = RoseTo later end × Stops None NoMemory told status last
+abbrev pub RunsFrom : Host → Stretch → Counts → Answer → Counts → Kept → Script → List ℕ → RunStatus → Option Kept → Type 0
+RunsFrom host stretch end outcome.Ok later kept script told status last = Runs host stretch end (record { counts = later; kept = kept; refused = false; script = script }) told status last
+RunsFrom host stretch end (outcome.Values text) later kept script told status last = ⊥
+RunsFrom host stretch end (outcome.Refused refusal) later kept script told status last = ⊥
+RunsFrom host stretch end outcome.Panic later kept script told status last = RoseTo later end × Stops None (Panic 0 1) told status last
+RunsFrom host stretch end outcome.Spent later kept script told status last = RoseTo later end × Stops None NumbersSpent told status last
+RunsFrom host stretch end outcome.NoMemory later kept script told status last = RoseTo later end × Stops None NoMemory told status last
 
 -- A whole run, from these counts to those: the boot answers from what the drive's blocks held, excused by the calls that failed until
 -- then, and the script is run from there.
-pub record IsRun (host : Host) (start end : Counts) (content : ℕ → List ℕ) (script : Script) (told : List ℕ) (status : RunStatus) (last : Option Kept) : Type 0 where
+pub record IsRun (host : Host) (stretch : Stretch) (start end : Counts) (content : ℕ → List ℕ) (script : Script) (told : List ℕ) (status : RunStatus) (last : Option Kept) : Type 0 where
   pub answer : Answer
   pub booted : Counts
   pub rose : RoseTo start booted
   pub kept : Kept
   pub boots : IsRebooted (drive_failed start booted) host (started content) answer kept
-  pub runs : RunsFrom host end answer booted kept script told status last
+  pub runs : RunsFrom host stretch end answer booted kept script told status last
 
 -- each block reads as it was kept; and where a database is open, whatever a crash leaves has one replica of it, with the newest table
 -- that is in memory
@@ -167,14 +186,14 @@ pub record IsLeft (host : Host) (u : Tale) (kept : Kept) : Type 0 where
 
 -- The whole of a run that began at t: what it told and its status are what the script asks for, and every crash at
 -- its end leaves the database that it made, or adopted and wrote anew.
-pub record IsWholeRun (host : Host) (start end : Counts) (t : Tale) (script : Script) (tale : Option Tale) (status : RunStatus) : Type 0 where
+pub record IsWholeRun (host : Host) (stretch : Stretch) (start end : Counts) (t : Tale) (script : Script) (tale : Option Tale) (status : RunStatus) : Type 0 where
   pub u : Tale
   pub tells : tale ≡ Some u
   pub more : List ℕ
   pub is_told : told u ≡ told t ++ more
   pub last : Option Kept
   pub left : IfSome last (IsLeft host u)
-  pub runs : IsRun host start end (drive_content t) script more status last
+  pub runs : IsRun host stretch start end (drive_content t) script more status last
 
 -- a run that wanted memory for the table of drives: nothing was done
 pub record IsUnbegun (t : Tale) (tale : Option Tale) (status : RunStatus) : Type 0 where
@@ -223,5 +242,5 @@ pub record HasHome (host : Host) (content : ℕ → List ℕ) : Type 0 where
 -- in memory and on the drive at the end
 abbrev pub OneCourse : Type 0
 OneCourse =
-    (host : Host) (content : ℕ → List ℕ) → HasHome host content → (script : Script) (start end from to : Counts) → IsUndisturbed start end → IsUndisturbed from to
-    → (a b : List ℕ) (s r : RunStatus) (k j : Option Kept) → IsSated a s → IsSated b r → IsRun host start end content script a s k → IsRun host from to content script b r j → (a ≡ b) × (s ≡ r) × IsSameEnd host k j
+    (host : Host) (content : ℕ → List ℕ) → HasHome host content → (script : Script) (first second : Stretch) (start end from to : Counts) → IsUndisturbed start end → IsUndisturbed from to
+    → (a b : List ℕ) (s r : RunStatus) (k j : Option Kept) → IsSated a s → IsSated b r → IsRun host first start end content script a s k → IsRun host second from to content script b r j → (a ≡ b) × (s ≡ r) × IsSameEnd host k j

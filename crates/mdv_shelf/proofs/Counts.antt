@@ -23,7 +23,16 @@ at_most_more j k l a b c le first second n is =
     let two = second one.0 one.1 in
     (two.0, two.1, omega (arith, one.2, two.2))
 
+at_most_wider : (j k : ℕ) (a b : Option ℕ) → j ≤ k → RoseByAtMost j a b → RoseByAtMost k a b
+at_most_wider j k a b le rose n is = let one = rose n is in (one.0, one.1, omega (arith, one.2))
+
 module _ {S : Type 0} (calls written : S → Option ℕ) where
+  pub took_wider : (old new : S) (j i m n : ℕ) → j ≤ m → i ≤ n → TookAtMost calls written old new j i → TookAtMost calls written old new m n
+  took_wider old new j i m n in_calls in_blocks took = record {
+    in_calls = at_most_wider j m (calls old) (calls new) in_calls took.in_calls;
+    in_blocks = at_most_wider i n (written old) (written new) in_blocks took.in_blocks;
+  }
+
   pub took_one : (old new : S) (blocks : ℕ) → IsCounted calls written old new blocks → Took calls written old new 1 blocks
   took_one old new blocks counted = record { in_calls = counted.as_call; in_blocks = counted.as_blocks }
 

@@ -6,6 +6,7 @@ pub mod Moments
 pub mod Noted
 pub mod Settled
 pub mod Stories
+pub mod Telling
 pub mod MemCrash
 pub mod MemFaults
 pub mod MemLaws

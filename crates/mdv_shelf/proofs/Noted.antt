@@ -64,9 +64,6 @@ module _ {S : Type 0} (shelf : Ghosts S) where
   pub goes_on_more : (a b c : S) → GoesOn shelf a b → GoesOn shelf b c → GoesOn shelf a c
   goes_on_more a b c first second = moment_more (λ _ _. Unit {0}) (λ _ _. Unit {0}) (λ _ _. Unit {0}) a b c (λ t m up here. tt) (λ t u m up on here there. tt) first second
 
-  pub goes_on_each : (R : Moment → Moment → Type 0) (old new : S) → AtEachMoment shelf R old new → GoesOn shelf old new
-  goes_on_each R old new each = moment_weaker R (λ _ _. Unit {0}) old new (λ t m up down here. tt) each
-
 -- stretches of calls, with all that they keep
 module _ {S : Type 0} (shelf : Ghosts S) where
   keeps_more : (a b c : S) → Keeps shelf a b → Keeps shelf b c → Keeps shelf a c
@@ -79,9 +76,6 @@ module _ {S : Type 0} (shelf : Ghosts S) where
 
   pub kept_call : (old new : S) → IsNoted shelf.story shelf.faults old new → Keeps shelf old new → Kept shelf old new
   kept_call old new noted keeps = record { keeps = keeps; goes = goes_on_call shelf old new noted keeps }
-
-  pub kept_each : (R : Moment → Moment → Type 0) (old new : S) → AtEachMoment shelf R old new → Keeps shelf old new → Kept shelf old new
-  kept_each R old new each keeps = record { keeps = keeps; goes = goes_on_each shelf R old new each }
 
 -- one stretch after another
 pub kept_more : {S : Type 0} {shelf : Ghosts S} {a b c : S} → Kept shelf a b → Kept shelf b c → Kept shelf a c

@@ -1,6 +1,7 @@
 -- What each call of a shelf does to its tale, its counts and all else.
 use Rattle.std.specs.Prelude.{◌≡◌, ◌⊎◌, ℕ, ◌+◌, ◌-◌, ◌^◌, ◌<◌, ◌≤◌, min, Bool, List, [], length, slice_index, slice_index_or, Option, Some, Result, MatchResult, OnOk}
 use Rattle.std.specs.Option.{option_map}
+use Rattle.mdv_base.specs.Causes.{HasCause}
 use Rattle.mdv_shelf.specs.Tale.{Tale, Then, Call, Wrote, Tore, Synced, Gave, last}
 
 -- of what failures are counted apart: a drive, and the giving of replies
@@ -72,3 +73,9 @@ RoseByAtMost more old new = (n : ℕ) → old ≡ Some n → (m : ℕ) × (new �
 pub record TookAtMost {S : Type 0} (calls written : S → Option ℕ) (old new : S) (count blocks : ℕ) : Type 0 where
   pub in_calls : RoseByAtMost count (calls old) (calls new)
   pub in_blocks : RoseByAtMost blocks (written old) (written new)
+
+-- A giving fails only where its own count rose. It raises no drive's count, and none at all where all was told.
+pub record HasGivingCause {T E : Type 0} (before now : Part → ℕ) (result : Result T E) : Type 0 where
+  pub own : HasCause (before OnReplies) (now OnReplies) result
+  pub drives : (drive : ℕ) → now (OnDrive drive) ≡ before (OnDrive drive)
+  pub told : OnOk result (now OnReplies ≡ before OnReplies)

@@ -1,10 +1,10 @@
 -- Words over a whole shelf: the ghosts of its bound are passed as one, as `S.Shelf`.
-use Rattle.std.specs.Prelude.{ℕ}
+use Rattle.std.specs.Prelude.{◌≡◌, ◌≤◌, ◌<◌, ℕ, length, Some}
 use Rattle.mdv_base.specs.Causes.{Rose}
-use Rattle.mdv_shelf.specs.Tale.{Tale}
+use Rattle.mdv_shelf.specs.Tale.{Tale, told}
 use Rattle.mdv_shelf.specs.Calls.{OnDrive, OnReplies, Took, TookAtMost, Keeps as KeepsOf}
 use Rattle.mdv_shelf.specs.Moments.{Moments, Ends}
-use Rattle.mdv_shelf.specs.Story.{Moment, AtEach}
+use Rattle.mdv_shelf.specs.Story.{Moment, AtEach, NoFewer}
 use Rattle.mdv_shelf.specs.declared.shelf.Shelf.{Ghosts}
 
 -- the sizes, what no call on a drive changes and the references held stay, and no count of failures fell
@@ -47,3 +47,9 @@ MadeCalls shelf old new calls blocks = Took shelf.calls shelf.written old new ca
 -- it took at most so many
 abbrev pub MadeCallsAtMost : {S : Type 0} → Ghosts S → S → S → ℕ → ℕ → Type 0
 MadeCallsAtMost shelf old new calls blocks = TookAtMost shelf.calls shelf.written old new calls blocks
+
+-- Some byte was told, and no call failed behind the last: by each moment by which all was told, each part had failed as often as it had
+-- in the end.
+pub record EndsTold {S : Type 0} (shelf : Ghosts S) (old new : S) : Type 0 where
+  pub grew : AtEnd shelf (λ t u. length (told t) < length (told u)) old new
+  pub still : (u : Tale) → shelf.tale new ≡ Some u → AtEachMoment shelf (λ t m. length (told u) ≤ length (told m.tale) → NoFewer (shelf.faults new) m.faults) old new

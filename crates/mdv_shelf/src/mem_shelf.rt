@@ -326,14 +326,13 @@ impl Shelf for MemShelf {
 
 impl Bench for MemShelf {
     ghost use Rattle.std.specs.Prelude.{◌++◌, OnOk};
-    ghost use Rattle.mdv_base.specs.Causes.{HasCause};
     ghost use Rattle.mdv_shelf.specs.Story.{IsNoted};
-    ghost use Rattle.mdv_shelf.specs.Calls.{OnReplies, Gives, Keeps, IsCounted};
+    ghost use Rattle.mdv_shelf.specs.Calls.{OnReplies, Gives, HasGivingCause, Keeps, IsCounted};
     ghost use Rattle.mdv_shelf.specs.MemShelf.{shelf_sizes, told_bytes, fault_count, AnswersAsAsked, told_tale, told_story, told_calls, told_blocks, nothing};
 
     fn give(&mut self, piece: &[u8]) -> Result<(), Failed>
         ensures gives { Gives (told_tale self.old) piece.now result (told_tale self.new) }
-        ensures cause { HasCause (fault_count self.old OnReplies) (fault_count self.new OnReplies) result }
+        ensures cause { HasGivingCause (fault_count self.old) (fault_count self.new) result }
         ensures counted { IsCounted told_calls told_blocks self.old self.new 0 }
         ensures keeps { Keeps shelf_sizes fault_count nothing nothing self.old self.new }
         ensures noted { IsNoted told_story fault_count self.old self.new }

@@ -1,11 +1,10 @@
-ghost use Rattle.std.specs.Prelude.{◌≡◌, length, OnOk};
+ghost use Rattle.std.specs.Prelude.{length, OnOk};
 ghost use Rattle.mdv_base.specs.Causes.{HasCause};
-ghost use Rattle.mdv_shelf.specs.Between.{RoseByAtLeast};
-ghost use Rattle.mdv_shelf.specs.Calls.{OnDrive, InDrive, Took, TookAtMost};
+ghost use Rattle.mdv_shelf.specs.Between.{MakesCalls};
+ghost use Rattle.mdv_shelf.specs.Calls.{OnDrive, InDrive};
 ghost use Rattle.mdv_shelf.specs.Moments.{Moments, Ends};
 ghost use Rattle.mdv_shelf.specs.Settle.{Settling, IsSettled};
-ghost use Rattle.mdv_shelf.specs.Story.{OfTales};
-ghost use Rattle.mdv_shelf.specs.Shelves.{AtEachMoment, Keeps};
+ghost use Rattle.mdv_shelf.specs.Shelves.{Kept};
 
 use crate::Shelf;
 use mdv_base::{Block, DriveNo, Failed};
@@ -19,13 +18,10 @@ pub fn settle<S: Shelf>(
 ) -> Result<(), Failed>
     requires { InDrive (S.sizes shelf.old) drive.0 at (length from.now) }
     ensures moments { Moments (Settling drive.0 at from.now) (S.tale shelf.old) (S.tale shelf.new) }
-    ensures each { AtEachMoment S.Shelf (OfTales (Settling drive.0 at from.now)) shelf.old shelf.new }
     ensures settled { OnOk result (Ends (λ _ u. IsSettled drive.0 at from.now u) (S.tale shelf.old) (S.tale shelf.new)) }
     ensures cause { HasCause (S.faults shelf.old (OnDrive drive.0)) (S.faults shelf.new (OnDrive drive.0)) result }
-    ensures counted { OnOk result (Took S.calls S.written shelf.old shelf.new 2 (length from.now)) }
-    ensures counted_at_most { TookAtMost S.calls S.written shelf.old shelf.new 2 (length from.now) }
-    ensures counted_at_least { RoseByAtLeast 1 (S.calls shelf.old) (S.calls shelf.new) }
-    ensures keeps { Keeps S.Shelf shelf.old shelf.new }
+    ensures counted { MakesCalls S.Shelf shelf.old shelf.new 2 (length from.now) result }
+    ensures kept { Kept S.Shelf shelf.old shelf.new }
 {
     shelf.write(drive, at, from)?;
     shelf.sync(drive)?;

@@ -1,8 +1,8 @@
-ghost use Rattle.std.specs.Prelude.{◌≡◌, ◌<◌, ◌≤◌, ◌+◌, ℕ, List, Option, length, slice_index};
+ghost use Rattle.std.specs.Prelude.{◌≡◌, ◌<◌, ℕ, List, Option, length, slice_index};
 ghost use Rattle.std.specs.Option.{option_map};
 ghost use Rattle.mdv_base.specs.Causes.{HasCause};
 ghost use Rattle.mdv_shelf.specs.Tale.{Tale};
-ghost use Rattle.mdv_shelf.specs.Calls.{Part, OnDrive, OnReplies, InDrive, Reads, Writes, Syncs, Gives, Keeps, IsCounted};
+ghost use Rattle.mdv_shelf.specs.Calls.{Part, OnDrive, InDrive, Reads, Writes, Syncs, Gives, HasGivingCause, Keeps, IsCounted};
 ghost use Rattle.mdv_shelf.specs.Story.{Story, tale_of, IsNoted};
 
 use mdv_base::{Block, DriveNo, Failed};
@@ -81,7 +81,7 @@ pub trait Bench: Shelf {
     /// Tells the piece. After a failure a front of it may have been told.
     fn give(&mut self, piece: &[u8]) -> Result<(), Failed>
         ensures gives { Gives (Self.tale self.old) piece.now result (Self.tale self.new) }
-        ensures cause { HasCause (Self.faults self.old OnReplies) (Self.faults self.new OnReplies) result }
+        ensures cause { HasGivingCause (Self.faults self.old) (Self.faults self.new) result }
         ensures counted { IsCounted Self.calls Self.written self.old self.new 0 }
         ensures keeps { Keeps Self.sizes Self.faults Self.rest Self.held self.old self.new }
         ensures noted { IsNoted Self.story Self.faults self.old self.new };

@@ -2,10 +2,7 @@ use Rattle.std.proofs.Common.{arith, rules}
 use Rattle.mdv_shelf.specs.Between.{TookBetween}
 use Rattle.mdv_shelf.proofs.Between.{between_then, between_wider}
 use Rattle.mdv_shelf.proofs.Counts.{took_more}
-use Rattle.mdv_shelf.specs.Settle.{Settling}
-use Rattle.mdv_shelf.specs.Story.{OfTales}
-use Rattle.mdv_shelf.proofs.Noted.{kept_each, kept_more}
-use Rattle.mdv_replica.proofs.Counted.{between_both}
+use Rattle.mdv_shelf.proofs.Noted.{kept_more}
 use Rattle.mdv_replica.proofs.Writing.{format_blanks, format_fills, format_opens, format_ends}
 use Rattle.mdv_replica.proofs.replica.format.Goals as goal
 use Rattle.mdv_replica.proofs.replica.format.Goals.{After-settle, After-settle-2}
@@ -38,14 +35,14 @@ returns-clause-settled g c =
 both : (g : _) (c : After-settle g) → TookBetween g.S.Shelf.calls g.S.Shelf.written c.args.shelf.now c.settle.new.shelf 1 4 4
 both g c =
     between_then g.S.Shelf.calls g.S.Shelf.written _ _ _ 1 2 1 1 2 3 1 4 4 (omega arith) (omega arith) (omega arith) c.wipe.ensures.counted.any
-    (between_both g.S.Shelf.calls g.S.Shelf.written _ _ 1 2 3 c.settle.ensures.counted_at_least c.settle.ensures.counted_at_most)
+    c.settle.ensures.counted.any
 
 all : (g : _) (c : After-settle-2 g) → TookBetween g.S.Shelf.calls g.S.Shelf.written c.args.shelf.now c.settle-2.new.shelf 1 6 5
 all g c =
     between_then g.S.Shelf.calls g.S.Shelf.written _ _ _ 1 4 4 1 2 1 1 6 5 (omega arith) (omega arith) (omega arith)
     (between_then g.S.Shelf.calls g.S.Shelf.written _ _ _ 1 2 1 1 2 3 1 4 4 (omega arith) (omega arith) (omega arith) c.wipe.ensures.counted.any
-    (between_both g.S.Shelf.calls g.S.Shelf.written _ _ 1 2 3 c.settle.ensures.counted_at_least c.settle.ensures.counted_at_most))
-    (between_both g.S.Shelf.calls g.S.Shelf.written _ _ 1 2 1 c.settle-2.ensures.counted_at_least c.settle-2.ensures.counted_at_most)
+    c.settle.ensures.counted.any)
+    c.settle-2.ensures.counted.any
 
 pub returns-in_err-wipe-clause-counted : goal.returns-in_err-wipe-clause-counted
 returns-in_err-wipe-clause-counted g c = record {
@@ -65,15 +62,15 @@ returns-in_err-settle-2-clause-counted g c = record { done = search rules; any =
 pub returns-clause-counted : goal.returns-clause-counted
 returns-clause-counted g c = record {
   done = took_more g.S.Shelf.calls g.S.Shelf.written _ _ _ 4 2 4 1 6 5 (omega arith) (omega arith)
-      (took_more g.S.Shelf.calls g.S.Shelf.written _ _ _ 2 2 1 3 4 4 (omega arith) (omega arith) c.in_ok-wipe.ensures.counted.done c.in_ok-settle.ensures.counted) c.in_ok-settle-2.ensures.counted;
+      (took_more g.S.Shelf.calls g.S.Shelf.written _ _ _ 2 2 1 3 4 4 (omega arith) (omega arith) c.in_ok-wipe.ensures.counted.done c.in_ok-settle.ensures.counted.done) c.in_ok-settle-2.ensures.counted.done;
   any = all g (goal.at.returns-clause-counted g c).After-settle-2;
 }
 
 pub returns-in_err-settle-clause-kept : goal.returns-in_err-settle-clause-kept
-returns-in_err-settle-clause-kept g c = kept_more c.wipe.ensures.kept (kept_each g.S.Shelf (OfTales (Settling _ _ _)) _ _ c.settle.ensures.each c.settle.ensures.keeps)
+returns-in_err-settle-clause-kept g c = kept_more c.wipe.ensures.kept c.settle.ensures.kept
 
 pub returns-in_err-settle-2-clause-kept : goal.returns-in_err-settle-2-clause-kept
-returns-in_err-settle-2-clause-kept g c = kept_more (kept_more c.wipe.ensures.kept (kept_each g.S.Shelf (OfTales (Settling _ _ _)) _ _ c.settle.ensures.each c.settle.ensures.keeps)) (kept_each g.S.Shelf (OfTales (Settling _ _ _)) _ _ c.settle-2.ensures.each c.settle-2.ensures.keeps)
+returns-in_err-settle-2-clause-kept g c = kept_more (kept_more c.wipe.ensures.kept c.settle.ensures.kept) c.settle-2.ensures.kept
 
 pub returns-clause-kept : goal.returns-clause-kept
-returns-clause-kept g c = kept_more (kept_more c.wipe.ensures.kept (kept_each g.S.Shelf (OfTales (Settling _ _ _)) _ _ c.settle.ensures.each c.settle.ensures.keeps)) (kept_each g.S.Shelf (OfTales (Settling _ _ _)) _ _ c.settle-2.ensures.each c.settle-2.ensures.keeps)
+returns-clause-kept g c = kept_more (kept_more c.wipe.ensures.kept c.settle.ensures.kept) c.settle-2.ensures.kept

@@ -2,10 +2,7 @@ use Rattle.std.proofs.Common.{◌+◌, length, arith, rules}
 use Rattle.mdv_shelf.specs.Between.{TookBetween}
 use Rattle.mdv_shelf.proofs.Between.{between_then, between_wider}
 use Rattle.mdv_shelf.proofs.Counts.{took_more}
-use Rattle.mdv_shelf.specs.Settle.{Settling}
-use Rattle.mdv_shelf.specs.Story.{OfTales}
-use Rattle.mdv_shelf.proofs.Noted.{kept_each, kept_more}
-use Rattle.mdv_replica.proofs.Counted.{between_both}
+use Rattle.mdv_shelf.proofs.Noted.{kept_more}
 use Rattle.mdv_replica.proofs.Writing.{slot_closes, slot_fills, slot_opens, slot_ends}
 use Rattle.mdv_replica.proofs.replica.write_slot.Goals as goal
 use Rattle.mdv_replica.proofs.replica.write_slot.Goals.{After-settle, After-settle-2, After-settle-3}
@@ -42,21 +39,21 @@ returns-clause-settled g c =
 
 -- each settling takes one call at least and two at most
 gate : (g : _) (c : After-settle g) → TookBetween g.S.Shelf.calls g.S.Shelf.written c.args.shelf.now c.settle.new.shelf 1 2 1
-gate g c = between_both g.S.Shelf.calls g.S.Shelf.written _ _ 1 2 1 c.settle.ensures.counted_at_least c.settle.ensures.counted_at_most
+gate g c = c.settle.ensures.counted.any
 
 both : (g : _) (c : After-settle-2 g) → TookBetween g.S.Shelf.calls g.S.Shelf.written c.args.shelf.now c.settle-2.new.shelf 1 4 (1 + length c.args.body.now)
 both g c =
     between_then g.S.Shelf.calls g.S.Shelf.written _ _ _ 1 2 1 1 2 (length c.args.body.now) 1 4 (1 + length c.args.body.now) (omega arith) (omega arith) (omega arith)
-    (between_both g.S.Shelf.calls g.S.Shelf.written _ _ 1 2 1 c.settle.ensures.counted_at_least c.settle.ensures.counted_at_most)
-    (between_both g.S.Shelf.calls g.S.Shelf.written _ _ 1 2 (length c.args.body.now) c.settle-2.ensures.counted_at_least c.settle-2.ensures.counted_at_most)
+    c.settle.ensures.counted.any
+    c.settle-2.ensures.counted.any
 
 all : (g : _) (c : After-settle-3 g) → TookBetween g.S.Shelf.calls g.S.Shelf.written c.args.shelf.now c.settle-3.new.shelf 1 6 (2 + length c.args.body.now)
 all g c =
     between_then g.S.Shelf.calls g.S.Shelf.written _ _ _ 1 4 (1 + length c.args.body.now) 1 2 1 1 6 (2 + length c.args.body.now) (omega arith) (omega arith) (omega arith)
     (between_then g.S.Shelf.calls g.S.Shelf.written _ _ _ 1 2 1 1 2 (length c.args.body.now) 1 4 (1 + length c.args.body.now) (omega arith) (omega arith) (omega arith)
-    (between_both g.S.Shelf.calls g.S.Shelf.written _ _ 1 2 1 c.settle.ensures.counted_at_least c.settle.ensures.counted_at_most)
-    (between_both g.S.Shelf.calls g.S.Shelf.written _ _ 1 2 (length c.args.body.now) c.settle-2.ensures.counted_at_least c.settle-2.ensures.counted_at_most))
-    (between_both g.S.Shelf.calls g.S.Shelf.written _ _ 1 2 1 c.settle-3.ensures.counted_at_least c.settle-3.ensures.counted_at_most)
+    c.settle.ensures.counted.any
+    c.settle-2.ensures.counted.any)
+    c.settle-3.ensures.counted.any
 
 pub returns-in_err-settle-clause-counted : goal.returns-in_err-settle-clause-counted
 returns-in_err-settle-clause-counted g c = record {
@@ -76,18 +73,18 @@ returns-in_err-settle-3-clause-counted g c = record { done = search rules; any =
 pub returns-clause-counted : goal.returns-clause-counted
 returns-clause-counted g c = record {
   done = took_more g.S.Shelf.calls g.S.Shelf.written _ _ _ 4 2 (1 + length c.args.body.now) 1 6 (2 + length c.args.body.now) (omega arith) (omega arith)
-      (took_more g.S.Shelf.calls g.S.Shelf.written _ _ _ 2 2 1 (length c.args.body.now) 4 (1 + length c.args.body.now) (omega arith) (omega arith) c.in_ok-settle.ensures.counted c.in_ok-settle-2.ensures.counted) c.in_ok-settle-3.ensures.counted;
+      (took_more g.S.Shelf.calls g.S.Shelf.written _ _ _ 2 2 1 (length c.args.body.now) 4 (1 + length c.args.body.now) (omega arith) (omega arith) c.in_ok-settle.ensures.counted.done c.in_ok-settle-2.ensures.counted.done) c.in_ok-settle-3.ensures.counted.done;
   any = all g (goal.at.returns-clause-counted g c).After-settle-3;
 }
 
 pub returns-in_err-settle-clause-kept : goal.returns-in_err-settle-clause-kept
-returns-in_err-settle-clause-kept g c = kept_each g.S.Shelf (OfTales (Settling _ _ _)) _ _ c.settle.ensures.each c.settle.ensures.keeps
+returns-in_err-settle-clause-kept g c = c.settle.ensures.kept
 
 pub returns-in_err-settle-2-clause-kept : goal.returns-in_err-settle-2-clause-kept
-returns-in_err-settle-2-clause-kept g c = kept_more (kept_each g.S.Shelf (OfTales (Settling _ _ _)) _ _ c.settle.ensures.each c.settle.ensures.keeps) (kept_each g.S.Shelf (OfTales (Settling _ _ _)) _ _ c.settle-2.ensures.each c.settle-2.ensures.keeps)
+returns-in_err-settle-2-clause-kept g c = kept_more c.settle.ensures.kept c.settle-2.ensures.kept
 
 pub returns-in_err-settle-3-clause-kept : goal.returns-in_err-settle-3-clause-kept
-returns-in_err-settle-3-clause-kept g c = kept_more (kept_more (kept_each g.S.Shelf (OfTales (Settling _ _ _)) _ _ c.settle.ensures.each c.settle.ensures.keeps) (kept_each g.S.Shelf (OfTales (Settling _ _ _)) _ _ c.settle-2.ensures.each c.settle-2.ensures.keeps)) (kept_each g.S.Shelf (OfTales (Settling _ _ _)) _ _ c.settle-3.ensures.each c.settle-3.ensures.keeps)
+returns-in_err-settle-3-clause-kept g c = kept_more (kept_more c.settle.ensures.kept c.settle-2.ensures.kept) c.settle-3.ensures.kept
 
 pub returns-clause-kept : goal.returns-clause-kept
-returns-clause-kept g c = kept_more (kept_more (kept_each g.S.Shelf (OfTales (Settling _ _ _)) _ _ c.settle.ensures.each c.settle.ensures.keeps) (kept_each g.S.Shelf (OfTales (Settling _ _ _)) _ _ c.settle-2.ensures.each c.settle-2.ensures.keeps)) (kept_each g.S.Shelf (OfTales (Settling _ _ _)) _ _ c.settle-3.ensures.each c.settle-3.ensures.keeps)
+returns-clause-kept g c = kept_more (kept_more c.settle.ensures.kept c.settle-2.ensures.kept) c.settle-3.ensures.kept

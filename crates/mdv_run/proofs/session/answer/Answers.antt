@@ -48,8 +48,8 @@ returns-in-Command-clause-end g c = λ t told.
       },
     )
 
-pub returns-in-Command-clause-home : goal.returns-in-Command-clause-home
-returns-in-Command-clause-home g c = turn_stays c.args.engine.now.host (asked_by c.in-Command.command) c.args.engine.now.state _ _ c.exec.ensures.moments
+pub returns-in-Command-clause-stays : goal.returns-in-Command-clause-stays
+returns-in-Command-clause-stays g c = record { home = turn_stays c.args.engine.now.host (asked_by c.in-Command.command) c.args.engine.now.state _ _ c.exec.ensures.moments; told = c.exec.ensures.counted.told }
 
 -- a line that isn't in the grammar
 pub returns-in_default-clause-moments : goal.returns-in_default-clause-moments
@@ -77,8 +77,8 @@ returns-in_default-clause-end g c =
       },
     )))
 
-pub returns-in_default-clause-home : goal.returns-in_default-clause-home
-returns-in_default-clause-home g c = turn_stays c.args.engine.now.host [] c.args.engine.now.state _ _ (c.refuse.ensures.moments [])
+pub returns-in_default-clause-stays : goal.returns-in_default-clause-stays
+returns-in_default-clause-stays g c = record { home = turn_stays c.args.engine.now.host [] c.args.engine.now.state _ _ (c.refuse.ensures.moments []); told = c.refuse.ensures.counted.told }
 
 -- a boot
 pub returns-in-Boot-clause-moments : goal.returns-in-Boot-clause-moments

@@ -1,9 +1,10 @@
-use Rattle.std.proofs.Common.{[], inr, refl, sym, ◌∙◌, ap, subst, arith}
+use Rattle.std.proofs.Common.{◌≡◌, [], inr, refl, sym, ◌∙◌, ap, subst, arith}
 use Rattle.std.proofs.lemmas.List.{append-nil}
 use Rattle.mdv_shelf.specs.Shelves.{DriveFailed, GivingFailed}
 use Rattle.mdv_run.specs.Below.{OnDrive, OnReplies, Moments, Ends, told, Boot, Host, StaysHome, BootMoment, BootedTo, TurnMoment, Engine}
 use Rattle.mdv_run.specs.Promise.{LineEnd}
 use Rattle.mdv_run.proofs.Answering.{line_executed, accepted_turned}
+use Rattle.mdv_shelf.proofs.Telling.{told_behind}
 use Rattle.mdv_shelf.proofs.Moments.{moments_after, moments_weaker, moments_end, some_is}
 use Rattle.mdv_engine_law.specs.declared.answer.Answer.TheVariants as outcome
 use Rattle.mdv_engine_law.proofs.Executing.{executed, rose_within}
@@ -46,11 +47,13 @@ returns-in-Ok-clause-end g c = λ text boots.
       },
     )))
 
-pub returns-in-Ok-clause-home : goal.returns-in-Ok-clause-home
-returns-in-Ok-clause-home g c =
-    let host = c.args.engine.now.host in
-    both_stay host _ _ _ (boot_stays host _ _ c.reboot.ensures.moments)
-    (subst (λ (h : Host). Moments (StaysHome h) (g.B.Shelf.tale c.reboot.new.shelf) (g.B.Shelf.tale c.accept.new.bench)) c.in-Ok.ensures.answer.host (turn_stays c.reboot.new.self.host [] c.reboot.new.self.state _ _ c.accept.ensures.moments))
+pub returns-in-Ok-clause-stays : goal.returns-in-Ok-clause-stays
+returns-in-Ok-clause-stays g c =
+    let host = c.args.engine.now.host in record {
+      home = both_stay host _ _ _ (boot_stays host _ _ c.reboot.ensures.moments)
+          (subst (λ (h : Host). Moments (StaysHome h) (g.B.Shelf.tale c.reboot.new.shelf) (g.B.Shelf.tale c.accept.new.bench)) c.in-Ok.ensures.answer.host (turn_stays c.reboot.new.self.host [] c.reboot.new.self.state _ _ c.accept.ensures.moments));
+      told = λ on. told_behind g.B.Shelf g.met.B.Shelf.telling _ _ _ c.reboot.ensures.kept.goes (moments_weaker (BootMoment host) (λ t m. told m ≡ told t) _ _ (λ t m moment. moment.quiet) c.reboot.ensures.moments) (c.accept.ensures.counted.told on);
+    }
 
 pub returns-in-Err-Lost-clause-end : goal.returns-in-Err-Lost-clause-end
 returns-in-Err-Lost-clause-end g c = λ text boots t is.
@@ -77,8 +80,8 @@ returns-in-Err-Lost-clause-moments g c =
     let old = c.args.engine.now.state in
     moments_weaker (BootMoment host) (TurnMoment host [] old) _ _ (λ t m moment. boot_turn host old t m moment) c.reboot.ensures.moments
 
-pub returns-in-Err-Lost-clause-home : goal.returns-in-Err-Lost-clause-home
-returns-in-Err-Lost-clause-home g c = boot_stays c.args.engine.now.host _ _ c.reboot.ensures.moments
+pub returns-in-Err-Lost-clause-stays : goal.returns-in-Err-Lost-clause-stays
+returns-in-Err-Lost-clause-stays g c = record { home = boot_stays c.args.engine.now.host _ _ c.reboot.ensures.moments; told = λ on. absurd on }
 
 pub returns-in-Err-Spent-clause-end : goal.returns-in-Err-Spent-clause-end
 returns-in-Err-Spent-clause-end g c = λ text boots t is.
@@ -104,8 +107,8 @@ returns-in-Err-Spent-clause-moments g c =
     let old = c.args.engine.now.state in
     moments_weaker (BootMoment host) (TurnMoment host [] old) _ _ (λ t m moment. boot_turn host old t m moment) c.reboot.ensures.moments
 
-pub returns-in-Err-Spent-clause-home : goal.returns-in-Err-Spent-clause-home
-returns-in-Err-Spent-clause-home g c = boot_stays c.args.engine.now.host _ _ c.reboot.ensures.moments
+pub returns-in-Err-Spent-clause-stays : goal.returns-in-Err-Spent-clause-stays
+returns-in-Err-Spent-clause-stays g c = record { home = boot_stays c.args.engine.now.host _ _ c.reboot.ensures.moments; told = λ on. absurd on }
 
 pub returns-in-Err-Memory-clause-end : goal.returns-in-Err-Memory-clause-end
 returns-in-Err-Memory-clause-end g c = λ text boots t is.
@@ -131,5 +134,5 @@ returns-in-Err-Memory-clause-moments g c =
     let old = c.args.engine.now.state in
     moments_weaker (BootMoment host) (TurnMoment host [] old) _ _ (λ t m moment. boot_turn host old t m moment) c.reboot.ensures.moments
 
-pub returns-in-Err-Memory-clause-home : goal.returns-in-Err-Memory-clause-home
-returns-in-Err-Memory-clause-home g c = boot_stays c.args.engine.now.host _ _ c.reboot.ensures.moments
+pub returns-in-Err-Memory-clause-stays : goal.returns-in-Err-Memory-clause-stays
+returns-in-Err-Memory-clause-stays g c = record { home = boot_stays c.args.engine.now.host _ _ c.reboot.ensures.moments; told = λ on. absurd on }

@@ -1,10 +1,12 @@
-use Rattle.std.proofs.Common.{inr, false, refl, sym, ◌∙◌, ap, subst, arith}
-use Rattle.mdv_run.specs.Below.{script_of, Tale, told, OnDrive, OnReplies, Moments, Host, kept_at, unbooted, BootMoment, BootedTo, Knows, RunStatus, counts, HasStatusCause, IsWholeRun, RunMoment, LinesMoment, Engine, StaysHome}
+use Rattle.std.proofs.Common.{◌≡◌, inr, false, refl, sym, ◌∙◌, ap, subst, arith}
+use Rattle.mdv_run.specs.Below.{script_of, told, OnDrive, OnReplies, Moments, Host, kept_at, unbooted, BootMoment, BootedTo, Knows, RunStatus, counts, HasStatusCause, IsWholeRun, RunMoment, LinesMoment, Engine, StaysHome}
 use Rattle.mdv_shelf.proofs.Moments.{moments_after, moments_weaker, moments_end, some_is}
 use Rattle.mdv_run.specs.Turns.{LinesRun}
 use Rattle.mdv_run_law.proofs.Booting.{boot_run, lines_run}
 use Rattle.mdv_run.proofs.Whole.{whole_over, whole_lines, over_cause}
-use Rattle.mdv_run.proofs.Went.{cause_within}
+use Rattle.mdv_run.specs.Promise.{between}
+use Rattle.mdv_run.proofs.Shown.{shown_earlier}
+use Rattle.mdv_run.proofs.Went.{cause_within, run_earlier}
 use Rattle.mdv_engine_law.proofs.Staying.{both_stay, boot_stays}
 use Rattle.mdv_shelf.proofs.Noted.{kept_more, moments_of_tales}
 use Rattle.mdv_run.proofs.session.run_host.Goals as goal
@@ -20,9 +22,12 @@ returns-in-Ok-clause-has_run g c = record {
       let start = counts (g.B.Shelf.faults c.args.bench.now) (g.I.Source.faults c.args.script.now) in
       let mid = counts (g.B.Shelf.faults c.boot.new.shelf) (g.I.Source.faults c.args.script.now) in
       let end = counts (g.B.Shelf.faults c.run_lines.new.bench) (g.I.Source.faults c.run_lines.new.script) in
-      inr (whole_lines host start t (script_of input) _ mid end (record { drive = c.boot.ensures.kept.keeps.no_fewer_faults (OnDrive 0); source = omega arith; replies = c.boot.ensures.kept.keeps.no_fewer_faults OnReplies })
+      inr (whole_lines host (between g.B.Shelf c.args.bench.now c.run_lines.new.bench) start t (script_of input) _ mid end (record { drive = c.boot.ensures.kept.keeps.no_fewer_faults (OnDrive 0); source = omega arith; replies = c.boot.ensures.kept.keeps.no_fewer_faults OnReplies })
       done.0 lines.0 c.in-Ok.engine.state c.run_lines.result lines.1 (ap told (some_is _ done.0 quiet.0 done.1 quiet.1) ∙ quiet.2.quiet) done.2.rebooted
-      (subst (λ (h : Host). LinesRun h mid end c.in-Ok.engine.state false (script_of input) c.run_lines.result done.0 lines.0) c.in-Ok.ensures.answer.engine.0 (lines.2 knows)));
+      (run_earlier host (between g.B.Shelf c.boot.new.shelf c.run_lines.new.bench) (between g.B.Shelf c.args.bench.now c.run_lines.new.bench)
+      (λ bytes shown some seen. shown_earlier g.B.Shelf g.met.B.Shelf.telling _ _ _ c.boot.ensures.kept.goes (moments_weaker (BootMoment host) (λ t m. told m ≡ told t) _ _ (λ t m moment. moment.quiet) c.boot.ensures.moments) bytes shown some seen)
+      mid end c.in-Ok.engine.state (script_of input) c.run_lines.result done.0 lines.0
+      (subst (λ (h : Host). LinesRun h (between g.B.Shelf c.boot.new.shelf c.run_lines.new.bench) mid end c.in-Ok.engine.state false (script_of input) c.run_lines.result done.0 lines.0) c.in-Ok.ensures.answer.engine.0 (lines.2 knows))));
   stands = λ input left.
       let host = c.args.host in
       moments_of_tales g.B.Shelf g.met.B.Shelf.telling _ _ (RunMoment host (script_of input)) (kept_more c.boot.ensures.kept c.run_lines.ensures.kept).goes
@@ -47,8 +52,8 @@ returns-in-Err-clause-has_run g c = record {
       let done = c.in-Err.ensures.end t is in
       let start = counts (g.B.Shelf.faults c.args.bench.now) (g.I.Source.faults c.args.script.now) in
       let end = counts (g.B.Shelf.faults c.boot.new.shelf) (g.I.Source.faults c.args.script.now) in
-      inr (subst (λ (s : RunStatus). IsWholeRun host start end t (script_of input) (g.B.Shelf.tale c.boot.new.shelf) s) (sym c.over.ensures)
-      (whole_over host start t (script_of input) _ Engine end (record { drive = c.boot.ensures.kept.keeps.no_fewer_faults (OnDrive 0); source = omega arith; replies = c.boot.ensures.kept.keeps.no_fewer_faults OnReplies })
+      inr (subst (λ (s : RunStatus). IsWholeRun host (between g.B.Shelf c.args.bench.now c.boot.new.shelf) start end t (script_of input) (g.B.Shelf.tale c.boot.new.shelf) s) (sym c.over.ensures)
+      (whole_over host (between g.B.Shelf c.args.bench.now c.boot.new.shelf) start t (script_of input) _ Engine end (record { drive = c.boot.ensures.kept.keeps.no_fewer_faults (OnDrive 0); source = omega arith; replies = c.boot.ensures.kept.keeps.no_fewer_faults OnReplies })
       done.0 (kept_at (unbooted 0) done.0) c.in-Err.refusal done.1 (ap told (some_is _ done.0 quiet.0 done.1 quiet.1) ∙ quiet.2.quiet) done.2.rebooted c.in-Err.ensures.answer.cause));
   stands = λ input left.
       let host = c.args.host in

@@ -1,6 +1,8 @@
 use Rattle.std.proofs.Common.{◌≤◌, false, refl, sym, ◌∙◌, subst, arith}
 use Rattle.mdv_run.specs.Below.{Reader, script_of, script_before, OnDrive, OnReplies, Moments, Ends, Host, IsReady, Knows, IsWell, counts, LinesMoment, StaysHome}
+use Rattle.mdv_run.specs.Promise.{between}
 use Rattle.mdv_run.specs.Turns.{LinesRun}
+use Rattle.mdv_run.proofs.Shown.{grew_told, shown_later, shown_now}
 use Rattle.mdv_run.proofs.Went.{SoFar, so_far_start, so_far_more, moments_over, over_ends, cause_within, script_at_start}
 use Rattle.mdv_shelf.proofs.Noted.{kept_more}
 use Rattle.mdv_engine_law.proofs.Kept.{kept_itself}
@@ -17,7 +19,7 @@ loop-refused-init g c = record {
   kept = kept_itself g.B.Shelf c.args.bench.now;
   source = omega arith;
   home = nothing_stays c.args.engine.now.host _ _ refl;
-  so_far = λ input left. so_far_start c.args.engine.now.host c.args.engine.now.state input _ _ _ (script_at_start _ _ _ c.new-reader.ensures left);
+  so_far = λ input left. so_far_start c.args.engine.now.host c.args.engine.now.state input _ (between g.B.Shelf c.args.bench.now c.args.bench.now) _ _ (script_at_start _ _ _ c.new-reader.ensures left);
 }
 
 pub loop-refused-preserved : goal.loop-refused-preserved
@@ -33,12 +35,16 @@ loop-refused-preserved g c =
       kept = kept_more before.kept c.in-On.ensures.kept;
       source = let first = before.source in let more = answer.source in omega arith;
       home = both_stay c.args.engine.now.host _ _ _ before.home
-          (subst (λ (h : Host). Moments (StaysHome h) (g.B.Shelf.tale c.loop-refused.bench) (g.B.Shelf.tale c.take_turn.new.bench)) before.host c.in-On.ensures.home);
+          (subst (λ (h : Host). Moments (StaysHome h) (g.B.Shelf.tale c.loop-refused.bench) (g.B.Shelf.tale c.take_turn.new.bench)) before.host c.in-On.ensures.stays.home);
       so_far = λ input left.
           let here = before.so_far input left in
-          subst (λ (h : Host). SoFar h (counts (g.B.Shelf.faults c.args.bench.now) (g.I.Source.faults c.args.script.now)) (counts (g.B.Shelf.faults c.take_turn.new.bench) (g.I.Source.faults c.take_turn.new.script)) c.args.engine.now.state c.take_turn.new.engine.state c.in-On.refused input (script_before c.take_turn.new.reader (g.I.Source.left c.take_turn.new.script)) (g.B.Shelf.tale c.args.bench.now) (g.B.Shelf.tale c.take_turn.new.bench)) (sym answer.same)
-          (so_far_more c.loop-refused.engine.host c.args.engine.now.state input (counts (g.B.Shelf.faults c.args.bench.now) (g.I.Source.faults c.args.script.now)) (counts (g.B.Shelf.faults c.loop-refused.bench) (g.I.Source.faults c.loop-refused.script)) (counts (g.B.Shelf.faults c.take_turn.new.bench) (g.I.Source.faults c.take_turn.new.script)) c.loop-refused.engine.state c.take_turn.new.engine.state c.loop-refused.any_refused _ _ _ _ _ here
-          c.in-On.refused (answer.goes_on tt) c.in-On.ensures.end c.in-On.ensures.moments);
+          subst (λ (h : Host). SoFar h (between g.B.Shelf c.args.bench.now c.take_turn.new.bench) (counts (g.B.Shelf.faults c.args.bench.now) (g.I.Source.faults c.args.script.now)) (counts (g.B.Shelf.faults c.take_turn.new.bench) (g.I.Source.faults c.take_turn.new.script)) c.args.engine.now.state c.take_turn.new.engine.state c.in-On.refused input (script_before c.take_turn.new.reader (g.I.Source.left c.take_turn.new.script)) (g.B.Shelf.tale c.args.bench.now) (g.B.Shelf.tale c.take_turn.new.bench)) (sym answer.same)
+          (so_far_more c.loop-refused.engine.host c.args.engine.now.state input (counts (g.B.Shelf.faults c.args.bench.now) (g.I.Source.faults c.args.script.now)) (counts (g.B.Shelf.faults c.loop-refused.bench) (g.I.Source.faults c.loop-refused.script)) (counts (g.B.Shelf.faults c.take_turn.new.bench) (g.I.Source.faults c.take_turn.new.script)) c.loop-refused.engine.state c.take_turn.new.engine.state c.loop-refused.any_refused _ _ _ _ _ _ here
+          (between g.B.Shelf c.args.bench.now c.take_turn.new.bench) c.in-On.refused (record {
+            still = λ t u is_t is_u bytes shown le seen. shown_later g.B.Shelf g.met.B.Shelf.telling _ _ _ before.kept.goes c.in-On.ensures.kept.goes bytes shown t u is_t is_u le seen;
+            grew = λ u v is_u is_v. grew_told _ _ (c.in-On.ensures.stays.told tt).grew u v is_u is_v;
+            last = λ t v is_t is_v bytes same. shown_now g.B.Shelf g.met.B.Shelf.telling _ _ _ before.kept.goes (c.in-On.ensures.stays.told tt) bytes (g.I.Source.faults c.take_turn.new.script) t v is_t is_v same;
+          }) (answer.goes_on tt) c.in-On.ensures.end c.in-On.ensures.moments);
     }
 
 pub returns-in-Over-clause-lines : goal.returns-in-Over-clause-lines
@@ -46,16 +52,16 @@ returns-in-Over-clause-lines g c =
     let before = c.loop-refused.invariant in record {
       runs = λ input left.
           let here = before.so_far input left in
-          subst (λ (h : Host). Ends (λ t u. Knows h c.args.engine.now.state t → LinesRun h (counts (g.B.Shelf.faults c.args.bench.now) (g.I.Source.faults c.args.script.now)) (counts (g.B.Shelf.faults c.take_turn.new.bench) (g.I.Source.faults c.take_turn.new.script)) c.args.engine.now.state false (script_of input) c.in-Over.status t u) (g.B.Shelf.tale c.args.bench.now) (g.B.Shelf.tale c.take_turn.new.bench)) before.host
-          (over_ends c.loop-refused.engine.host c.args.engine.now.state input (counts (g.B.Shelf.faults c.args.bench.now) (g.I.Source.faults c.args.script.now)) (counts (g.B.Shelf.faults c.loop-refused.bench) (g.I.Source.faults c.loop-refused.script)) (counts (g.B.Shelf.faults c.take_turn.new.bench) (g.I.Source.faults c.take_turn.new.script)) c.loop-refused.engine.state c.take_turn.new.engine.state c.loop-refused.any_refused _ _ _ _ _ here
-          c.in-Over.status c.in-Over.ensures.end);
+          subst (λ (h : Host). Ends (λ t u. Knows h c.args.engine.now.state t → LinesRun h (between g.B.Shelf c.args.bench.now c.take_turn.new.bench) (counts (g.B.Shelf.faults c.args.bench.now) (g.I.Source.faults c.args.script.now)) (counts (g.B.Shelf.faults c.take_turn.new.bench) (g.I.Source.faults c.take_turn.new.script)) c.args.engine.now.state false (script_of input) c.in-Over.status t u) (g.B.Shelf.tale c.args.bench.now) (g.B.Shelf.tale c.take_turn.new.bench)) before.host
+          (over_ends c.loop-refused.engine.host c.args.engine.now.state input (counts (g.B.Shelf.faults c.args.bench.now) (g.I.Source.faults c.args.script.now)) (counts (g.B.Shelf.faults c.loop-refused.bench) (g.I.Source.faults c.loop-refused.script)) (counts (g.B.Shelf.faults c.take_turn.new.bench) (g.I.Source.faults c.take_turn.new.script)) c.loop-refused.engine.state c.take_turn.new.engine.state c.loop-refused.any_refused _ _ _ _ _ _ here
+          (between g.B.Shelf c.args.bench.now c.take_turn.new.bench) c.in-Over.status (λ t u is_t is_u bytes shown le seen. shown_later g.B.Shelf g.met.B.Shelf.telling _ _ _ before.kept.goes c.in-Over.ensures.kept.goes bytes shown t u is_t is_u le seen) c.in-Over.ensures.end);
       moments = λ input left.
           let here = before.so_far input left in
           subst (λ (h : Host). Moments (LinesMoment h (script_of input) c.args.engine.now.state) (g.B.Shelf.tale c.args.bench.now) (g.B.Shelf.tale c.take_turn.new.bench)) before.host
-          (moments_over c.loop-refused.engine.host c.args.engine.now.state input (counts (g.B.Shelf.faults c.args.bench.now) (g.I.Source.faults c.args.script.now)) (counts (g.B.Shelf.faults c.loop-refused.bench) (g.I.Source.faults c.loop-refused.script)) (counts (g.B.Shelf.faults c.take_turn.new.bench) (g.I.Source.faults c.take_turn.new.script)) c.loop-refused.engine.state c.take_turn.new.engine.state c.loop-refused.any_refused _ (script_before c.take_turn.new.reader (g.I.Source.left c.take_turn.new.script)) _ _ _ here
+          (moments_over c.loop-refused.engine.host c.args.engine.now.state input (counts (g.B.Shelf.faults c.args.bench.now) (g.I.Source.faults c.args.script.now)) (counts (g.B.Shelf.faults c.loop-refused.bench) (g.I.Source.faults c.loop-refused.script)) (counts (g.B.Shelf.faults c.take_turn.new.bench) (g.I.Source.faults c.take_turn.new.script)) c.loop-refused.engine.state c.take_turn.new.engine.state c.loop-refused.any_refused _ (script_before c.take_turn.new.reader (g.I.Source.left c.take_turn.new.script)) _ _ _ _ here
           c.in-Over.ensures.moments);
       home = both_stay c.args.engine.now.host _ _ _ before.home
-          (subst (λ (h : Host). Moments (StaysHome h) (g.B.Shelf.tale c.loop-refused.bench) (g.B.Shelf.tale c.take_turn.new.bench)) before.host c.in-Over.ensures.home);
+          (subst (λ (h : Host). Moments (StaysHome h) (g.B.Shelf.tale c.loop-refused.bench) (g.B.Shelf.tale c.take_turn.new.bench)) before.host c.in-Over.ensures.stays.home);
       causes = cause_within (counts (g.B.Shelf.faults c.args.bench.now) (g.I.Source.faults c.args.script.now)) (counts (g.B.Shelf.faults c.loop-refused.bench) (g.I.Source.faults c.loop-refused.script)) (counts (g.B.Shelf.faults c.take_turn.new.bench) (g.I.Source.faults c.take_turn.new.script)) (counts (g.B.Shelf.faults c.take_turn.new.bench) (g.I.Source.faults c.take_turn.new.script)) c.in-Over.status
           (record { drive = before.kept.keeps.no_fewer_faults (OnDrive 0); source = before.source; replies = before.kept.keeps.no_fewer_faults OnReplies })
           (record { drive = omega arith; source = omega arith; replies = omega arith }) c.in-Over.ensures.answer.cause;

@@ -1,7 +1,7 @@
 use Rattle.std.proofs.Common.{◌≤◌, [], refl, sym, ap, subst, arith}
-use Rattle.mdv_run.specs.Below.{Script, Tale, Engine, line, too_long, script_before, IsTurn, Line, TooLong, End, Spent, Moments, TurnMoment, Knows, IsWell, OnDrive, OnReplies, ScriptTooLong, counts, LinesMoment, RanTo}
+use Rattle.mdv_run.specs.Below.{Script, Engine, line, too_long, script_before, IsTurn, Line, TooLong, End, Spent, Moments, TurnMoment, IsWell, OnDrive, OnReplies, ScriptTooLong, counts, LinesMoment, RanTo}
 use Rattle.mdv_run_law.specs.Run.{EndsAs}
-use Rattle.mdv_shelf.proofs.Moments.{moments_none, moments_weaker, some_is}
+use Rattle.mdv_shelf.proofs.Moments.{moments_none, moments_weaker}
 use Rattle.mdv_engine_law.proofs.Plain.{too_long_plain}
 use Rattle.mdv_run.specs.declared.session.Turn.{Turn}
 use Rattle.mdv_run.specs.Promise.{TurnEnd}
@@ -63,6 +63,9 @@ returns-in-Ok-Line-clause-answer g c = record {
       (script.0, script.2);
 }
 
+pub returns-in-Ok-Line-clause-stays : goal.returns-in-Ok-Line-clause-stays
+returns-in-Ok-Line-clause-stays g c = record { home = c.answer.ensures.stays.home; told = λ on. c.answer.ensures.stays.told (on_replied c.answer.result c.args.any_refused _ c.turn_of.ensures on) }
+
 -- a line that was too long
 pub returns-in-Ok-TooLong-clause-moments : goal.returns-in-Ok-TooLong-clause-moments
 returns-in-Ok-TooLong-clause-moments g c = λ lines before.
@@ -112,8 +115,11 @@ returns-in-Ok-TooLong-clause-answer g c = record {
       (script.0, script.2);
 }
 
-pub returns-in-Ok-TooLong-clause-home : goal.returns-in-Ok-TooLong-clause-home
-returns-in-Ok-TooLong-clause-home g c = turn_stays c.args.engine.now.host [] c.args.engine.now.state _ _ (c.refuse.ensures.moments [])
+pub returns-in-Ok-TooLong-clause-stays : goal.returns-in-Ok-TooLong-clause-stays
+returns-in-Ok-TooLong-clause-stays g c = record {
+  home = turn_stays c.args.engine.now.host [] c.args.engine.now.state _ _ (c.refuse.ensures.moments []);
+  told = λ on. c.refuse.ensures.counted.told (on_replied c.refuse.result c.args.any_refused _ c.turn_of-in-Ok-TooLong.ensures on);
+}
 
 -- the end of the script, a limit, and a source that failed
 pub returns-in-Ok-End-clause-moments : goal.returns-in-Ok-End-clause-moments
@@ -168,11 +174,11 @@ returns-in-Err-clause-end g c = λ lines before t told. (
   },
 )
 
-pub returns-in-Ok-End-clause-home : goal.returns-in-Ok-End-clause-home
-returns-in-Ok-End-clause-home g c = nothing_stays c.args.engine.now.host _ _ refl
+pub returns-in-Ok-End-clause-stays : goal.returns-in-Ok-End-clause-stays
+returns-in-Ok-End-clause-stays g c = record { home = nothing_stays c.args.engine.now.host _ _ refl; told = λ on. absurd on }
 
-pub returns-in-Ok-Spent-clause-home : goal.returns-in-Ok-Spent-clause-home
-returns-in-Ok-Spent-clause-home g c = nothing_stays c.args.engine.now.host _ _ refl
+pub returns-in-Ok-Spent-clause-stays : goal.returns-in-Ok-Spent-clause-stays
+returns-in-Ok-Spent-clause-stays g c = record { home = nothing_stays c.args.engine.now.host _ _ refl; told = λ on. absurd on }
 
-pub returns-in-Err-clause-home : goal.returns-in-Err-clause-home
-returns-in-Err-clause-home g c = nothing_stays c.args.engine.now.host _ _ refl
+pub returns-in-Err-clause-stays : goal.returns-in-Err-clause-stays
+returns-in-Err-clause-stays g c = record { home = nothing_stays c.args.engine.now.host _ _ refl; told = λ on. absurd on }

@@ -1,8 +1,10 @@
 use Rattle.std.proofs.Common.{refl, []}
 use Rattle.mdv_shelf.proofs.Moments.{moments_weaker}
+use Rattle.mdv_shelf.proofs.Telling.{told_once}
 use Rattle.mdv_engine.specs.Below.{text_of, TellMoment, TurnMoment}
 use Rattle.mdv_engine_law.specs.declared.answer.Answer.TheVariants as outcome
 use Rattle.mdv_engine_law.proofs.Executing.{told_cause}
+use Rattle.mdv_engine_law.proofs.Longer.{replied_more}
 use Rattle.mdv_engine_law.proofs.Turning.{ok_told}
 use Rattle.mdv_engine.proofs.engine.Engine.accept.Goals as goal
 
@@ -14,3 +16,9 @@ returns-clause-moments g c =
 
 pub returns-clause-answer : goal.returns-clause-answer
 returns-clause-answer g c = record { cause = told_cause _ _ _ _ c.tell.ensures.answers.0 (λ rose. rose) (λ rose. rose) outcome.Ok c.tell.result tt c.tell.ensures.answers.1; same = refl }
+
+pub returns-clause-counted : goal.returns-clause-counted
+returns-clause-counted g c = record {
+  most = c.tell.ensures.counted.most;
+  told = λ on. told_once g.B.Shelf _ _ c.tell.ensures.kept.goes (replied_more _ outcome.Ok tt c.tell.result on _ _ c.tell.ensures.told) (c.tell.ensures.counted.calm on);
+}

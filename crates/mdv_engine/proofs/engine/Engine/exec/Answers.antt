@@ -1,10 +1,12 @@
 use Rattle.std.proofs.Common.{◌≡◌, ◌∙◌, ap, subst, arith}
 use Rattle.mdv_engine.specs.Below.{told, KeptOutside, nowhere, OnDrive, OnReplies, Ends, Tale, asked_by, text_of, CarriedTo, CarryMoment, TellMoment, TurnMoment}
-use Rattle.mdv_shelf.proofs.Moments.{moments_after, moments_end, some_is}
+use Rattle.mdv_shelf.proofs.Moments.{moments_after, moments_end, moments_weaker, some_is}
+use Rattle.mdv_shelf.proofs.Telling.{told_behind, told_once}
 use Rattle.mdv_shelf.proofs.Between.{between_of, between_then}
 use Rattle.mdv_shelf.proofs.Counts.{at_most_then}
 use Rattle.mdv_words.specs.declared.command.Line.TheVariants as words
 use Rattle.mdv_engine_law.proofs.Executing.{executed, told_cause, rose_within}
+use Rattle.mdv_engine_law.proofs.Longer.{replied_more}
 use Rattle.mdv_engine_law.proofs.Turning.{Carried, carried_ends, turn_carry, turn_tell, turned, knows_after}
 use Rattle.mdv_engine.specs.Counts.{blocks_of, calls_of}
 use Rattle.mdv_engine.proofs.Counting.{command_most, done_told, quiet_told, unlooked_told, unwritten_told}
@@ -70,13 +72,16 @@ returns-clause-counted g c =
     let answers = c.tell.ensures.answers.1 in
     record {
       most = at_most_then g.B.Shelf.calls g.B.Shelf.written _ _ _ count 1 blocks 0 _ _ (omega arith) (omega arith)
-          (command_most g.B.Shelf.tale g.B.Shelf.calls g.B.Shelf.written _ _ count blocks c.carry_out-answer.result by) c.tell.ensures.counted;
+          (command_most g.B.Shelf.tale g.B.Shelf.calls g.B.Shelf.written _ _ count blocks c.carry_out-answer.result by) c.tell.ensures.counted.most;
       done = λ is. between_then g.B.Shelf.calls g.B.Shelf.written _ _ _ count count blocks 1 1 0 _ _ _ (omega arith) (omega arith) (omega arith)
           (done_told g.B.Shelf.tale g.B.Shelf.calls g.B.Shelf.written _ _ count blocks _ c.carry_out-answer.result c.tell.ensures.answers.0 (rw is at answers) by)
-          (between_of g.B.Shelf.calls g.B.Shelf.written _ _ 1 0 1 1 0 (omega arith) (omega arith) (omega arith) (c.tell.ensures.given (rw is tt)));
+          (between_of g.B.Shelf.calls g.B.Shelf.written _ _ 1 0 1 1 0 (omega arith) (omega arith) (omega arith) (c.tell.ensures.counted.once (rw is tt)));
       unlooked = λ is.
           let same = unlooked_told g.B.Shelf.tale g.B.Shelf.calls g.B.Shelf.written _ _ _ _ _ c.carry_out-answer.result c.tell.result _ answers is by in
-          rw same at c.tell.ensures.counted;
+          rw same at c.tell.ensures.counted.most;
       unwritten = λ is. at_most_then g.B.Shelf.calls g.B.Shelf.written _ _ _ count 1 0 0 _ _ (omega arith) (omega arith)
-          (unwritten_told g.B.Shelf.tale g.B.Shelf.calls g.B.Shelf.written _ _ count _ _ c.carry_out-answer.result c.tell.result _ answers is by) c.tell.ensures.counted;
+          (unwritten_told g.B.Shelf.tale g.B.Shelf.calls g.B.Shelf.written _ _ count _ _ c.carry_out-answer.result c.tell.result _ answers is by) c.tell.ensures.counted.most;
+      told = λ on. told_behind g.B.Shelf g.met.B.Shelf.telling _ _ _ c.carry_out-answer.ensures.kept.goes
+          (moments_weaker (CarryMoment c.args.self.now.host (asked_by c.args.command.now) c.args.self.now.state) (λ t m. told m ≡ told t) _ _ (λ t m moment. moment.quiet) c.carry_out-answer.ensures.moments)
+          (told_once g.B.Shelf _ _ c.tell.ensures.kept.goes (replied_more _ _ c.carry_out-answer.ensures.answer.plain c.tell.result on _ _ c.tell.ensures.told) (c.tell.ensures.counted.calm on));
     }

@@ -10,7 +10,7 @@ use Rattle.mdv_engine.proofs.Creating.{begun, lost_carried, lost_creation, made_
 use Rattle.mdv_engine.proofs.Parts.{create_failed, create_goes, create_goes_to, create_lost, create_opened, create_quiet, create_safe}
 use Rattle.mdv_engine.proofs.Sites.{place_is}
 use Rattle.mdv_shelf.proofs.Between.{between_of}
-use Rattle.mdv_replica.proofs.Counted.{took_wider}
+use Rattle.mdv_shelf.proofs.Counts.{took_wider}
 use Rattle.mdv_engine.proofs.Counting.{refused_counted}
 use Rattle.mdv_engine.proofs.Ending.{creation_ends}
 use Rattle.mdv_engine.proofs.engine.Engine.make_database.Goals as goal
