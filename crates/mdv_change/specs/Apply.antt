@@ -1,11 +1,9 @@
 -- Why a change isn't made, and which changes there are.
 use Rattle.std.specs.Prelude.{◌≡◌, ◌<◌, List, Option, None, Some, Result, Ok, Err}
-use Rattle.mdv_change.specs.Below.{Refusal, DriveNo, Geometry, Table, VolId, PoolId}
+use Rattle.mdv_change.specs.Below.{Refusal, DriveNo, Geometry, Table, VolId, PoolId, RaidAsked, RowAsked}
 use Rattle.mdv_change.specs.declared.making.ApplyFault.{ApplyFault}
 use Rattle.mdv_change.specs.declared.making.ApplyFault.TheVariants.{Refused, Memory}
 use Rattle.mdv_change.specs.Change.{refusal_of, table_after}
-use Rattle.mdv_change.specs.declared.change.RaidAsked.{RaidAsked}
-use Rattle.mdv_change.specs.declared.change.RowAsked.{RowAsked}
 use Rattle.mdv_change.specs.declared.change.Change.{Change}
 use Rattle.mdv_change.specs.declared.change.Change.TheVariants.{MakeStripe, MakeRaid}
 

@@ -6,10 +6,11 @@ ghost use Rattle.mdv_change.specs.declared.making.ApplyFault.TheVariants.{Memory
 ghost use Rattle.mdv_change.specs.Apply.{IsApplied, IsNumbered, raid_change, stripe_change};
 ghost use Rattle.mdv_change.specs.Change.{with_volume};
 
-use crate::change::{Change, RaidAsked, RowAsked};
-use crate::raids::{raid_on, raid_status, refuse_raid};
-use crate::stripes::{refuse_stripe, stripe_on, stripe_status};
+use crate::change::Change;
 use mdv_base::{DriveNo, PoolId, Refusal, VolId};
+use mdv_components::{
+    RaidAsked, RowAsked, raid_on, raid_status, refuse_raid, refuse_stripe, stripe_on, stripe_status,
+};
 use mdv_name::Geometry;
 use mdv_plan::{Table, Volume, VolumeStatus};
 use std::alloc::{AllocError, Global};

@@ -2,7 +2,8 @@ ghost use Rattle.std.specs.Prelude.{◌<◌, IfOk};
 ghost use Rattle.mdv_plan.specs.Slices.{IsSound};
 
 use mdv_base::{DriveName, DriveNo, Place, Places, Refusal, SliceName, VolId};
-use mdv_change::{ApplyFault, Change, RaidAsked, RowAsked, apply};
+use mdv_change::{ApplyFault, Change, apply};
+use mdv_components::{RaidAsked, RowAsked};
 use mdv_name::Geometry;
 use mdv_plan::{Base, Listed, Table, read_geometries_are_sound};
 use std::alloc::Global;

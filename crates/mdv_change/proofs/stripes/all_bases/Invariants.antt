@@ -1,6 +1,0 @@
-use Rattle.std.proofs.Common.{◌≡◌, take}
-use Rattle.mdv_change.specs.Stripes.{all_bases}
-use Rattle.mdv_change.proofs.stripes.all_bases.Given as goal
-
-abbrev pub invariant-loop-row : goal.invariant-loop-row
-invariant-loop-row l = l.bases.items ≡ all_bases (take l.row-index l.rows)

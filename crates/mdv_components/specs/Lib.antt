@@ -1,0 +1,6 @@
+pub mod Bases
+pub mod Below
+pub mod Causes
+pub mod Raids
+pub mod Room
+pub mod Stripes
