@@ -5,7 +5,7 @@ use Rattle.mdv_change.specs.declared.making.ApplyFault.{ApplyFault}
 use Rattle.mdv_change.specs.declared.making.ApplyFault.TheVariants.{Refused, Memory}
 use Rattle.mdv_change.specs.Change.{refusal_of, table_after}
 use Rattle.mdv_change.specs.declared.change.Change.{Change}
-use Rattle.mdv_change.specs.declared.change.Change.TheVariants.{MakeStripe, MakeRaid}
+use Rattle.mdv_change.specs.declared.change.Change.TheVariants.{MakeStripe, MakeRaid, Clear, ClearAll}
 
 -- what refuses the change, or want of memory, which has no cause
 abbrev pub HasFault : Option Refusal → ApplyFault → Type 0
@@ -16,12 +16,16 @@ HasFault refusal Memory = Unit {0}
 abbrev pub IsNumbered : Change → Type 0
 IsNumbered (MakeStripe v rows pool) = v.0 < 8192
 IsNumbered (MakeRaid v raid) = v.0 < 8192
+IsNumbered _ = Unit {0}
 
 abbrev pub stripe_change : VolId → List RowAsked → Option PoolId → Change
 stripe_change v rows pool = MakeStripe v rows pool
 
 abbrev pub raid_change : VolId → RaidAsked → Change
 raid_change v raid = MakeRaid v raid
+
+abbrev pub clear_change : List VolId → List PoolId → Change
+clear_change volumes pools = Clear volumes pools
 
 -- nothing refuses the change, and the table is the one after it
 pub record IsMade (g : Geometry) (drives : List DriveNo) (change : Change) (old new : Table) : Type 0 where

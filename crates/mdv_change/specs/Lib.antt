@@ -1,3 +1,4 @@
 pub mod Apply
 pub mod Below
 pub mod Change
+pub mod Clear

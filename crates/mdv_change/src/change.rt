@@ -17,4 +17,12 @@ pub enum Change {
         volume: VolId,
         raid: RaidAsked,
     },
+    /// `metaclear d10 hsp001`: these volumes and pools go, all or none. A use by a volume that goes too
+    /// doesn't keep one.
+    Clear {
+        volumes: Listed<VolId, MAX_NAMES>,
+        pools: Listed<PoolId, MAX_NAMES>,
+    },
+    /// `metaclear -a`: all volumes and pools go.
+    ClearAll,
 }

@@ -2,6 +2,7 @@
 #![tactic(auto)]
 
 mod change;
+mod clearing;
 mod making;
 
 pub use change::Change;

@@ -1,12 +1,14 @@
 //! A change of a table.
-ghost use Rattle.std.specs.Prelude.{◌≡◌, ◌<◌, ◌==◌, None, OnOk, OnErr};
+ghost use Rattle.std.specs.Prelude.{◌≡◌, ◌<◌, ◌==◌, List, None, OnOk, OnErr};
 ghost use Rattle.std.specs.List.{find};
 ghost use Rattle.mdv_plan.specs.Slices.{IsSound};
 ghost use Rattle.mdv_change.specs.declared.making.ApplyFault.TheVariants.{Memory};
-ghost use Rattle.mdv_change.specs.Apply.{IsApplied, IsNumbered, raid_change, stripe_change};
+ghost use Rattle.mdv_change.specs.Apply.{IsApplied, IsNumbered, clear_change, raid_change, stripe_change};
+ghost use Rattle.mdv_change.specs.Below.{DriveNo, Geometry};
 ghost use Rattle.mdv_change.specs.Change.{with_volume};
 
 use crate::change::Change;
+use crate::clearing::{clear, clear_all, refuse_clear};
 use mdv_base::{DriveNo, PoolId, Refusal, VolId};
 use mdv_components::{
     RaidAsked, RowAsked, raid_on, raid_status, refuse_raid, refuse_stripe, stripe_on, stripe_status,
@@ -53,6 +55,13 @@ pub fn apply(
         Change::MakeRaid { volume, raid } => {
             make_raid(alloc, geometry, drives, table, *volume, raid)
         }
+        Change::Clear { volumes, pools } => {
+            clear_named(alloc, table, volumes.as_slice(), pools.as_slice())
+        }
+        Change::ClearAll => {
+            clear_all(alloc, table);
+            Ok(())
+        }
     }
 }
 
@@ -98,6 +107,21 @@ fn make_raid(
     let made = raid_on(alloc, geometry, plan, volume, raid)?;
     let status = raid_status(alloc, volume, raid)?;
     add_volume(table, made, status)?;
+    Ok(())
+}
+
+fn clear_named(
+    alloc: Global,
+    table: &mut Table,
+    volumes: &[VolId],
+    pools: &[PoolId],
+) -> Result<(), ApplyFault>
+    ensures { (g : Geometry) (drives : List DriveNo) → IsApplied g drives (clear_change volumes.now pools.now) table.old table.new result }
+{
+    if let Some(cause) = refuse_clear(&table.plan, volumes, pools) {
+        return Err(ApplyFault::Refused(cause.refusal()));
+    }
+    clear(alloc, table, volumes, pools)?;
     Ok(())
 }
 

@@ -21,7 +21,7 @@ drive c0t1d0 40000 hostB d1.img
 slice c0t1d0s0 0 1000
 ";
 
-fn drives(alloc: Global) -> Result<Geometry, Fail>
+pub(crate) fn drives(alloc: Global) -> Result<Geometry, Fail>
     ensures { IfOk result IsSound }
 {
     let geometry = Geometry::read(alloc, DRIVES)?;
@@ -29,7 +29,7 @@ fn drives(alloc: Global) -> Result<Geometry, Fail>
     Ok(geometry)
 }
 
-fn slice(target: u8, slice: u8) -> Base {
+pub(crate) fn slice(target: u8, slice: u8) -> Base {
     let drive = DriveName {
         controller: 0,
         target,
@@ -38,7 +38,7 @@ fn slice(target: u8, slice: u8) -> Base {
     Base::Slice(SliceName { drive, slice })
 }
 
-fn empty(alloc: Global) -> Table {
+pub(crate) fn empty(alloc: Global) -> Table {
     let drive = DriveName {
         controller: 0,
         target: 0,
@@ -54,7 +54,7 @@ fn empty(alloc: Global) -> Table {
 }
 
 // The number of the refusal, or 0 where the volume was made; the drive of hostA is number 0.
-fn number_of(done: Result<(), ApplyFault>) -> u8 {
+pub(crate) fn number_of(done: Result<(), ApplyFault>) -> u8 {
     match done {
         Ok(()) => 0,
         Err(ApplyFault::Refused(refusal)) => refusal.number(),

@@ -4,4 +4,6 @@
 #[cfg(test)]
 mod change_tests;
 #[cfg(test)]
+mod clear_tests;
+#[cfg(test)]
 mod plan_tests;
