@@ -1,7 +1,7 @@
 -- When each event may happen.
 use Rattle.std.specs.Prelude.{ℕ, ◌+◌, ◌^◌, ◌&&◌, ◌||◌, ◌==◌, not, Bool, true, false, List, [], ◌∷◌, Option, None, Some, length, nat_lt, nat_le, cond, IsTrue}
 use Rattle.std.specs.List.{list_any, list_all}
-use Rattle.mdv_quorum.specs.Below.{DriveNo, Spot, SpotLists, Version, SpotState, same_spot, is_in, is_named, is_none, same_spots, is_written, is_claimed, is_read, table_at, place_at, newest_of, knows_above}
+use Rattle.mdv_quorum.specs.Below.{DriveNo, Spot, SpotLists, Version, SpotState, same_spot, is_in, is_named, is_none, same_spots, is_written, is_claimed, is_read, table_at, place_at, newest_of, greatest_of, knows_above}
 use Rattle.mdv_quorum.specs.declared.event.Event.{Event}
 use Rattle.mdv_quorum.specs.declared.event.Event.TheVariants.{Read, Claimed, Slotted, Formatted, Wiped, Lists, Told, Crash, Lose, Back}
 use Rattle.mdv_quorum.specs.declared.machine.Core.{Core}
@@ -23,6 +23,12 @@ may_read w p (Ready next) = false
 -- it holds a replica or a mediator's block, and the table names it
 abbrev pub is_target : Core → SpotLists → Spot → Bool
 is_target w lists p = (place_at w.places p).holds && is_named lists p
+
+-- what was read is a read quorum of this table, which names the place, and the number that a boot draws is in its limit
+abbrev pub may_adopt : Core → Version → List Spot → Spot → Bool
+may_adopt w t places p =
+    is_read t (is_in places) (knows_above w.family w.places t)
+    && (is_target w t.lists p && nat_lt (greatest_of w.family w.places 0 places + 1) (2 ^ 63))
 
 abbrev pub may_choose : Core → Spot → List Spot → Option ℕ → Bool
 may_choose w p places None = false

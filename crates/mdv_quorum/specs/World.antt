@@ -85,13 +85,17 @@ abbrev pub places_after : List SpotState → ℕ → Spot → SlotEnd → List S
 places_after places i p Closed = places
 places_after places i p Holds = put_at places p (with_newest i)
 
+-- one write of the last table of the family, which these places have taken with it
+abbrev pub with_taken : Core → Spot → SlotEnd → Option ℕ → List Spot → Core
+with_taken w p end boot took =
+    settled
+    (record w { places = places_after w.places (length w.family - 1) p end; stage = Writing boot took })
+    (last_table w)
+    (is_written (last_table w) (is_in took))
+
 -- one write of the last table of the family, which these places took before
 abbrev pub wrote : Core → Spot → SlotEnd → Option ℕ → List Spot → Core
-wrote w p end boot took =
-    settled
-    (record w { places = places_after w.places (length w.family - 1) p end; stage = Writing boot (taken_after took p end) })
-    (last_table w)
-    (is_written (last_table w) (is_in (taken_after took p end)))
+wrote w p end boot took = with_taken w p end boot (taken_after took p end)
 
 abbrev pub with_table : Core → Version → Core
 with_table w t = record w { family = w.family ++ t ∷ [] }
@@ -114,13 +118,17 @@ raised floor Never = floor
 raised floor Listed = floor
 raised floor (Dropped i) = max floor i
 
--- a replica's place is formatted for the table in hand
-abbrev pub formatted_place : Core → Spot → Version → Core
-formatted_place w p next =
+-- a replica's place is formatted under this boot's number
+abbrev pub formatted_under : Core → Spot → ℕ → Core
+formatted_under w p boot =
     record w {
-      places = put_at w.places p (formatted next.mark.boot None);
+      places = put_at w.places p (formatted boot None);
       floor = raised w.floor (place_at w.places p).since;
     }
+
+-- a replica's place is formatted for the table in hand
+abbrev pub formatted_place : Core → Spot → Version → Core
+formatted_place w p next = formatted_under w p next.mark.boot
 
 -- a mediator's seat is written with the mark of the firm table; what was in hand is given up
 abbrev pub formatted_seat : Core → Spot → Core

@@ -189,7 +189,7 @@ impl Core {
     ghost use Rattle.std.specs.Prelude.{None, nat_lt, ◌+◌, ◌^◌};
     ghost use Rattle.mdv_votes.specs.Family.{newest_of as spec_newest_of, greatest_of as spec_greatest_of};
     ghost use Rattle.mdv_quorum.specs.World.{last_table as spec_last_table};
-    ghost use Rattle.mdv_quorum.specs.May.{may as spec_may, may_read as spec_may_read, may_choose as spec_may_choose, may_commit as spec_may_commit, may_come_back as spec_may_come_back, is_target as spec_is_target, may_claim as spec_may_claim, may_slot as spec_may_slot, is_firm_in, may_format_place as spec_may_format_place, may_format as spec_may_format, may_wipe as spec_may_wipe, may_list as spec_may_list, may_tell as spec_may_tell};
+    ghost use Rattle.mdv_quorum.specs.May.{may as spec_may, may_read as spec_may_read, may_adopt as spec_may_adopt, may_choose as spec_may_choose, may_commit as spec_may_commit, may_come_back as spec_may_come_back, is_target as spec_is_target, may_claim as spec_may_claim, may_slot as spec_may_slot, is_firm_in, may_format_place as spec_may_format_place, may_format as spec_may_format, may_wipe as spec_may_wipe, may_list as spec_may_list, may_tell as spec_may_tell};
 
     fn may_read(&self, p: Spot) -> bool
         ensures { result ≡ spec_may_read self.now p self.now.stage }
@@ -223,7 +223,7 @@ impl Core {
     }
 
     fn may_adopt(&self, table: &Version, read: &[Spot], p: Spot) -> bool
-        ensures { result ≡ (spec_is_read table.now (spec_is_in read.now) (spec_knows_above self.now.family self.now.places table.now) && (spec_is_target self.now table.now.lists p && nat_lt (spec_greatest_of self.now.family self.now.places 0 read.now + 1) (2 ^ 63))) }
+        ensures { result ≡ spec_may_adopt self.now table.now read.now p }
     {
         if !is_read(self.family.as_slice(), self.places.as_slice(), table, read) {
             return false;

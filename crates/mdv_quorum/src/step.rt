@@ -96,7 +96,7 @@ impl Core {
     ghost use Rattle.mdv_votes.specs.Spots.{is_in as spec_is_in, same_spots as spec_same_spots};
     ghost use Rattle.mdv_votes.specs.Quorum.{is_written as spec_is_written};
     ghost use Rattle.mdv_votes.specs.Family.{put_at, formatted};
-    ghost use Rattle.mdv_quorum.specs.World.{read as spec_read, claimed as spec_claimed, last_table as spec_last_table, settled, with_table, wrote as spec_wrote, slotted as spec_slotted, told_at, created, changed, lists_at, formatted_seat, formatted_at, wiped_at, crashed, happens};
+    ghost use Rattle.mdv_quorum.specs.World.{read as spec_read, claimed as spec_claimed, last_table as spec_last_table, settled, with_table, with_taken, wrote as spec_wrote, slotted as spec_slotted, told_at, created, changed, lists_at, formatted_seat, formatted_under, formatted_at, wiped_at, crashed, happens};
     ghost use Rattle.mdv_quorum.specs.May.{may_claim, may_slot, may_list, may, IsReady};
     ghost use Rattle.mdv_quorum.specs.declared.machine.Stage.TheVariants.{Writing};
 
@@ -167,7 +167,7 @@ impl Core {
     /// One write of the last table of the family, which these places have taken with it.
     fn write(&mut self, alloc: Global, p: Spot, end: SlotEnd, boot: Option<usize>, took: Row<Spot>)
         requires { IsTrue (spec_place_at self.old.places p).holds }
-        ensures { self.new ≡ settled (record self.old { places = places_after self.old.places (length self.old.family - 1) p end; stage = Writing boot took }) (spec_last_table self.old) (spec_is_written (spec_last_table self.old) (spec_is_in took)) }
+        ensures { self.new ≡ with_taken self.old p end boot took }
     {
         let last = self.family.as_slice().len().saturating_sub(1);
         let none = no_table(alloc);
@@ -325,7 +325,7 @@ impl Core {
 
     /// A replica's place is formatted for the table in hand.
     fn format_place(&mut self, p: Spot, boot: u64) -> Result<(), AllocError>
-        ensures ok { OnOk result (self.new ≡ record self.old { places = put_at self.old.places p (formatted boot None); floor = spec_raised self.old.floor (spec_place_at self.old.places p).since }) }
+        ensures ok { OnOk result (self.new ≡ formatted_under self.old p boot) }
         ensures err { OnErr result (self.new ≡ self.old) }
     {
         let since = place_at(self.places.as_slice(), p).since;
