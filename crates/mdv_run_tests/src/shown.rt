@@ -1,4 +1,5 @@
 ghost use Rattle.std.specs.Prelude.{◌≡◌, ◌≤◌, ◌⊎◌, IfSome, Some};
+ghost use Rattle.mdv_run_tests.specs.Numbers.{IsBootOf};
 ghost use Rattle.mdv_run_tests.specs.declared.shown.ShownTable.{ShownTable};
 
 use mdv_base::{Identity, Mark};
@@ -34,7 +35,7 @@ impl Shown {
         ensures claim { self.now.claim ≤ result }
         ensures first { IfSome self.now.first (λ t. t.mark.boot ≤ result) }
         ensures second { IfSome self.now.second (λ t. t.mark.boot ≤ result) }
-        ensures one { (result ≡ self.now.claim) ⊎ ((t : ShownTable) × (self.now.first ≡ Some t) × (result ≡ t.mark.boot)) ⊎ ((t : ShownTable) × (self.now.second ≡ Some t) × (result ≡ t.mark.boot)) }
+        ensures one { IsBootOf self.now result }
     {
         or_boot(or_boot(self.claim, self.first), self.second)
     }
