@@ -1,8 +1,7 @@
 -- What a commit of the open database answers and leaves, told of the host, by the answer of the database.
-use Rattle.std.proofs.Common.{◌≡◌, ◌≤◌, ◌<◌, ◌⊎◌, ℕ, [], ◌∷◌, Option, Some, Err, Result, refl, sym, subst, ap, ◌∙◌, arith}
-use Rattle.mdv_engine.specs.Below.{Refusal, CommitFault, TooLong, Ends, Tale, Change, Newest, Changed, Answer, Host, Memory, kept_at, CarriedTo, CarryEnd, Knows}
+use Rattle.std.proofs.Common.{◌≡◌, [], ◌∷◌, Option, Some, refl, sym, subst, ap, ◌∙◌}
+use Rattle.mdv_engine.specs.Below.{Refusal, Ends, Tale, Change, Newest, Changed, Answer, Host, Memory, kept_at, CarriedTo, CarryEnd, Knows}
 use Rattle.mdv_shelf.proofs.Moments.{ends_both}
-use Rattle.mdv_database.specs.declared.database.CommitFault.TheVariants as unwritten
 use Rattle.mdv_engine_law.specs.declared.answer.Answer.TheVariants as outcome
 use Rattle.mdv_engine_law.proofs.Refusing.{refused_still, spent_still}
 use Rattle.mdv_engine.specs.Engine.{IsCommit}

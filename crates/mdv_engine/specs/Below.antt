@@ -17,7 +17,7 @@ pub use Rattle.mdv_engine_law.specs.Line.{AreBlocksAt, AreBlocksRefused, HasVolu
 pub use Rattle.mdv_engine_law.specs.Line.{IsRebooted, IsSound, IsTurnedDown, IsUsedUp, Kept, MayChange, Memory, adopted, asked_by, blocks_of, down}
 pub use Rattle.mdv_engine_law.specs.Line.{empty, kept_at, lost, record_room, spent, unbooted, wanting}
 pub use Rattle.mdv_engine_law.specs.Replies.{IsPlain, IsPlainAnswer, text_of}
-pub use Rattle.mdv_engine_law.specs.Standing.{BootMoment, BootedTo, CarriedTo, CarryEnd, CarryMoment, Executed, Knows, OnlyReplied, TellMoment, TurnMoment, Turned}
+pub use Rattle.mdv_engine_law.specs.Standing.{BootMoment, BootedTo, CarriedTo, CarryEnd, CarryMoment, Executed, Knows, OnlyReplied, TellMoment, TellsFront, TurnMoment, Turned}
 pub use Rattle.mdv_engine_law.specs.declared.answer.Answer.{Answer}
 pub use Rattle.mdv_engine_law.specs.declared.answer.BootRefusal.{BootRefusal}
 pub use Rattle.mdv_engine_law.specs.declared.host.Host.{Host}

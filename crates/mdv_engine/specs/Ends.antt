@@ -1,11 +1,11 @@
 -- What the calls of an engine say of their answers, and of the drive in the end.
 use Rattle.std.specs.Prelude.{◌≡◌, ◌≤◌, ◌+◌, ℕ, List, [], ◌∷◌, Some, None, Result, Ok, Err, IfOk, IfErr, OnOk, Contains, length}
 use Rattle.mdv_shelf.specs.Between.{TookBetween}
-use Rattle.mdv_shelf.specs.Shelves.{AtEachTale, AtEnd, DriveFailed, EndsTold, MadeCalls, MadeCallsAtMost}
+use Rattle.mdv_shelf.specs.Shelves.{AtEachMoment, AtEachTale, AtEnd, DriveFailed, EndsTold, MadeCalls, MadeCallsAtMost}
 use Rattle.mdv_shelf.specs.declared.shelf.Shelf.{Ghosts}
 use Rattle.mdv_words.specs.declared.command.Command.{Command}
 use Rattle.mdv_words.specs.declared.command.Line.TheVariants as words
-use Rattle.mdv_engine.specs.Below.{VolId, Refusal, IoFault, KeptOutside, nowhere, IsSettled, Settling, Tale, last, Change, Table, Changed, Created, Deed, Answer, BootRefusal, Host, Memory, kept_at, unbooted, asked_by, blocks_of, AreBlocksAt, AreBlocksRefused, IsCarriedOut, IsCreation, IsRebooted, IsPlainAnswer, BootedTo, CarryEnd, Executed, Knows, Turned}
+use Rattle.mdv_engine.specs.Below.{VolId, Refusal, IoFault, KeptOutside, nowhere, IsSettled, Settling, Tale, last, Change, Table, Changed, Created, Deed, Answer, BootRefusal, Host, Kept, Memory, kept_at, unbooted, asked_by, blocks_of, AreBlocksAt, AreBlocksRefused, IsCarriedOut, IsCreation, IsRebooted, IsPlainAnswer, BootedTo, CarryEnd, Executed, Knows, TellsFront, TurnMoment, Turned}
 use Rattle.mdv_engine_law.specs.declared.answer.Answer.TheVariants as outcome
 use Rattle.mdv_engine_law.specs.declared.answer.Reply.{Reply}
 use Rattle.mdv_engine_law.specs.declared.answer.Reply.TheVariants as reply
@@ -44,6 +44,19 @@ pub record HasAnswered (failed : Type 0) (asked : List Deed) (old : Engine) (ans
   pub host : new.host ≡ old.host
   pub well : IsWell old.host new.state
   pub begun : new.state.begun ≤ old.state.begun + 1
+
+-- Each moment of a line: how the drive stands, and what was told of its reply.
+pub record LineMoments {S : Type 0} (shelf : Ghosts S) (host : Host) (asked : List Deed) (old : Memory) (Comes : Type 0 → Kept → Answer → Kept → Type 0) (from to : S) : Type 0 where
+  pub each : AtEachTale shelf (TurnMoment host asked old) from to
+  pub fronts : AtEachMoment shelf (λ t m. Knows host old t.tale → TellsFront Comes old t m) from to
+
+-- what a command comes to
+abbrev pub CarriesOut : Host → Command → Type 0 → Kept → Answer → Kept → Type 0
+CarriesOut host command failed kept answer next = IsCarriedOut failed host kept command answer next
+
+-- this answer, and all else as it was
+abbrev pub OnlyAnswers : Answer → Type 0 → Kept → Answer → Kept → Type 0
+OnlyAnswers this failed kept answer next = (answer ≡ this) × (next ≡ kept)
 
 -- The end of a command and its reply: what it came to, what it led to, what is known where the run isn't lost; and a refusal behind which
 -- nothing was written.

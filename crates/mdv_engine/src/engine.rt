@@ -4,9 +4,9 @@ ghost use Rattle.mdv_history.specs.History.{Deed};
 ghost use Rattle.mdv_engine_law.specs.Home.{IsReady};
 ghost use Rattle.mdv_engine_law.specs.Line.{IsExecuted, asked_by, unbooted};
 ghost use Rattle.mdv_engine_law.specs.Replies.{IsPlain};
-ghost use Rattle.mdv_engine_law.specs.Standing.{BootMoment, CarryMoment, OnlyReplied, TurnMoment};
+ghost use Rattle.mdv_engine_law.specs.Standing.{BootMoment, CarryMoment, OnlyReplied};
 ghost use Rattle.mdv_engine.specs.Counts.{IsBootedCounted, IsCommandCounted, blocks_of, calls_of};
-ghost use Rattle.mdv_engine.specs.Ends.{IsBootEnd, CommandEnd, HasAnswered, HasBooted, HasBootedFrom, HasOnlyReplied, HasRebooted, HasReplied, IsReplyCounted, IsTurnCounted, TurnEnd, kept_by, left_by};
+ghost use Rattle.mdv_engine.specs.Ends.{CarriesOut, IsBootEnd, CommandEnd, HasAnswered, HasBooted, HasBootedFrom, HasOnlyReplied, HasRebooted, HasReplied, IsReplyCounted, IsTurnCounted, LineMoments, OnlyAnswers, TurnEnd, kept_by, left_by};
 ghost use Rattle.mdv_engine.specs.Engine.{IsWell, boot_answer};
 
 use crate::state::State;
@@ -71,7 +71,7 @@ impl Engine {
         requires well { IsWell self.old.host self.old.state }
         requires begun { self.old.state.begun + 1 < 2 ^ 32 }
         requires executed { IsExecuted command.now }
-        ensures moments { AtEachTale B.Shelf (TurnMoment self.old.host (asked_by command.now) self.old.state) bench.old bench.new }
+        ensures moments { LineMoments B.Shelf self.old.host (asked_by command.now) self.old.state (CarriesOut self.old.host command.now) bench.old bench.new }
         ensures end { AtEnd B.Shelf (TurnEnd (DriveFailed B.Shelf bench.old bench.new 0) (GivingFailed B.Shelf bench.old bench.new) self.old command.now result self.new) bench.old bench.new }
         ensures answer { HasReplied (DriveFailed B.Shelf bench.old bench.new 0) (GivingFailed B.Shelf bench.old bench.new) self.old result self.new }
         ensures counted { IsTurnCounted B.Shelf bench.old bench.new command.now result }
@@ -85,7 +85,7 @@ impl Engine {
     #[tactic(auto, using(mdv_shelf::proofs::Noted::kept_more))]
     pub fn refuse<B: Bench>(&mut self, bench: &mut B, refusal: &Refusal) -> Reply
         requires { IsPlain refusal.now }
-        ensures moments { (asked : List Deed) → AtEachTale B.Shelf (TurnMoment self.old.host asked self.old.state) bench.old bench.new }
+        ensures moments { (asked : List Deed) → LineMoments B.Shelf self.old.host asked self.old.state (OnlyAnswers (Answer.Refused refusal.now)) bench.old bench.new }
         ensures end { AtEnd B.Shelf (OnlyReplied (GivingFailed B.Shelf bench.old bench.new) (Answer.Refused refusal.now) result) bench.old bench.new }
         ensures answer { HasOnlyReplied (DriveFailed B.Shelf bench.old bench.new 0) (GivingFailed B.Shelf bench.old bench.new) self.old result self.new }
         ensures counted { IsReplyCounted B.Shelf bench.old bench.new result }
@@ -97,7 +97,7 @@ impl Engine {
     /// Tells `ok`, as of a boot that was answered.
     #[tactic(auto, using(mdv_shelf::proofs::Noted::kept_more))]
     pub fn accept<B: Bench>(&mut self, bench: &mut B) -> Reply
-        ensures moments { AtEachTale B.Shelf (TurnMoment self.old.host [] self.old.state) bench.old bench.new }
+        ensures moments { LineMoments B.Shelf self.old.host [] self.old.state (OnlyAnswers Answer.Ok) bench.old bench.new }
         ensures end { AtEnd B.Shelf (OnlyReplied (GivingFailed B.Shelf bench.old bench.new) Answer.Ok result) bench.old bench.new }
         ensures answer { HasOnlyReplied (DriveFailed B.Shelf bench.old bench.new 0) (GivingFailed B.Shelf bench.old bench.new) self.old result self.new }
         ensures counted { IsReplyCounted B.Shelf bench.old bench.new result }

@@ -3,6 +3,7 @@ pub mod Executing
 pub mod Plain
 pub mod Knowing
 pub mod Longer
+pub mod Fronts
 pub mod Going
 pub mod Deeds
 pub mod Turning

@@ -1,6 +1,8 @@
 -- How the drive stands with its history at each moment of a line.
-use Rattle.std.specs.Prelude.{◌≡◌, ◌≢◌, ℕ, ◌≤◌, false, List, [], ◌∷◌, ◌++◌, take, None, IfSome, Contains}
+use Rattle.std.specs.Prelude.{◌≡◌, ◌≢◌, ◌⊎◌, ℕ, ◌≤◌, false, List, [], ◌∷◌, ◌++◌, take, None, IfSome, Contains}
 use Rattle.mdv_engine_law.specs.Below.{Identity, KeptOutside, nowhere, Tale, told, Line, area_of, ShowsNothing, IsOpened, IsNewestIn, History, Deed, Created, Event, history_after_all, IsCourse, Adds, HasWoken, NoDeed, CanTell}
+use Rattle.mdv_shelf.specs.Calls.{OnDrive}
+use Rattle.mdv_shelf.specs.Story.{FailedBy, Moment}
 use Rattle.mdv_history.specs.Standing as history
 use Rattle.mdv_engine_law.specs.declared.answer.Answer.{Answer}
 use Rattle.mdv_engine_law.specs.declared.answer.Answer.TheVariants as outcome
@@ -8,7 +10,7 @@ use Rattle.mdv_engine_law.specs.declared.answer.Reply.{Reply}
 use Rattle.mdv_engine_law.specs.declared.host.Host.{Host}
 use Rattle.mdv_engine_law.specs.Home.{StaysHome, site_of}
 use Rattle.mdv_engine_law.specs.Line.{Kept, Memory, ComesTo, kept_at}
-use Rattle.mdv_engine_law.specs.Replies.{IsReply, IsFront, IsTold, acked, issuable_of, issued_by}
+use Rattle.mdv_engine_law.specs.Replies.{IsReply, IsFront, IsTold, acked, issuable_of, issued_by, text_of}
 
 -- the drive stands with the history, in which a database was made only where there is room for it
 pub record StandsAt (host : Host) (h : History) (m : Tale) : Type 0 where
@@ -136,6 +138,18 @@ pub record TellMoment (text : List ℕ) (t m : Tale) : Type 0 where
   pub kept : KeptOutside nowhere t m
   pub count : ℕ
   pub is_told : told m ≡ told t ++ take count text
+
+-- By this moment of a line a front of the reply was told to what it came to, as calls on the drive had failed by then.
+pub record FrontTold (Comes : Type 0 → Kept → Answer → Kept → Type 0) (old : Memory) (t m : Moment) : Type 0 where
+  pub answer : Answer
+  pub next : Kept
+  pub came : Comes (FailedBy t m (OnDrive 0)) (kept_at old t.tale) answer next
+  pub count : ℕ
+  pub is_told : told m.tale ≡ told t.tale ++ take count (text_of answer)
+
+-- nothing of a reply, or a front of the one to what the line came to
+abbrev pub TellsFront : (Type 0 → Kept → Answer → Kept → Type 0) → Memory → Moment → Moment → Type 0
+TellsFront Comes old t m = (told m.tale ≡ told t.tale) ⊎ FrontTold Comes old t m
 
 -- A moment of a line, by which these deeds are asked, and of its reply: at most a front of one reply is told, and each
 -- history goes on by as many acknowledgements as that front says, with what it lets the line issue. A creation is told only where no

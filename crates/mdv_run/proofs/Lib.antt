@@ -4,3 +4,5 @@ pub mod Whole
 pub mod Answering
 pub mod Used
 pub mod Shown
+pub mod Fronts
+pub mod Fronting

@@ -1,6 +1,6 @@
 -- What a run promises, of the whole bench and the whole source.
 use Rattle.std.specs.Prelude.{◌≡◌, ◌≢◌, ◌⊎◌, ◌↔◌, ◌≤◌, ◌<◌, ◌+◌, ℕ, Bool, false, List, Option, Some}
-use Rattle.mdv_run.specs.Below.{Reader, Script, line, script_before, script_of, Tale, Reply, IsReplied, Host, Memory, Engine, Knows, IsWell, StaysHome, RunStatus, NoMemory, Usage, Counts, Stretch, counts, HasStatusCause, IsWholeRun, RunMoment, LinesMoment, RanTo}
+use Rattle.mdv_run.specs.Below.{Reader, Script, line, script_before, script_of, Tale, Reply, IsReplied, Host, Memory, Engine, Knows, IsWell, StaysHome, TellsFront, IsAnswered, IsToldBy, kept_at, RunStatus, NoMemory, Usage, Counts, Stretch, counts, HasStatusCause, IsWholeRun, RunMoment, LinesMoment, RanTo}
 use Rattle.mdv_shelf.specs.Shelves.{AtEachMoment, AtEachTale, AtEnd, DriveFailed, EndsTold, GivingFailed}
 use Rattle.mdv_shelf.specs.Story.{OfTales}
 use Rattle.mdv_shelf.specs.declared.shelf.Shelf.{Ghosts as Shelf}
@@ -11,7 +11,7 @@ use Rattle.mdv_home.specs.declared.geometry.Home.{Home}
 use Rattle.mdv_name.specs.declared.geometry.Geometry.{Geometry}
 use Rattle.mdv_run.specs.declared.session.Turn.{Turn}
 use Rattle.mdv_engine_law.specs.Replies.{IsLost, HasReplyCause}
-use Rattle.mdv_run.specs.Turns.{LineAnswered, LinesRun, Turns, HasTurnCause, IsOn, IsLostTurn}
+use Rattle.mdv_run.specs.Turns.{LineAnswered, LinesFront, LinesRun, TurnFront, Turns, at, HasTurnCause, IsOn, IsLostTurn}
 
 -- how often each part had failed by then
 abbrev pub by : {B I : Type 0} → Shelf B → Source I → B → I → Counts
@@ -36,11 +36,12 @@ pub record IsUsageOf (None Untouched : Type 0) (status : RunStatus) : Type 0 whe
 
 -- The run of a host. Where bench and source tell what they hold, memory was wanting for the table of drives and nothing was done, or the
 -- bytes told, the status and what is left are those that the script asks for; and at each moment the drive stands with its history so
--- far; nothing happens outside the host's area. Whatever they tell, a status that tells of a failure comes only where one came.
+-- far, and what was told by then is what the script asks for; nothing happens outside the host's area. Whatever they tell, a status that tells of a failure comes only where one came.
 pub record HasRun {B I : Type 0} (shelf : Shelf B) (source : Source I) (host : Host) (old : B) (from : I) (new : B) (to : I) (status : RunStatus) : Type 0 where
   pub runs : (t : Tale) → shelf.tale old ≡ Some t → (input : List ℕ) → source.left from ≡ Some input
       → IsUnbegun t (shelf.tale new) status ⊎ IsWholeRun host (between shelf old new) (by shelf source old from) (by shelf source new to) t (script_of input) (shelf.tale new) status
   pub stands : (input : List ℕ) → source.left from ≡ Some input → AtEachMoment shelf (OfTales (RunMoment host (script_of input))) old new
+  pub tells : (input : List ℕ) → source.left from ≡ Some input → AtEachMoment shelf (IsToldBy host (between shelf old new) (by shelf source old from) (script_of input)) old new
   pub home : AtEachTale shelf (StaysHome host) old new
   pub causes : (status ≡ NoMemory) ⊎ HasStatusCause (by shelf source old from) (by shelf source new to) status
 
@@ -49,6 +50,8 @@ pub record HaveRun {B I : Type 0} (shelf : Shelf B) (source : Source I) (host : 
   pub runs : (input : List ℕ) → source.left from ≡ Some input
       → AtEnd shelf (λ t u. Knows host memory t → LinesRun host (between shelf old new) (by shelf source old from) (by shelf source new to) memory false (script_of input) status t u) old new
   pub moments : (input : List ℕ) → source.left from ≡ Some input → AtEachTale shelf (LinesMoment host (script_of input) memory) old new
+  pub tells : (input : List ℕ) → source.left from ≡ Some input
+      → AtEachMoment shelf (λ t m. Knows host memory t.tale → LinesFront host (between shelf old new) (at (by shelf source old from) (kept_at memory t.tale) false (script_of input)) t m) old new
   pub home : AtEachTale shelf (StaysHome host) old new
   pub causes : HasStatusCause (by shelf source old from) (by shelf source new to) status
 
@@ -77,10 +80,23 @@ pub record TurnAnswer (now later : Counts) (host : Host) (engine : Engine) (befo
 abbrev pub TurnAnswers : {B I : Type 0} → Shelf B → Source I → Host → Engine → B → B → I → I → Reader → Reader → Turn → Type 0
 TurnAnswers shelf source host engine bench on from to before after turn = TurnAnswer (by shelf source bench from) (by shelf source on to) host engine before after (source.left from) (source.left to) turn
 
--- a line, or a turn: outside the host's area nothing happens; and where a reply was told whole, no call failed behind its last byte
-pub record LineStays {B : Type 0} (shelf : Shelf B) (host : Host) (replied : Type 0) (old new : B) : Type 0 where
+-- each script before the turn gives the line of which a front is told
+abbrev pub TurnTells : {B I : Type 0} → Shelf B → Source I → Engine → B → B → I → Reader → Bool → Type 0
+TurnTells shelf source engine bench on from before refused =
+    (script : Script) → script_before before (source.left from) ≡ Some script
+    → AtEachMoment shelf (λ t m. Knows engine.host engine.state t.tale → TurnFront engine.host (at (by shelf source bench from) (kept_at engine.state t.tale) refused script) t m) bench on
+
+-- a front of a line's reply
+abbrev pub LineTells : {B : Type 0} → Shelf B → Engine → List ℕ → B → B → Type 0
+LineTells shelf engine text bench on =
+    AtEachMoment shelf (λ t m. Knows engine.host engine.state t.tale → TellsFront (λ failed kept answer next. IsAnswered failed engine.host kept text answer next) engine.state t m) bench on
+
+-- A line, or a turn: outside the host's area nothing happens; where a reply was told whole, no call failed behind its last byte; and a front of it is
+-- told by each moment.
+pub record LineStays {B : Type 0} (shelf : Shelf B) (host : Host) (replied Tells : Type 0) (old new : B) : Type 0 where
   pub home : AtEachTale shelf (StaysHome host) old new
   pub told : replied → EndsTold shelf old new
+  pub tells : Tells
 
 -- one line, in the end: its answer and its reply, what is left of the script, and what is known of the drive then
 pub record LineEnd (drive replies : Type 0) (host : Host) (text : List ℕ) (old new : Memory) (reply : Reply) (t u : Tale) : Type 0 where

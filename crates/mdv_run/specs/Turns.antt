@@ -1,6 +1,7 @@
 -- How the lines of a run follow one another.
 use Rattle.std.specs.Prelude.{◌≡◌, ℕ, Bool, true, List, ◌++◌, Option, Some, IfSome}
-use Rattle.mdv_run.specs.Below.{Script, Tale, told, Answer, BootRefusal, Reply, Host, Kept, Memory, kept_at, Replied, RunStatus, Panic, WriteFault, NoMemory, NumbersSpent, At, Counts, LineTold, Runs, Stretch, IsAnswered, IsLeft, HasStatusCause}
+use Rattle.mdv_run.specs.Below.{Script, Tale, told, Answer, BootRefusal, Reply, Host, Kept, Memory, kept_at, Replied, RunStatus, Panic, WriteFault, NoMemory, NumbersSpent, At, Counts, IsNextFront, LinesToldBy, OnDrive, LineTold, Runs, Stretch, IsAnswered, IsLeft, HasStatusCause}
+use Rattle.mdv_shelf.specs.Story.{Moment}
 use Rattle.mdv_run_law.specs.Run.{Over as IsOver}
 use Rattle.mdv_engine_law.specs.declared.answer.BootRefusal.TheVariants as refusal
 use Rattle.mdv_engine_law.specs.declared.answer.Reply.TheVariants as reply
@@ -69,3 +70,15 @@ pub record LinesRun (host : Host) (stretch : Stretch) (now then : Counts) (old :
   pub last : Option Kept
   pub left : IfSome last (IsLeft host u)
   pub runs : Runs host stretch then (at now (kept_at old t) refused script) more status last
+
+-- what was told of a turn by one of its moments, from that place in the run on: of the line's reply a front
+pub record TurnFront (host : Host) (from : At) (t m : Moment) : Type 0 where
+  pub bytes : List ℕ
+  pub is_told : told m.tale ≡ told t.tale ++ bytes
+  pub front : IsNextFront host from bytes (m.faults (OnDrive 0))
+
+-- and of the lines so far
+pub record LinesFront (host : Host) (stretch : Stretch) (first : At) (t m : Moment) : Type 0 where
+  pub bytes : List ℕ
+  pub is_told : told m.tale ≡ told t.tale ++ bytes
+  pub lines : LinesToldBy host stretch first bytes (m.faults (OnDrive 0))

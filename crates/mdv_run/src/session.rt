@@ -14,7 +14,7 @@ ghost use Rattle.mdv_run_law.specs.Lives.{host_of};
 ghost use Rattle.mdv_run_law.specs.Usage.{IsUsed};
 ghost use Rattle.mdv_run_law.specs.Run.{status_of};
 ghost use Rattle.mdv_run_law.specs.Standing.{LinesMoment};
-ghost use Rattle.mdv_run.specs.Promise.{HasRun, HaveRun, IsUntouched, IsUsageOf, LineEnds, LineReply, LineStays, OfEachUse, TurnAnswers, TurnEnds};
+ghost use Rattle.mdv_run.specs.Promise.{HasRun, HaveRun, IsUntouched, IsUsageOf, LineEnds, LineReply, LineStays, LineTells, OfEachUse, TurnAnswers, TurnEnds, TurnTells};
 ghost use Rattle.mdv_run.specs.Turns.{IsOn, over_status, turn_of as spec_turn_of};
 
 use mdv_base::{DriveNo, Failed, Refusal};
@@ -193,7 +193,7 @@ fn take_turn<B: Bench, I: Source>(
     requires begun { engine.old.state.begun ≤ reader.old.lines }
     ensures moments { (lines : Script) → script_before reader.old (I.left script.old) ≡ Some lines → AtEachTale B.Shelf (LinesMoment engine.old.host lines engine.old.state) bench.old bench.new }
     ensures end { TurnEnds B.Shelf I.Source engine.old engine.new bench.old bench.new script.old script.new reader.old reader.new any_refused result }
-    ensures stays { LineStays B.Shelf engine.old.host (IsOn result) bench.old bench.new }
+    ensures stays { LineStays B.Shelf engine.old.host (IsOn result) (TurnTells B.Shelf I.Source engine.old bench.old bench.new script.old reader.old any_refused) bench.old bench.new }
     ensures answer { TurnAnswers B.Shelf I.Source engine.old.host engine.new bench.old bench.new script.old script.new reader.old reader.new result }
     ensures kept { Kept B.Shelf bench.old bench.new }
 {
@@ -217,7 +217,7 @@ fn answer<B: Bench>(engine: &mut Engine, alloc: Global, bench: &mut B, line: &[u
     requires begun { engine.old.state.begun + 1 < 2 ^ 32 }
     ensures moments { (more : Script) → AtEachTale B.Shelf (LinesMoment engine.old.host (line_of line.now more) engine.old.state) bench.old bench.new }
     ensures end { LineEnds B.Shelf bench.old bench.new engine.old.host line.now engine.old.state engine.new.state result }
-    ensures stays { LineStays B.Shelf engine.old.host (IsReplied result) bench.old bench.new }
+    ensures stays { LineStays B.Shelf engine.old.host (IsReplied result) (LineTells B.Shelf engine.old line.now bench.old bench.new) bench.old bench.new }
     ensures answer { LineReply (DriveFailed B.Shelf bench.old bench.new 0) (GivingFailed B.Shelf bench.old bench.new) engine.old.host engine.old.state engine.new result }
     ensures kept { Kept B.Shelf bench.old bench.new }
 {
@@ -236,7 +236,7 @@ fn boot_anew<B: Bench>(engine: &mut Engine, alloc: Global, bench: &mut B) -> Rep
     requires well { IsWell engine.old.host engine.old.state }
     ensures moments { AtEachTale B.Shelf (TurnMoment engine.old.host [] engine.old.state) bench.old bench.new }
     ensures end { (text : List ℕ) → IsLine text Boot → LineEnds B.Shelf bench.old bench.new engine.old.host text engine.old.state engine.new.state result }
-    ensures stays { LineStays B.Shelf engine.old.host (IsReplied result) bench.old bench.new }
+    ensures stays { (text : List ℕ) → IsLine text Boot → LineStays B.Shelf engine.old.host (IsReplied result) (LineTells B.Shelf engine.old text bench.old bench.new) bench.old bench.new }
     ensures answer { LineReply (DriveFailed B.Shelf bench.old bench.new 0) (GivingFailed B.Shelf bench.old bench.new) engine.old.host engine.old.state engine.new result }
     ensures kept { Kept B.Shelf bench.old bench.new }
 {

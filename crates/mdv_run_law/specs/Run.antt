@@ -178,6 +178,44 @@ pub record IsRun (host : Host) (stretch : Stretch) (start end : Counts) (content
   pub boots : IsRebooted (drive_failed start booted) host (started content) answer kept
   pub runs : RunsFrom host stretch end answer booted kept script told status last
 
+-- Of the next line's reply nothing was told, or a front: of the reply to what it came to, where the drive had failed so often.
+pub record NextFront (host : Host) (now : At) (told : List ℕ) (drive : ℕ) : Type 0 where
+  pub answer : Answer
+  pub later : Counts
+  pub next : Kept
+  pub more : Script
+  pub comes : NextLine host now.counts now.kept now.script answer later next more
+  pub by_then : later.drive ≤ drive
+  pub count : ℕ
+  pub front : told ≡ take count (text_of answer)
+
+abbrev pub IsNextFront : Host → At → List ℕ → ℕ → Type 0
+IsNextFront host now told drive = (told ≡ []) ⊎ NextFront host now told drive
+
+-- what was told of lines by a moment of a run: whole replies, and a front of the next one
+pub record LinesToldBy (host : Host) (stretch : Stretch) (first : At) (told : List ℕ) (drive : ℕ) : Type 0 where
+  pub so_far : List ℕ
+  pub rest : List ℕ
+  pub parts : told ≡ so_far ++ rest
+  pub at : At
+  pub lines : LinesTold host stretch 0 first so_far at
+  pub front : IsNextFront host at rest drive
+
+-- and of a run whose boot was answered
+pub record RunToldBy (host : Host) (stretch : Stretch) (start : Counts) (content : ℕ → List ℕ) (script : Script) (told : List ℕ) (drive : ℕ) : Type 0 where
+  pub booted : Counts
+  pub rose : RoseTo start booted
+  pub kept : Kept
+  pub boots : IsRebooted (drive_failed start booted) host (started content) outcome.Ok kept
+  pub lines : LinesToldBy host stretch (record { counts = booted; kept = kept; refused = false; script = script }) told drive
+
+-- By a moment of a run that began at t nothing was told, or what the script asks for, as far as it had come: each value that was told is
+-- what the drive had then. It says so too of a run that was stopped there.
+pub record IsToldBy (host : Host) (stretch : Stretch) (start : Counts) (script : Script) (t m : Moment) : Type 0 where
+  pub bytes : List ℕ
+  pub is_told : told m.tale ≡ told t.tale ++ bytes
+  pub tells : (bytes ≡ []) ⊎ RunToldBy host stretch start (drive_content t.tale) script bytes (m.faults (OnDrive 0))
+
 -- each block reads as it was kept; and where a database is open, whatever a crash leaves has one replica of it, with the newest table
 -- that is in memory
 pub record IsLeft (host : Host) (u : Tale) (kept : Kept) : Type 0 where

@@ -1,5 +1,5 @@
 use Rattle.std.proofs.Common.{[], refl, inl, inr, subst, sym}
-use Rattle.mdv_run.specs.Below.{line, Ends, Boot, IsCommand, IsLine, asked_by, TurnMoment, Engine, LinesMoment}
+use Rattle.mdv_run.specs.Below.{line, Ends, Boot, IsCommand, IsLine, asked_by, IsAnswered, Knows, TellsFront, TurnMoment, Engine, LinesMoment}
 use Rattle.mdv_words.specs.declared.command.Line.TheVariants as words
 use Rattle.mdv_engine_law.specs.declared.answer.Answer.TheVariants as outcome
 use Rattle.mdv_base.specs.declared.refusal.Refusal.TheVariants.{BadLine}
@@ -10,6 +10,9 @@ use Rattle.mdv_engine_law.proofs.Staying.{turn_stays}
 use Rattle.mdv_run_law.proofs.Turning.{line_moment, line_ran}
 use Rattle.mdv_run_law.proofs.Waking.{executed_awake}
 use Rattle.mdv_run.specs.Promise.{LineEnd}
+use Rattle.mdv_shelf.proofs.Noted.{moment_weaker}
+use Rattle.mdv_run.proofs.Fronts.{AnswerFront, LineFront, front_of, only_refused}
+use Rattle.mdv_engine.specs.Ends.{CarriesOut, OnlyAnswers}
 use Rattle.mdv_run.proofs.Answering.{executed_line, no_boot, known_ran, line_executed, refused_turned, refused_down, refused_knows}
 use Rattle.mdv_run.proofs.session.answer.Goals as goal
 
@@ -26,7 +29,7 @@ returns-in-Command-clause-moments g c = λ more.
     let command = c.in-Command.command in
     let is : IsLine c.args.line.now (words.Command command) = subst (IsLine c.args.line.now) c.in-Command.is c.in-Some.ensures.value in
     moments_weaker (TurnMoment host (asked_by command) old) (LinesMoment host (line c.args.line.now more) old) _ _
-    (λ t m turn. line_moment host c.args.line.now (asked_by command) (inr (words.Command command, is, refl)) more old t m turn) c.exec.ensures.moments
+    (λ t m turn. line_moment host c.args.line.now (asked_by command) (inr (words.Command command, is, refl)) more old t m turn) c.exec.ensures.moments.each
 
 pub returns-in-Command-clause-end : goal.returns-in-Command-clause-end
 returns-in-Command-clause-end g c = λ t told.
@@ -49,7 +52,12 @@ returns-in-Command-clause-end g c = λ t told.
     )
 
 pub returns-in-Command-clause-stays : goal.returns-in-Command-clause-stays
-returns-in-Command-clause-stays g c = record { home = turn_stays c.args.engine.now.host (asked_by c.in-Command.command) c.args.engine.now.state _ _ c.exec.ensures.moments; told = c.exec.ensures.counted.told }
+returns-in-Command-clause-stays g c = record {
+  home = turn_stays c.args.engine.now.host (asked_by c.in-Command.command) c.args.engine.now.state _ _ c.exec.ensures.moments.each;
+  told = c.exec.ensures.counted.told;
+  tells = moment_weaker g.B.Shelf (λ t m. Knows c.args.engine.now.host c.args.engine.now.state t.tale → TellsFront (CarriesOut c.args.engine.now.host c.in-Command.command) c.args.engine.now.state t m) (LineFront c.args.engine.now.host c.args.line.now c.args.engine.now.state) _ _
+      (λ t m up down here known. front_of (CarriesOut c.args.engine.now.host c.in-Command.command) (λ failed kept answer next. IsAnswered failed c.args.engine.now.host kept c.args.line.now answer next) c.args.engine.now.state t m (λ failed kept answer next is. inr (words.Command c.in-Command.command, subst (IsLine c.args.line.now) c.in-Command.is c.in-Some.ensures.value, is)) (here known)) c.exec.ensures.moments.fronts;
+}
 
 -- a line that isn't in the grammar
 pub returns-in_default-clause-moments : goal.returns-in_default-clause-moments
@@ -57,7 +65,7 @@ returns-in_default-clause-moments g c = λ more.
     let host = c.args.engine.now.host in
     let old = c.args.engine.now.state in
     moments_weaker (TurnMoment host [] old) (LinesMoment host (line c.args.line.now more) old) _ _
-    (λ t m turn. line_moment host c.args.line.now [] (inl (c.in_default.ensures.none, refl)) more old t m turn) (c.refuse.ensures.moments [])
+    (λ t m turn. line_moment host c.args.line.now [] (inl (c.in_default.ensures.none, refl)) more old t m turn) (c.refuse.ensures.moments []).each
 
 pub returns-in_default-clause-end : goal.returns-in_default-clause-end
 returns-in_default-clause-end g c =
@@ -78,7 +86,12 @@ returns-in_default-clause-end g c =
     )))
 
 pub returns-in_default-clause-stays : goal.returns-in_default-clause-stays
-returns-in_default-clause-stays g c = record { home = turn_stays c.args.engine.now.host [] c.args.engine.now.state _ _ (c.refuse.ensures.moments []); told = c.refuse.ensures.counted.told }
+returns-in_default-clause-stays g c = record {
+  home = turn_stays c.args.engine.now.host [] c.args.engine.now.state _ _ (c.refuse.ensures.moments []).each;
+  told = c.refuse.ensures.counted.told;
+  tells = moment_weaker g.B.Shelf (AnswerFront c.args.engine.now.host (outcome.Refused BadLine) c.args.engine.now.state) (LineFront c.args.engine.now.host c.args.line.now c.args.engine.now.state) _ _
+      (λ t m up down here known. front_of (OnlyAnswers (outcome.Refused BadLine)) (λ failed kept answer next. IsAnswered failed c.args.engine.now.host kept c.args.line.now answer next) c.args.engine.now.state t m (λ failed kept answer next is. inl (c.in_default.ensures.none, only_refused BadLine failed kept answer next is)) (here known)) (c.refuse.ensures.moments []).fronts;
+}
 
 -- a boot
 pub returns-in-Boot-clause-moments : goal.returns-in-Boot-clause-moments
@@ -90,3 +103,6 @@ returns-in-Boot-clause-moments g c = λ more.
 
 pub returns-in-Boot-clause-end : goal.returns-in-Boot-clause-end
 returns-in-Boot-clause-end g c = c.boot_anew.ensures.end c.args.line.now (subst (IsLine c.args.line.now) c.in-Boot.is c.in-Some.ensures.value)
+
+pub returns-in-Boot-clause-stays : goal.returns-in-Boot-clause-stays
+returns-in-Boot-clause-stays g c = c.boot_anew.ensures.stays c.args.line.now (subst (IsLine c.args.line.now) c.in-Boot.is c.in-Some.ensures.value)

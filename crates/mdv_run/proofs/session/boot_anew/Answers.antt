@@ -1,10 +1,16 @@
-use Rattle.std.proofs.Common.{◌≡◌, [], inr, refl, sym, ◌∙◌, ap, subst, arith}
+use Rattle.std.proofs.Common.{◌≡◌, [], inl, inr, Option, refl, sym, ◌∙◌, ap, subst, arith}
 use Rattle.std.proofs.lemmas.List.{append-nil}
 use Rattle.mdv_shelf.specs.Shelves.{DriveFailed, GivingFailed}
-use Rattle.mdv_run.specs.Below.{OnDrive, OnReplies, Moments, Ends, told, Boot, Host, StaysHome, BootMoment, BootedTo, TurnMoment, Engine}
+use Rattle.mdv_run.specs.Below.{OnDrive, OnReplies, Moments, Ends, told, Boot, Host, StaysHome, BootMoment, BootedTo, TurnMoment, Engine, Knows, IsRebooted, Tale, kept_at}
 use Rattle.mdv_run.specs.Promise.{LineEnd}
 use Rattle.mdv_run.proofs.Answering.{line_executed, accepted_turned}
-use Rattle.mdv_shelf.proofs.Telling.{told_behind}
+use Rattle.std.specs.Option.{option_map}
+use Rattle.mdv_shelf.specs.Shelves.{AtEachMoment}
+use Rattle.mdv_shelf.specs.Story.{OfTales, Story, tale_of}
+use Rattle.mdv_shelf.proofs.Noted.{moment_weaker, moments_of_tales}
+use Rattle.mdv_shelf.proofs.Stories.{moment}
+use Rattle.mdv_shelf.proofs.Telling.{each_joined, told_behind}
+use Rattle.mdv_run.proofs.Fronts.{AnswerFront, LineFront, boot_front}
 use Rattle.mdv_shelf.proofs.Moments.{moments_after, moments_weaker, moments_end, some_is}
 use Rattle.mdv_engine_law.specs.declared.answer.Answer.TheVariants as outcome
 use Rattle.mdv_engine_law.proofs.Executing.{executed, rose_within}
@@ -20,7 +26,7 @@ returns-in-Ok-clause-moments g c =
     let new = c.reboot.new.self.state in
     moments_after (BootMoment host) (BootedTo host new) (TurnMoment c.reboot.new.self.host [] new) (TurnMoment host [] old) _ _ _ (λ t m moment. boot_turn host old t m moment)
     (λ t u m booted turn. booted_turn host old new t u booted m (subst (λ (h : Host). TurnMoment h [] new u m) c.in-Ok.ensures.answer.host turn))
-    c.reboot.ensures.moments (λ t is. (let up = c.in-Ok.ensures.end t is in (up.0, up.1, up.2.booted refl))) c.accept.ensures.moments
+    c.reboot.ensures.moments (λ t is. (let up = c.in-Ok.ensures.end t is in (up.0, up.1, up.2.booted refl))) c.accept.ensures.moments.each
 
 pub returns-in-Ok-clause-end : goal.returns-in-Ok-clause-end
 returns-in-Ok-clause-end g c = λ text boots.
@@ -48,11 +54,23 @@ returns-in-Ok-clause-end g c = λ text boots.
     )))
 
 pub returns-in-Ok-clause-stays : goal.returns-in-Ok-clause-stays
-returns-in-Ok-clause-stays g c =
-    let host = c.args.engine.now.host in record {
+returns-in-Ok-clause-stays g c = λ text boots.
+    let host = c.args.engine.now.host in
+    let old = c.args.engine.now.state in
+    let new = c.reboot.new.self.state in
+    let quiet = moments_weaker (BootMoment host) (λ t m. told m ≡ told t) _ _ (λ t m moment. moment.quiet) c.reboot.ensures.moments in record {
       home = both_stay host _ _ _ (boot_stays host _ _ c.reboot.ensures.moments)
-          (subst (λ (h : Host). Moments (StaysHome h) (g.B.Shelf.tale c.reboot.new.shelf) (g.B.Shelf.tale c.accept.new.bench)) c.in-Ok.ensures.answer.host (turn_stays c.reboot.new.self.host [] c.reboot.new.self.state _ _ c.accept.ensures.moments));
-      told = λ on. told_behind g.B.Shelf g.met.B.Shelf.telling _ _ _ c.reboot.ensures.kept.goes (moments_weaker (BootMoment host) (λ t m. told m ≡ told t) _ _ (λ t m moment. moment.quiet) c.reboot.ensures.moments) (c.accept.ensures.counted.told on);
+          (subst (λ (h : Host). Moments (StaysHome h) (g.B.Shelf.tale c.reboot.new.shelf) (g.B.Shelf.tale c.accept.new.bench)) c.in-Ok.ensures.answer.host (turn_stays c.reboot.new.self.host [] c.reboot.new.self.state _ _ c.accept.ensures.moments.each));
+      told = λ on. told_behind g.B.Shelf g.met.B.Shelf.telling _ _ _ c.reboot.ensures.kept.goes quiet (c.accept.ensures.counted.told on);
+      tells = each_joined (OfTales (λ t m. told m ≡ told t)) (AnswerFront host outcome.Ok new) (LineFront host text old) _ _ _ _ _ _
+          (λ s u v first mid last turn there ahead m here within knows. inl here)
+          (λ s u v first mid last turn m here within ahead knows.
+          let up = c.in-Ok.ensures.end (tale_of s) (g.met.B.Shelf.telling c.args.bench.now ∙ ap (λ (o : Option Story). option_map tale_of o) first) in
+          let same = some_is (g.B.Shelf.tale c.reboot.new.shelf) up.0 (tale_of u) up.1 (g.met.B.Shelf.telling c.reboot.new.shelf ∙ ap (λ (o : Option Story). option_map tale_of o) mid) in
+          boot_front host old new text boots (moment s _) (moment u _) m turn within.counts.0 (subst (λ (x : Tale). IsRebooted (DriveFailed g.B.Shelf c.args.bench.now c.reboot.new.shelf 0) host (kept_at old (tale_of s)) outcome.Ok (kept_at new x)) same up.2.rebooted)
+          (here (subst (λ (x : Tale). Knows host new x) same (up.2.booted refl).knows)))
+          (moments_of_tales g.B.Shelf g.met.B.Shelf.telling _ _ (λ t m. told m ≡ told t) c.reboot.ensures.kept.goes quiet)
+          (subst (λ (h : Host). AtEachMoment g.B.Shelf (AnswerFront h outcome.Ok new) c.reboot.new.shelf c.accept.new.bench) c.in-Ok.ensures.answer.host c.accept.ensures.moments.fronts);
     }
 
 pub returns-in-Err-Lost-clause-end : goal.returns-in-Err-Lost-clause-end
@@ -81,7 +99,12 @@ returns-in-Err-Lost-clause-moments g c =
     moments_weaker (BootMoment host) (TurnMoment host [] old) _ _ (λ t m moment. boot_turn host old t m moment) c.reboot.ensures.moments
 
 pub returns-in-Err-Lost-clause-stays : goal.returns-in-Err-Lost-clause-stays
-returns-in-Err-Lost-clause-stays g c = record { home = boot_stays c.args.engine.now.host _ _ c.reboot.ensures.moments; told = λ on. absurd on }
+returns-in-Err-Lost-clause-stays g c = λ text boots. record {
+  home = boot_stays c.args.engine.now.host _ _ c.reboot.ensures.moments;
+  told = λ on. absurd on;
+  tells = moment_weaker g.B.Shelf (OfTales (λ t m. told m ≡ told t)) (LineFront c.args.engine.now.host text c.args.engine.now.state) _ _ (λ t m up below here known. inl here) (moments_of_tales g.B.Shelf g.met.B.Shelf.telling _ _ (λ t m. told m ≡ told t) c.reboot.ensures.kept.goes
+      (moments_weaker (BootMoment c.args.engine.now.host) (λ t m. told m ≡ told t) _ _ (λ t m moment. moment.quiet) c.reboot.ensures.moments));
+}
 
 pub returns-in-Err-Spent-clause-end : goal.returns-in-Err-Spent-clause-end
 returns-in-Err-Spent-clause-end g c = λ text boots t is.
@@ -108,7 +131,12 @@ returns-in-Err-Spent-clause-moments g c =
     moments_weaker (BootMoment host) (TurnMoment host [] old) _ _ (λ t m moment. boot_turn host old t m moment) c.reboot.ensures.moments
 
 pub returns-in-Err-Spent-clause-stays : goal.returns-in-Err-Spent-clause-stays
-returns-in-Err-Spent-clause-stays g c = record { home = boot_stays c.args.engine.now.host _ _ c.reboot.ensures.moments; told = λ on. absurd on }
+returns-in-Err-Spent-clause-stays g c = λ text boots. record {
+  home = boot_stays c.args.engine.now.host _ _ c.reboot.ensures.moments;
+  told = λ on. absurd on;
+  tells = moment_weaker g.B.Shelf (OfTales (λ t m. told m ≡ told t)) (LineFront c.args.engine.now.host text c.args.engine.now.state) _ _ (λ t m up below here known. inl here) (moments_of_tales g.B.Shelf g.met.B.Shelf.telling _ _ (λ t m. told m ≡ told t) c.reboot.ensures.kept.goes
+      (moments_weaker (BootMoment c.args.engine.now.host) (λ t m. told m ≡ told t) _ _ (λ t m moment. moment.quiet) c.reboot.ensures.moments));
+}
 
 pub returns-in-Err-Memory-clause-end : goal.returns-in-Err-Memory-clause-end
 returns-in-Err-Memory-clause-end g c = λ text boots t is.
@@ -135,4 +163,9 @@ returns-in-Err-Memory-clause-moments g c =
     moments_weaker (BootMoment host) (TurnMoment host [] old) _ _ (λ t m moment. boot_turn host old t m moment) c.reboot.ensures.moments
 
 pub returns-in-Err-Memory-clause-stays : goal.returns-in-Err-Memory-clause-stays
-returns-in-Err-Memory-clause-stays g c = record { home = boot_stays c.args.engine.now.host _ _ c.reboot.ensures.moments; told = λ on. absurd on }
+returns-in-Err-Memory-clause-stays g c = λ text boots. record {
+  home = boot_stays c.args.engine.now.host _ _ c.reboot.ensures.moments;
+  told = λ on. absurd on;
+  tells = moment_weaker g.B.Shelf (OfTales (λ t m. told m ≡ told t)) (LineFront c.args.engine.now.host text c.args.engine.now.state) _ _ (λ t m up below here known. inl here) (moments_of_tales g.B.Shelf g.met.B.Shelf.telling _ _ (λ t m. told m ≡ told t) c.reboot.ensures.kept.goes
+      (moments_weaker (BootMoment c.args.engine.now.host) (λ t m. told m ≡ told t) _ _ (λ t m moment. moment.quiet) c.reboot.ensures.moments));
+}

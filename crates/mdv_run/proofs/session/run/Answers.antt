@@ -1,6 +1,7 @@
-use Rattle.std.proofs.Common.{refl, ap, subst, inl, Err}
-use Rattle.mdv_run.specs.Below.{script_of, Host, RunMoment, host_of}
-use Rattle.mdv_run.specs.Promise.{HasRun}
+use Rattle.std.proofs.Common.{◌≡◌, refl, ap, subst, inl, Err}
+use Rattle.mdv_run.specs.Below.{counts, script_of, told, Host, RunMoment, host_of}
+use Rattle.mdv_run.specs.Promise.{HasRun, between}
+use Rattle.mdv_run.proofs.Fronting.{fronts_quiet}
 use Rattle.mdv_shelf.proofs.Moments.{moments_none}
 use Rattle.mdv_engine_law.proofs.Kept.{kept_itself}
 use Rattle.mdv_engine_law.proofs.Staying.{nothing_stays}
@@ -34,6 +35,7 @@ returns-in-Err-Memory-clause-used g c = λ drives home used.
       runs = λ t is input left. inl (record { wanting = refl; same = is });
       stands = λ input left. moments_of_tales g.B.Shelf g.met.B.Shelf.telling _ _ (RunMoment host (script_of input)) (kept_itself g.B.Shelf c.args.bench.now).goes
           (moments_none (RunMoment host (script_of input)) _ _ refl (λ t. nothing_run host (script_of input) t));
+      tells = λ input left. fronts_quiet g.B.Shelf g.met.B.Shelf.telling host (counts (g.B.Shelf.faults c.args.bench.now) (g.I.Source.faults c.args.script.now)) (counts (g.B.Shelf.faults c.args.bench.now) (g.I.Source.faults c.args.script.now)) (script_of input) (between g.B.Shelf c.args.bench.now c.args.bench.now) _ _ (kept_itself g.B.Shelf c.args.bench.now).goes (moments_none (λ t m. told m ≡ told t) _ _ refl (λ t. refl));
       home = nothing_stays host _ _ refl;
       causes = inl refl;
     }

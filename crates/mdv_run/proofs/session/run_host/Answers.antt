@@ -5,6 +5,8 @@ use Rattle.mdv_run.specs.Turns.{LinesRun}
 use Rattle.mdv_run_law.proofs.Booting.{boot_run, lines_run}
 use Rattle.mdv_run.proofs.Whole.{whole_over, whole_lines, over_cause}
 use Rattle.mdv_run.specs.Promise.{between}
+use Rattle.mdv_shelf.specs.Shelves.{AtEachMoment}
+use Rattle.mdv_run.proofs.Fronting.{RunFront, fronts_quiet, fronts_whole}
 use Rattle.mdv_run.proofs.Shown.{shown_earlier}
 use Rattle.mdv_run.proofs.Went.{cause_within, run_earlier}
 use Rattle.mdv_engine_law.proofs.Staying.{both_stay, boot_stays}
@@ -36,6 +38,10 @@ returns-in-Ok-clause-has_run g c = record {
       (λ t u m booted lines. lines_run host (script_of input) c.in-Ok.engine.state t u m booted lines)
       c.boot.ensures.moments (λ t is. (let up = c.in-Ok.ensures.end t is in (up.0, up.1, up.2.booted refl)))
       (subst (λ (h : Host). Moments (LinesMoment h (script_of input) c.in-Ok.engine.state) (g.B.Shelf.tale c.boot.new.shelf) (g.B.Shelf.tale c.run_lines.new.bench)) c.in-Ok.ensures.answer.engine.0 (c.run_lines.ensures.lines.moments input left)));
+  tells = λ input left. fronts_whole g.B.Shelf g.met.B.Shelf.telling c.args.host (counts (g.B.Shelf.faults c.args.bench.now) (g.I.Source.faults c.args.script.now)) (counts (g.B.Shelf.faults c.boot.new.shelf) (g.I.Source.faults c.args.script.now)) (script_of input) _ _ _ c.in-Ok.engine.state
+      (record { drive = c.boot.ensures.kept.keeps.no_fewer_faults (OnDrive 0); source = omega arith; replies = c.boot.ensures.kept.keeps.no_fewer_faults OnReplies }) c.boot.ensures.kept.goes (moments_weaker (BootMoment c.args.host) (λ t m. told m ≡ told t) _ _ (λ t m moment. moment.quiet) c.boot.ensures.moments)
+      (λ t is. (let end = c.in-Ok.ensures.end t is in (end.0, end.1, (end.2.rebooted, (end.2.booted refl).knows))))
+      (subst (λ (h : Host). AtEachMoment g.B.Shelf (RunFront h (between g.B.Shelf c.boot.new.shelf c.run_lines.new.bench) (counts (g.B.Shelf.faults c.boot.new.shelf) (g.I.Source.faults c.args.script.now)) c.in-Ok.engine.state (script_of input)) c.boot.new.shelf c.run_lines.new.bench) c.in-Ok.ensures.answer.engine.0 (c.run_lines.ensures.lines.tells input left));
   home = let host = c.args.host in
       both_stay host _ _ _ (boot_stays host _ _ c.boot.ensures.moments)
       (subst (λ (h : Host). Moments (StaysHome h) (g.B.Shelf.tale c.boot.new.shelf) (g.B.Shelf.tale c.run_lines.new.bench)) c.in-Ok.ensures.answer.engine.0 c.run_lines.ensures.lines.home);
@@ -59,6 +65,7 @@ returns-in-Err-clause-has_run g c = record {
       let host = c.args.host in
       moments_of_tales g.B.Shelf g.met.B.Shelf.telling _ _ (RunMoment host (script_of input)) c.boot.ensures.kept.goes
       (moments_weaker (BootMoment host) (RunMoment host (script_of input)) _ _ (λ t m moment. boot_run host (script_of input) t m moment) c.boot.ensures.moments);
+  tells = λ input left. fronts_quiet g.B.Shelf g.met.B.Shelf.telling c.args.host (counts (g.B.Shelf.faults c.args.bench.now) (g.I.Source.faults c.args.script.now)) (counts (g.B.Shelf.faults c.boot.new.shelf) (g.I.Source.faults c.args.script.now)) (script_of input) (between g.B.Shelf c.args.bench.now c.boot.new.shelf) _ _ c.boot.ensures.kept.goes (moments_weaker (BootMoment c.args.host) (λ t m. told m ≡ told t) _ _ (λ t m moment. moment.quiet) c.boot.ensures.moments);
   home = boot_stays c.args.host _ _ c.boot.ensures.moments;
   causes = inr (subst (λ (s : RunStatus). HasStatusCause (counts (g.B.Shelf.faults c.args.bench.now) (g.I.Source.faults c.args.script.now)) (counts (g.B.Shelf.faults c.boot.new.shelf) (g.I.Source.faults c.args.script.now)) s) (sym c.over.ensures)
       (over_cause Engine _ _ c.in-Err.refusal c.in-Err.ensures.answer.cause));

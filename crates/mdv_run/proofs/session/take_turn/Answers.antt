@@ -1,6 +1,9 @@
 use Rattle.std.proofs.Common.{◌≤◌, [], refl, sym, ap, subst, arith}
 use Rattle.mdv_run.specs.Below.{Script, Engine, line, too_long, script_before, IsTurn, Line, TooLong, End, Spent, Moments, TurnMoment, IsWell, OnDrive, OnReplies, ScriptTooLong, counts, LinesMoment, RanTo}
 use Rattle.mdv_run_law.specs.Run.{EndsAs}
+use Rattle.mdv_shelf.proofs.Stories.{each_none, moment}
+use Rattle.mdv_shelf.proofs.Telling.{each_within}
+use Rattle.mdv_run.proofs.Fronts.{AnswerFront, LineFront, ScriptFront, line_front, long_front, no_front}
 use Rattle.mdv_shelf.proofs.Moments.{moments_none, moments_weaker}
 use Rattle.mdv_engine_law.proofs.Plain.{too_long_plain}
 use Rattle.mdv_run.specs.declared.session.Turn.{Turn}
@@ -12,6 +15,7 @@ use Rattle.mdv_run.proofs.Leading.{end_is, spent_is, long_is, line_is, leads_lin
 use Rattle.mdv_engine_law.proofs.Staying.{nothing_stays, turn_stays}
 use Rattle.mdv_base.specs.declared.refusal.Refusal.TheVariants.{LineTooLong}
 use Rattle.mdv_run.proofs.Answering.{refused_turned, refused_down, refused_knows}
+use Rattle.mdv_engine_law.specs.declared.answer.Answer.TheVariants as outcome
 use Rattle.mdv_run.proofs.session.take_turn.Goals as goal
 
 pub refuse-requires : goal.refuse-requires
@@ -64,7 +68,15 @@ returns-in-Ok-Line-clause-answer g c = record {
 }
 
 pub returns-in-Ok-Line-clause-stays : goal.returns-in-Ok-Line-clause-stays
-returns-in-Ok-Line-clause-stays g c = record { home = c.answer.ensures.stays.home; told = λ on. c.answer.ensures.stays.told (on_replied c.answer.result c.args.any_refused _ c.turn_of.ensures on) }
+returns-in-Ok-Line-clause-stays g c = record {
+  home = c.answer.ensures.stays.home;
+  told = λ on. c.answer.ensures.stays.told (on_replied c.answer.result c.args.any_refused _ c.turn_of.ensures on);
+  tells = λ lines before.
+      let reads : IsTurn lines Line c.next.new.self (g.I.Source.left c.next.new.source) = rw c.in-Ok-Line.field-0-is at (c.in-Ok-Line.ensures.reads lines before) in
+      let script = line_is lines c.line.result.now c.next.new.self (g.I.Source.left c.next.new.source) c.line.ensures.value reads in
+      each_within (LineFront c.args.engine.now.host c.line.result.now c.args.engine.now.state) (ScriptFront c.args.engine.now.host (counts (g.B.Shelf.faults c.args.bench.now) (g.I.Source.faults c.args.script.now)) c.args.engine.now.state c.args.any_refused lines) _ _ _ _
+      (λ s u first last m there here within known. line_front c.args.engine.now.host c.args.engine.now.state (counts (g.B.Shelf.faults c.args.bench.now) (g.I.Source.faults c.args.script.now)) c.args.any_refused (moment s _) m refl within.counts.0 lines script.0 c.line.result.now script.1 (here known)) c.answer.ensures.stays.tells;
+}
 
 -- a line that was too long
 pub returns-in-Ok-TooLong-clause-moments : goal.returns-in-Ok-TooLong-clause-moments
@@ -74,7 +86,7 @@ returns-in-Ok-TooLong-clause-moments g c = λ lines before.
     let reads : IsTurn lines TooLong c.next.new.self (g.I.Source.left c.next.new.source) = rw c.in-Ok-TooLong.field-0-is at (c.in-Ok-TooLong.ensures.reads lines before) in
     let script = long_is lines c.next.new.self (g.I.Source.left c.next.new.source) reads in
     moments_weaker (TurnMoment host [] old) (LinesMoment host lines old) _ _
-    (λ t m turn. subst (λ (s : Script). LinesMoment host s old t m) (sym script.1) (long_moment host script.0 old t m turn)) (c.refuse.ensures.moments [])
+    (λ t m turn. subst (λ (s : Script). LinesMoment host s old t m) (sym script.1) (long_moment host script.0 old t m turn)) (c.refuse.ensures.moments []).each
 
 pub returns-in-Ok-TooLong-clause-end : goal.returns-in-Ok-TooLong-clause-end
 returns-in-Ok-TooLong-clause-end g c = λ lines before t told.
@@ -117,8 +129,13 @@ returns-in-Ok-TooLong-clause-answer g c = record {
 
 pub returns-in-Ok-TooLong-clause-stays : goal.returns-in-Ok-TooLong-clause-stays
 returns-in-Ok-TooLong-clause-stays g c = record {
-  home = turn_stays c.args.engine.now.host [] c.args.engine.now.state _ _ (c.refuse.ensures.moments []);
+  home = turn_stays c.args.engine.now.host [] c.args.engine.now.state _ _ (c.refuse.ensures.moments []).each;
   told = λ on. c.refuse.ensures.counted.told (on_replied c.refuse.result c.args.any_refused _ c.turn_of-in-Ok-TooLong.ensures on);
+  tells = λ lines before.
+      let reads : IsTurn lines TooLong c.next.new.self (g.I.Source.left c.next.new.source) = rw c.in-Ok-TooLong.field-0-is at (c.in-Ok-TooLong.ensures.reads lines before) in
+      let script = long_is lines c.next.new.self (g.I.Source.left c.next.new.source) reads in
+      each_within (AnswerFront c.args.engine.now.host (outcome.Refused LineTooLong) c.args.engine.now.state) (ScriptFront c.args.engine.now.host (counts (g.B.Shelf.faults c.args.bench.now) (g.I.Source.faults c.args.script.now)) c.args.engine.now.state c.args.any_refused lines) _ _ _ _
+      (λ s u first last m there here within known. long_front c.args.engine.now.host c.args.engine.now.state (counts (g.B.Shelf.faults c.args.bench.now) (g.I.Source.faults c.args.script.now)) c.args.any_refused (moment s _) m refl within.counts.0 lines script.0 script.1 (here known)) (c.refuse.ensures.moments []).fronts;
 }
 
 -- the end of the script, a limit, and a source that failed
@@ -175,10 +192,28 @@ returns-in-Err-clause-end g c = λ lines before t told. (
 )
 
 pub returns-in-Ok-End-clause-stays : goal.returns-in-Ok-End-clause-stays
-returns-in-Ok-End-clause-stays g c = record { home = nothing_stays c.args.engine.now.host _ _ refl; told = λ on. absurd on }
+returns-in-Ok-End-clause-stays g c = record {
+  home = nothing_stays c.args.engine.now.host _ _ refl;
+  told = λ on. absurd on;
+  tells = λ lines before. each_none (ScriptFront c.args.engine.now.host (counts (g.B.Shelf.faults c.args.bench.now) (g.I.Source.faults c.args.script.now)) c.args.engine.now.state c.args.any_refused lines) _ _ _ _ refl (λ part. omega arith)
+      (λ s known. no_front c.args.engine.now.host c.args.engine.now.state (counts (g.B.Shelf.faults c.args.bench.now) (g.I.Source.faults c.args.script.now)) c.args.any_refused (moment s _) (moment s _) refl (λ part. omega arith) lines refl)
+      (λ s known. no_front c.args.engine.now.host c.args.engine.now.state (counts (g.B.Shelf.faults c.args.bench.now) (g.I.Source.faults c.args.script.now)) c.args.any_refused (moment s _) (moment s _) refl (λ part. omega arith) lines refl);
+}
 
 pub returns-in-Ok-Spent-clause-stays : goal.returns-in-Ok-Spent-clause-stays
-returns-in-Ok-Spent-clause-stays g c = record { home = nothing_stays c.args.engine.now.host _ _ refl; told = λ on. absurd on }
+returns-in-Ok-Spent-clause-stays g c = record {
+  home = nothing_stays c.args.engine.now.host _ _ refl;
+  told = λ on. absurd on;
+  tells = λ lines before. each_none (ScriptFront c.args.engine.now.host (counts (g.B.Shelf.faults c.args.bench.now) (g.I.Source.faults c.args.script.now)) c.args.engine.now.state c.args.any_refused lines) _ _ _ _ refl (λ part. omega arith)
+      (λ s known. no_front c.args.engine.now.host c.args.engine.now.state (counts (g.B.Shelf.faults c.args.bench.now) (g.I.Source.faults c.args.script.now)) c.args.any_refused (moment s _) (moment s _) refl (λ part. omega arith) lines refl)
+      (λ s known. no_front c.args.engine.now.host c.args.engine.now.state (counts (g.B.Shelf.faults c.args.bench.now) (g.I.Source.faults c.args.script.now)) c.args.any_refused (moment s _) (moment s _) refl (λ part. omega arith) lines refl);
+}
 
 pub returns-in-Err-clause-stays : goal.returns-in-Err-clause-stays
-returns-in-Err-clause-stays g c = record { home = nothing_stays c.args.engine.now.host _ _ refl; told = λ on. absurd on }
+returns-in-Err-clause-stays g c = record {
+  home = nothing_stays c.args.engine.now.host _ _ refl;
+  told = λ on. absurd on;
+  tells = λ lines before. each_none (ScriptFront c.args.engine.now.host (counts (g.B.Shelf.faults c.args.bench.now) (g.I.Source.faults c.args.script.now)) c.args.engine.now.state c.args.any_refused lines) _ _ _ _ refl (λ part. omega arith)
+      (λ s known. no_front c.args.engine.now.host c.args.engine.now.state (counts (g.B.Shelf.faults c.args.bench.now) (g.I.Source.faults c.args.script.now)) c.args.any_refused (moment s _) (moment s _) refl (λ part. omega arith) lines refl)
+      (λ s known. no_front c.args.engine.now.host c.args.engine.now.state (counts (g.B.Shelf.faults c.args.bench.now) (g.I.Source.faults c.args.script.now)) c.args.any_refused (moment s _) (moment s _) refl (λ part. omega arith) lines refl);
+}

@@ -4,6 +4,7 @@ use Rattle.mdv_shelf.proofs.Telling.{told_once}
 use Rattle.mdv_engine.specs.Below.{text_of, TellMoment, TurnMoment}
 use Rattle.mdv_engine_law.specs.declared.answer.Answer.TheVariants as outcome
 use Rattle.mdv_engine_law.proofs.Executing.{told_cause}
+use Rattle.mdv_engine_law.proofs.Fronts.{fronts_alone}
 use Rattle.mdv_engine_law.proofs.Longer.{replied_more}
 use Rattle.mdv_engine_law.proofs.Turning.{ok_told}
 use Rattle.mdv_engine.proofs.engine.Engine.accept.Goals as goal
@@ -11,8 +12,10 @@ use Rattle.mdv_engine.proofs.engine.Engine.accept.Goals as goal
 pub returns-clause-moments : goal.returns-clause-moments
 returns-clause-moments g c =
     let host = c.args.self.now.host in
-    let memory = c.args.self.now.state in
-    moments_weaker (TellMoment (text_of outcome.Ok)) (TurnMoment host [] memory) _ _ (ok_told host memory) c.tell.ensures.fronts
+    let memory = c.args.self.now.state in record {
+      each = moments_weaker (TellMoment (text_of outcome.Ok)) (TurnMoment host [] memory) _ _ (ok_told host memory) c.tell.ensures.fronts;
+      fronts = fronts_alone g.B.Shelf g.met.B.Shelf.telling _ _ host memory outcome.Ok c.tell.ensures.kept.goes c.tell.ensures.fronts;
+    }
 
 pub returns-clause-answer : goal.returns-clause-answer
 returns-clause-answer g c = record { cause = told_cause _ _ _ _ c.tell.ensures.answers.0 (λ rose. rose) (λ rose. rose) outcome.Ok c.tell.result tt c.tell.ensures.answers.1; same = refl }

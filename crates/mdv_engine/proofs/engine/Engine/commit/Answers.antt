@@ -1,6 +1,6 @@
-use Rattle.std.proofs.Common.{arith, ◌≡◌, ◌≤◌, ◌<◌, ◌∙◌, ◌∷◌, [], rules, ⊎_elim, Some, Err, ap, sym, subst, length}
+use Rattle.std.proofs.Common.{arith, ◌≡◌, ◌∙◌, ◌∷◌, [], rules, Some, ap, sym, subst}
 use Rattle.mdv_base.specs.declared.refusal.Refusal.TheVariants.{NoDatabase}
-use Rattle.mdv_engine.specs.Below.{Changed, Rose, Local, place_of, record_text, PlaceAt, room_of, OnDrive, TooLong, HasCommitCause, Newest, IsPlainAnswer}
+use Rattle.mdv_engine.specs.Below.{Changed, Rose, Local, place_of, PlaceAt, OnDrive, TooLong, HasCommitCause, Newest, IsPlainAnswer}
 use Rattle.mdv_engine_law.specs.declared.answer.Answer.TheVariants as outcome
 use Rattle.mdv_engine_law.proofs.Plain.{no_database_plain, numbers_plain}
 use Rattle.mdv_engine_law.proofs.Refusing.{opened_has}

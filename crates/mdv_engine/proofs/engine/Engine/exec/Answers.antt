@@ -5,9 +5,11 @@ use Rattle.mdv_shelf.proofs.Telling.{told_behind, told_once}
 use Rattle.mdv_shelf.proofs.Between.{between_of, between_then}
 use Rattle.mdv_shelf.proofs.Counts.{at_most_then}
 use Rattle.mdv_words.specs.declared.command.Line.TheVariants as words
-use Rattle.mdv_engine_law.proofs.Executing.{executed, told_cause, rose_within}
+use Rattle.mdv_engine_law.proofs.Executing.{carried_more, executed, told_cause, rose_within}
 use Rattle.mdv_engine_law.proofs.Longer.{replied_more}
+use Rattle.mdv_engine_law.proofs.Fronts.{fronts_then}
 use Rattle.mdv_engine_law.proofs.Turning.{Carried, carried_ends, turn_carry, turn_tell, turned, knows_after}
+use Rattle.mdv_engine.specs.Ends.{CarriesOut}
 use Rattle.mdv_engine.specs.Counts.{blocks_of, calls_of}
 use Rattle.mdv_engine.proofs.Counting.{command_most, done_told, quiet_told, unlooked_told, unwritten_told}
 use Rattle.mdv_engine.proofs.engine.Engine.exec.Goals as goal
@@ -21,10 +23,17 @@ returns-clause-moments g c =
     let answer = c.carry_out-answer.result in
     let says = c.carry_out-answer.ensures.answer in
     let carried : Ends (CarriedTo host asked old answer new) _ _ = λ t is. (let end = c.carry_out-answer.ensures.end t is in (end.0, end.1, end.2.carried)) in
-    moments_after (CarryMoment host asked old) (Carried host asked old new answer) (TellMoment (text_of answer)) (TurnMoment host asked old) _ _ _
-    (λ t m carry. turn_carry host asked old t m carry)
-    (λ t u m both tell. turn_tell host asked old new answer says.plain (λ on some. says.awake on) says.free t u both.0 both.1 m tell)
-    c.carry_out-answer.ensures.moments (carried_ends host asked old new answer _ _ c.carry_out-answer.ensures.moments carried) c.tell.ensures.fronts
+    record {
+      each = moments_after (CarryMoment host asked old) (Carried host asked old new answer) (TellMoment (text_of answer)) (TurnMoment host asked old) _ _ _
+          (λ t m carry. turn_carry host asked old t m carry)
+          (λ t u m both tell. turn_tell host asked old new answer says.plain (λ on some. says.awake on) says.free t u both.0 both.1 m tell)
+          c.carry_out-answer.ensures.moments (carried_ends host asked old new answer _ _ c.carry_out-answer.ensures.moments carried) c.tell.ensures.fronts;
+      fronts = fronts_then g.B.Shelf g.met.B.Shelf.telling _ _ _ (CarriesOut host c.args.command.now) host old answer new
+          (λ failed more cause kept next is. carried_more failed more cause host kept next answer c.args.command.now is)
+          c.carry_out-answer.ensures.kept.goes
+          (moments_weaker (CarryMoment host asked old) (λ t m. told m ≡ told t) _ _ (λ t m moment. moment.quiet) c.carry_out-answer.ensures.moments)
+          (λ t is. (let end = c.carry_out-answer.ensures.end t is in (end.0, end.1, end.2.answered))) c.tell.ensures.kept.goes c.tell.ensures.fronts;
+    }
 
 pub returns-clause-end : goal.returns-clause-end
 returns-clause-end g c = λ t is.

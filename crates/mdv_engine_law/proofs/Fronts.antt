@@ -1,0 +1,42 @@
+-- Which front of a reply was told by each moment of a line.
+use Rattle.std.proofs.Common.{◌≡◌, inl, inr, ℕ, List, ◌++◌, take, Option, refl, ◌∙◌, ap, arith}
+use Rattle.std.specs.Option.{option_map}
+use Rattle.mdv_shelf.specs.Calls.{OnDrive}
+use Rattle.mdv_shelf.specs.Shelves.{AtEachMoment, AtEachTale, AtEnd, DriveFailed, GoesOn}
+use Rattle.mdv_shelf.specs.Story.{OfTales, Story, tale_of}
+use Rattle.mdv_shelf.specs.declared.shelf.Shelf.{Ghosts}
+use Rattle.mdv_shelf.proofs.Noted.{moment_weaker, moments_of_tales}
+use Rattle.mdv_shelf.proofs.Telling.{each_joined}
+use Rattle.mdv_engine_law.specs.Below.{told}
+use Rattle.mdv_engine_law.specs.Line.{Kept, Memory, kept_at}
+use Rattle.mdv_engine_law.specs.Replies.{text_of}
+use Rattle.mdv_engine_law.specs.Standing.{Knows, TellMoment, TellsFront}
+use Rattle.mdv_engine_law.specs.declared.answer.Answer.{Answer}
+use Rattle.mdv_engine_law.specs.declared.host.Host.{Host}
+use Rattle.mdv_engine_law.proofs.Executing.{rose_within}
+
+module _ {S : Type 0} (shelf : Ghosts S) (telling : (s : S) → shelf.tale s ≡ option_map tale_of (shelf.story s)) where
+  -- a line that was carried out, with nothing told, and then the telling of its answer
+  pub fronts_then : (a b c : S) (Comes : Type 0 → Kept → Answer → Kept → Type 0) (host : Host) (old : Memory) (answer : Answer) (new : Memory)
+      → ((failed more : Type 0) → (failed → more) → (kept next : Kept) → Comes failed kept answer next → Comes more kept answer next)
+      → GoesOn shelf a b → AtEachTale shelf (λ t m. told m ≡ told t) a b → AtEnd shelf (λ t u. Knows host old t → Comes (DriveFailed shelf a b 0) (kept_at old t) answer (kept_at new u)) a b
+      → GoesOn shelf b c → AtEachTale shelf (TellMoment (text_of answer)) b c → AtEachMoment shelf (λ t m. Knows host old t.tale → TellsFront Comes old t m) a c
+  fronts_then a b c Comes host old answer new widen on quiet ends more tells =
+      each_joined (OfTales (λ t m. told m ≡ told t)) (OfTales (TellMoment (text_of answer))) (λ t m. Knows host old t.tale → TellsFront Comes old t m) _ _ _ _ _ _
+      (λ s u v first mid last turn there ahead m here within knows. inl here)
+      (λ s u v first mid last turn m here within ahead knows.
+      let end = ends (tale_of s) (telling a ∙ ap (λ (o : Option Story). option_map tale_of o) first) in inr (record {
+        answer = answer;
+        next = kept_at new end.0;
+        came = widen (DriveFailed shelf a b 0) _ (λ rose. rose_within _ _ _ _ (omega arith) (within.counts.0 (OnDrive 0)) rose) (kept_at old (tale_of s)) (kept_at new end.0) (end.2 knows);
+        count = here.count;
+        is_told = here.is_told ∙ ap (λ (l : List ℕ). l ++ take here.count (text_of answer)) turn;
+      })) (moments_of_tales shelf telling a b (λ t m. told m ≡ told t) on quiet) (moments_of_tales shelf telling b c (TellMoment (text_of answer)) more tells)
+
+  -- the telling of an answer alone
+  pub fronts_alone : (a b : S) (host : Host) (old : Memory) (answer : Answer) → GoesOn shelf a b → AtEachTale shelf (TellMoment (text_of answer)) a b
+      → AtEachMoment shelf (λ t m. Knows host old t.tale → TellsFront (λ failed kept given next. (given ≡ answer) × (next ≡ kept)) old t m) a b
+  fronts_alone a b host old answer on tells =
+      moment_weaker shelf (OfTales (TellMoment (text_of answer))) (λ t m. Knows host old t.tale → TellsFront (λ failed kept given next. (given ≡ answer) × (next ≡ kept)) old t m) a b
+      (λ t m up down here knows. inr (record { answer = answer; next = kept_at old t.tale; came = (refl, refl); count = here.count; is_told = here.is_told }))
+      (moments_of_tales shelf telling a b (TellMoment (text_of answer)) on tells)
