@@ -1,7 +1,8 @@
-ghost use Rattle.std.specs.Prelude.{◌≡◌, ◌↔◌, ◌++◌, ◌∷◌, [], Contains, IsTrue, IfOk};
+ghost use Rattle.std.specs.Prelude.{◌≡◌, ◌↔◌, Contains, IsTrue, IfOk};
+ghost use Rattle.std.specs.List.{list_all};
 ghost use Rattle.std.specs.String.{string_bytes};
 ghost use Rattle.mdv_name.specs.Lines.{lines};
-ghost use Rattle.metad.specs.Journal.{line_of};
+ghost use Rattle.metad.specs.Journal.{line_of, is_no_blank, is_word as spec_is_word, without_newline as spec_without_newline, is_whole as spec_is_whole};
 
 use crate::lines::has_line;
 use std::alloc::AllocError;
@@ -25,7 +26,10 @@ pub struct SystemStart {
 
 impl SystemStart {
     /// The start that the kernel tells of, where the word is one, and the file of that name.
-    pub fn read(rt: &HostRuntime, file: &str, boot_id: &str) -> io::Result<SystemStart> {
+    pub fn read(rt: &HostRuntime, file: &str, boot_id: &str) -> io::Result<SystemStart>
+        ensures word { IfOk result (λ start. IsTrue (spec_is_word (string_bytes start.boot_id))) }
+        ensures file { IfOk result (λ start. string_bytes start.file ≡ file.now) }
+    {
         let boot_id = read_boot_id(rt, boot_id)?;
         let file = String::from_str(rt.alloc(), file)?;
         Ok(SystemStart { file, boot_id })
@@ -46,7 +50,9 @@ impl SystemStart {
 
     /// Reads the file as it is now. One that is missing has no line. A file whose last line has no newline is an
     /// error, since a line that was cut short might name any image.
-    pub fn journal(&self, rt: &HostRuntime) -> io::Result<Journal> {
+    pub fn journal(&self, rt: &HostRuntime) -> io::Result<Journal>
+        ensures { IfOk result (λ journal. IsTrue (spec_is_whole journal.text.items)) }
+    {
         let text = match fs::read(rt, self.file.as_str()) {
             Ok(text) => text,
             Err(error) if error.kind() == ErrorKind::NotFound => Vec::new(rt.alloc()),
@@ -80,20 +86,49 @@ const CUT_SHORT: &str = "the last line is cut short; start the program through b
 const NO_BOOT_ID: &str = "the system has no boot id";
 
 // The word of this start of the system, without its newline.
-fn read_boot_id(rt: &HostRuntime, file: &str) -> io::Result<String> {
-    let mut word = fs::read_to_string(rt, file)?;
-    if word.ends_with('\n') {
-        word.pop();
-    }
-    if word.is_empty() || word.contains(' ') || word.contains('\n') {
+fn read_boot_id(rt: &HostRuntime, file: &str) -> io::Result<String>
+    ensures { IfOk result (λ word. IsTrue (spec_is_word (string_bytes word))) }
+{
+    let text = fs::read(rt, file)?;
+    let word = without_newline(&text);
+    if !is_word(word) {
         return Err(io::Error::new(ErrorKind::InvalidData, NO_BOOT_ID));
     }
+    let Ok(word) = str::from_utf8(word) else {
+        return Err(io::Error::new(ErrorKind::InvalidData, NO_BOOT_ID));
+    };
+    let word = String::from_str(rt.alloc(), word)?;
     Ok(word)
 }
 
+// The text without one newline at its end.
+fn without_newline(text: &[u8]) -> &[u8]
+    ensures { result.now ≡ spec_without_newline text.now }
+{
+    match text {
+        [word @ .., b'\n'] => word,
+        _ => text,
+    }
+}
+
+// Whether the text has a byte, and no blank or newline.
+fn is_word(text: &[u8]) -> bool
+    ensures { result ≡ spec_is_word text.now }
+{
+    !text.is_empty() && has_no_blank(text)
+}
+
+fn has_no_blank(text: &[u8]) -> bool
+    ensures { result ≡ list_all is_no_blank text.now }
+{
+    text.iter().all(|b| *b != b' ' && *b != b'\n')
+}
+
 // Whether each line of the text has its newline.
-fn is_whole(text: &[u8]) -> bool {
-    text.is_empty() || text.ends_with(b"\n")
+fn is_whole(text: &[u8]) -> bool
+    ensures { result ≡ spec_is_whole text.now }
+{
+    text.is_empty() || text[text.len() - 1] == b'\n'
 }
 
 /// A line for `drives.failed`, made while memory can still be had, and where it is to be written.
