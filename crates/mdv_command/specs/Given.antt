@@ -1,6 +1,7 @@
 -- What the options of a line give.
 use Rattle.std.specs.Prelude.{◌==◌, ◌&&◌, ℕ, Bool, true, not, Option, None, Some, List, [], ◌∷◌}
 use Rattle.std.specs.List.{list_all, list_any}
+use Rattle.std.specs.Option.{option_or}
 use Rattle.mdv_command.specs.declared.given.Given.{Given}
 use Rattle.mdv_command.specs.declared.given.Given.TheVariants.{Flag, Set, Count, Length, Interlace}
 
@@ -31,38 +32,39 @@ abbrev pub is_once : List Given → Bool
 is_once [] = true
 is_once (g ∷ gs) = not (has (letter_of g) gs) && is_once gs
 
-abbrev pub or_set : Given → Option (List ℕ) → Option (List ℕ)
-or_set (Set name) more = Some name
-or_set g more = more
+-- the first value that an option gives
+abbrev pub first_given : {A : Type 0} → (Given → Option A) → List Given → Option A
+first_given value [] = None
+first_given value (g ∷ gs) = option_or (value g) (first_given value gs)
+
+abbrev pub set_of : Given → Option (List ℕ)
+set_of (Set name) = Some name
+set_of g = None
 
 -- the set that `-s` names
 abbrev pub set_given : List Given → Option (List ℕ)
-set_given [] = None
-set_given (g ∷ gs) = or_set g (set_given gs)
+set_given gs = first_given set_of gs
 
-abbrev pub or_count : Given → Option ℕ → Option ℕ
-or_count (Count n) more = Some n
-or_count g more = more
+abbrev pub count_of : Given → Option ℕ
+count_of (Count n) = Some n
+count_of g = None
 
 -- the replicas a slice that `-c` gives
 abbrev pub count_given : List Given → Option ℕ
-count_given [] = None
-count_given (g ∷ gs) = or_count g (count_given gs)
+count_given gs = first_given count_of gs
 
-abbrev pub or_length : Given → Option ℕ → Option ℕ
-or_length (Length n) more = Some n
-or_length g more = more
+abbrev pub length_of : Given → Option ℕ
+length_of (Length n) = Some n
+length_of g = None
 
 -- the blocks of a replica that `-l` gives
 abbrev pub length_given : List Given → Option ℕ
-length_given [] = None
-length_given (g ∷ gs) = or_length g (length_given gs)
+length_given gs = first_given length_of gs
 
-abbrev pub or_interlace : Given → Option ℕ → Option ℕ
-or_interlace (Interlace n) more = Some n
-or_interlace g more = more
+abbrev pub interlace_of : Given → Option ℕ
+interlace_of (Interlace n) = Some n
+interlace_of g = None
 
 -- the blocks that `-i` gives
 abbrev pub interlace_given : List Given → Option ℕ
-interlace_given [] = None
-interlace_given (g ∷ gs) = or_interlace g (interlace_given gs)
+interlace_given gs = first_given interlace_of gs

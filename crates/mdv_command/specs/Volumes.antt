@@ -1,6 +1,6 @@
 -- The lines on replicas, volumes and pools, by their options and the parts of their operands.
 use Rattle.std.specs.Prelude.{nat_le, ℕ, Bool, if◌then◌else◌, Option, None, Some, List, [], ◌∷◌, codes}
-use Rattle.mdv_command.specs.Below.{Component, Named, Part, SliceName, VolName, Pool, Replicas, Volume}
+use Rattle.mdv_command.specs.Below.{Component, Named, Part, SliceName, VolId, VolName, Pool, Replicas, Volume}
 use Rattle.mdv_command.specs.Below.{behind, component_of, entry_of, front, late_interlace, on_some, size_of, slice_of}
 use Rattle.mdv_command.specs.Given.{has, only, count_given, length_given, interlace_given}
 use Rattle.mdv_command.specs.declared.given.Given.{Given}
@@ -101,20 +101,22 @@ abbrev pub metattach_of : List Given → Option (List ℕ) → List Part → Opt
 metattach_of gs set (Volume v ∷ ps) = attach_of (record { set = set; volume = v }) gs ps
 metattach_of gs set _ = None
 
+-- `MIRROR SUB`
+abbrev pub submirror_of : Option (List ℕ) → List Part → Option (VolName × VolId)
+submirror_of set (Volume m ∷ Volume s ∷ []) = Some (record { set = set; volume = m }, s)
+submirror_of set _ = None
+
 -- `metadetach [-f] MIRROR SUB`
 abbrev pub metadetach_of : List Given → Option (List ℕ) → List Part → Option Command
-metadetach_of gs set (Volume m ∷ Volume s ∷ []) = Some (Command.Detach (record { set = set; volume = m }) s (has 102 gs))
-metadetach_of gs set _ = None
+metadetach_of gs set ps = on_some (submirror_of set ps) (λ p. Some (Command.Detach p.0 p.1 (has 102 gs)))
 
 -- `metaoffline MIRROR SUB`
 abbrev pub metaoffline_of : Option (List ℕ) → List Part → Option Command
-metaoffline_of set (Volume m ∷ Volume s ∷ []) = Some (Command.Offline (record { set = set; volume = m }) s)
-metaoffline_of set _ = None
+metaoffline_of set ps = on_some (submirror_of set ps) (λ p. Some (Command.Offline p.0 p.1))
 
 -- `metaonline MIRROR SUB`
 abbrev pub metaonline_of : Option (List ℕ) → List Part → Option Command
-metaonline_of set (Volume m ∷ Volume s ∷ []) = Some (Command.Online (record { set = set; volume = m }) s)
-metaonline_of set _ = None
+metaonline_of set ps = on_some (submirror_of set ps) (λ p. Some (Command.Online p.0 p.1))
 
 -- `metareplace -e VOL comp`
 abbrev pub enabled_of : Option (List ℕ) → List Part → Option Command

@@ -2,12 +2,12 @@ ghost use Rattle.std.specs.Prelude.{◌≡◌, None, Some, IfOk, MatchOption};
 ghost use Rattle.mdv_command.specs.Below.{front, behind, component_of as spec_component_of, late_interlace};
 ghost use Rattle.mdv_command.specs.Volumes.{some_slices as spec_some_slices, named_of as spec_named_of, some_of, all_of};
 ghost use Rattle.mdv_command.specs.Volumes.{added_of, metadb_of, made_of, metainit_of, metaclear_of, attached_of, deleted_of};
-ghost use Rattle.mdv_command.specs.Volumes.{attach_of, only_size as spec_only_size, metattach_of, metadetach_of, metaoffline_of, metaonline_of};
+ghost use Rattle.mdv_command.specs.Volumes.{attach_of, only_size as spec_only_size, metattach_of, submirror_of as spec_submirror_of, metadetach_of, metaoffline_of, metaonline_of};
 ghost use Rattle.mdv_command.specs.Volumes.{enabled_of, replaced_of, metareplace_of, metastat_of};
 
 use crate::command::Command;
 use crate::given::{Given, count_given, has, interlace_given, length_given, only};
-use mdv_base::{Name, Named, SliceName};
+use mdv_base::{Name, Named, SliceName, VolId};
 use mdv_name::VolName;
 use mdv_parts::{
     Items, Part, ReplicaOptions, component_of, size_of, split_components, split_interlace,
@@ -287,53 +287,48 @@ pub fn read_metattach(
     }
 }
 
+// A mirror and a submirror of it.
+fn submirror_of(set: &Option<Name>, parts: &[Part]) -> Option<(VolName, VolId)>
+    ensures { result ≡ spec_submirror_of set.now parts.now }
+{
+    match parts {
+        [Part::Volume(mirror), Part::Volume(submirror)] => {
+            let mirror = VolName {
+                set: *set,
+                volume: *mirror,
+            };
+            Some((mirror, *submirror))
+        }
+        _ => None,
+    }
+}
+
 /// What stands behind `metadetach`.
 pub fn read_metadetach(given: &[Given], set: &Option<Name>, parts: &[Part]) -> Option<Command>
     ensures { result ≡ metadetach_of given.now set.now parts.now }
 {
-    match parts {
-        [Part::Volume(mirror), Part::Volume(submirror)] => Some(Command::Detach {
-            mirror: VolName {
-                set: *set,
-                volume: *mirror,
-            },
-            submirror: *submirror,
-            force: has(b'f', given),
-        }),
-        _ => None,
-    }
+    let (mirror, submirror) = submirror_of(set, parts)?;
+    Some(Command::Detach {
+        mirror,
+        submirror,
+        force: has(b'f', given),
+    })
 }
 
 /// What stands behind `metaoffline`.
 pub fn read_metaoffline(set: &Option<Name>, parts: &[Part]) -> Option<Command>
     ensures { result ≡ metaoffline_of set.now parts.now }
 {
-    match parts {
-        [Part::Volume(mirror), Part::Volume(submirror)] => Some(Command::Offline {
-            mirror: VolName {
-                set: *set,
-                volume: *mirror,
-            },
-            submirror: *submirror,
-        }),
-        _ => None,
-    }
+    let (mirror, submirror) = submirror_of(set, parts)?;
+    Some(Command::Offline { mirror, submirror })
 }
 
 /// What stands behind `metaonline`.
 pub fn read_metaonline(set: &Option<Name>, parts: &[Part]) -> Option<Command>
     ensures { result ≡ metaonline_of set.now parts.now }
 {
-    match parts {
-        [Part::Volume(mirror), Part::Volume(submirror)] => Some(Command::Online {
-            mirror: VolName {
-                set: *set,
-                volume: *mirror,
-            },
-            submirror: *submirror,
-        }),
-        _ => None,
-    }
+    let (mirror, submirror) = submirror_of(set, parts)?;
+    Some(Command::Online { mirror, submirror })
 }
 
 fn read_enabled(set: &Option<Name>, parts: &[Part]) -> Option<Command>
