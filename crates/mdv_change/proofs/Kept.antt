@@ -1,5 +1,5 @@
 -- Values that stay where keys go, one after another.
-use Rattle.std.proofs.Common.{◌≡◌, ◌<◌, ◌+◌, ◌==◌, ◌||◌, ℕ, Bool, true, false, not, refl, List, [], ◌∷◌, length, get_or, take, filter, cond, ap, arith}
+use Rattle.std.proofs.Common.{◌≡◌, ◌<◌, ◌+◌, ◌==◌, ◌||◌, ℕ, refl, List, [], ◌∷◌, length, get_or, take, ap, arith}
 use Rattle.std.specs.List.{list_any}
 use Rattle.std.proofs.lemmas.List.Folds.{list_any_more}
 use Rattle.mdv_plan.specs.Sorted.{without}

@@ -1,11 +1,11 @@
 -- Why a change isn't made, and which changes there are.
 use Rattle.std.specs.Prelude.{◌≡◌, ◌<◌, List, Option, None, Some, Result, Ok, Err}
-use Rattle.mdv_change.specs.Below.{Refusal, DriveNo, Geometry, Table, VolId, PoolId, RaidAsked, RowAsked}
+use Rattle.mdv_change.specs.Below.{Refusal, DriveNo, Geometry, Table, VolId, PoolId, RaidAsked, RowAsked, MirrorAsked}
 use Rattle.mdv_change.specs.declared.making.ApplyFault.{ApplyFault}
 use Rattle.mdv_change.specs.declared.making.ApplyFault.TheVariants.{Refused, Memory}
 use Rattle.mdv_change.specs.Change.{refusal_of, table_after}
 use Rattle.mdv_change.specs.declared.change.Change.{Change}
-use Rattle.mdv_change.specs.declared.change.Change.TheVariants.{MakeStripe, MakeRaid, Clear, ClearAll}
+use Rattle.mdv_change.specs.declared.change.Change.TheVariants.{MakeStripe, MakeRaid, MakeMirror, Attach, Clear}
 
 -- what refuses the change, or want of memory, which has no cause
 abbrev pub HasFault : Option Refusal → ApplyFault → Type 0
@@ -16,6 +16,7 @@ HasFault refusal Memory = Unit {0}
 abbrev pub IsNumbered : Change → Type 0
 IsNumbered (MakeStripe v rows pool) = v.0 < 8192
 IsNumbered (MakeRaid v raid) = v.0 < 8192
+IsNumbered (MakeMirror v mirror) = v.0 < 8192
 IsNumbered _ = Unit {0}
 
 abbrev pub stripe_change : VolId → List RowAsked → Option PoolId → Change
@@ -23,6 +24,12 @@ stripe_change v rows pool = MakeStripe v rows pool
 
 abbrev pub raid_change : VolId → RaidAsked → Change
 raid_change v raid = MakeRaid v raid
+
+abbrev pub mirror_change : VolId → MirrorAsked → Change
+mirror_change v mirror = MakeMirror v mirror
+
+abbrev pub attach_change : VolId → VolId → Change
+attach_change mirror sub = Attach mirror sub
 
 abbrev pub clear_change : List VolId → List PoolId → Change
 clear_change volumes pools = Clear volumes pools

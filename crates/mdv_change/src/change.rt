@@ -1,6 +1,7 @@
 use mdv_base::{PoolId, VolId};
 use mdv_components::{MAX_NAMES, RaidAsked, RowAsked};
 use mdv_plan::Listed;
+use mdv_submirrors::MirrorAsked;
 
 /// What a command asks of a table.
 #[derive(Drop)]
@@ -16,6 +17,17 @@ pub enum Change {
     MakeRaid {
         volume: VolId,
         raid: RaidAsked,
+    },
+    /// `metainit d0 -m d10 d20 -g 2`: a mirror. Its size is that of the smallest submirror; the first is
+    /// taken as it is, and copied to the others.
+    MakeMirror {
+        volume: VolId,
+        mirror: MirrorAsked,
+    },
+    /// `metattach d0 d30`: one submirror more, to which the others are copied.
+    Attach {
+        mirror: VolId,
+        sub: VolId,
     },
     /// `metaclear d10 hsp001`: these volumes and pools go, all or none. A use by a volume that goes too
     /// doesn't keep one.

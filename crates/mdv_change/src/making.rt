@@ -3,9 +3,9 @@ ghost use Rattle.std.specs.Prelude.{◌≡◌, ◌<◌, ◌==◌, List, None, On
 ghost use Rattle.std.specs.List.{find};
 ghost use Rattle.mdv_plan.specs.Slices.{IsSound};
 ghost use Rattle.mdv_change.specs.declared.making.ApplyFault.TheVariants.{Memory};
-ghost use Rattle.mdv_change.specs.Apply.{IsApplied, IsNumbered, clear_change, raid_change, stripe_change};
+ghost use Rattle.mdv_change.specs.Apply.{IsApplied, IsNumbered, attach_change, clear_change, mirror_change, raid_change, stripe_change};
 ghost use Rattle.mdv_change.specs.Below.{DriveNo, Geometry};
-ghost use Rattle.mdv_change.specs.Change.{with_volume};
+ghost use Rattle.mdv_change.specs.Change.{with_changed, with_volume};
 
 use crate::change::Change;
 use crate::clearing::{clear, clear_all, refuse_clear};
@@ -15,6 +15,10 @@ use mdv_components::{
 };
 use mdv_name::Geometry;
 use mdv_plan::{Table, Volume, VolumeStatus};
+use mdv_submirrors::{
+    MirrorAsked, all_joined, attach_states, mirror_on, mirror_status, mirror_with_sub, note_all,
+    refuse_attach, refuse_mirror,
+};
 use std::alloc::{AllocError, Global};
 
 /// Why a change isn't made.
@@ -55,6 +59,8 @@ pub fn apply(
         Change::MakeRaid { volume, raid } => {
             make_raid(alloc, geometry, drives, table, *volume, raid)
         }
+        Change::MakeMirror { volume, mirror } => make_mirror(alloc, table, *volume, mirror),
+        Change::Attach { mirror, sub } => attach(alloc, table, *mirror, *sub),
         Change::Clear { volumes, pools } => {
             clear_named(alloc, table, volumes.as_slice(), pools.as_slice())
         }
@@ -108,6 +114,49 @@ fn make_raid(
     let status = raid_status(alloc, volume, raid)?;
     add_volume(table, made, status)?;
     Ok(())
+}
+
+fn make_mirror(
+    alloc: Global,
+    table: &mut Table,
+    volume: VolId,
+    mirror: &MirrorAsked,
+) -> Result<(), ApplyFault>
+    requires { volume.0 < 8192 }
+    ensures { (g : Geometry) (drives : List DriveNo) → IsApplied g drives (mirror_change volume mirror.now) table.old table.new result }
+{
+    let subs = mirror.submirrors.as_slice();
+    if let Some(cause) = refuse_mirror(&table.plan, volume, subs) {
+        return Err(ApplyFault::Refused(cause.refusal()));
+    }
+    let made = mirror_on(alloc, &table.plan, volume, mirror)?;
+    let status = mirror_status(alloc, volume, subs)?;
+    let states = all_joined(alloc, &table.status, subs)?;
+    add_volume(table, made, status)?;
+    note_all(&mut table.status.volumes, states);
+    Ok(())
+}
+
+fn attach(alloc: Global, table: &mut Table, mirror: VolId, sub: VolId) -> Result<(), ApplyFault>
+    ensures { (g : Geometry) (drives : List DriveNo) → IsApplied g drives (attach_change mirror sub) table.old table.new result }
+{
+    if let Some(cause) = refuse_attach(&table.plan, mirror, sub) {
+        return Err(ApplyFault::Refused(cause.refusal()));
+    }
+    let volume = mirror_with_sub(alloc, &table.plan, mirror, sub)?;
+    let states = attach_states(alloc, &table.status, mirror, sub)?;
+    replace_volume(table, volume);
+    note_all(&mut table.status.volumes, states);
+    Ok(())
+}
+
+// Puts the volume in for the one of its number.
+fn replace_volume(table: &mut Table, volume: Option<Volume>)
+    ensures { table.new ≡ with_changed volume table.old }
+{
+    if let Some(volume) = volume {
+        table.plan.volumes.replace(volume);
+    }
 }
 
 fn clear_named(

@@ -6,4 +6,6 @@ mod change_tests;
 #[cfg(test)]
 mod clear_tests;
 #[cfg(test)]
+mod mirror_tests;
+#[cfg(test)]
 mod plan_tests;

@@ -1,4 +1,4 @@
-use Rattle.std.proofs.Common.{◌≡◌, sym, ◌∙◌, ap, get_or, ℕ}
+use Rattle.std.proofs.Common.{◌≡◌, sym, ◌∙◌, ap, get_or}
 use Rattle.mdv_plan.specs.Sorted.{without}
 use Rattle.mdv_change.proofs.Kept.{kept_all, kept_more}
 use Rattle.mdv_change.proofs.clearing.remove_all.Goals as goal

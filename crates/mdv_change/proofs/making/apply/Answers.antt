@@ -1,4 +1,4 @@
-use Rattle.std.proofs.Common.{◌≡◌, subst}
+use Rattle.std.proofs.Common.{◌≡◌, subst, sym}
 use Rattle.mdv_change.specs.declared.change.Change.{Change}
 use Rattle.mdv_change.specs.Apply.{IsApplied, clear_change}
 use Rattle.mdv_change.proofs.making.apply.Goals as goal
@@ -8,3 +8,13 @@ returns-in-Clear c =
     let made = c.clear_named.ensures c.args.geometry.now c.args.drives.now in
     let same : clear_change c.as_slice-in-Clear.result.now c.as_slice-in-Clear-2.result.now ≡ c.args.change.now = cc (c.in-Clear.is, c.as_slice-in-Clear.ensures.value, c.as_slice-in-Clear-2.ensures.value) in
     subst (λ (x : Change). IsApplied c.args.geometry.now c.args.drives.now x c.args.table.now c.clear_named.new.table c.clear_named.result) same made
+
+pub returns-in-MakeMirror : goal.returns-in-MakeMirror
+returns-in-MakeMirror c =
+    let made = c.make_mirror.ensures c.args.geometry.now c.args.drives.now in
+    subst (λ (x : Change). IsApplied c.args.geometry.now c.args.drives.now x c.args.table.now c.make_mirror.new.table c.make_mirror.result) (sym c.in-MakeMirror.is) made
+
+pub returns-in-Attach : goal.returns-in-Attach
+returns-in-Attach c =
+    let made = c.attach.ensures c.args.geometry.now c.args.drives.now in
+    subst (λ (x : Change). IsApplied c.args.geometry.now c.args.drives.now x c.args.table.now c.attach.new.table c.attach.result) (sym c.in-Attach.is) made

@@ -1,0 +1,12 @@
+//! Submirrors: what refuses a mirror that is asked for, what it is, and the states of what becomes a
+//! submirror.
+#![tactic(auto)]
+
+mod attaching;
+mod joining;
+mod mirrors;
+mod sizes;
+
+pub use attaching::{attach_states, mirror_with_sub, refuse_attach};
+pub use joining::{all_joined, note_all};
+pub use mirrors::{MirrorAsked, mirror_on, mirror_status, refuse_mirror};
