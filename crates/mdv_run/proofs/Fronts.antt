@@ -1,9 +1,13 @@
 -- Which front of a reply was told by each moment of a turn.
 use Rattle.std.proofs.Common.{◌≡◌, inl, inr, ℕ, Bool, List, [], ◌++◌, take, refl, sym, ◌∙◌, ap, subst, arith}
 use Rattle.std.proofs.lemmas.List.{append-nil}
-use Rattle.mdv_run.specs.Below.{Rose, Answer, Boot, Counts, Host, IsAnswered, IsLine, IsRebooted, IsTurnedDown, Kept, Knows, LineTooLong, Memory, OnDrive, RoseTo, Script, TellsFront, kept_at, line, told, too_long}
+use Rattle.mdv_run.specs.Below.{Rose, Answer, Boot, Counts, Host, IsAnswered, IsLine, IsRebooted, IsTurnedDown, Kept, Knows, LineTooLong, Memory, OnDrive, RoseTo, Script, TellsFront, counts, kept_at, line, told, too_long}
 use Rattle.mdv_run.specs.Turns.{TurnFront, at}
-use Rattle.mdv_shelf.specs.Story.{FailedBy, Moment, NoFewer}
+use Rattle.mdv_shelf.specs.Calls.{Part}
+use Rattle.mdv_shelf.specs.Shelves.{AtEachMoment}
+use Rattle.mdv_shelf.specs.Story.{FailedBy, Moment, NoFewer, Story}
+use Rattle.mdv_shelf.specs.declared.shelf.Shelf.{Ghosts}
+use Rattle.mdv_shelf.proofs.Stories.{each_none, moment}
 use Rattle.mdv_base.specs.declared.refusal.Refusal.{Refusal}
 use Rattle.mdv_engine_law.specs.Line.{Stays}
 use Rattle.mdv_engine_law.specs.Replies.{text_of}
@@ -89,3 +93,10 @@ module _ (host : Host) (old : Memory) (now : Counts) (refused : Bool) (t m : Mom
       front = refl;
     });
   })
+
+-- a turn without a call
+pub still_front : {S : Type 0} (shelf : Ghosts S) (host : Host) (old : Memory) (source : ℕ) (refused : Bool) (script : Script) (s : S) → AtEachMoment shelf (ScriptFront host (counts (shelf.faults s) source) old refused script) s s
+still_front shelf host old source refused script s =
+    each_none (ScriptFront host (counts (shelf.faults s) source) old refused script) _ _ _ _ refl (λ part. omega arith) (still host old source refused script) (still host old source refused script) where
+      still : {faults : Part → ℕ} (host : Host) (old : Memory) (source : ℕ) (refused : Bool) (script : Script) (x : Story) → ScriptFront host (counts faults source) old refused script (moment x faults) (moment x faults)
+      still {faults} host old source refused script x known = no_front host old (counts faults source) refused (moment x faults) (moment x faults) refl (λ part. omega arith) script refl

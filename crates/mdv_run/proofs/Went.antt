@@ -1,12 +1,12 @@
 -- How the turns of a run add up.
-use Rattle.std.proofs.Common.{◌≡◌, ℕ, ◌+◌, ◌≤◌, ◌<◌, Bool, false, List, [], ◌++◌, length, Option, Some, None, IfSome, refl, sym, ◌∙◌, ap, subst, append_assoc, arith}
+use Rattle.std.proofs.Common.{◌≡◌, ℕ, ◌+◌, ◌≤◌, ◌<◌, Bool, false, List, [], ◌++◌, length, Option, Some, refl, sym, ◌∙◌, ap, subst, append_assoc, arith}
 use Rattle.std.proofs.lemmas.List.{append-nil, length-append}
-use Rattle.mdv_run.specs.Below.{Reader, Script, script_before, script_of, Tale, told, Moments, Ends, Host, Memory, Kept, kept_at, Knows, RunStatus, Done, SomeRefused, Usage, NoQuorum, Panic, ReadFault, WriteFault, NoMemory, TwoDatabases, ScriptTooLong, NumbersSpent, At, Counts, RoseTo, LineTold, LinesTold, Stretch, IsShown, IsLeft, HasStatusCause, LinesMoment, RanTo}
+use Rattle.mdv_run.specs.Below.{Reader, Script, script_before, script_of, Tale, told, Moments, Ends, Host, Memory, kept_at, Knows, RunStatus, Done, SomeRefused, Usage, NoQuorum, Panic, ReadFault, WriteFault, NoMemory, TwoDatabases, ScriptTooLong, NumbersSpent, At, Counts, RoseTo, LineTold, LinesTold, Stretch, IsShown, HasStatusCause, LinesMoment, RanTo}
 use Rattle.mdv_run_law.specs.Run.{no_line, one_more}
 use Rattle.mdv_shelf.proofs.Moments.{moments_none, moments_after, ends_more, some_is}
 use Rattle.mdv_engine_law.proofs.Executing.{rose_within}
 use Rattle.mdv_run.specs.declared.session.Turn.TheVariants.{On, Over}
-use Rattle.mdv_run.specs.Turns.{at, IsLostStatus, Turns, LinesRun}
+use Rattle.mdv_run.specs.Turns.{at, Turns, LinesRun}
 use Rattle.mdv_run.specs.Promise.{TurnEnd}
 use Rattle.mdv_run_law.proofs.Lining.{lines_start, ran_start, lines_more_moment, ran_more}
 
@@ -112,10 +112,6 @@ module _ (host : Host) (first : Memory) (input : List ℕ) (start : Counts) wher
         moments_after (LinesMoment host (script_of input) first) (RanTo host (script_of input) first now so_far.left) (LinesMoment host so_far.left now) (LinesMoment host (script_of input) first) a b c (λ t m lines. lines)
         (λ t u m before more. lines_more_moment host (script_of input) first t now so_far.left u before m more) so_far.moments so_far.ran (moments so_far.left so_far.comes)
 
-    left_there : (status : RunStatus) (v : Tale) (last : Option Kept) → IfSome last (λ kept. (kept ≡ kept_at new v) × (IsLostStatus status → ⊥)) → ((IsLostStatus status → ⊥) → Knows host new v) → IfSome last (IsLeft host v)
-    left_there status v None known knows = tt
-    left_there status v (Some kept) (same, not_lost) knows = subst (λ (k : Kept). IsLeft host v k) (sym same) (record { content = λ block. refl; opened = (knows not_lost).opened })
-
     -- the turn that ends the run
     pub over_ends : (other : Stretch) (status : RunStatus) → ShowsStill other → ((lines : Script) → before ≡ Some lines → Ends (TurnEnd host here end now new any lines then (Over status)) b c) → Ends (λ t u. Knows host first t → LinesRun host other start end first false (script_of input) status t u) a c
     over_ends other status shows turns t is =
@@ -131,10 +127,9 @@ module _ (host : Host) (first : Memory) (input : List ℕ) (start : Counts) wher
               record {
                 more = went.so_far ++ turn.piece;
                 is_told = turn.is_told ∙ ap (λ (l : List ℕ). l ++ turn.piece) went.is_told ∙ append_assoc (told t) went.so_far turn.piece;
-                last = turn.leads.0;
-                left = left_there status two.0 turn.leads.0 turn.leads.1
-                    (λ not_lost. two.2.knows not_lost (knows_so first_known));
-                runs = record { so_far = went.so_far; rest = turn.piece; parts = refl; at = at here (kept_at now one.0) any so_far.left; lines = still t one.0 is one.1 went; over = turn.leads.2 };
+                last = kept_at new two.0;
+                left = record { content = λ block. refl; opened = λ not_lost. (two.2.knows not_lost (knows_so first_known)).opened };
+                runs = record { so_far = went.so_far; rest = turn.piece; parts = refl; at = at here (kept_at now one.0) any so_far.left; lines = still t one.0 is one.1 went; over = turn.leads };
               },
         )
       where

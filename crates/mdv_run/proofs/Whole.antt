@@ -1,29 +1,34 @@
 -- A whole run: its boot, and the lines behind it.
-use Rattle.std.proofs.Common.{◌≡◌, ℕ, List, [], ◌++◌, Option, Some, None, Err, refl, sym, ◌∙◌, ap, false, arith}
+use Rattle.std.proofs.Common.{◌≡◌, ℕ, List, [], ◌++◌, Option, Some, Err, refl, sym, ◌∙◌, ap, false, arith}
 use Rattle.std.proofs.lemmas.List.{append-nil}
-use Rattle.mdv_run.specs.Below.{Script, Tale, told, BootRefusal, Host, Kept, Memory, IsRebooted, kept_at, unbooted, HasBootCause, boot_answer, RunStatus, Panic, Counts, RoseTo, Stretch, IsWholeRun, HasStatusCause, drive_failed}
-use Rattle.mdv_run_law.specs.Run.{RunsFrom}
+use Rattle.mdv_run.specs.Below.{Script, Tale, told, BootRefusal, Host, Memory, IsRebooted, kept_at, unbooted, HasBootCause, boot_answer, RunStatus, Panic, Counts, RoseTo, Stretch, IsWholeRun, HasStatusCause, drive_failed}
+use Rattle.mdv_run_law.specs.Run.{IsLostStatus, RunsFrom}
 use Rattle.mdv_engine_law.specs.declared.answer.Answer.TheVariants as outcome
 use Rattle.mdv_engine_law.specs.declared.answer.BootRefusal.TheVariants as refusal
 use Rattle.mdv_run.specs.Turns.{LinesRun, over_status}
 
 module _ (host : Host) (stretch : Stretch) (start : Counts) (t : Tale) (script : Script) (tale : Option Tale) where
   -- a run that is over with its boot
-  pub whole_over : (T : Type 0) (end : Counts) → RoseTo start end → (u : Tale) (kept : Kept) (r : BootRefusal) → tale ≡ Some u → told u ≡ told t → IsRebooted (drive_failed start end) host (kept_at (unbooted 0) t) (boot_answer {T = T} (Err r)) kept
+  pub whole_over : (T : Type 0) (end : Counts) → RoseTo start end → (u : Tale) (memory : Memory) (r : BootRefusal) → tale ≡ Some u → told u ≡ told t → IsRebooted (drive_failed start end) host (kept_at (unbooted 0) t) (boot_answer {T = T} (Err r)) (kept_at memory u)
       → HasBootCause {T = T} (drive_failed start end) (Err r) → IsWholeRun host stretch start end t script tale (over_status r)
-  whole_over T end rose u kept r is quiet rebooted why = record {
+  whole_over T end rose u memory r is quiet rebooted why = record {
     u = u;
     tells = is;
     more = [];
     is_told = quiet ∙ sym (append-nil (told t));
-    last = None;
-    left = tt;
-    runs = record { answer = boot_answer {T = T} (Err r); booted = end; rose = rose; kept = kept; boots = rebooted; runs = by r why };
+    last = kept_at memory u;
+    left = record { content = λ block. refl; opened = λ known. absurd (known (lost r)) };
+    runs = record { answer = boot_answer {T = T} (Err r); booted = end; rose = rose; kept = kept_at memory u; boots = rebooted; runs = by r why };
   } where
+    lost : (r : BootRefusal) → IsLostStatus (over_status r)
+    lost (refusal.Lost active listed) = tt
+    lost refusal.Spent = tt
+    lost refusal.Memory = tt
+
     still : RoseTo end end
     still = record { drive = omega arith; source = omega arith; replies = omega arith }
 
-    by : (r : BootRefusal) → HasBootCause {T = T} (drive_failed start end) (Err r) → RunsFrom host stretch end (boot_answer {T = T} (Err r)) end kept script [] (over_status r) None
+    by : (r : BootRefusal) → HasBootCause {T = T} (drive_failed start end) (Err r) → RunsFrom host stretch end (boot_answer {T = T} (Err r)) end (kept_at memory u) script [] (over_status r) (kept_at memory u)
     by (refusal.Lost active listed) why = (still, record { silent = refl; ended = λ i. Panic (why.1 i) (why.2 i); keeps = refl })
     by refusal.Spent why = (still, record { silent = refl; ended = refl; keeps = refl })
     by refusal.Memory why = (still, record { silent = refl; ended = refl; keeps = refl })

@@ -1,8 +1,8 @@
 -- How the lines of a run follow one another.
-use Rattle.std.specs.Prelude.{◌≡◌, ℕ, Bool, true, List, ◌++◌, Option, Some, IfSome}
+use Rattle.std.specs.Prelude.{◌≡◌, ℕ, Bool, true, List, ◌++◌, Option, Some}
 use Rattle.mdv_run.specs.Below.{Script, Tale, told, Answer, BootRefusal, Reply, Host, Kept, Memory, kept_at, Replied, RunStatus, Panic, WriteFault, NoMemory, NumbersSpent, At, Counts, IsNextFront, LinesToldBy, OnDrive, LineTold, Runs, Stretch, IsAnswered, IsLeft, HasStatusCause}
 use Rattle.mdv_shelf.specs.Story.{Moment}
-use Rattle.mdv_run_law.specs.Run.{Over as IsOver}
+use Rattle.mdv_run_law.specs.Run.{IsLostStatus, Over as IsOver}
 use Rattle.mdv_engine_law.specs.declared.answer.BootRefusal.TheVariants as refusal
 use Rattle.mdv_engine_law.specs.declared.answer.Reply.TheVariants as reply
 use Rattle.mdv_run.specs.declared.session.Turn.{Turn}
@@ -29,13 +29,7 @@ turn_of reply.Spent any = Over NumbersSpent
 turn_of reply.NoMemory any = Over NoMemory
 turn_of reply.Told any = Over WriteFault
 
--- the run is over, and what is on the drive then isn't known
-abbrev pub IsLostStatus : RunStatus → Type 0
-IsLostStatus (Panic active listed) = Unit {0}
-IsLostStatus NumbersSpent = Unit {0}
-IsLostStatus NoMemory = Unit {0}
-IsLostStatus other = ⊥
-
+-- the run is over so with this turn
 abbrev pub IsLostTurn : Turn → Type 0
 IsLostTurn (On r) = ⊥
 IsLostTurn (Over status) = IsLostStatus status
@@ -44,10 +38,10 @@ IsLostTurn (Over status) = IsLostStatus status
 abbrev pub at : Counts → Kept → Bool → Script → At
 at now kept refused script = record { counts = now; kept = kept; refused = refused; script = script }
 
--- One turn told this piece: a line's reply, and the run goes on; or the run is over with it, and what is kept then is known, or isn't.
+-- One turn told this piece: a line's reply, and the run goes on; or the run is over with it.
 abbrev pub Leads : Host → At → List ℕ → Counts → Kept → Option Script → Turn → Type 0
 Leads host from piece then kept before (On r) = (more : Script) × (before ≡ Some more) × LineTold host from piece (at then kept r more)
-Leads host from piece then kept before (Over status) = (last : Option Kept) × IfSome last (λ k. (k ≡ kept) × (IsLostStatus status → ⊥)) × IsOver host then from piece status last
+Leads host from piece then kept before (Over status) = IsOver host then from piece status kept
 
 -- a turn, from these counts to those, told by the script before it
 pub record Turns (host : Host) (now then : Counts) (old new : Memory) (refused : Bool) (script : Script) (before : Option Script) (turn : Turn) (t u : Tale) : Type 0 where
@@ -67,8 +61,8 @@ IsOn (Over status) = ⊥
 pub record LinesRun (host : Host) (stretch : Stretch) (now then : Counts) (old : Memory) (refused : Bool) (script : Script) (status : RunStatus) (t u : Tale) : Type 0 where
   pub more : List ℕ
   pub is_told : told u ≡ told t ++ more
-  pub last : Option Kept
-  pub left : IfSome last (IsLeft host u)
+  pub last : Kept
+  pub left : IsLeft host status u last
   pub runs : Runs host stretch then (at now (kept_at old t) refused script) more status last
 
 -- what was told of a turn by one of its moments, from that place in the run on: of the line's reply a front

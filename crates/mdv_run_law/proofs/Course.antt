@@ -1,5 +1,5 @@
 -- Where nothing failed and memory was never wanting, a run has one course.
-use Rattle.std.proofs.Common.{◌≡◌, inl, inr, ℕ, Bool, false, List, [], ◌∷◌, ◌++◌, length, ◌+◌, Option, Some, None, Contains, refl, sym, ◌∙◌, ap, subst, append_assoc, arith}
+use Rattle.std.proofs.Common.{◌≡◌, inl, inr, ℕ, Bool, false, List, [], ◌∷◌, ◌++◌, length, ◌+◌, Contains, refl, sym, ◌∙◌, ap, subst, append_assoc, arith}
 use Rattle.std.proofs.lemmas.List.Elements.{Contains-append_right}
 use Rattle.mdv_run_law.specs.Below.{refusal_text, Refusal, BadLine, OutOfMemory, Script, at_end, spent, too_long, line, begins_with_digit, replies_in, Command, Create, MakeStripe, Read, Write, Boot, Line, Answer, Host, site_of, Kept, IsCarriedOut, ComesTo, IsRebooted, adopted, empty, down, lost, wanting, IsPlain, IsPlainAnswer, IsReply, refusal_line}
 use Rattle.mdv_words.specs.declared.command.Line.TheVariants as words
@@ -11,7 +11,7 @@ use Rattle.mdv_engine_law.proofs.Executing.{rose_within, comes_more, rebooted_mo
 use Rattle.mdv_engine_law.proofs.Plain.{bad_line_plain, too_long_plain, memory_plain, create_plain, change_plain, blocks_plain, ok_reply, values_are_reply, refusal_reply}
 use Rattle.mdv_run_law.specs.declared.status.RunStatus.{RunStatus}
 use Rattle.mdv_run_law.specs.declared.status.RunStatus.TheVariants.{Panic, NoMemory, NumbersSpent}
-use Rattle.mdv_run_law.specs.Run.{Counts, RoseTo, IsUndisturbed, IsSated, Stops, At, NextLine, IsSaid, refused_by, LineTold, LinesTold, Stretch, no_line, one_more, EndsAs, EndsWith, Over, unread, ended, broken, Runs, RunsFrom, IsAnswered, IsSameEnd, HasHome, OneCourse, started, drive_failed}
+use Rattle.mdv_run_law.specs.Run.{Counts, RoseTo, IsUndisturbed, IsSated, Stops, At, NextLine, IsSaid, refused_by, LineTold, LinesTold, Stretch, no_line, one_more, EndsAs, EndsWith, Over, unread, ended, broken, Runs, RunsFrom, IsAnswered, IsLostStatus, IsSameEnd, HasHome, OneCourse, started, drive_failed}
 use Rattle.mdv_run_law.proofs.Again.{Alike, neither, alike_itself}
 use Rattle.mdv_run_law.proofs.Carrying.{one_answer}
 use Rattle.mdv_run_law.proofs.Keeping.{IsSatisfied, Same, One, stays_same, one_boot}
@@ -79,12 +79,12 @@ rest_sated reply rest status is sated = record {
 }
 
 -- two ends of a run are the same
-abbrev SameEnds : Host → List ℕ → List ℕ → RunStatus → RunStatus → Option Kept → Option Kept → Type 0
-SameEnds host a b s r k j = (a ≡ b) × (s ≡ r) × IsSameEnd host k j
+abbrev SameEnds : Host → List ℕ → List ℕ → RunStatus → RunStatus → Kept → Kept → Type 0
+SameEnds host a b s r k j = (a ≡ b) × (s ≡ r) × ((IsLostStatus s → ⊥) → IsSameEnd host k j)
 
-one_stop : (host : Host) (known also : Option Kept) (end : RunStatus) (a b : List ℕ) (s r : RunStatus) (k j : Option Kept) → IsSameEnd host known also → Stops known end a s k → Stops also end b r j → SameEnds host a b s r k j
-one_stop host known also end a b s r k j same first second =
-    (first.silent ∙ sym second.silent, first.ended ∙ sym second.ended, subst (λ (x : Option Kept). IsSameEnd host x j) (sym first.keeps) (subst (λ (x : Option Kept). IsSameEnd host known x) (sym second.keeps) same))
+one_stop : (host : Host) (known also : Kept) (end : RunStatus) (a b : List ℕ) (s r : RunStatus) (k j : Kept) → IsLostStatus end → Stops known end a s k → Stops also end b r j → SameEnds host a b s r k j
+one_stop host known also end a b s r k j over first second =
+    (first.silent ∙ sym second.silent, first.ended ∙ sym second.ended, λ never. absurd (never (subst IsLostStatus (sym first.ended) over)))
 
 -- counts between others
 rose_to_more : (a b c : Counts) → RoseTo a b → RoseTo b c → RoseTo a c
@@ -111,7 +111,7 @@ module _ (host : Host) where
   next_rose now then kept next (too_long left) rest answer is = is.1
   next_rose now then kept next (line text left) rest answer is = is.1
 
-  over_rose : (end : Counts) (now : At) (told : List ℕ) (status : RunStatus) (last : Option Kept) → Over host end now told status last → RoseTo now.counts end
+  over_rose : (end : Counts) (now : At) (told : List ℕ) (status : RunStatus) (last : Kept) → Over host end now told status last → RoseTo now.counts end
   over_rose end now told status last (unread so rose stops) = rose
   over_rose end now told status last (ended how rose stops) = rose
   over_rose end now told status last (broken answer then next left is rose with) = rose_to_more now.counts then end (next_rose now.counts then now.kept next now.script left answer is) rose
@@ -122,7 +122,7 @@ module _ (host : Host) where
       rose_to_more now.counts mid.counts then.counts (next_rose now.counts mid.counts now.kept mid.kept now.script mid.script one.answer one.comes) (lines_rose w (n + length piece) mid then rest lines)
 
 -- an answer that no failure told, and what it was told by
-said_text : (answer : Answer) (failed : Type 0) → (failed → ⊥) → IsSaid answer → (next : Kept) (told : List ℕ) (status : RunStatus) (last : Option Kept) → EndsWith failed answer next told status last → ⊥
+said_text : (answer : Answer) (failed : Type 0) → (failed → ⊥) → IsSaid answer → (next : Kept) (told : List ℕ) (status : RunStatus) (last : Kept) → EndsWith failed answer next told status last → ⊥
 said_text outcome.Ok failed calm said next told status last with = calm with.cause
 said_text (outcome.Values text) failed calm said next told status last with = calm with.cause
 said_text (outcome.Refused refusal) failed calm said next told status last with = calm with.cause
@@ -153,7 +153,7 @@ line_satisfied answer piece rest status said text sated = record {
   not_wanting = λ is. (let never : IsSaid outcome.NoMemory = subst IsSaid is said in never);
 }
 
-end_satisfied : (failed : Type 0) → (failed → ⊥) → (answer : Answer) (next : Kept) (told : List ℕ) (status : RunStatus) (last : Option Kept) → EndsWith failed answer next told status last → IsSated told status → IsSatisfied answer
+end_satisfied : (failed : Type 0) → (failed → ⊥) → (answer : Answer) (next : Kept) (told : List ℕ) (status : RunStatus) (last : Kept) → EndsWith failed answer next told status last → IsSated told status → IsSatisfied answer
 end_satisfied failed calm answer next told status last with sated = record {
   not_refused = λ is. (let cut : EndsWith failed (outcome.Refused OutOfMemory) next told status last = subst (λ (x : Answer). EndsWith failed x next told status last) is with in calm cut.cause);
   not_wanting = λ is. (let stops : EndsWith failed outcome.NoMemory next told status last = subst (λ (x : Answer). EndsWith failed x next told status last) is with in sated.end stops.ended);
@@ -217,24 +217,24 @@ module _ (host : Host) (content : ℕ → List ℕ) (has : HasHome host content)
         by (too_long more) ends is = ends
         by (line text more) ends is = ends
 
-  one_with : (failed also : Type 0) → (failed → ⊥) → (also → ⊥) → (answer other : Answer) → other ≡ answer → (next mine : Kept) (a b : List ℕ) (s r : RunStatus) (k j : Option Kept) → EndsWith failed answer next a s k → EndsWith also other mine b r j → SameEnds host a b s r k j
+  one_with : (failed also : Type 0) → (failed → ⊥) → (also → ⊥) → (answer other : Answer) → other ≡ answer → (next mine : Kept) (a b : List ℕ) (s r : RunStatus) (k j : Kept) → EndsWith failed answer next a s k → EndsWith also other mine b r j → SameEnds host a b s r k j
   one_with failed also calm calm_too answer other same next mine a b s r k j one two = by answer one (subst (λ (x : Answer). EndsWith also x mine b r j) same two) where
     by : (x : Answer) → EndsWith failed x next a s k → EndsWith also x mine b r j → SameEnds host a b s r k j
     by outcome.Ok one two = absurd (calm one.cause)
     by (outcome.Values text) one two = absurd (calm one.cause)
     by (outcome.Refused refusal) one two = absurd (calm one.cause)
-    by outcome.Panic one two = one_stop host None None (Panic 0 1) a b s r k j tt one two
-    by outcome.Spent one two = one_stop host None None NumbersSpent a b s r k j tt one two
-    by outcome.NoMemory one two = one_stop host None None NoMemory a b s r k j tt one two
+    by outcome.Panic one two = one_stop host next mine (Panic 0 1) a b s r k j tt one two
+    by outcome.Spent one two = one_stop host next mine NumbersSpent a b s r k j tt one two
+    by outcome.NoMemory one two = one_stop host next mine NoMemory a b s r k j tt one two
 
-  module _ (e f : Counts) (s r : RunStatus) (k j : Option Kept) where
+  module _ (e f : Counts) (s r : RunStatus) (k j : Kept) where
     -- both are over before a line, or with its answer
     one_over : (n m : At) (a b : List ℕ) → Beside n m → IsUndisturbed n.counts e → IsUndisturbed m.counts f → IsSated a s → IsSated b r → Over host e n a s k → Over host f m b r j → SameEnds host a b s r k j
     one_over n m a b beside calm calm_too sated sated_too (unread so rose stops) two = absurd (calm.source so)
     one_over n m a b beside calm calm_too sated sated_too one (unread so rose stops) = absurd (calm_too.source so)
     one_over n m a b beside calm calm_too sated sated_too (ended how rose stops) (ended how_too rose_too stops_too) =
         let same = one_end n.refused m.refused n.script m.script s r beside.refused beside.script how how_too in
-        (stops.silent ∙ sym stops_too.silent, same, subst (λ (x : Option Kept). IsSameEnd host x j) (sym stops.keeps) (subst (λ (x : Option Kept). IsSameEnd host (Some n.kept) x) (sym stops_too.keeps) (beside.kept.memory, beside.kept.beside)))
+        (stops.silent ∙ sym stops_too.silent, same, λ known. subst (λ (x : Kept). IsSameEnd host x j) (sym stops.keeps) (subst (λ (x : Kept). IsSameEnd host n.kept x) (sym stops_too.keeps) (beside.kept.memory, beside.kept.beside)))
     one_over n m a b beside calm calm_too sated sated_too (ended how rose stops) (broken answer then next left is rose_too with) =
         absurd (never_next n.refused n.script m.script s m.counts then m.kept next left answer beside.script how is)
     one_over n m a b beside calm calm_too sated sated_too (broken answer then next left is rose with) (ended how rose_too stops) =
@@ -271,7 +271,7 @@ module _ (host : Host) (content : ℕ → List ℕ) (has : HasHome host content)
   sated_apart : (piece rest x : List ℕ) (status : RunStatus) → IsSated ((piece ++ rest) ++ x) status → IsSated (piece ++ (rest ++ x)) status
   sated_apart piece rest x status sated = subst (λ (l : List ℕ). IsSated l status) (append_assoc piece rest x) sated
 
-  module _ (e f : Counts) (s r : RunStatus) (k j : Option Kept) where
+  module _ (e f : Counts) (s r : RunStatus) (k j : Kept) where
     one_run : (w v : Stretch) (c d : ℕ) (n m p q : At) (a b x y : List ℕ) → Beside n m → IsUndisturbed n.counts e → IsUndisturbed m.counts f → IsSated (a ++ x) s → IsSated (b ++ y) r
         → LinesTold host w c n a p → LinesTold host v d m b q → Over host e p x s k → Over host f q y r j → SameEnds host (a ++ x) (b ++ y) s r k j
     one_run w v c d n m p q a b x y beside calm calm_too sated sated_too (no_line c_is at) (no_line d_is also) one two = one_over e f s r k j n m x y beside calm calm_too sated sated_too one two
@@ -309,12 +309,12 @@ module _ (host : Host) (content : ℕ → List ℕ) (has : HasHome host content)
         (one.parts ∙ ends.0 ∙ sym two.parts, ends.1, ends.2)
     one_from w v (outcome.Values text) now from n m same script a b calm calm_too sated sated_too one two = absurd one
     one_from w v (outcome.Refused refusal) now from n m same script a b calm calm_too sated sated_too one two = absurd one
-    one_from w v outcome.Panic now from n m same script a b calm calm_too sated sated_too one two = one_stop host None None (Panic 0 1) a b s r k j tt one.1 two.1
-    one_from w v outcome.Spent now from n m same script a b calm calm_too sated sated_too one two = one_stop host None None NumbersSpent a b s r k j tt one.1 two.1
-    one_from w v outcome.NoMemory now from n m same script a b calm calm_too sated sated_too one two = one_stop host None None NoMemory a b s r k j tt one.1 two.1
+    one_from w v outcome.Panic now from n m same script a b calm calm_too sated sated_too one two = one_stop host n m (Panic 0 1) a b s r k j tt one.1 two.1
+    one_from w v outcome.Spent now from n m same script a b calm calm_too sated sated_too one two = one_stop host n m NumbersSpent a b s r k j tt one.1 two.1
+    one_from w v outcome.NoMemory now from n m same script a b calm calm_too sated sated_too one two = one_stop host n m NoMemory a b s r k j tt one.1 two.1
 
   -- the boot at a run's start
-  module _ (e : Counts) (s : RunStatus) (k : Option Kept) where
+  module _ (e : Counts) (s : RunStatus) (k : Kept) where
     from_rose : (w : Stretch) (answer : Answer) (now : Counts) (n : Kept) (script : Script) (told : List ℕ) → RunsFrom host w e answer now n script told s k → RoseTo now e
     from_rose w outcome.Ok now n script told from = runs_rose e e s s k k w (record { counts = now; kept = n; refused = false; script = script }) told from
     from_rose w (outcome.Values text) now n script told from = absurd from
@@ -326,7 +326,7 @@ module _ (host : Host) (content : ℕ → List ℕ) (has : HasHome host content)
     satisfied_from : (w : Stretch) (answer : Answer) (now : Counts) (n : Kept) (script : Script) (told : List ℕ) → IsSated told s → RunsFrom host w e answer now n script told s k → IsSatisfied answer
     satisfied_from w answer now n script told sated from = record {
       not_refused = λ is. (let never : ⊥ = subst (λ (x : Answer). RunsFrom host w e x now n script told s k) is from in never);
-      not_wanting = λ is. (let stops : RoseTo now e × Stops None NoMemory told s k = subst (λ (x : Answer). RunsFrom host w e x now n script told s k) is from in sated.end stops.1.ended);
+      not_wanting = λ is. (let stops : RoseTo now e × Stops n NoMemory told s k = subst (λ (x : Answer). RunsFrom host w e x now n script told s k) is from in sated.end stops.1.ended);
     }
 
   alike_start : (kept next : Kept) (answer : Answer) → IsSatisfied answer → IsRebooted ⊥ host kept answer next → Alike (site_of host) has.sound kept.content kept.content

@@ -1,5 +1,5 @@
 -- The run of one host, told by what its script asks.
-use Rattle.std.specs.Prelude.{◌≡◌, ◌≢◌, ◌⊎◌, ◌≤◌, ◌<◌, ◌+◌, ℕ, Bool, true, false, List, [], ◌++◌, take, length, Option, Some, None, IfSome, Contains, if◌then◌else◌}
+use Rattle.std.specs.Prelude.{◌≡◌, ◌≢◌, ◌⊎◌, ◌≤◌, ◌<◌, ◌+◌, ℕ, Bool, true, false, List, [], ◌++◌, take, length, Option, Some, IfSome, Contains, if◌then◌else◌}
 use Rattle.mdv_run_law.specs.Below.{Rose, BadLine, LineTooLong, OutOfMemory, IsHome, Script, at_end, spent, too_long, line, Head, Part, OnDrive, OnReplies, Tale, told, replies_in, IsSound, Line, IsLine, IsFound, IsOpened, Answer, Host, site_of, Kept, IsSame, IsSameBeside, ComesTo, IsRebooted, IsTurnedDown, drive_content, unbooted, ok_line, refusal_line}
 use Rattle.mdv_shelf.specs.Story.{Moment, Story, AtEach}
 use Rattle.mdv_engine_law.specs.Replies.{text_of}
@@ -41,8 +41,15 @@ abbrev pub IsAnswered : Type 0 → Host → Kept → List ℕ → Answer → Kep
 IsAnswered failed host kept text answer next =
     (IsNoCommand text × IsTurnedDown BadLine kept answer next) ⊎ ((spelled : Line) × IsLine text spelled × ComesTo failed host kept spelled answer next)
 
--- How a run is over: nothing more is told. Of what is then in memory and on the drive something is known, or nothing.
-pub record Stops (known : Option Kept) (end : RunStatus) (told : List ℕ) (status : RunStatus) (last : Option Kept) : Type 0 where
+-- the run is over for want of places, numbers or memory: what a crash leaves then isn't said
+abbrev pub IsLostStatus : RunStatus → Type 0
+IsLostStatus (Panic active listed) = Unit {0}
+IsLostStatus NumbersSpent = Unit {0}
+IsLostStatus NoMemory = Unit {0}
+IsLostStatus other = ⊥
+
+-- How a run is over: nothing more is told, and this is kept.
+pub record Stops (known : Kept) (end : RunStatus) (told : List ℕ) (status : RunStatus) (last : Kept) : Type 0 where
   pub silent : told ≡ []
   pub ended : status ≡ end
   pub keeps : last ≡ known
@@ -121,33 +128,33 @@ EndsAs refused (too_long more) status = ⊥
 EndsAs refused (line text more) status = ⊥
 
 -- where the giving failed a front of the reply was told
-pub record CutShort (failed : Type 0) (text : List ℕ) (next : Kept) (told : List ℕ) (status : RunStatus) (last : Option Kept) : Type 0 where
+pub record CutShort (failed : Type 0) (text : List ℕ) (next : Kept) (told : List ℕ) (status : RunStatus) (last : Kept) : Type 0 where
   pub cause : failed
   pub count : ℕ
   pub front : told ≡ take count text
   pub ended : status ≡ WriteFault
-  pub keeps : last ≡ Some next
+  pub keeps : last ≡ next
 
 -- how a run is over with the answer to a line
-abbrev pub EndsWith : Type 0 → Answer → Kept → List ℕ → RunStatus → Option Kept → Type 0
+abbrev pub EndsWith : Type 0 → Answer → Kept → List ℕ → RunStatus → Kept → Type 0
 EndsWith failed outcome.Ok next told status last = CutShort failed ok_line next told status last
 EndsWith failed (outcome.Values text) next told status last = CutShort failed text next told status last
 EndsWith failed (outcome.Refused refusal) next told status last = CutShort failed (refusal_line refusal) next told status last
-EndsWith failed outcome.Panic next told status last = Stops None (Panic 0 1) told status last
-EndsWith failed outcome.Spent next told status last = Stops None NumbersSpent told status last
-EndsWith failed outcome.NoMemory next told status last = Stops None NoMemory told status last
+EndsWith failed outcome.Panic next told status last = Stops next (Panic 0 1) told status last
+EndsWith failed outcome.Spent next told status last = Stops next NumbersSpent told status last
+EndsWith failed outcome.NoMemory next told status last = Stops next NoMemory told status last
 
 -- How a run is over, which has come so far, by these counts: the source failed; the script is at its end, or past its limit; or a line
 -- was answered so that no line is run behind it, or its reply couldn't be told.
-pub data Over (host : Host) (end : Counts) (now : At) (told : List ℕ) (status : RunStatus) (last : Option Kept) : Type 0 where
-  unread : source_failed now.counts end → RoseTo now.counts end → Stops (Some now.kept) ReadFault told status last → Over host end now told status last
-  ended : EndsAs now.refused now.script status → RoseTo now.counts end → Stops (Some now.kept) status told status last → Over host end now told status last
+pub data Over (host : Host) (end : Counts) (now : At) (told : List ℕ) (status : RunStatus) (last : Kept) : Type 0 where
+  unread : source_failed now.counts end → RoseTo now.counts end → Stops now.kept ReadFault told status last → Over host end now told status last
+  ended : EndsAs now.refused now.script status → RoseTo now.counts end → Stops now.kept status told status last → Over host end now told status last
   broken : (answer : Answer) (later : Counts) (next : Kept) (more : Script) → NextLine host now.counts now.kept now.script answer later next more → RoseTo later end → EndsWith (replies_failed later end) answer next told status last
       → Over host end now told status last
 
 -- The run of a script, from there on: line after line, until it is over. A line is excused by the calls alone that failed until the last byte of its
 -- reply was told, and behind that of the reply before.
-pub record Runs (host : Host) (stretch : Stretch) (end : Counts) (now : At) (told : List ℕ) (status : RunStatus) (last : Option Kept) : Type 0 where
+pub record Runs (host : Host) (stretch : Stretch) (end : Counts) (now : At) (told : List ℕ) (status : RunStatus) (last : Kept) : Type 0 where
   pub so_far : List ℕ
   pub rest : List ℕ
   pub parts : told ≡ so_far ++ rest
@@ -160,17 +167,17 @@ abbrev pub started : (ℕ → List ℕ) → Kept
 started content = record { memory = unbooted 0; content = content }
 
 -- what follows on the boot at a run's start, to which nothing is replied
-abbrev pub RunsFrom : Host → Stretch → Counts → Answer → Counts → Kept → Script → List ℕ → RunStatus → Option Kept → Type 0
+abbrev pub RunsFrom : Host → Stretch → Counts → Answer → Counts → Kept → Script → List ℕ → RunStatus → Kept → Type 0
 RunsFrom host stretch end outcome.Ok later kept script told status last = Runs host stretch end (record { counts = later; kept = kept; refused = false; script = script }) told status last
 RunsFrom host stretch end (outcome.Values text) later kept script told status last = ⊥
 RunsFrom host stretch end (outcome.Refused refusal) later kept script told status last = ⊥
-RunsFrom host stretch end outcome.Panic later kept script told status last = RoseTo later end × Stops None (Panic 0 1) told status last
-RunsFrom host stretch end outcome.Spent later kept script told status last = RoseTo later end × Stops None NumbersSpent told status last
-RunsFrom host stretch end outcome.NoMemory later kept script told status last = RoseTo later end × Stops None NoMemory told status last
+RunsFrom host stretch end outcome.Panic later kept script told status last = RoseTo later end × Stops kept (Panic 0 1) told status last
+RunsFrom host stretch end outcome.Spent later kept script told status last = RoseTo later end × Stops kept NumbersSpent told status last
+RunsFrom host stretch end outcome.NoMemory later kept script told status last = RoseTo later end × Stops kept NoMemory told status last
 
 -- A whole run, from these counts to those: the boot answers from what the drive's blocks held, excused by the calls that failed until
 -- then, and the script is run from there.
-pub record IsRun (host : Host) (stretch : Stretch) (start end : Counts) (content : ℕ → List ℕ) (script : Script) (told : List ℕ) (status : RunStatus) (last : Option Kept) : Type 0 where
+pub record IsRun (host : Host) (stretch : Stretch) (start end : Counts) (content : ℕ → List ℕ) (script : Script) (told : List ℕ) (status : RunStatus) (last : Kept) : Type 0 where
   pub answer : Answer
   pub booted : Counts
   pub rose : RoseTo start booted
@@ -216,11 +223,11 @@ pub record IsToldBy (host : Host) (stretch : Stretch) (start : Counts) (script :
   pub is_told : told m.tale ≡ told t.tale ++ bytes
   pub tells : (bytes ≡ []) ⊎ RunToldBy host stretch start (drive_content t.tale) script bytes (m.faults (OnDrive 0))
 
--- each block reads as it was kept; and where a database is open, whatever a crash leaves has one replica of it, with the newest table
--- that is in memory
-pub record IsLeft (host : Host) (u : Tale) (kept : Kept) : Type 0 where
+-- Each block reads as it was kept. Where a database is open, and the run isn't over for want of places, numbers or memory, whatever a
+-- crash leaves has one replica of it, with the newest table that is in memory.
+pub record IsLeft (host : Host) (status : RunStatus) (u : Tale) (kept : Kept) : Type 0 where
   pub content : IsSame kept.content (drive_content u)
-  pub opened : IfSome kept.memory.opened (λ newest. IsOpened (site_of host) newest u)
+  pub opened : (IsLostStatus status → ⊥) → IfSome kept.memory.opened (λ newest. IsOpened (site_of host) newest u)
 
 -- The whole of a run that began at t: what it told and its status are what the script asks for, and every crash at
 -- its end leaves the database that it made, or adopted and wrote anew.
@@ -229,8 +236,8 @@ pub record IsWholeRun (host : Host) (stretch : Stretch) (start end : Counts) (t 
   pub tells : tale ≡ Some u
   pub more : List ℕ
   pub is_told : told u ≡ told t ++ more
-  pub last : Option Kept
-  pub left : IfSome last (IsLeft host u)
+  pub last : Kept
+  pub left : IsLeft host status u last
   pub runs : IsRun host stretch start end (drive_content t) script more status last
 
 -- a run that wanted memory for the table of drives: nothing was done
@@ -263,12 +270,9 @@ pub record IsSated (told : List ℕ) (status : RunStatus) : Type 0 where
   pub replies : Contains (replies_in told) (refusal_line OutOfMemory) → ⊥
   pub end : status ≢ NoMemory
 
--- two ends of which as much is known, with the same in memory and in each block that no replica may have
-abbrev pub IsSameEnd : Host → Option Kept → Option Kept → Type 0
-IsSameEnd host None None = Unit {0}
-IsSameEnd host None (Some b) = ⊥
-IsSameEnd host (Some a) None = ⊥
-IsSameEnd host (Some a) (Some b) = (a.memory ≡ b.memory) × IsSameBeside (site_of host) b.content a.content
+-- two ends with the same in memory and in each block that no replica may have
+abbrev pub IsSameEnd : Host → Kept → Kept → Type 0
+IsSameEnd host a b = (a.memory ≡ b.memory) × IsSameBeside (site_of host) b.content a.content
 
 -- the table of drives is sound, and the home is its; and a database is found there only where the home has room for one
 pub record HasHome (host : Host) (content : ℕ → List ℕ) : Type 0 where
@@ -276,9 +280,9 @@ pub record HasHome (host : Host) (content : ℕ → List ℕ) : Type 0 where
   pub home : IsHome host.drives host.home
   pub room : (head : Head) → IsFound (site_of host) content (Some head) → 8208 ≤ host.home.blocks
 
--- where nothing failed and memory was never wanting, the drive's blocks and the script settle what is told, the status, and what is
--- in memory and on the drive at the end
+-- where nothing failed and memory was never wanting, the drive's blocks and the script settle what is told, the status, and, where the run isn't
+-- over for want of places or numbers, what is in memory and on the drive at the end
 abbrev pub OneCourse : Type 0
 OneCourse =
     (host : Host) (content : ℕ → List ℕ) → HasHome host content → (script : Script) (first second : Stretch) (start end from to : Counts) → IsUndisturbed start end → IsUndisturbed from to
-    → (a b : List ℕ) (s r : RunStatus) (k j : Option Kept) → IsSated a s → IsSated b r → IsRun host first start end content script a s k → IsRun host second from to content script b r j → (a ≡ b) × (s ≡ r) × IsSameEnd host k j
+    → (a b : List ℕ) (s r : RunStatus) (k j : Kept) → IsSated a s → IsSated b r → IsRun host first start end content script a s k → IsRun host second from to content script b r j → (a ≡ b) × (s ≡ r) × ((IsLostStatus s → ⊥) → IsSameEnd host k j)

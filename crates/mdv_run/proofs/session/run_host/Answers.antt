@@ -1,5 +1,5 @@
 use Rattle.std.proofs.Common.{◌≡◌, inr, false, refl, sym, ◌∙◌, ap, subst, arith}
-use Rattle.mdv_run.specs.Below.{script_of, told, OnDrive, OnReplies, Moments, Host, kept_at, unbooted, BootMoment, BootedTo, Knows, RunStatus, counts, HasStatusCause, IsWholeRun, RunMoment, LinesMoment, Engine, StaysHome}
+use Rattle.mdv_run.specs.Below.{script_of, told, OnDrive, OnReplies, Moments, Host, unbooted, BootMoment, BootedTo, Knows, RunStatus, counts, HasStatusCause, IsWholeRun, RunMoment, LinesMoment, Engine, StaysHome}
 use Rattle.mdv_shelf.proofs.Moments.{moments_after, moments_weaker, moments_end, some_is}
 use Rattle.mdv_run.specs.Turns.{LinesRun}
 use Rattle.mdv_run_law.proofs.Booting.{boot_run, lines_run}
@@ -60,7 +60,7 @@ returns-in-Err-clause-has_run g c = record {
       let end = counts (g.B.Shelf.faults c.boot.new.shelf) (g.I.Source.faults c.args.script.now) in
       inr (subst (λ (s : RunStatus). IsWholeRun host (between g.B.Shelf c.args.bench.now c.boot.new.shelf) start end t (script_of input) (g.B.Shelf.tale c.boot.new.shelf) s) (sym c.over.ensures)
       (whole_over host (between g.B.Shelf c.args.bench.now c.boot.new.shelf) start t (script_of input) _ Engine end (record { drive = c.boot.ensures.kept.keeps.no_fewer_faults (OnDrive 0); source = omega arith; replies = c.boot.ensures.kept.keeps.no_fewer_faults OnReplies })
-      done.0 (kept_at (unbooted 0) done.0) c.in-Err.refusal done.1 (ap told (some_is _ done.0 quiet.0 done.1 quiet.1) ∙ quiet.2.quiet) done.2.rebooted c.in-Err.ensures.answer.cause));
+      done.0 (unbooted 0) c.in-Err.refusal done.1 (ap told (some_is _ done.0 quiet.0 done.1 quiet.1) ∙ quiet.2.quiet) done.2.rebooted c.in-Err.ensures.answer.cause));
   stands = λ input left.
       let host = c.args.host in
       moments_of_tales g.B.Shelf g.met.B.Shelf.telling _ _ (RunMoment host (script_of input)) c.boot.ensures.kept.goes

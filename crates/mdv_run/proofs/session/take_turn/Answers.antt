@@ -1,9 +1,9 @@
 use Rattle.std.proofs.Common.{◌≤◌, [], refl, sym, ap, subst, arith}
 use Rattle.mdv_run.specs.Below.{Script, Engine, line, too_long, script_before, IsTurn, Line, TooLong, End, Spent, Moments, TurnMoment, IsWell, OnDrive, OnReplies, ScriptTooLong, counts, LinesMoment, RanTo}
 use Rattle.mdv_run_law.specs.Run.{EndsAs}
-use Rattle.mdv_shelf.proofs.Stories.{each_none, moment}
+use Rattle.mdv_shelf.proofs.Stories.{moment}
 use Rattle.mdv_shelf.proofs.Telling.{each_within}
-use Rattle.mdv_run.proofs.Fronts.{AnswerFront, LineFront, ScriptFront, line_front, long_front, no_front}
+use Rattle.mdv_run.proofs.Fronts.{AnswerFront, LineFront, ScriptFront, line_front, long_front, still_front}
 use Rattle.mdv_shelf.proofs.Moments.{moments_none, moments_weaker}
 use Rattle.mdv_engine_law.proofs.Plain.{too_long_plain}
 use Rattle.mdv_run.specs.declared.session.Turn.{Turn}
@@ -11,7 +11,7 @@ use Rattle.mdv_run.specs.Promise.{TurnEnd}
 use Rattle.mdv_run.specs.Turns.{HasTurnCause}
 use Rattle.mdv_run_law.proofs.Lining.{lines_start}
 use Rattle.mdv_run_law.proofs.Turning.{long_moment, long_ran}
-use Rattle.mdv_run.proofs.Leading.{end_is, spent_is, long_is, line_is, leads_line, leads_long, on_replied, lost_reply, ended_turn, unread_turn, ended_known, same_left, turn_cause}
+use Rattle.mdv_run.proofs.Leading.{end_is, spent_is, long_is, line_is, leads_line, leads_long, on_replied, lost_reply, ended_turn, unread_turn, same_left, turn_cause}
 use Rattle.mdv_engine_law.proofs.Staying.{nothing_stays, turn_stays}
 use Rattle.mdv_base.specs.declared.refusal.Refusal.TheVariants.{LineTooLong}
 use Rattle.mdv_run.proofs.Answering.{refused_turned, refused_down, refused_knows}
@@ -157,7 +157,7 @@ returns-in-Ok-End-clause-end g c = λ lines before t told.
       t,
       told,
       record {
-        turns = λ knows. ended_turn host _ _ (record { drive = omega arith; source = c.next.ensures.cause.later; replies = omega arith }) state c.args.any_refused lines _ c.ended.result t (ended_known c.args.any_refused c.ended.result c.ended.ensures)
+        turns = λ knows. ended_turn host _ _ (record { drive = omega arith; source = c.next.ensures.cause.later; replies = omega arith }) state c.args.any_refused lines _ c.ended.result t
             (subst (λ (x : Script). EndsAs c.args.any_refused x c.ended.result) (sym script) c.ended.ensures);
         ran = λ on. absurd on;
         knows = λ kept known. known;
@@ -174,7 +174,7 @@ returns-in-Ok-Spent-clause-end g c = λ lines before t told.
       t,
       told,
       record {
-        turns = λ knows. ended_turn host _ _ (record { drive = omega arith; source = c.next.ensures.cause.later; replies = omega arith }) state c.args.any_refused lines _ status t (λ lost. lost) (subst (λ (x : Script). EndsAs c.args.any_refused x status) (sym script) refl);
+        turns = λ knows. ended_turn host _ _ (record { drive = omega arith; source = c.next.ensures.cause.later; replies = omega arith }) state c.args.any_refused lines _ status t (subst (λ (x : Script). EndsAs c.args.any_refused x status) (sym script) refl);
         ran = λ on. absurd on;
         knows = λ kept known. known;
       },
@@ -195,25 +195,19 @@ pub returns-in-Ok-End-clause-stays : goal.returns-in-Ok-End-clause-stays
 returns-in-Ok-End-clause-stays g c = record {
   home = nothing_stays c.args.engine.now.host _ _ refl;
   told = λ on. absurd on;
-  tells = λ lines before. each_none (ScriptFront c.args.engine.now.host (counts (g.B.Shelf.faults c.args.bench.now) (g.I.Source.faults c.args.script.now)) c.args.engine.now.state c.args.any_refused lines) _ _ _ _ refl (λ part. omega arith)
-      (λ s known. no_front c.args.engine.now.host c.args.engine.now.state (counts (g.B.Shelf.faults c.args.bench.now) (g.I.Source.faults c.args.script.now)) c.args.any_refused (moment s _) (moment s _) refl (λ part. omega arith) lines refl)
-      (λ s known. no_front c.args.engine.now.host c.args.engine.now.state (counts (g.B.Shelf.faults c.args.bench.now) (g.I.Source.faults c.args.script.now)) c.args.any_refused (moment s _) (moment s _) refl (λ part. omega arith) lines refl);
+  tells = λ lines before. still_front g.B.Shelf c.args.engine.now.host c.args.engine.now.state _ c.args.any_refused lines c.args.bench.now;
 }
 
 pub returns-in-Ok-Spent-clause-stays : goal.returns-in-Ok-Spent-clause-stays
 returns-in-Ok-Spent-clause-stays g c = record {
   home = nothing_stays c.args.engine.now.host _ _ refl;
   told = λ on. absurd on;
-  tells = λ lines before. each_none (ScriptFront c.args.engine.now.host (counts (g.B.Shelf.faults c.args.bench.now) (g.I.Source.faults c.args.script.now)) c.args.engine.now.state c.args.any_refused lines) _ _ _ _ refl (λ part. omega arith)
-      (λ s known. no_front c.args.engine.now.host c.args.engine.now.state (counts (g.B.Shelf.faults c.args.bench.now) (g.I.Source.faults c.args.script.now)) c.args.any_refused (moment s _) (moment s _) refl (λ part. omega arith) lines refl)
-      (λ s known. no_front c.args.engine.now.host c.args.engine.now.state (counts (g.B.Shelf.faults c.args.bench.now) (g.I.Source.faults c.args.script.now)) c.args.any_refused (moment s _) (moment s _) refl (λ part. omega arith) lines refl);
+  tells = λ lines before. still_front g.B.Shelf c.args.engine.now.host c.args.engine.now.state _ c.args.any_refused lines c.args.bench.now;
 }
 
 pub returns-in-Err-clause-stays : goal.returns-in-Err-clause-stays
 returns-in-Err-clause-stays g c = record {
   home = nothing_stays c.args.engine.now.host _ _ refl;
   told = λ on. absurd on;
-  tells = λ lines before. each_none (ScriptFront c.args.engine.now.host (counts (g.B.Shelf.faults c.args.bench.now) (g.I.Source.faults c.args.script.now)) c.args.engine.now.state c.args.any_refused lines) _ _ _ _ refl (λ part. omega arith)
-      (λ s known. no_front c.args.engine.now.host c.args.engine.now.state (counts (g.B.Shelf.faults c.args.bench.now) (g.I.Source.faults c.args.script.now)) c.args.any_refused (moment s _) (moment s _) refl (λ part. omega arith) lines refl)
-      (λ s known. no_front c.args.engine.now.host c.args.engine.now.state (counts (g.B.Shelf.faults c.args.bench.now) (g.I.Source.faults c.args.script.now)) c.args.any_refused (moment s _) (moment s _) refl (λ part. omega arith) lines refl);
+  tells = λ lines before. still_front g.B.Shelf c.args.engine.now.host c.args.engine.now.state _ c.args.any_refused lines c.args.bench.now;
 }
