@@ -1,22 +1,23 @@
 -- Why a change isn't made, and which changes there are.
-use Rattle.std.specs.Prelude.{◌≡◌, ◌<◌, List, Option, None, Some, Result, Ok, Err}
-use Rattle.mdv_change.specs.Below.{Refusal, DriveNo, Geometry, Table, VolId, PoolId, RaidAsked, RowAsked, MirrorAsked}
+use Rattle.std.specs.Prelude.{◌≡◌, ◌<◌, List, Option, None, Some, Result, Ok, Err, Bool}
+use Rattle.mdv_change.specs.Below.{Refusal, DriveNo, Geometry, Table, VolId, PoolId, RaidAsked, RowAsked, MirrorAsked, SliceName}
 use Rattle.mdv_change.specs.declared.making.ApplyFault.{ApplyFault}
 use Rattle.mdv_change.specs.declared.making.ApplyFault.TheVariants.{Refused, Memory}
 use Rattle.mdv_change.specs.Change.{refusal_of, table_after}
 use Rattle.mdv_change.specs.declared.change.Change.{Change}
-use Rattle.mdv_change.specs.declared.change.Change.TheVariants.{MakeStripe, MakeRaid, MakeMirror, Attach, Clear}
+use Rattle.mdv_change.specs.declared.change.Change.TheVariants.{MakeStripe, MakeRaid, MakeMirror, Attach, AddSpares, Clear}
 
 -- what refuses the change, or want of memory, which has no cause
 abbrev pub HasFault : Option Refusal → ApplyFault → Type 0
 HasFault refusal (Refused r) = refusal ≡ Some r
 HasFault refusal Memory = Unit {0}
 
--- the numbers of new volumes are below the limit
+-- the numbers of new volumes and pools are below the limits
 abbrev pub IsNumbered : Change → Type 0
 IsNumbered (MakeStripe v rows pool) = v.0 < 8192
 IsNumbered (MakeRaid v raid) = v.0 < 8192
 IsNumbered (MakeMirror v mirror) = v.0 < 8192
+IsNumbered (AddSpares q new slices) = q.0 < 1000
 IsNumbered _ = Unit {0}
 
 abbrev pub stripe_change : VolId → List RowAsked → Option PoolId → Change
@@ -30,6 +31,9 @@ mirror_change v mirror = MakeMirror v mirror
 
 abbrev pub attach_change : VolId → VolId → Change
 attach_change mirror sub = Attach mirror sub
+
+abbrev pub spares_change : PoolId → Bool → List SliceName → Change
+spares_change q new slices = AddSpares q new slices
 
 abbrev pub clear_change : List VolId → List PoolId → Change
 clear_change volumes pools = Clear volumes pools

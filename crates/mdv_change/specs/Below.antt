@@ -28,6 +28,7 @@ pub use Rattle.mdv_plan.specs.declared.status.VolumeStatus.{VolumeStatus}
 pub use Rattle.mdv_plan.specs.declared.table.Table.{Table}
 pub use Rattle.mdv_plan.specs.declared.volume.Volume.{Volume as OneVolume}
 pub use Rattle.mdv_plan.specs.declared.volume.VolumeKind.{VolumeKind}
+pub use Rattle.mdv_spares.specs.Pools.{pool_with, spares_condition, with_states as spare_states}
 pub use Rattle.mdv_submirrors.specs.Attaching.{attach_condition, attach_states, with_sub}
 pub use Rattle.mdv_submirrors.specs.Joining.{all_joined, noted}
 pub use Rattle.mdv_submirrors.specs.Mirrors.{mirror_condition, mirror_on, mirror_status}

@@ -4,7 +4,8 @@ use Rattle.std.specs.Option.{option_map}
 use Rattle.mdv_change.specs.Below.{Refusal, DriveNo, Geometry, Table, OneVolume, VolumeStatus, with_item, with_put}
 use Rattle.mdv_change.specs.Below.{Cause, order, first_of, told, stripe_condition, stripe_on, stripe_status, raid_condition, raid_on, raid_status}
 use Rattle.mdv_change.specs.declared.change.Change.{Change}
-use Rattle.mdv_change.specs.declared.change.Change.TheVariants.{MakeStripe, MakeRaid, MakeMirror, Attach, Clear, ClearAll}
+use Rattle.mdv_change.specs.declared.change.Change.TheVariants.{MakeStripe, MakeRaid, MakeMirror, Attach, AddSpares, Clear, ClearAll}
+use Rattle.mdv_change.specs.Below.{SliceName, Pool, spares_condition, pool_with, spare_states}
 use Rattle.mdv_change.specs.Below.{mirror_condition, mirror_on, mirror_status, all_joined, noted, attach_condition, with_sub, attach_states, volume_of, changed}
 use Rattle.mdv_change.specs.Clear.{clear_condition, cleared, emptied}
 
@@ -14,6 +15,7 @@ condition g drives t (MakeStripe v rows pool) = stripe_condition g drives t.plan
 condition g drives t (MakeRaid v raid) = raid_condition g drives t.plan v raid
 condition g drives t (MakeMirror v mirror) = mirror_condition t.plan v mirror.submirrors
 condition g drives t (Attach mirror sub) = attach_condition t.plan mirror sub
+condition g drives t (AddSpares q new slices) = spares_condition g drives t.plan new q slices
 condition g drives t (Clear volumes pools) = clear_condition t.plan volumes pools
 condition g drives t ClearAll = λ cause. false
 
@@ -38,10 +40,19 @@ with_changed (Some v) t = record t { plan = record t.plan { volumes = changed (�
 abbrev pub with_states : List VolumeStatus → Table → Table
 with_states states t = record t { status = record t.status { volumes = noted t.status.volumes states } }
 
+-- the pool in the place of that of its number, or one more, and a state for each of the slices
+abbrev pub with_pool : Pool → List SliceName → Table → Table
+with_pool q slices t =
+    record {
+      plan = record t.plan { pools = with_put (λ r. r.number.0) q t.plan.pools };
+      status = record t.status { spares = spare_states t.status.spares slices };
+    }
+
 abbrev pub table_after : Geometry → Table → Change → Table
 table_after g t (MakeStripe v rows pool) = with_volume (stripe_on g t.plan v rows pool) (stripe_status v rows) t
 table_after g t (MakeRaid v raid) = with_volume (raid_on g t.plan v raid) (raid_status v raid) t
 table_after g t (MakeMirror v mirror) = with_states (all_joined t.status mirror.submirrors) (with_volume (mirror_on t.plan v mirror) (mirror_status v mirror.submirrors) t)
 table_after g t (Attach mirror sub) = with_states (attach_states t.status mirror sub) (with_changed (option_map (with_sub sub) (volume_of t.plan mirror)) t)
+table_after g t (AddSpares q new slices) = with_pool (pool_with g t.plan q slices) slices t
 table_after g t (Clear volumes pools) = cleared volumes pools t
 table_after g t ClearAll = emptied t

@@ -1,4 +1,4 @@
-use mdv_base::{PoolId, VolId};
+use mdv_base::{PoolId, SliceName, VolId};
 use mdv_components::{MAX_NAMES, RaidAsked, RowAsked};
 use mdv_plan::Listed;
 use mdv_submirrors::MirrorAsked;
@@ -28,6 +28,13 @@ pub enum Change {
     Attach {
         mirror: VolId,
         sub: VolId,
+    },
+    /// `metahs -a hsp001 c0t1d0s0`: spares behind those of the pool, which is made where there is none. As a new
+    /// pool, `metainit hsp001 c0t1d0s0`, it must not be there yet.
+    AddSpares {
+        pool: PoolId,
+        new: bool,
+        spares: Listed<SliceName, MAX_NAMES>,
     },
     /// `metaclear d10 hsp001`: these volumes and pools go, all or none. A use by a volume that goes too
     /// doesn't keep one.

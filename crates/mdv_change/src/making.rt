@@ -3,18 +3,19 @@ ghost use Rattle.std.specs.Prelude.{◌≡◌, ◌<◌, ◌==◌, List, None, On
 ghost use Rattle.std.specs.List.{find};
 ghost use Rattle.mdv_plan.specs.Slices.{IsSound};
 ghost use Rattle.mdv_change.specs.declared.making.ApplyFault.TheVariants.{Memory};
-ghost use Rattle.mdv_change.specs.Apply.{IsApplied, IsNumbered, attach_change, clear_change, mirror_change, raid_change, stripe_change};
+ghost use Rattle.mdv_change.specs.Apply.{IsApplied, IsNumbered, attach_change, clear_change, mirror_change, raid_change, spares_change, stripe_change};
 ghost use Rattle.mdv_change.specs.Below.{DriveNo, Geometry};
 ghost use Rattle.mdv_change.specs.Change.{with_changed, with_volume};
 
 use crate::change::Change;
 use crate::clearing::{clear, clear_all, refuse_clear};
-use mdv_base::{DriveNo, PoolId, Refusal, VolId};
+use mdv_base::{DriveNo, PoolId, Refusal, SliceName, VolId};
 use mdv_components::{
     RaidAsked, RowAsked, raid_on, raid_status, refuse_raid, refuse_stripe, stripe_on, stripe_status,
 };
 use mdv_name::Geometry;
 use mdv_plan::{Table, Volume, VolumeStatus};
+use mdv_spares::{pool_with, refuse_spares, with_states};
 use mdv_submirrors::{
     MirrorAsked, all_joined, attach_states, mirror_on, mirror_status, mirror_with_sub, note_all,
     refuse_attach, refuse_mirror,
@@ -61,6 +62,17 @@ pub fn apply(
         }
         Change::MakeMirror { volume, mirror } => make_mirror(alloc, table, *volume, mirror),
         Change::Attach { mirror, sub } => attach(alloc, table, *mirror, *sub),
+        Change::AddSpares { pool, new, spares } => {
+            add_spares(
+                alloc,
+                geometry,
+                drives,
+                table,
+                *new,
+                *pool,
+                spares.as_slice(),
+            )
+        }
         Change::Clear { volumes, pools } => {
             clear_named(alloc, table, volumes.as_slice(), pools.as_slice())
         }
@@ -157,6 +169,30 @@ fn replace_volume(table: &mut Table, volume: Option<Volume>)
     if let Some(volume) = volume {
         table.plan.volumes.replace(volume);
     }
+}
+
+fn add_spares(
+    alloc: Global,
+    geometry: &Geometry,
+    drives: &[DriveNo],
+    table: &mut Table,
+    new: bool,
+    pool: PoolId,
+    slices: &[SliceName],
+) -> Result<(), ApplyFault>
+    requires sound { IsSound geometry.now }
+    requires number { pool.0 < 1000 }
+    ensures { IsApplied geometry.now drives.now (spares_change pool new slices.now) table.old table.new result }
+{
+    let plan = &table.plan;
+    if let Some(cause) = refuse_spares(alloc, geometry, drives, plan, new, pool, slices)? {
+        return Err(ApplyFault::Refused(cause.refusal()));
+    }
+    let made = pool_with(alloc, geometry, plan, pool, slices)?;
+    let states = with_states(alloc, &table.status.spares, slices)?;
+    table.plan.pools.put(made)?;
+    table.status.spares = states;
+    Ok(())
 }
 
 fn clear_named(

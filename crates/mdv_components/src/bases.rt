@@ -134,7 +134,8 @@ fn is_foreign(geometry: &Geometry, drives: &[DriveNo], base: Base) -> bool
     }
 }
 
-fn has_foreign(geometry: &Geometry, drives: &[DriveNo], bases: &[Base]) -> bool
+/// Whether one of the slices isn't there, or not on one of the drives.
+pub fn has_foreign(geometry: &Geometry, drives: &[DriveNo], bases: &[Base]) -> bool
     requires { IsSound geometry.now }
     ensures { result ≡ list_any (spec_is_foreign geometry.now drives.now) bases.now }
 {
@@ -232,8 +233,8 @@ fn meets_any(geometry: &Geometry, base: Base, bases: &[Base]) -> bool
         .any(|other| slices_meet(geometry, base, *other))
 }
 
-// Whether two of the bases share blocks of a drive. It compares all pairs, of which a volume has few.
-fn has_meeting(geometry: &Geometry, bases: &[Base]) -> bool
+/// Whether two of the bases share blocks of a drive. It compares all pairs, of which a volume or pool has few.
+pub fn has_meeting(geometry: &Geometry, bases: &[Base]) -> bool
     requires { IsSound geometry.now }
     ensures { result ≡ spec_has_meeting geometry.now bases.now }
 {

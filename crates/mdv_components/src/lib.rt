@@ -10,7 +10,8 @@ mod room;
 mod stripes;
 
 pub use asked::{MAX_NAMES, RaidAsked, RowAsked};
-pub use bases::{pool_of, volume_of};
+pub use bases::{has_foreign, has_meeting, pool_of, volume_of};
 pub use cause::Cause;
 pub use raids::{raid_on, raid_status, refuse_raid};
+pub use room::{room_of, start_of};
 pub use stripes::{refuse_stripe, stripe_on, stripe_status};

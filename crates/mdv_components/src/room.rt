@@ -88,8 +88,9 @@ fn kind_blocks(kind: &VolumeKind) -> u64
     }
 }
 
-// The block of a base from which a component is counted.
-fn start_of(geometry: &Geometry, plan: &Plan, base: Base) -> u64
+/// The block of a base from which a component is counted: on a slice that is set aside for replicas the first
+/// behind them.
+pub fn start_of(geometry: &Geometry, plan: &Plan, base: Base) -> u64
     requires { IsSound geometry.now }
     ensures { result ≡ spec_start_of geometry.now plan.now base }
 {
@@ -102,8 +103,8 @@ fn start_of(geometry: &Geometry, plan: &Plan, base: Base) -> u64
     }
 }
 
-// How many blocks a component can have on a base.
-fn room_of(geometry: &Geometry, plan: &Plan, base: Base) -> u64
+/// How many blocks a component can have on a base.
+pub fn room_of(geometry: &Geometry, plan: &Plan, base: Base) -> u64
     requires { IsSound geometry.now }
     ensures { result ≡ spec_room_of geometry.now plan.now base }
 {

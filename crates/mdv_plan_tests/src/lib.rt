@@ -9,3 +9,5 @@ mod clear_tests;
 mod mirror_tests;
 #[cfg(test)]
 mod plan_tests;
+#[cfg(test)]
+mod pool_tests;
