@@ -5,7 +5,6 @@ use Rattle.mdv_shelf.specs.Shelves.{AtEachMoment, AtEachTale, AtEnd, DriveFailed
 use Rattle.mdv_shelf.specs.Story.{OfTales}
 use Rattle.mdv_shelf.specs.declared.shelf.Shelf.{Ghosts as Shelf}
 use Rattle.mdv_port.specs.declared.source.Source.{Ghosts as Source}
-use Rattle.mdv_run_law.specs.Run.{IsUnbegun}
 use Rattle.mdv_run_law.specs.Usage.{IsUsed}
 use Rattle.mdv_home.specs.declared.geometry.Home.{Home}
 use Rattle.mdv_name.specs.declared.geometry.Geometry.{Geometry}
@@ -21,25 +20,30 @@ by shelf source bench script = counts (shelf.faults bench) (source.faults script
 abbrev pub between : {B : Type 0} → Shelf B → B → B → Stretch
 between shelf old new = record { old = shelf.story old; before = shelf.faults old; new = shelf.story new; after = shelf.faults new }
 
--- nothing was done, told or taken
-abbrev pub IsUntouched : {B I : Type 0} → Shelf B → Source I → B → I → B → I → Type 0
-IsUntouched shelf source old from new to = (shelf.tale new ≡ shelf.tale old) × (source.left to ≡ source.left from)
+-- bench and source are as they were: nothing was done, told or taken
+abbrev pub IsUntouched : {B I : Type 0} → B → I → B → I → Type 0
+IsUntouched old from new to = (new ≡ old) × (to ≡ from)
 
 -- what holds of each host whose words and table of drives these are, with a shelf of such drives
 abbrev pub OfEachUse : List (List ℕ) → List ℕ → List ℕ → (Geometry → Home → Type 0) → Type 0
 OfEachUse words text sizes P = (drives : Geometry) (home : Home) → IsUsed words text sizes drives home → P drives home
 
--- a faulty use is told exactly where there is none of a host, but for want of memory; and then nothing was done
+-- A faulty use is told exactly where there is none of a host, but for want of memory; and where there is none, nothing was done.
 pub record IsUsageOf (None Untouched : Type 0) (status : RunStatus) : Type 0 where
   pub exactly : status ≢ NoMemory → (status ≡ Usage) ↔ None
-  pub untouched : status ≡ Usage → Untouched
+  pub untouched : None → Untouched
+
+-- a run that wanted memory for the table of drives: nothing was done
+pub record IsUnbegun {B I : Type 0} (old : B) (from : I) (new : B) (to : I) (status : RunStatus) : Type 0 where
+  pub wanting : status ≡ NoMemory
+  pub untouched : IsUntouched old from new to
 
 -- The run of a host. Where bench and source tell what they hold, memory was wanting for the table of drives and nothing was done, or the
 -- bytes told, the status and what is left are those that the script asks for; and at each moment the drive stands with its history so
 -- far, and what was told by then is what the script asks for; nothing happens outside the host's area. Whatever they tell, a status that tells of a failure comes only where one came.
 pub record HasRun {B I : Type 0} (shelf : Shelf B) (source : Source I) (host : Host) (old : B) (from : I) (new : B) (to : I) (status : RunStatus) : Type 0 where
   pub runs : (t : Tale) → shelf.tale old ≡ Some t → (input : List ℕ) → source.left from ≡ Some input
-      → IsUnbegun t (shelf.tale new) status ⊎ IsWholeRun host (between shelf old new) (by shelf source old from) (by shelf source new to) t (script_of input) (shelf.tale new) status
+      → IsUnbegun old from new to status ⊎ IsWholeRun host (between shelf old new) (by shelf source old from) (by shelf source new to) t (script_of input) (shelf.tale new) status
   pub stands : (input : List ℕ) → source.left from ≡ Some input → AtEachMoment shelf (OfTales (RunMoment host (script_of input))) old new
   pub tells : (input : List ℕ) → source.left from ≡ Some input → AtEachMoment shelf (IsToldBy host (between shelf old new) (by shelf source old from) (script_of input)) old new
   pub home : AtEachTale shelf (StaysHome host) old new

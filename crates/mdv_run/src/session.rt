@@ -43,7 +43,7 @@ pub fn run<B: Bench, I: Source>(
 ) -> RunStatus
     // A faulty use is told exactly where the words, the table and the drives are none of a host's, but for
     // want of memory, and nothing was done then.
-    ensures usage { IsUsageOf (OfEachUse (map string_bytes words.now) geometry.now (B.sizes bench.old) (λ _ _. ⊥)) (IsUntouched B.Shelf I.Source bench.old script.old bench.new script.new) result }
+    ensures usage { IsUsageOf (OfEachUse (map string_bytes words.now) geometry.now (B.sizes bench.old) (λ _ _. ⊥)) (IsUntouched bench.old script.old bench.new script.new) result }
 
     // Else all is as the run of that host promises: what is told and its status, what holds at each moment, and the cause of
     // each status.

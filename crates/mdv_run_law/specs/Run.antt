@@ -97,8 +97,8 @@ pub record LineTold (host : Host) (now : At) (piece : List ℕ) (later : At) : T
   pub as_text : piece ≡ text_of answer
   pub as_refused : later.refused ≡ refused_by answer now.refused
 
--- The counts by which the run had told so many bytes, and no more of them: at no moment before was one of them greater, and at none from there
--- on is one less. So they are those at which the last of these bytes was told.
+-- The counts by which the run had told so many bytes, and no more of them: at no moment before was the drive's or the replies' greater, and at none from
+-- there on is it less. So they are those at which the last of these bytes was told.
 pub record AreShown (bytes : ℕ) (now : Counts) (t m : Moment) : Type 0 where
   pub before : length (told m.tale) < length (told t.tale) + bytes → RoseTo (counts m.faults now.source) now
   pub behind : length (told t.tale) + bytes ≤ length (told m.tale) → RoseTo now (counts m.faults now.source)
@@ -152,8 +152,8 @@ pub data Over (host : Host) (end : Counts) (now : At) (told : List ℕ) (status 
   broken : (answer : Answer) (later : Counts) (next : Kept) (more : Script) → NextLine host now.counts now.kept now.script answer later next more → RoseTo later end → EndsWith (replies_failed later end) answer next told status last
       → Over host end now told status last
 
--- The run of a script, from there on: line after line, until it is over. A line is excused by the calls alone that failed until the last byte of its
--- reply was told, and behind that of the reply before.
+-- The run of a script, from there on: line after line, until it is over. A line whose reply was told whole is excused by the calls alone that failed
+-- until the last byte of it was told, and behind that of the reply before; the line with which the run is over, by those until its end.
 pub record Runs (host : Host) (stretch : Stretch) (end : Counts) (now : At) (told : List ℕ) (status : RunStatus) (last : Kept) : Type 0 where
   pub so_far : List ℕ
   pub rest : List ℕ
@@ -216,8 +216,8 @@ pub record RunToldBy (host : Host) (stretch : Stretch) (start : Counts) (content
   pub boots : IsRebooted (drive_failed start booted) host (started content) outcome.Ok kept
   pub lines : LinesToldBy host stretch (record { counts = booted; kept = kept; refused = false; script = script }) told drive
 
--- By a moment of a run that began at t nothing was told, or what the script asks for, as far as it had come: each value that was told is
--- what the drive had then. It says so too of a run that was stopped there.
+-- By a moment of a run that began at t nothing was told, or what the script asks for, as far as it had come: values that were told are those of
+-- blocks as the lines before left them, by the relation of lines alone. It says so too of a run that was stopped there.
 pub record IsToldBy (host : Host) (stretch : Stretch) (start : Counts) (script : Script) (t m : Moment) : Type 0 where
   pub bytes : List ℕ
   pub is_told : told m.tale ≡ told t.tale ++ bytes
@@ -239,11 +239,6 @@ pub record IsWholeRun (host : Host) (stretch : Stretch) (start end : Counts) (t 
   pub last : Kept
   pub left : IsLeft host status u last
   pub runs : IsRun host stretch start end (drive_content t) script more status last
-
--- a run that wanted memory for the table of drives: nothing was done
-pub record IsUnbegun (t : Tale) (tale : Option Tale) (status : RunStatus) : Type 0 where
-  pub wanting : status ≡ NoMemory
-  pub same : tale ≡ Some t
 
 -- a status that comes only where something failed, and those that this run never has
 abbrev pub HasStatusCause : Counts → Counts → RunStatus → Type 0

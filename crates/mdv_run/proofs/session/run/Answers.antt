@@ -23,7 +23,7 @@ returns-in-Ok-clause-used g c = λ drives home used.
 pub returns-in-Err-Usage-clause-usage : goal.returns-in-Err-Usage-clause-usage
 returns-in-Err-Usage-clause-usage g c = record {
   exactly = λ known. (λ is. c.in-Err-Usage.ensures.none (ap Err c.in-Err-Usage.field-0-is), λ none. refl);
-  untouched = λ is. (refl, refl);
+  untouched = λ none. (refl, refl);
 }
 
 pub returns-in-Err-Usage-clause-used : goal.returns-in-Err-Usage-clause-used
@@ -32,7 +32,7 @@ returns-in-Err-Usage-clause-used g c = λ drives home used. absurd (c.in-Err-Usa
 pub returns-in-Err-Memory-clause-used : goal.returns-in-Err-Memory-clause-used
 returns-in-Err-Memory-clause-used g c = λ drives home used.
     let host : Host = host_of drives home c.args.fresh in record {
-      runs = λ t is input left. inl (record { wanting = refl; same = is });
+      runs = λ t is input left. inl (record { wanting = refl; untouched = (refl, refl) });
       stands = λ input left. moments_of_tales g.B.Shelf g.met.B.Shelf.telling _ _ (RunMoment host (script_of input)) (kept_itself g.B.Shelf c.args.bench.now).goes
           (moments_none (RunMoment host (script_of input)) _ _ refl (λ t. nothing_run host (script_of input) t));
       tells = λ input left. fronts_quiet g.B.Shelf g.met.B.Shelf.telling host (counts (g.B.Shelf.faults c.args.bench.now) (g.I.Source.faults c.args.script.now)) (counts (g.B.Shelf.faults c.args.bench.now) (g.I.Source.faults c.args.script.now)) (script_of input) (between g.B.Shelf c.args.bench.now c.args.bench.now) _ _ (kept_itself g.B.Shelf c.args.bench.now).goes (moments_none (λ t m. told m ≡ told t) _ _ refl (λ t. refl));
