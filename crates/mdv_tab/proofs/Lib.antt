@@ -2,7 +2,10 @@ pub mod Columns
 pub mod Extents
 pub mod Gathering
 pub mod LineEnds
+pub mod Makings
 pub mod ReadingText
+pub mod OneOrder
 pub mod OneTab
+pub mod Queues
 pub mod Rows
 pub mod SetOf

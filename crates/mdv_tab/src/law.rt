@@ -1,5 +1,6 @@
 ghost use Rattle.std.specs.Prelude.{◌≡◌, ◌<◌, ◌⊎◌, ℕ, List, length};
 ghost use Rattle.mdv_tab.specs.declared.entry.Entry.{Entry};
+ghost use Rattle.mdv_tab.specs.Order.{IsOrderOfNeed};
 ghost use Rattle.mdv_tab.specs.Text.{IsTab, IsBadLine, HasTooMany};
 
 /// A text is read in one way: as one list of entries at most, or with one first line that is of no
@@ -13,4 +14,10 @@ pub fn reads_as_one_tab()
     ensures first { (text : List ℕ) (m n : ℕ) → IsBadLine text m → IsBadLine text n → m ≡ n }
     ensures either { (text : List ℕ) (n : ℕ) → IsBadLine text n →
         (65536 < length text) ⊎ HasTooMany text → ⊥ }
+{}
+
+/// Entries have one order of need at most.
+pub fn has_one_order()
+    ensures { (entries : List Entry) (a b : List ℕ) → IsOrderOfNeed entries a →
+        IsOrderOfNeed entries b → a ≡ b }
 {}

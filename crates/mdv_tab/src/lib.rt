@@ -6,7 +6,9 @@ mod form;
 mod group;
 mod law;
 mod lines;
+mod making;
 mod options;
+mod queue;
 mod read;
 mod stripe;
 #[cfg(test)]
@@ -15,6 +17,6 @@ mod tests;
 pub use entry::{Entry, Extent, MirrorOptions, RaidOptions, ReadFrom, Room, Row};
 pub use form::read_entry;
 pub use group::{MAX_TEXT, set_of};
-pub use law::reads_as_one_tab;
+pub use law::{has_one_order, reads_as_one_tab};
 pub use lines::is_ascii_line;
 pub use read::{MAX_ENTRIES, TabFault, read_tab};
