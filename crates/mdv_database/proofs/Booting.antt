@@ -1,6 +1,6 @@
 -- What a boot leaves: its look, and its adoption.
 use Rattle.std.proofs.Common.{◌≡◌, ℕ, ◌+◌, ◌<◌, ◌≤◌, ◌^◌, List, [], slice_index_or, refl, sym, ◌∙◌, subst, Option, Some, None, Ok}
-use Rattle.mdv_database.specs.Below.{Mark, Key, Geometry, KeptOutside, nowhere, Moments, Ends, IsSynced, Tale, last, PlaceAt, Slot, IsSpareSlot, greatest, Leaves, Claims, with_blocks, Table, IsSound, Adopts, drawn, NoCreation, NoChange, Site, IsFound, IsTableAt, Anything, Newest, GoesOnTo, IsOpened, ShowsNothing, IsAdopted, MayTake, Takes, Rewriting, Rewritten, Rewrites, adopted_newest}
+use Rattle.mdv_database.specs.Below.{Mark, Key, Geometry, KeptOutside, nowhere, Moments, Ends, IsSynced, Tale, last, PlaceAt, Slot, IsSpareSlot, greatest, Leaves, Claims, with_blocks, Table, IsSound, Adopts, drawn, NoCreation, Site, IsFound, IsTableAt, Anything, Newest, GoesOnTo, IsOpened, ShowsNothing, IsAdopted, MayTake, Takes, Rewriting, Rewritten, Rewrites, adopted_newest}
 use Rattle.mdv_shelf.proofs.Moments.{moments_after, moments_end, moments_none, moments_weaker, ends_both, ends_more}
 use Rattle.mdv_replica.proofs.Leaving.{image_synced, leaves_more}
 use Rattle.mdv_store_law.proofs.Adopting.{adoptions_go}
@@ -71,11 +71,11 @@ module _ (at : PlaceAt) (sizes : List ℕ) (found : Found) (fits : greatest foun
 -- where the number to draw is none, nothing is done
 pub adopt_still : (at : PlaceAt) (sizes : List ℕ) (found : Found) (told : Option Tale) → Moments (AdoptMoment at sizes found) told told
 adopt_still at sizes found told = moments_none (AdoptMoment at sizes found) told told refl
-    (λ t. record { quiet = quiet_same at t; goes = λ drives key was log covers known. ([], tt, record { tells = refl; issues = tt }, covers, tt) })
+    (λ t. record { quiet = quiet_same at t; goes = λ drives key was log covers known. ([], tt, record { tells = refl; issues = tt; writes = tt }, covers, tt) })
 
 pub adopt_spent : (at : PlaceAt) (sizes : List ℕ) (found : Found) (told : Option Tale) → Ends (AdoptEnds at sizes found Spent) told told
 adopt_spent at sizes found told t is =
-    (t, is, record { synced = tt; adopted = λ drives key was. tt; goes = λ drives key was log covers known. ([], tt, record { tells = refl; issues = tt }, covers, tt); refuses = λ so. refl })
+    (t, is, record { synced = tt; adopted = λ drives key was. tt; goes = λ drives key was log covers known. ([], tt, record { tells = refl; issues = tt; writes = tt }, covers, tt); refuses = λ so. refl })
 
 -- what a look leaves: the drive is synced, and no block was written
 pub record HasLooked (site : Site) (found : Option Found) (t u : Tale) : Type 0 where
@@ -151,7 +151,7 @@ module _ (drives : Geometry) (key : Key) (at : PlaceAt) (sizes : List ℕ) (foun
                 (λ newest both. subst (λ (c : ℕ → List ℕ). IsAdopted site_there c newest v) (same_contents at.drive.0 t u looked.unwritten) both.0) (ends.adopted drives key was);
             opened = if_adopted_weaker answer (λ newest. IsAdopted site_there (last u at.drive.0) newest v × IsOpened site_there newest v) (λ newest. IsOpened site_there newest v) (λ newest both. both.1) (ends.adopted drives key was);
             empty = λ same. absurd (never_empty answer is same);
-            goes = goes_from_more site_there Anything NoCreation NoChange (IsBootedTo answer) t u v looked.unwritten.kept (ends.goes drives key was);
+            goes = goes_from_more site_there Anything NoCreation [] (IsBootedTo answer) t u v looked.unwritten.kept (ends.goes drives key was);
             refuses = λ refused. subst (λ (w : Tale). KeptOutside nowhere t w) (sym (ends.refuses refused)) looked.unwritten.kept;
           }
 
@@ -163,7 +163,7 @@ module _ (drives : Geometry) (key : Key) (at : PlaceAt) (sizes : List ℕ) (foun
   adopted_moments old mid new sound = moments_after IsUnwritten (HasLooked site_there (Some found)) (AdoptMoment at sizes found) (BootMoment site_there) old mid new (look_moment site_there)
       (λ t u m was adopting. record {
         quiet = quiet_more at t u m (unwritten_quiet at t u was.unwritten) adopting.quiet;
-        goes = goes_from_more site_there Anything NoCreation NoChange Anything t u m was.unwritten.kept (adopting.goes drives key (found_in t u sound was));
+        goes = goes_from_more site_there Anything NoCreation [] Anything t u m was.unwritten.kept (adopting.goes drives key (found_in t u sound was));
       })
 
 module _ (site : Site) (old new : Option Tale) (looked : Moments IsUnwritten old new) where
@@ -183,7 +183,7 @@ module _ (site : Site) (old new : Option Tale) (looked : Moments IsUnwritten old
   empty_goes_on : (t u : Tale) → HasLooked site None t u → GoesOnTo site NoCreation (IsBootedTo Empty) t u
   empty_goes_on t u was log covers known =
       let after = kept_covers site log t u was.unwritten.kept covers in
-      ([], tt, record { tells = refl; issues = tt }, after, not_firm site log u after (nothing_found t u was))
+      ([], tt, record { tells = refl; issues = tt; writes = tt }, after, not_firm site log u after (nothing_found t u was))
 
   pub empty_ends : (failed : Type 0) → Ends (LookEnds site (Ok None)) old new → Ends (BootEnds failed site Empty) old new
   empty_ends failed ends t is =

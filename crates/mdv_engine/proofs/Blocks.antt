@@ -1,6 +1,7 @@
 -- What a read and a write of a volume's blocks come to.
+use Rattle.mdv_engine_law.specs.Line.{Ask, ToDo}
 use Rattle.std.proofs.Common.{◌≡◌, inl, inr, ℕ, List, [], ◌∷◌, Option, Err, refl, ◌∙◌, subst, arith}
-use Rattle.mdv_engine.specs.Below.{VolId, Refusal, IoFault, OutOfMemory, Moments, Ends, IsSettled, Settling, Tale, Read, Write, Deed, Wrote, Host, IsReady, Memory, AreBlocksAt, AreBlocksRefused, IsCarriedOut, kept_at, IsPlain, CarriedTo, CarryMoment, Knows}
+use Rattle.mdv_engine.specs.Below.{VolId, Refusal, IoFault, OutOfMemory, Moments, Ends, IsSettled, Settling, Tale, Read, Write, Wrote, Host, IsReady, Memory, AreBlocksAt, AreBlocksRefused, IsCarriedOut, kept_at, IsPlain, CarriedTo, CarryMoment, Knows}
 use Rattle.mdv_shelf.proofs.Moments.{moments_end, moments_none, moments_weaker, ends_both}
 use Rattle.mdv_engine_law.specs.declared.answer.Answer.TheVariants as outcome
 use Rattle.mdv_engine_law.proofs.Keeping.{are_put, may_be_put}
@@ -14,12 +15,12 @@ use Rattle.mdv_engine.specs.Ends.{ArePutting, AreWritten}
 use Rattle.mdv_engine.specs.Engine.{HasBlocksCause, HasReadCause, IsWell}
 
 -- a line that left all as it was
-module _ (host : Host) (asked : List Deed) (memory : Memory) (a b : Option Tale) (same : b ≡ a) where
-  pub moments_still : Moments (CarryMoment host asked memory) a b
-  moments_still = moments_none (CarryMoment host asked memory) a b same (carry_none host asked memory)
+module _ (host : Host) (ask : Ask) (memory : Memory) (a b : Option Tale) (same : b ≡ a) where
+  pub moments_still : Moments (CarryMoment host ask memory) a b
+  moments_still = moments_none (CarryMoment host ask memory) a b same (carry_none host ask memory)
 
-  pub refused_carried : (r : Refusal) → Ends (CarriedTo host asked memory (outcome.Refused r) memory) a b
-  refused_carried r t start = (t, same ∙ start, refused_none host asked memory r t)
+  pub refused_carried : (r : Refusal) → Ends (CarriedTo host ask memory (outcome.Refused r) memory) a b
+  refused_carried r t start = (t, same ∙ start, refused_none host ask memory r t)
 
 module _ (host : Host) (memory : Memory) (volume : VolId) (at count : ℕ) where
   -- a read that isn't told
@@ -55,8 +56,8 @@ torn_of shelf old new engine volume at value r written is =
 
 -- one block that is written
 module _ (host : Host) (sizes : List ℕ) (ready : IsReady host sizes) (memory : Memory) (well : IsWell host memory) (volume : VolId) (at : ℕ) (value : List ℕ) (a b : Option Tale) where
-  abbrev wrote : List Deed
-  wrote = Wrote volume at (value ∷ []) ∷ []
+  abbrev wrote : Ask
+  wrote = ToDo (Wrote volume at (value ∷ []))
 
   module _ (block : ℕ) (there : AreBlocksAt host memory volume at 1 block) (settling : Moments (Settling 0 block (value ∷ [])) a b) where
     pub write_moments : Moments (CarryMoment host wrote memory) a b

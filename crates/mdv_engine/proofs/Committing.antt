@@ -1,6 +1,7 @@
 -- What a commit of the host's next table leaves, told of the host.
+use Rattle.mdv_engine_law.specs.Line.{ToDo}
 use Rattle.std.proofs.Common.{◌≡◌, ◌≤◌, ◌<◌, ◌+◌, ◌^◌, inl, inr, ℕ, List, [], ◌∷◌, length, Option, Some, refl, sym, subst, ◌∙◌}
-use Rattle.mdv_engine.specs.Below.{VolId, SliceName, Refusal, NoSuchSlice, NameTaken, WrongKind, SliceInUse, ReplicaFull, OutOfMemory, place_of, Geometry, record_text, PlaceAt, Moments, Ends, Tale, Change, MakeStripe, Table, IsRefused, IsOfGeometry, IsWithNewest, Log, IsMade, IsThisChange, NoCreation, Site, Newest, Anything, GoesFrom, IsOpened, next_newest, Changed, IsCommitted, IsQuiet, MayCommit, Answer, Host, IsReady, site_of, Memory, IsCarriedOut, IsChanged, kept_at, record_room, IsPlain, CarriedTo, CarryMoment, Knows}
+use Rattle.mdv_engine.specs.Below.{VolId, SliceName, Refusal, NoSuchSlice, NameTaken, WrongKind, SliceInUse, ReplicaFull, OutOfMemory, place_of, Geometry, record_text, PlaceAt, Moments, Ends, Tale, Change, MakeStripe, Table, IsRefused, IsOfGeometry, IsWithNewest, Log, IsMade, NoCreation, Site, Newest, Anything, GoesFrom, IsOpened, next_newest, Changed, IsCommitted, IsQuiet, MayCommit, Answer, Host, IsReady, site_of, Memory, IsCarriedOut, IsChanged, kept_at, record_room, IsPlain, CarriedTo, CarryMoment, Knows}
 use Rattle.mdv_shelf.proofs.Moments.{moments_both, moments_weaker, moments_end, some_is, ends_both}
 use Rattle.mdv_words.specs.declared.command.Command.TheVariants as command
 use Rattle.mdv_engine_law.specs.declared.answer.Answer.TheVariants as outcome
@@ -78,10 +79,10 @@ module _ (host : Host) (sizes : List ℕ) (ready : IsReady host sizes) (at : Pla
   may t now = record { sound = ready.sound; is = placed; made = changed_is.made; opened = now }
 
   abbrev pub Goes : (Log → Type 0) → Tale → Tale → Type 0
-  Goes After t m = MayCommit site newest (Some change) next t → GoesFrom site (IsWithNewest site newest) NoCreation (IsThisChange (Some change)) After t m
+  Goes After t m = MayCommit site newest (Some change) next t → GoesFrom site (IsWithNewest site newest) NoCreation (change ∷ []) After t m
 
   commits : (After : Log → Type 0) (t m : Tale) → Goes After t m → Commits host newest change After t m
-  commits After t m goes now = to_host (λ s. MayCommit s newest (Some change) next t → GoesFrom s (IsWithNewest s newest) NoCreation (IsThisChange (Some change)) After t m) goes (may t now)
+  commits After t m goes now = to_host (λ s. MayCommit s newest (Some change) next t → GoesFrom s (IsWithNewest s newest) NoCreation (change ∷ []) After t m) goes (may t now)
 
   commits_to : (t m : Tale) → Goes (IsCommitted newest (Some change) next) t m → Commits host newest change (IsCommittedTo newest change next) t m
   commits_to t m goes now log covers known =
@@ -89,8 +90,8 @@ module _ (host : Host) (sizes : List ℕ) (ready : IsReady host sizes) (at : Pla
       (went.0, went.1, went.2, went.3, (went.4.is_newest, λ other same. went.4.tellable other same))
 
   module _ (a b : Option Tale) (quiet : Moments (IsQuiet at) a b) where
-    pub changing_moments : Moments (Goes Anything) a b → Moments (CarryMoment host (Changed change ∷ []) memory) a b
-    changing_moments goes = moments_weaker _ (CarryMoment host (Changed change ∷ []) memory) a b
+    pub changing_moments : Moments (Goes Anything) a b → Moments (CarryMoment host (ToDo (Changed change)) memory) a b
+    changing_moments goes = moments_weaker _ (CarryMoment host (ToDo (Changed change)) memory) a b
         (λ t m both. changing_moment host memory newest opened change t m (quiet_here host sizes ready at at_is t m both.0) both.0.quiet (commits Anything t m both.1))
         (moments_both (IsQuiet at) (Goes Anything) a b quiet goes)
 
@@ -111,7 +112,7 @@ module _ (host : Host) (sizes : List ℕ) (ready : IsReady host sizes) (at : Pla
         ))
         (moments_end (IsQuiet at) a b quiet) opens
 
-    pub committed_carried : Ends Opens a b → Ends (Goes (IsCommitted newest (Some change) next)) a b → Ends (CarriedTo host (Changed change ∷ []) memory outcome.Ok with_next) a b
+    pub committed_carried : Ends Opens a b → Ends (Goes (IsCommitted newest (Some change) next)) a b → Ends (CarriedTo host (ToDo (Changed change)) memory outcome.Ok with_next) a b
     committed_carried opens goes =
         ends_both _ _ _ a b
         (λ t u q two. changed host memory newest opened change t u (quiet_here host sizes ready at at_is t u q) next with_next refl
@@ -124,9 +125,9 @@ module _ (host : Host) (sizes : List ℕ) (ready : IsReady host sizes) (at : Pla
     lost_answer failed after so fits t start =
         (let end = quiet t start in (end.0, end.1, λ known. inr (record { newest = newest; opened = opened; next = next; changed = changed_is; fits = fits }, inr (inr (so, refl)))))
 
-    pub lost_carried : (after : Memory) → Moments (Goes Anything) a b → Ends (CarriedTo host (Changed change ∷ []) memory outcome.Panic after) a b
+    pub lost_carried : (after : Memory) → Moments (Goes Anything) a b → Ends (CarriedTo host (ToDo (Changed change)) memory outcome.Panic after) a b
     lost_carried after goes =
-        ends_both (IsQuiet at) (Goes Anything) (CarriedTo host (Changed change ∷ []) memory outcome.Panic after) a b
+        ends_both (IsQuiet at) (Goes Anything) (CarriedTo host (ToDo (Changed change)) memory outcome.Panic after) a b
         (λ t u q g. changed_or_lost host memory newest opened change t u (quiet_here host sizes ready at at_is t u q) after (commits Anything t u g))
         (moments_end (IsQuiet at) a b quiet) (moments_end (Goes Anything) a b goes)
 

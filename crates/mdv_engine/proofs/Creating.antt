@@ -1,5 +1,6 @@
 -- What a creation of the host's database leaves, told of the host.
-use Rattle.std.proofs.Common.{◌≡◌, ◌≤◌, ◌+◌, inl, inr, ℕ, false, List, [], ◌∷◌, Option, Some, None, refl, subst, ap, ◌∙◌}
+use Rattle.mdv_engine_law.specs.Line.{ToDo}
+use Rattle.std.proofs.Common.{◌≡◌, ◌≤◌, ◌+◌, inl, inr, ℕ, false, List, Option, Some, None, refl, subst, ap, ◌∙◌}
 use Rattle.mdv_engine.specs.Below.{Identity, IoFault, OutOfMemory, place_of, PlaceAt, Moments, Ends, Tale, IsCreated, Log, IsThis, is_firm, Site, Newest, Anything, GoesOnTo, IsOpened, ShowsNothing, Created, IsQuiet, IsSafe, first_newest, first_table, Host, IsReady, site_of, identity_of, Memory, IsCreation, kept_at, CarriedTo, CarryMoment, Knows}
 use Rattle.mdv_shelf.proofs.Moments.{moments_both, moments_weaker, moments_end, ends_both}
 use Rattle.mdv_engine_law.specs.declared.answer.Answer.TheVariants as outcome
@@ -35,8 +36,8 @@ module _ (host : Host) (sizes : List ℕ) (ready : IsReady host sizes) (at : Pla
   makes : (After : Log → Type 0) (t m : Tale) → Goes After t m → Makes host memory After t m
   makes After t m goes = to_host (λ s. ShowsNothing s t → GoesOnTo s (IsThis identity) After t m) goes
 
-  pub making_moments : Moments (Goes Anything) a b → Moments (CarryMoment host (Created ∷ []) memory) a b
-  making_moments goes = moments_weaker _ (CarryMoment host (Created ∷ []) memory) a b
+  pub making_moments : Moments (Goes Anything) a b → Moments (CarryMoment host (ToDo Created) memory) a b
+  making_moments goes = moments_weaker _ (CarryMoment host (ToDo Created) memory) a b
       (λ t m both. making_moment host memory room none up t m (quiet_here host sizes ready at at_is t m both.0) both.0.quiet (makes Anything t m both.1))
       (moments_both (IsQuiet at) (Goes Anything) a b quiet goes)
 
@@ -50,7 +51,7 @@ module _ (host : Host) (sizes : List ℕ) (ready : IsReady host sizes) (at : Pla
         ))
         (moments_end (IsQuiet at) a b quiet) safe
 
-  pub made_carried : (newest : Newest) (next : Memory) → newest ≡ first_newest at → next ≡ with_new host memory → Ends (λ t u. IsOpened site newest u) a b → Ends (Goes (IsCreated site identity newest.table)) a b → Ends (CarriedTo host (Created ∷ []) memory outcome.Ok next) a b
+  pub made_carried : (newest : Newest) (next : Memory) → newest ≡ first_newest at → next ≡ with_new host memory → Ends (λ t u. IsOpened site newest u) a b → Ends (Goes (IsCreated site identity newest.table)) a b → Ends (CarriedTo host (ToDo Created) memory outcome.Ok next) a b
   made_carried newest next is next_is opened goes =
       ends_both _ _ _ a b
       (λ t u q two. made host memory room none up t u (quiet_here host sizes ready at at_is t u q) (first_table (site_of host).at.place) next (ap (λ (m : Memory). m.opened) next_is)
@@ -73,7 +74,7 @@ module _ (host : Host) (sizes : List ℕ) (ready : IsReady host sizes) (at : Pla
         )))
         (moments_end (IsQuiet at) a b quiet) nothing
 
-    pub unmade_carried : Ends (Goes (λ lg. is_firm lg ≡ false)) a b → Ends (CarriedTo host (Created ∷ []) memory (outcome.Refused IoFault) (begun memory)) a b
+    pub unmade_carried : Ends (Goes (λ lg. is_firm lg ≡ false)) a b → Ends (CarriedTo host (ToDo Created) memory (outcome.Refused IoFault) (begun memory)) a b
     unmade_carried goes =
         ends_both _ _ _ a b
         (λ t u q two. unmade host memory room none up t u (quiet_here host sizes ready at at_is t u q) (begun memory) none (to_host (λ s. ShowsNothing s t → ShowsNothing s u) two.0) (makes (λ lg. is_firm lg ≡ false) t u two.1))
@@ -87,9 +88,9 @@ module _ (host : Host) (sizes : List ℕ) (ready : IsReady host sizes) (at : Pla
       (λ t u q s known. inr (inr (so, inr (refl, to_host (λ x. ShowsReplica x identity u) s (last u) (last_image u)))))
       (moments_end (IsQuiet at) a b quiet) shows
 
-  pub lost_carried : (next : Memory) → Moments (Goes Anything) a b → Ends (CarriedTo host (Created ∷ []) memory outcome.Panic next) a b
+  pub lost_carried : (next : Memory) → Moments (Goes Anything) a b → Ends (CarriedTo host (ToDo Created) memory outcome.Panic next) a b
   lost_carried next goes =
-      ends_both (IsQuiet at) (Goes Anything) (CarriedTo host (Created ∷ []) memory outcome.Panic next) a b
+      ends_both (IsQuiet at) (Goes Anything) (CarriedTo host (ToDo Created) memory outcome.Panic next) a b
       (λ t u q g. made_or_lost host memory room none up t u (quiet_here host sizes ready at at_is t u q) next (makes Anything t u g))
       (moments_end (IsQuiet at) a b quiet) (moments_end (Goes Anything) a b goes)
 
@@ -98,5 +99,5 @@ module _ (host : Host) (memory : Memory) (a b : Option Tale) (same : b ≡ a) wh
   pub unbegun_creation : (failed : Type 0) → Ends (λ t u. Knows host memory t → IsCreation failed host (kept_at memory t) (outcome.Refused OutOfMemory) (kept_at (begun memory) u)) a b
   unbegun_creation failed t start = (t, same ∙ start, λ known. inr (inl (refl, record { memory = refl; content = λ block. refl })))
 
-  pub unbegun_carried : Ends (CarriedTo host (Created ∷ []) memory (outcome.Refused OutOfMemory) (begun memory)) a b
-  unbegun_carried t start = (t, same ∙ start, refused_still host (Created ∷ []) memory (begun memory) t refl refl OutOfMemory)
+  pub unbegun_carried : Ends (CarriedTo host (ToDo Created) memory (outcome.Refused OutOfMemory) (begun memory)) a b
+  unbegun_carried t start = (t, same ∙ start, refused_still host (ToDo Created) memory (begun memory) t refl refl OutOfMemory)

@@ -1,5 +1,6 @@
 -- The end of a command and of a boot, put together, and what the answer says of a command that ended before anything was done.
-use Rattle.std.proofs.Common.{◌≡◌, ◌≤◌, ◌+◌, ℕ, zero, suc, List, [], ◌∷◌, Option, None, Bool, Contains, Err, refl, sym, subst, arith}
+use Rattle.mdv_engine_law.specs.Line.{Ask, ToDo}
+use Rattle.std.proofs.Common.{◌≡◌, ◌≤◌, ◌+◌, ℕ, zero, suc, [], ◌∷◌, Option, None, Bool, Contains, Err, refl, sym, subst, arith}
 use Rattle.mdv_shelf.proofs.Moments.{ends_both}
 use Rattle.mdv_words.specs.declared.command.Command.{Command}
 use Rattle.mdv_engine.specs.Below.{Refusal, Ends, Tale, Deed, Created, Answer, BootRefusal, Host, Memory, kept_at, unbooted, asked_by, IsCarriedOut, IsCreation, IsRebooted, adopted, empty, down, lost, spent, wanting, IsPlain, BootedTo, CarriedTo, Knows}
@@ -18,14 +19,14 @@ command_ends failed old command answer new a b =
 
 pub creation_ends : (failed : Type 0) (old : Engine) (answer : Answer) (new : Memory) (a b : Option Tale)
     → Ends (λ t u. Knows old.host old.state t → IsCreation failed old.host (kept_at old.state t) answer (kept_at new u)) a b
-    → Ends (CarriedTo old.host (Created ∷ []) old.state answer new) a b → Ends (CreationEnd failed old answer new) a b
+    → Ends (CarriedTo old.host (ToDo Created) old.state answer new) a b → Ends (CreationEnd failed old answer new) a b
 creation_ends failed old answer new a b =
-    ends_both (λ t u. Knows old.host old.state t → IsCreation failed old.host (kept_at old.state t) answer (kept_at new u)) (CarriedTo old.host (Created ∷ []) old.state answer new) (CreationEnd failed old answer new) a b
+    ends_both (λ t u. Knows old.host old.state t → IsCreation failed old.host (kept_at old.state t) answer (kept_at new u)) (CarriedTo old.host (ToDo Created) old.state answer new) (CreationEnd failed old answer new) a b
     (λ t u answered carried. record { answered = answered; carried = carried })
 
 -- a refusal before anything was done
-pub refused_answer : (failed : Type 0) (asked : List Deed) (old : Engine) → IsWell old.host old.state → (r : Refusal) → IsPlain r → HasAnswered failed asked old (outcome.Refused r) old
-refused_answer failed asked old well r plain = record { plain = plain; cause = tt; awake = λ on. absurd on; free = λ on has. absurd on; host = refl; well = well; begun = at_most old.state.begun }
+pub refused_answer : (failed : Type 0) (ask : Ask) (old : Engine) → IsWell old.host old.state → (r : Refusal) → IsPlain r → HasAnswered failed ask old (outcome.Refused r) old
+refused_answer failed ask old well r plain = record { plain = plain; cause = tt; awake = λ on. absurd on; free = λ on has. absurd on; host = refl; well = well; begun = at_most old.state.begun }
   where
     at_most : (n : ℕ) → n ≤ n + 1
     at_most n = omega arith

@@ -1,6 +1,6 @@
 -- What a boot, a creation and a commit of the database say, part by part.
-use Rattle.std.proofs.Common.{◌≡◌, ℕ, List, Option, Some, Ok, Err, Result, sym, subst}
-use Rattle.mdv_engine.specs.Below.{Identity, PlaceAt, KeptOutside, nowhere, Moments, Ends, IsSynced, Tale, last, IsPlaceOf, Geometry, Key, Change, Table, NoCreation, IsThis, IsThisChange, Anything, Site, Newest, GoesFrom, GoesOn, GoesOnTo, IsOpened, IsWithNewest, ShowsNothing, IsAdopted, IsQuiet, IsSafe, IsCommitted, MayCommit, first_newest, first_table, next_newest}
+use Rattle.std.proofs.Common.{◌≡◌, ℕ, List, Option, Some, Ok, Err, Result, sym, subst, []}
+use Rattle.mdv_engine.specs.Below.{Identity, PlaceAt, KeptOutside, nowhere, Moments, Ends, IsSynced, Tale, last, IsPlaceOf, Geometry, Key, Change, Table, NoCreation, IsThis, with_asked, Anything, Site, Newest, GoesFrom, GoesOn, GoesOnTo, IsOpened, IsWithNewest, ShowsNothing, IsAdopted, IsQuiet, IsSafe, IsCommitted, MayCommit, first_newest, first_table, next_newest}
 use Rattle.mdv_store_law.specs.Going.{created_head}
 use Rattle.mdv_store_law.specs.Standing.{ShowsReplica}
 use Rattle.mdv_shelf.proofs.Moments.{moments_weaker}
@@ -86,13 +86,13 @@ module _ (at : PlaceAt) (sizes : List ℕ) (newest : Newest) (next : Table) (a b
     abbrev here : Site
     here = site_of drives key at sizes
 
-    pub commit_goes : Moments (CommitMoment at sizes newest next) a b → Moments (λ t m. MayCommit here newest asked next t → GoesFrom here (IsWithNewest here newest) NoCreation (IsThisChange asked) Anything t m) a b
+    pub commit_goes : Moments (CommitMoment at sizes newest next) a b → Moments (λ t m. MayCommit here newest asked next t → GoesFrom here (IsWithNewest here newest) NoCreation (with_asked asked []) Anything t m) a b
     commit_goes moments =
-        moments_weaker (CommitMoment at sizes newest next) (λ t m. MayCommit here newest asked next t → GoesFrom here (IsWithNewest here newest) NoCreation (IsThisChange asked) Anything t m) a b (λ t m is. is.goes drives key asked) moments
+        moments_weaker (CommitMoment at sizes newest next) (λ t m. MayCommit here newest asked next t → GoesFrom here (IsWithNewest here newest) NoCreation (with_asked asked []) Anything t m) a b (λ t m is. is.goes drives key asked) moments
 
     pub commit_opened : Ends (CommitDone at sizes newest next) a b → Ends (λ t u. MayCommit here newest asked next t → IsOpened here (next_newest newest next) u) a b
     commit_opened ends = ends_of (CommitDone at sizes newest next) (λ t u. MayCommit here newest asked next t → IsOpened here (next_newest newest next) u) a b (λ t u is. is.opened drives key asked) ends
 
-    pub commit_goes_to : Ends (CommitDone at sizes newest next) a b → Ends (λ t u. MayCommit here newest asked next t → GoesFrom here (IsWithNewest here newest) NoCreation (IsThisChange asked) (IsCommitted newest asked next) t u) a b
+    pub commit_goes_to : Ends (CommitDone at sizes newest next) a b → Ends (λ t u. MayCommit here newest asked next t → GoesFrom here (IsWithNewest here newest) NoCreation (with_asked asked []) (IsCommitted newest asked next) t u) a b
     commit_goes_to ends =
-        ends_of (CommitDone at sizes newest next) (λ t u. MayCommit here newest asked next t → GoesFrom here (IsWithNewest here newest) NoCreation (IsThisChange asked) (IsCommitted newest asked next) t u) a b (λ t u is. is.goes drives key asked) ends
+        ends_of (CommitDone at sizes newest next) (λ t u. MayCommit here newest asked next t → GoesFrom here (IsWithNewest here newest) NoCreation (with_asked asked []) (IsCommitted newest asked next) t u) a b (λ t u is. is.goes drives key asked) ends

@@ -39,7 +39,7 @@ pub use Rattle.mdv_shelf.specs.Settle.{IsSettled, IsSynced, Settling}
 pub use Rattle.mdv_shelf.specs.Tale.{Tale, last, told}
 pub use Rattle.mdv_status.specs.Values.{values_reply}
 pub use Rattle.mdv_store_law.specs.Going.{IsCreated, IsWithNewest}
-pub use Rattle.mdv_store_law.specs.Log.{IsMade, IsThis, IsThisChange, Log, NoCreation, is_firm}
+pub use Rattle.mdv_store_law.specs.Log.{IsMade, IsThis, with_asked, Log, NoCreation, is_firm}
 pub use Rattle.mdv_store_law.specs.Site.{IsFound, IsTableAt, Newest, Site, area_of}
 pub use Rattle.mdv_store_law.specs.Standing.{Anything, GoesFrom, GoesOn, GoesOnTo, IsNewestIn, IsOpened, ShowsNothing}
 pub use Rattle.mdv_store_law.specs.Steps.{IsAdopted, next_newest}

@@ -1,11 +1,12 @@
 -- What the calls of an engine say of their answers, and of the drive in the end.
-use Rattle.std.specs.Prelude.{◌≡◌, ◌≤◌, ◌+◌, ℕ, List, [], ◌∷◌, Some, None, Result, Ok, Err, IfOk, IfErr, OnOk, Contains, length}
+use Rattle.mdv_engine_law.specs.Line.{Ask, ToDo, deeds}
+use Rattle.std.specs.Prelude.{◌≡◌, ◌≤◌, ◌+◌, ℕ, List, Some, None, Result, Ok, Err, IfOk, IfErr, OnOk, Contains, length}
 use Rattle.mdv_shelf.specs.Between.{TookBetween}
 use Rattle.mdv_shelf.specs.Shelves.{AtEachMoment, AtEachTale, AtEnd, DriveFailed, EndsTold, MadeCalls, MadeCallsAtMost}
 use Rattle.mdv_shelf.specs.declared.shelf.Shelf.{Ghosts}
 use Rattle.mdv_words.specs.declared.command.Command.{Command}
 use Rattle.mdv_words.specs.declared.command.Line.TheVariants as words
-use Rattle.mdv_engine.specs.Below.{VolId, Refusal, IoFault, KeptOutside, nowhere, IsSettled, Settling, Tale, last, Change, Table, Changed, Created, Deed, Answer, BootRefusal, Host, Kept, Memory, kept_at, unbooted, asked_by, blocks_of, AreBlocksAt, AreBlocksRefused, IsCarriedOut, IsCreation, IsRebooted, IsPlainAnswer, BootedTo, CarryEnd, Executed, Knows, TellsFront, TurnMoment, Turned}
+use Rattle.mdv_engine.specs.Below.{VolId, Refusal, IoFault, KeptOutside, nowhere, IsSettled, Settling, Tale, last, Change, Table, Changed, Created, Answer, BootRefusal, Host, Kept, Memory, kept_at, unbooted, asked_by, blocks_of, AreBlocksAt, AreBlocksRefused, IsCarriedOut, IsCreation, IsRebooted, IsPlainAnswer, BootedTo, CarryEnd, Executed, Knows, TellsFront, TurnMoment, Turned}
 use Rattle.mdv_engine_law.specs.declared.answer.Answer.TheVariants as outcome
 use Rattle.mdv_engine_law.specs.declared.answer.Reply.{Reply}
 use Rattle.mdv_engine_law.specs.declared.answer.Reply.TheVariants as reply
@@ -22,32 +23,32 @@ CommandEnd failed old command answer new t u = CarryEnd (λ kept a next. IsCarri
 
 -- the end of a creation that may begin
 abbrev pub CreationEnd : Type 0 → Engine → Answer → Memory → Tale → Tale → Type 0
-CreationEnd failed old answer new t u = CarryEnd (IsCreation failed old.host) old.host (Created ∷ []) old.state answer new t u
+CreationEnd failed old answer new t u = CarryEnd (IsCreation failed old.host) old.host (ToDo Created) old.state answer new t u
 
 -- the table that the change makes of the engine's, and the end of its commit
 abbrev pub IsNext : Engine → Change → Table → Type 0
 IsNext engine change next = IsNextTable engine.host engine.state change next
 
 abbrev pub CommitEnd : Type 0 → Engine → Change → Answer → Memory → Tale → Tale → Type 0
-CommitEnd failed old change answer new t u = CarryEnd (λ kept a next. IsCommit failed old.host kept change a next) old.host (Changed change ∷ []) old.state answer new t u
+CommitEnd failed old change answer new t u = CarryEnd (λ kept a next. IsCommit failed old.host kept change a next) old.host (ToDo (Changed change)) old.state answer new t u
 
 abbrev pub CommitEnds : {S : Type 0} → Ghosts S → S → S → Engine → Change → Answer → Memory → Type 0
 CommitEnds shelf from to old change answer new = AtEnd shelf (CommitEnd (DriveFailed shelf from to 0) old change answer new) from to
 
 -- What an answer says, whatever the shelf tells: its text is a reply's, it has its cause, a deed is accepted only where the last boot read
 -- the drive, and a creation only where no database is open; and what the engine keeps.
-pub record HasAnswered (failed : Type 0) (asked : List Deed) (old : Engine) (answer : Answer) (new : Engine) : Type 0 where
+pub record HasAnswered (failed : Type 0) (ask : Ask) (old : Engine) (answer : Answer) (new : Engine) : Type 0 where
   pub plain : IsPlainAnswer answer
   pub cause : HasAnswerCause failed answer
   pub awake : IsAccepted answer → IsAwake old.state
-  pub free : IsAccepted answer → Contains asked Created → old.state.opened ≡ None
+  pub free : IsAccepted answer → Contains (deeds ask) Created → old.state.opened ≡ None
   pub host : new.host ≡ old.host
   pub well : IsWell old.host new.state
   pub begun : new.state.begun ≤ old.state.begun + 1
 
 -- Each moment of a line: how the drive stands, and what was told of its reply.
-pub record LineMoments {S : Type 0} (shelf : Ghosts S) (host : Host) (asked : List Deed) (old : Memory) (Comes : Type 0 → Kept → Answer → Kept → Type 0) (from to : S) : Type 0 where
-  pub each : AtEachTale shelf (TurnMoment host asked old) from to
+pub record LineMoments {S : Type 0} (shelf : Ghosts S) (host : Host) (ask : Ask) (old : Memory) (Comes : Type 0 → Kept → Answer → Kept → Type 0) (from to : S) : Type 0 where
+  pub each : AtEachTale shelf (TurnMoment host ask old) from to
   pub fronts : AtEachMoment shelf (λ t m. Knows host old t.tale → TellsFront Comes old t m) from to
 
 -- what a command comes to

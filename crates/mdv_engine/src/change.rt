@@ -7,6 +7,7 @@ ghost use Rattle.mdv_table.specs.Table.{IsOfGeometry};
 ghost use Rattle.mdv_words.specs.declared.command.Command.TheVariants as command;
 ghost use Rattle.mdv_store_law.specs.Log.{IsMade};
 ghost use Rattle.mdv_history.specs.History.{Changed};
+ghost use Rattle.mdv_engine_law.specs.Line.{ToDo};
 ghost use Rattle.mdv_engine.specs.Counts.{IsCommandCounted};
 ghost use Rattle.mdv_shelf.specs.Shelves.{AtEachTale, AtEnd, DriveFailed, Kept};
 ghost use Rattle.mdv_engine_law.specs.Home.{IsReady};
@@ -37,9 +38,9 @@ impl Engine {
         requires ready { IsReady self.old.host (S.sizes shelf.old) }
         requires well { IsWell self.old.host self.old.state }
         requires numbered { volume.0 < 8192 }
-        ensures moments { AtEachTale S.Shelf (CarryMoment self.old.host (Changed (Change.MakeStripe volume slice) ∷ []) self.old.state) shelf.old shelf.new }
+        ensures moments { AtEachTale S.Shelf (CarryMoment self.old.host (ToDo (Changed (Change.MakeStripe volume slice))) self.old.state) shelf.old shelf.new }
         ensures end { AtEnd S.Shelf (CommandEnd (DriveFailed S.Shelf shelf.old shelf.new 0) self.old (command.MakeStripe volume slice) result self.new) shelf.old shelf.new }
-        ensures answer { HasAnswered (DriveFailed S.Shelf shelf.old shelf.new 0) (Changed (Change.MakeStripe volume slice) ∷ []) self.old result self.new }
+        ensures answer { HasAnswered (DriveFailed S.Shelf shelf.old shelf.new 0) (ToDo (Changed (Change.MakeStripe volume slice))) self.old result self.new }
         ensures counted { IsCommandCounted S.tale S.calls S.written shelf.old shelf.new 6 4096 result }
         ensures kept { Kept S.Shelf shelf.old shelf.new }
     {
@@ -74,9 +75,9 @@ impl Engine {
         requires ready { IsReady self.old.host (S.sizes shelf.old) }
         requires well { IsWell self.old.host self.old.state }
         requires placed { IfSome self.old.state.opened (λ newest. IsTableOf self.old.host newest.blocks next) }
-        ensures moments { (change : AnyChange) → IsNext self.old change next → AtEachTale S.Shelf (CarryMoment self.old.host (Changed change ∷ []) self.old.state) shelf.old shelf.new }
+        ensures moments { (change : AnyChange) → IsNext self.old change next → AtEachTale S.Shelf (CarryMoment self.old.host (ToDo (Changed change)) self.old.state) shelf.old shelf.new }
         ensures end { (change : AnyChange) → IsNext self.old change next → CommitEnds S.Shelf shelf.old shelf.new self.old change result self.new.state }
-        ensures answer { (change : AnyChange) → HasAnswered (DriveFailed S.Shelf shelf.old shelf.new 0) (Changed change ∷ []) self.old result self.new }
+        ensures answer { (change : AnyChange) → HasAnswered (DriveFailed S.Shelf shelf.old shelf.new 0) (ToDo (Changed change)) self.old result self.new }
         ensures counted { IsCommandCounted S.tale S.calls S.written shelf.old shelf.new 6 4096 result }
         ensures kept { Kept S.Shelf shelf.old shelf.new }
     {

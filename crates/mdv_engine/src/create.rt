@@ -5,7 +5,7 @@ ghost use Rattle.mdv_engine.specs.Counts.{IsCommandCounted};
 ghost use Rattle.mdv_engine.specs.Engine.{IsWell};
 ghost use Rattle.mdv_shelf.specs.Shelves.{AtEachTale, AtEnd, DriveFailed, Kept};
 ghost use Rattle.mdv_engine_law.specs.Home.{IsReady};
-ghost use Rattle.mdv_engine_law.specs.Line.{IsCreateRefused, MayCreate};
+ghost use Rattle.mdv_engine_law.specs.Line.{IsCreateRefused, MayCreate, ToDo};
 ghost use Rattle.mdv_engine_law.specs.Standing.{CarryMoment};
 ghost use Rattle.mdv_engine.specs.Ends.{CommandEnd, CreationEnd, HasAnswered};
 
@@ -33,9 +33,9 @@ impl Engine {
         requires ready { IsReady self.old.host (S.sizes shelf.old) }
         requires well { IsWell self.old.host self.old.state }
         requires begun { self.old.state.begun + 1 < 2 ^ 32 }
-        ensures moments { AtEachTale S.Shelf (CarryMoment self.old.host (Created ∷ []) self.old.state) shelf.old shelf.new }
+        ensures moments { AtEachTale S.Shelf (CarryMoment self.old.host (ToDo Created) self.old.state) shelf.old shelf.new }
         ensures end { AtEnd S.Shelf (CommandEnd (DriveFailed S.Shelf shelf.old shelf.new 0) self.old (Create slice force) result self.new) shelf.old shelf.new }
-        ensures answer { HasAnswered (DriveFailed S.Shelf shelf.old shelf.new 0) (Created ∷ []) self.old result self.new }
+        ensures answer { HasAnswered (DriveFailed S.Shelf shelf.old shelf.new 0) (ToDo Created) self.old result self.new }
         ensures counted { IsCommandCounted S.tale S.calls S.written shelf.old shelf.new 12 8 result }
         ensures kept { Kept S.Shelf shelf.old shelf.new }
     {
@@ -81,9 +81,9 @@ impl Engine {
         requires room { 8208 ≤ self.old.host.home.blocks }
         requires none { self.old.state.opened ≡ None }
         requires up { self.old.state.down ≡ false }
-        ensures moments { AtEachTale S.Shelf (CarryMoment self.old.host (Created ∷ []) self.old.state) shelf.old shelf.new }
+        ensures moments { AtEachTale S.Shelf (CarryMoment self.old.host (ToDo Created) self.old.state) shelf.old shelf.new }
         ensures end { AtEnd S.Shelf (CreationEnd (DriveFailed S.Shelf shelf.old shelf.new 0) self.old result self.new.state) shelf.old shelf.new }
-        ensures answer { HasAnswered (DriveFailed S.Shelf shelf.old shelf.new 0) (Created ∷ []) self.old result self.new }
+        ensures answer { HasAnswered (DriveFailed S.Shelf shelf.old shelf.new 0) (ToDo Created) self.old result self.new }
         ensures counted { IsCommandCounted S.tale S.calls S.written shelf.old shelf.new 12 8 result }
         ensures kept { Kept S.Shelf shelf.old shelf.new }
     {

@@ -2,7 +2,7 @@ ghost use Rattle.std.specs.Prelude.{◌<◌, ◌+◌, ◌^◌, [], List};
 ghost use Rattle.mdv_shelf.specs.Shelves.{AtEachTale, AtEnd, DriveFailed, GivingFailed, Kept};
 ghost use Rattle.mdv_history.specs.History.{Deed};
 ghost use Rattle.mdv_engine_law.specs.Home.{IsReady};
-ghost use Rattle.mdv_engine_law.specs.Line.{IsExecuted, asked_by, unbooted};
+ghost use Rattle.mdv_engine_law.specs.Line.{IsExecuted, asked_by, unbooted, Ask, Nothing};
 ghost use Rattle.mdv_engine_law.specs.Replies.{IsPlain};
 ghost use Rattle.mdv_engine_law.specs.Standing.{BootMoment, CarryMoment, OnlyReplied};
 ghost use Rattle.mdv_engine.specs.Counts.{IsBootedCounted, IsCommandCounted, blocks_of, calls_of};
@@ -85,7 +85,7 @@ impl Engine {
     #[tactic(auto, using(mdv_shelf::proofs::Noted::kept_more))]
     pub fn refuse<B: Bench>(&mut self, bench: &mut B, refusal: &Refusal) -> Reply
         requires { IsPlain refusal.now }
-        ensures moments { (asked : List Deed) → LineMoments B.Shelf self.old.host asked self.old.state (OnlyAnswers (Answer.Refused refusal.now)) bench.old bench.new }
+        ensures moments { (ask : Ask) → LineMoments B.Shelf self.old.host ask self.old.state (OnlyAnswers (Answer.Refused refusal.now)) bench.old bench.new }
         ensures end { AtEnd B.Shelf (OnlyReplied (GivingFailed B.Shelf bench.old bench.new) (Answer.Refused refusal.now) result) bench.old bench.new }
         ensures answer { HasOnlyReplied (DriveFailed B.Shelf bench.old bench.new 0) (GivingFailed B.Shelf bench.old bench.new) self.old result self.new }
         ensures counted { IsReplyCounted B.Shelf bench.old bench.new result }
@@ -97,7 +97,7 @@ impl Engine {
     /// Tells `ok`, as of a boot that was answered.
     #[tactic(auto, using(mdv_shelf::proofs::Noted::kept_more))]
     pub fn accept<B: Bench>(&mut self, bench: &mut B) -> Reply
-        ensures moments { LineMoments B.Shelf self.old.host [] self.old.state (OnlyAnswers Answer.Ok) bench.old bench.new }
+        ensures moments { LineMoments B.Shelf self.old.host Nothing self.old.state (OnlyAnswers Answer.Ok) bench.old bench.new }
         ensures end { AtEnd B.Shelf (OnlyReplied (GivingFailed B.Shelf bench.old bench.new) Answer.Ok result) bench.old bench.new }
         ensures answer { HasOnlyReplied (DriveFailed B.Shelf bench.old bench.new 0) (GivingFailed B.Shelf bench.old bench.new) self.old result self.new }
         ensures counted { IsReplyCounted B.Shelf bench.old bench.new result }

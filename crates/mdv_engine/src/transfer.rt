@@ -7,12 +7,12 @@ ghost use Rattle.mdv_table.specs.declared.volume.VolumeKind.TheVariants.{Stripe 
 ghost use Rattle.mdv_table.specs.Slices.{IsSound};
 ghost use Rattle.mdv_table.specs.Table.{IsKindOf};
 ghost use Rattle.mdv_words.specs.declared.command.Command.TheVariants.{Read, Write};
-ghost use Rattle.mdv_history.specs.History.{LiesOn, Saw, Wrote};
+ghost use Rattle.mdv_history.specs.History.{LiesOn, Wrote};
 ghost use Rattle.mdv_engine.specs.Counts.{HasReadCounts, IsCommandCounted};
 ghost use Rattle.mdv_engine.specs.Engine.{HasBlocksCause, HasReadCause, IsCount, IsWell};
 ghost use Rattle.mdv_shelf.specs.Shelves.{AtEachTale, AtEnd, DriveFailed, Kept};
 ghost use Rattle.mdv_engine_law.specs.Home.{IsReady, site_of};
-ghost use Rattle.mdv_engine_law.specs.Line.{AreBlocksAt, AreBlocksRefused};
+ghost use Rattle.mdv_engine_law.specs.Line.{AreBlocksAt, AreBlocksRefused, ToDo, ToSee};
 ghost use Rattle.mdv_engine_law.specs.Standing.{CarryMoment};
 ghost use Rattle.mdv_engine.specs.Ends.{AreBlocksCounted, AreRead, AreWritten, CommandEnd, HasAnswered};
 
@@ -93,9 +93,9 @@ impl Engine {
         requires ready { IsReady self.now.host (S.sizes shelf.old) }
         requires well { IsWell self.now.host self.now.state }
         requires count { IsCount count }
-        ensures moments { AtEachTale S.Shelf (CarryMoment self.now.host (Saw volume at count ∷ []) self.now.state) shelf.old shelf.new }
+        ensures moments { AtEachTale S.Shelf (CarryMoment self.now.host (ToSee volume at count) self.now.state) shelf.old shelf.new }
         ensures end { AtEnd S.Shelf (CommandEnd (DriveFailed S.Shelf shelf.old shelf.new 0) self.now (Read volume at count) result self.now) shelf.old shelf.new }
-        ensures answer { HasAnswered (DriveFailed S.Shelf shelf.old shelf.new 0) (Saw volume at count ∷ []) self.now result self.now }
+        ensures answer { HasAnswered (DriveFailed S.Shelf shelf.old shelf.new 0) (ToSee volume at count) self.now result self.now }
         ensures counted { IsCommandCounted S.tale S.calls S.written shelf.old shelf.new 1 0 result }
         ensures kept { Kept S.Shelf shelf.old shelf.new }
     {
@@ -146,9 +146,9 @@ impl Engine {
     ) -> Answer
         requires ready { IsReady self.old.host (S.sizes shelf.old) }
         requires well { IsWell self.old.host self.old.state }
-        ensures moments { AtEachTale S.Shelf (CarryMoment self.old.host (Wrote volume at (block.now ∷ []) ∷ []) self.old.state) shelf.old shelf.new }
+        ensures moments { AtEachTale S.Shelf (CarryMoment self.old.host (ToDo (Wrote volume at (block.now ∷ []))) self.old.state) shelf.old shelf.new }
         ensures end { AtEnd S.Shelf (CommandEnd (DriveFailed S.Shelf shelf.old shelf.new 0) self.old (Write volume at block.now) result self.new) shelf.old shelf.new }
-        ensures answer { HasAnswered (DriveFailed S.Shelf shelf.old shelf.new 0) (Wrote volume at (block.now ∷ []) ∷ []) self.old result self.new }
+        ensures answer { HasAnswered (DriveFailed S.Shelf shelf.old shelf.new 0) (ToDo (Wrote volume at (block.now ∷ []))) self.old result self.new }
         ensures counted { IsCommandCounted S.tale S.calls S.written shelf.old shelf.new 2 1 result }
         ensures kept { Kept S.Shelf shelf.old shelf.new }
     {

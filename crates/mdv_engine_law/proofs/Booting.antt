@@ -1,6 +1,6 @@
 -- What a boot leaves of a host's history, and what is known then.
 use Rattle.std.proofs.Common.{◌≡◌, ℕ, true, false, List, [], Option, Some, None, IfSome, sym, subst}
-use Rattle.mdv_engine_law.specs.Below.{KeptOutside, nowhere, IsSynced, Tale, told, Log, NoCreation, NoChange, is_firm, Newest, area_of, ShowsNothing, IsOpened, IsNewestIn, Anything, GoesOn, GoesOnTo, History, Event, NoDeed, HasWoken}
+use Rattle.mdv_engine_law.specs.Below.{KeptOutside, nowhere, IsSynced, Tale, told, Log, NoCreation, is_firm, Newest, area_of, ShowsNothing, IsOpened, IsNewestIn, Anything, GoesOn, GoesOnTo, History, Event, HasWoken}
 use Rattle.mdv_history.proofs.Histories.{woken_second}
 use Rattle.mdv_engine_law.specs.declared.host.Host.{Host}
 use Rattle.mdv_engine_law.specs.Home.{site_of}
@@ -21,9 +21,9 @@ unread begun = record { opened = None; down = true; begun = begun }
 module _ (host : Host) (t : Tale) where
   -- the database goes on by what a boot does there
   booting : (After : Log → Type 0) (Then : List Event → History → Type 0) (m : Tale) → KeptOutside (area_of (site_of host)) t m → ((es : List Event) (g : History) → After g.database → Then es g)
-      → GoesOnTo (site_of host) NoCreation After t m → (h : History) → StandsAt host h t → Goes host NoDeed [] Then m h
+      → GoesOnTo (site_of host) NoCreation After t m → (h : History) → StandsAt host h t → Goes host [] [] Then m h
   booting After Then m kept then goes h stands =
-      lift_log host NoDeed Then Anything NoCreation NoChange After t m kept (no_creation host NoDeed) (λ change none. absurd none) (λ es g there after. then es g after) goes h stands tt
+      lift_log host [] Then Anything NoCreation [] After t m kept (no_creation host []) tt (λ es g there after. then es g after) goes h stands tt
 
   pub boot_moment : (m : Tale) → KeptOutside (area_of (site_of host)) t m → told m ≡ told t → GoesOn (site_of host) NoCreation t m → BootMoment host t m
   boot_moment m kept quiet goes = record { kept = kept; quiet = quiet; goes = booting Anything Reached m kept (λ es g is. tt) goes }
@@ -37,8 +37,8 @@ module _ (host : Host) (t : Tale) where
       quiet = quiet;
       knows = knows;
       goes = λ h stands.
-          goes_more host NoDeed [] [] (λ es g. After g.database) (λ es g. IsKnown host (booted opened begun) g u × (false ≡ false → HasWoken es)) u u h (booting After (λ es g. After g.database) u kept (λ es g is. is) goes h stands)
-          (λ es g there after. goes_woken host NoDeed _ u g synced there (λ fs k now woke same. (
+          goes_more host [] [] [] [] [] (λ es g. After g.database) (λ es g. IsKnown host (booted opened begun) g u × (false ≡ false → HasWoken es)) u u h tt (booting After (λ es g. After g.database) u kept (λ es g is. is) goes h stands)
+          (λ es g there after. goes_woken host [] _ u g synced there (λ fs k now woke same. (
             record { stands = now; newest = newest k.database (subst After (sym same) after); knows = knows },
             λ up. woken_second es fs woke,
           )));
@@ -62,5 +62,5 @@ module _ (host : Host) (t : Tale) where
         knows = knows;
         goes = λ h stands.
             (let there = stands_kept host t u kept h stands in
-            goes_none host NoDeed (λ es g. IsKnown host (unread begun) g u × (true ≡ false → HasWoken es)) u h there (record { stands = there; newest = tt; knows = knows }, λ up. absurd (cc (up))));
+            goes_none host [] (λ es g. IsKnown host (unread begun) g u × (true ≡ false → HasWoken es)) u h there (record { stands = there; newest = tt; knows = knows }, λ up. absurd (cc (up))));
       }

@@ -1,8 +1,9 @@
 -- What goes on in a host's database, and on its drive, goes on in its history.
-use Rattle.std.proofs.Common.{◌≡◌, inl, ℕ, List, [], ◌∷◌, slice_index_or, refl}
-use Rattle.mdv_engine_law.specs.Below.{Identity, Local, place_of, KeptOutside, IsSynced, Tale, last, Change, Log, Site, area_of, GoesFrom, PlaceAt, History, Deed, Created, Changed, Wrote, Saw, Event, Woke, history_after, history_after_all, IsChangeOf, HasWoken}
+use Rattle.std.proofs.Common.{◌≡◌, inl, ℕ, List, [], ◌∷◌, map, slice_index_or, refl}
+use Rattle.mdv_engine_law.specs.Below.{Identity, Local, place_of, KeptOutside, IsSynced, Tale, last, Change, Log, Site, area_of, GoesFrom, PlaceAt, History, Deed, Changed, Event, Woke, history_after, history_after_all, HasWoken}
 use Rattle.mdv_shelf.proofs.Blocks.{last_may_be_left}
 use Rattle.mdv_history.proofs.Database.{lift_database}
+use Rattle.mdv_store_law.specs.Part.{IsPart}
 use Rattle.mdv_engine_law.specs.declared.host.Host.{Host}
 use Rattle.mdv_engine_law.specs.Home.{IsReady, site_of}
 use Rattle.mdv_engine_law.specs.Standing.{StandsAt, IsMadeHere, Goes}
@@ -13,22 +14,15 @@ pub site_here : (host : Host) (sizes : List ℕ) → IsReady host sizes → (at 
     → ◌≡◌ {A = Site} (record { drives = host.drives; key = Local host.home.host; at = at; size = slice_index_or sizes at.drive.0 0 }) (site_of host)
 site_here host sizes ready at is = rw (is, ready.drive)
 
--- a change that is asked is a deed that is
-deed_of : (Changes : Change → Type 0) (Asks : Deed → Type 0) → ((change : Change) → Changes change → Asks (Changed change)) → (deed : Deed) → IsChangeOf Changes deed → Asks deed
-deed_of Changes Asks each Created none = absurd none
-deed_of Changes Asks each (Changed change) is = each change is
-deed_of Changes Asks each (Wrote volume at blocks) none = absurd none
-deed_of Changes Asks each (Saw volume at count) none = absurd none
-
-module _ (host : Host) (Asks : Deed → Type 0) (Then : List Event → History → Type 0) where
+module _ (host : Host) (asks : List Deed) (Then : List Event → History → Type 0) where
   -- what goes on in the database, where nothing is done outside the replica's blocks
-  pub lift_log : (Known : Log → Type 0) (Which : Identity → Type 0) (Changes : Change → Type 0) (After : Log → Type 0) (t m : Tale) → KeptOutside (area_of (site_of host)) t m
-      → ((identity : Identity) → Which identity → IsMadeHere host Asks identity) → ((change : Change) → Changes change → Asks (Changed change))
+  pub lift_log : (Known : Log → Type 0) (Which : Identity → Type 0) (changes : List Change) (After : Log → Type 0) (t m : Tale) → KeptOutside (area_of (site_of host)) t m
+      → ((identity : Identity) → Which identity → IsMadeHere host asks identity) → IsPart (map Changed changes) asks
       → ((es : List Event) (g : History) → StandsAt host g m → After g.database → Then es g)
-      → GoesFrom (site_of host) Known Which Changes After t m → (h : History) → StandsAt host h t → Known h.database → Goes host Asks [] Then m h
-  lift_log Known Which Changes After t m kept mine each then goes h stands known =
-      let went = lift host (λ g. Known g.database) Which (IsChangeOf Changes) Asks [] (λ es g. After g.database) (λ es g. After g.database) t m mine (deed_of Changes Asks each) (λ es g is. is)
-      (lift_database (site_of host) Known Which Changes After t m kept (λ lg stood of. goes lg stood.covers of)) h stands known in
+      → GoesFrom (site_of host) Known Which changes After t m → (h : History) → StandsAt host h t → Known h.database → Goes host asks [] Then m h
+  lift_log Known Which changes After t m kept mine within then goes h stands known =
+      let went = lift host (λ g. Known g.database) Which (map Changed changes) asks [] (λ es g. After g.database) (λ es g. After g.database) t m mine within (λ es g is. is)
+      (lift_database (site_of host) Known Which changes After t m kept (λ lg stood of. goes lg stood.covers of)) h stands known in
       record {
         es = went.es;
         course = went.course;
@@ -38,7 +32,7 @@ module _ (host : Host) (Asks : Deed → Type 0) (Then : List Event → History �
       }
 
   -- a boot has read the drive, and the database is as it was
-  pub goes_woken : (u : Tale) (h : History) → IsSynced 0 u → StandsAt host h u → ((es : List Event) (g : History) → StandsAt host g u → HasWoken es → g.database ≡ h.database → Then es g) → Goes host Asks [] Then u h
+  pub goes_woken : (u : Tale) (h : History) → IsSynced 0 u → StandsAt host h u → ((es : List Event) (g : History) → StandsAt host g u → HasWoken es → g.database ≡ h.database → Then es g) → Goes host asks [] Then u h
   goes_woken u h synced stands then =
       let woke : Event = Woke (λ block. last u 0 block) in
       let now : StandsAt host (history_after h woke) u = record {
@@ -48,7 +42,7 @@ module _ (host : Host) (Asks : Deed → Type 0) (Then : List Event → History �
       record {
         es = woke ∷ [];
         course = ((λ block out. stands.stands.values block out (last u 0 block) (last_may_be_left u 0 block)), tt);
-        does = record { tells = refl; issues = (tt, tt) };
+        does = record { tells = refl; issues = (tt, tt); begins = tt };
         stands = now;
         after = then (woke ∷ []) (history_after h woke) now tt refl;
       }

@@ -1,12 +1,11 @@
 -- What a creation leaves of a host's history.
-use Rattle.std.proofs.Common.{◌≡◌, ◌≤◌, false, List, [], ◌∷◌, Option, Some, None, IfSome, refl, sym, subst}
-use Rattle.mdv_engine_law.specs.Below.{Identity, IoFault, KeptOutside, Tale, told, Table, IsCreated, created_newest, Log, IsThis, NoChange, is_firm, Newest, area_of, ShowsNothing, IsOpened, IsNewestIn, Anything, GoesOnTo, History, Created, Event}
+use Rattle.std.proofs.Common.{◌≡◌, ◌≤◌, false, List, [], ◌∷◌, Option, Some, None, IfSome, refl, sym, subst, arith}
+use Rattle.mdv_engine_law.specs.Below.{Identity, IoFault, KeptOutside, Tale, told, Table, IsCreated, created_newest, Log, IsThis, is_firm, Newest, area_of, ShowsNothing, IsOpened, IsNewestIn, Anything, GoesOnTo, History, Created, Event}
 use Rattle.mdv_engine_law.specs.declared.answer.Answer.TheVariants as outcome
 use Rattle.mdv_engine_law.specs.declared.host.Host.{Host}
 use Rattle.mdv_engine_law.specs.Home.{site_of, identity_of}
-use Rattle.mdv_engine_law.specs.Line.{Memory}
-use Rattle.mdv_engine_law.specs.Standing.{StandsAt, IsOfRun, IsMadeHere, IsAsked, Goes, Reached, Knows, IsKnown, IsKnownAfter, CarryMoment, CarriedTo}
-use Rattle.mdv_engine_law.proofs.Going.{only_asked}
+use Rattle.mdv_engine_law.specs.Line.{Memory, ToDo}
+use Rattle.mdv_engine_law.specs.Standing.{StandsAt, IsOfRun, IsMadeHere, Goes, Reached, Knows, IsKnown, IsKnownAfter, CarryMoment, CarriedTo}
 use Rattle.mdv_engine_law.proofs.Lifting.{lift_log}
 use Rattle.mdv_engine_law.proofs.Refusing.{of_opened, knows_opened}
 use Rattle.mdv_engine_law.proofs.Staying.{stays_in_replica}
@@ -17,24 +16,26 @@ Makes host memory After t m = ShowsNothing (site_of host) t → GoesOnTo (site_o
 
 -- a creation of this run, on a slice with room, where no database is open and the last boot has read the drive
 module _ (host : Host) (memory : Memory) (room : 8208 ≤ host.home.blocks) (none : memory.opened ≡ None) (up : memory.down ≡ false) (t m : Tale) (kept : KeptOutside (area_of (site_of host)) t m) where
-  mine : (other : Identity) → IsThis (identity_of host memory.begun) other → IsMadeHere host (IsAsked (Created ∷ [])) other
-  mine other same = (subst (λ (i : Identity). IsOfRun host i) (sym same) (record { fresh = refl; room = room }), only_asked Created Created refl)
+  mine : (other : Identity) → IsThis (identity_of host memory.begun) other → IsMadeHere host (Created ∷ []) other
+  mine other same = (subst (λ (i : Identity). IsOfRun host i) (sym same) (record { fresh = refl; room = room }), (0, omega arith, refl))
 
   making : (After : Log → Type 0) (Then : List Event → History → Type 0) → Makes host memory After t m → (h : History) → IsKnown host memory h t → ((es : List Event) (g : History) → StandsAt host g m → After g.database → Then es g)
-      → Goes host (IsAsked (Created ∷ [])) [] Then m h
+      → Goes host (Created ∷ []) [] Then m h
   making After Then goes h known then =
-      lift_log host (IsAsked (Created ∷ [])) Then Anything (IsThis (identity_of host memory.begun)) NoChange After t m kept mine (λ change nothing. absurd nothing) then (goes (known.knows.nothing none up)) h known.stands tt
+      lift_log host (Created ∷ []) Then Anything (IsThis (identity_of host memory.begun)) [] After t m kept mine tt then (goes (known.knows.nothing none up)) h known.stands tt
 
-  pub making_moment : told m ≡ told t → Makes host memory Anything t m → CarryMoment host (Created ∷ []) memory t m
+  pub making_moment : told m ≡ told t → Makes host memory Anything t m → CarryMoment host (ToDo Created) memory t m
   making_moment quiet goes = record { home = stays_in_replica host t m kept; quiet = quiet; goes = λ h known. making Anything Reached goes h known (λ es g there is. tt) }
 
   -- it was made, and its `ok` may be told
   pub made : (table : Table) (next : Memory) → next.opened ≡ Some (created_newest (site_of host) table) → (ShowsNothing (site_of host) t → IsOpened (site_of host) (created_newest (site_of host) table) m)
-      → Makes host memory (IsCreated (site_of host) (identity_of host memory.begun) table) t m → CarriedTo host (Created ∷ []) memory outcome.Ok next t m
+      → Makes host memory (IsCreated (site_of host) (identity_of host memory.begun) table) t m → CarriedTo host (ToDo Created) memory outcome.Ok next t m
   made table next opened is goes =
       let newest : Newest = created_newest (site_of host) table in
       let knows : Knows host memory t → Knows host next m = λ known. knows_opened host next newest m opened (is (known.nothing none up)) in
       record {
+        done = Created ∷ [];
+        acks = refl;
         goes = λ h known. making (IsCreated (site_of host) (identity_of host memory.begun) table) (λ es g. IsKnownAfter host (Created ∷ []) outcome.Ok next g m) goes h known (λ es g there created. (
           record { stands = there; newest = of_opened next newest (λ n. IsNewestIn n g.database) opened created.newest; knows = knows known.knows },
           created.tellable,
@@ -43,15 +44,17 @@ module _ (host : Host) (memory : Memory) (room : 8208 ≤ host.home.blocks) (non
       }
 
   -- it failed, and nothing is there
-  pub unmade : (next : Memory) → next.opened ≡ None → (ShowsNothing (site_of host) t → ShowsNothing (site_of host) m) → Makes host memory (λ lg. is_firm lg ≡ false) t m → CarriedTo host (Created ∷ []) memory (outcome.Refused IoFault) next t m
+  pub unmade : (next : Memory) → next.opened ≡ None → (ShowsNothing (site_of host) t → ShowsNothing (site_of host) m) → Makes host memory (λ lg. is_firm lg ≡ false) t m → CarriedTo host (ToDo Created) memory (outcome.Refused IoFault) next t m
   unmade next closed nothing goes =
       let empty : (P : Newest → Type 0) → IfSome next.opened P = λ P. subst (λ (o : Option Newest). IfSome o P) (sym closed) tt in
       let knows : Knows host memory t → Knows host next m = λ known. record { nothing = λ free read. nothing (known.nothing none up); opened = empty (λ n. IsOpened (site_of host) n m) } in
       record {
+        done = [];
+        acks = refl;
         goes = λ h known. making (λ lg. is_firm lg ≡ false) (λ es g. IsKnown host next g m) goes h known (λ es g there after. record { stands = there; newest = empty (λ n. IsNewestIn n g.database); knows = knows known.knows });
         knows = knows;
       }
 
   -- whether it is there isn't known
-  pub made_or_lost : (next : Memory) → Makes host memory Anything t m → CarriedTo host (Created ∷ []) memory outcome.Panic next t m
-  made_or_lost next goes = record { goes = λ h known. making Anything (λ es g. IsKnownAfter host (Created ∷ []) outcome.Panic next g m) goes h known (λ es g there is. tt); knows = λ known. tt }
+  pub made_or_lost : (next : Memory) → Makes host memory Anything t m → CarriedTo host (ToDo Created) memory outcome.Panic next t m
+  made_or_lost next goes = record { done = []; acks = refl; goes = λ h known. making Anything (λ es g. IsKnownAfter host [] outcome.Panic next g m) goes h known (λ es g there is. tt); knows = λ known. tt }

@@ -1,12 +1,12 @@
 -- A line that ends before anything is done, and what is known by what is in memory.
-use Rattle.std.proofs.Common.{◌≡◌, List, [], Option, Some, IfSome, sym, ◌∙◌, subst}
-use Rattle.mdv_engine_law.specs.Below.{Refusal, Tale, Newest, IsOpened, IsNewestIn, Deed}
+use Rattle.std.proofs.Common.{◌≡◌, [], Option, Some, IfSome, refl, sym, ◌∙◌, subst}
+use Rattle.mdv_engine_law.specs.Below.{Refusal, Tale, Newest, IsOpened, IsNewestIn}
 use Rattle.mdv_engine_law.specs.declared.answer.Answer.TheVariants as outcome
 use Rattle.mdv_engine_law.specs.declared.host.Host.{Host}
 use Rattle.mdv_engine_law.specs.Home.{site_of}
-use Rattle.mdv_engine_law.specs.Line.{Memory}
+use Rattle.mdv_engine_law.specs.Line.{Ask, Memory}
 use Rattle.mdv_engine_law.specs.Replies.{issued_by}
-use Rattle.mdv_engine_law.specs.Standing.{IsAsked, Knows, IsKnownAfter, CarriedTo}
+use Rattle.mdv_engine_law.specs.Standing.{Knows, IsKnownAfter, CarriedTo}
 use Rattle.mdv_engine_law.proofs.Going.{goes_none}
 
 -- what holds of the database that is open
@@ -23,7 +23,7 @@ knows_opened host memory newest u opened is = record {
   opened = of_opened memory newest (λ n. IsOpened (site_of host) n u) opened is;
 }
 
-module _ (host : Host) (asked : List Deed) (old next : Memory) (t : Tale) where
+module _ (host : Host) (ask : Ask) (old next : Memory) (t : Tale) where
   -- what is in memory is the same but for how many creations were begun
   module _ (opened : next.opened ≡ old.opened) (down : next.down ≡ old.down) where
     still_knows : Knows host old t → Knows host next t
@@ -33,9 +33,11 @@ module _ (host : Host) (asked : List Deed) (old next : Memory) (t : Tale) where
     }
 
     -- a refusal before anything was done
-    pub refused_still : (refusal : Refusal) → CarriedTo host asked old (outcome.Refused refusal) next t t
+    pub refused_still : (refusal : Refusal) → CarriedTo host ask old (outcome.Refused refusal) next t t
     refused_still refusal = record {
-      goes = λ h known. goes_none host (IsAsked (issued_by asked (outcome.Refused refusal))) (λ es g. IsKnownAfter host asked (outcome.Refused refusal) next g t) t h known.stands (record {
+      done = [];
+      acks = refl;
+      goes = λ h known. goes_none host (issued_by ask (outcome.Refused refusal)) (λ es g. IsKnownAfter host [] (outcome.Refused refusal) next g t) t h known.stands (record {
         stands = known.stands;
         newest = subst (λ (o : Option Newest). IfSome o (λ n. IsNewestIn n h.database)) (sym opened) known.newest;
         knows = still_knows known.knows;
@@ -44,5 +46,5 @@ module _ (host : Host) (asked : List Deed) (old next : Memory) (t : Tale) where
     }
 
   -- a number would reach its limit
-  pub spent_still : CarriedTo host asked old outcome.Spent next t t
-  spent_still = record { goes = λ h known. goes_none host (IsAsked []) (λ es g. IsKnownAfter host asked outcome.Spent next g t) t h known.stands tt; knows = λ knows. tt }
+  pub spent_still : CarriedTo host ask old outcome.Spent next t t
+  spent_still = record { done = []; acks = refl; goes = λ h known. goes_none host [] (λ es g. IsKnownAfter host [] outcome.Spent next g t) t h known.stands tt; knows = λ knows. tt }

@@ -2,13 +2,13 @@
 use Rattle.std.proofs.Common.{◌≡◌, inl, inr, ◌+◌, ◌≤◌, ◌<◌, ℕ, not, ◌&&◌, true, List, Option, IfSome, refl, ◌∙◌, ap, arith}
 use Rattle.std.proofs.lemmas.Bool.Decides.{nat_tests}
 use Rattle.std.proofs.lemmas.List.Folds.{list_any_at}
-use Rattle.mdv_engine_law.specs.Below.{VolId, Deed, area_of, IsTableAt, with_blocks, SliceLine, KeptOutside, nowhere, range, Moments, Tale, covers}
+use Rattle.mdv_engine_law.specs.Below.{VolId, area_of, IsTableAt, with_blocks, SliceLine, KeptOutside, nowhere, range, Moments, Tale, covers}
 use Rattle.mdv_shelf.proofs.Blocks.{both_ways}
 use Rattle.mdv_shelf.proofs.Frame.{kept_outside_same, kept_outside_more, kept_outside_left, kept_outside_wider, neither}
 use Rattle.mdv_shelf.proofs.Moments.{moments_none, moments_weaker, moments_more}
 use Rattle.mdv_engine_law.specs.declared.host.Host.{Host}
 use Rattle.mdv_engine_law.specs.Home.{IsReady, StaysHome, host_area, plain_area, site_of}
-use Rattle.mdv_engine_law.specs.Line.{Memory, AreBlocksAt}
+use Rattle.mdv_engine_law.specs.Line.{Memory, AreBlocksAt, Ask}
 use Rattle.mdv_engine_law.specs.Standing.{BootMoment, TurnMoment}
 use Rattle.mdv_engine_law.proofs.Beside.{IsPlain}
 use Rattle.mdv_engine_law.proofs.Refusing.{opened_has}
@@ -67,5 +67,5 @@ module _ (host : Host) where
   pub boot_stays : (a b : Option Tale) → Moments (BootMoment host) a b → Moments (StaysHome host) a b
   boot_stays a b = moments_weaker (BootMoment host) (StaysHome host) a b (λ t m moment. stays_in_replica t m moment.kept)
 
-  pub turn_stays : (asked : List Deed) (old : Memory) (a b : Option Tale) → Moments (TurnMoment host asked old) a b → Moments (StaysHome host) a b
-  turn_stays asked old a b = moments_weaker (TurnMoment host asked old) (StaysHome host) a b (λ t m moment. moment.home)
+  pub turn_stays : (ask : Ask) (old : Memory) (a b : Option Tale) → Moments (TurnMoment host ask old) a b → Moments (StaysHome host) a b
+  turn_stays ask old a b = moments_weaker (TurnMoment host ask old) (StaysHome host) a b (λ t m moment. moment.home)

@@ -1,19 +1,23 @@
 -- What a read and a write of blocks of a volume leave of a host's history.
-use Rattle.std.proofs.Common.{◌+◌, ◌<◌, ◌≤◌, ℕ, List, [], ◌∷◌, length, Option, IfSome, Contains, refl, sym, subst, arith}
-use Rattle.mdv_engine_law.specs.Below.{Identity, VolId, IoFault, AreApart, range, Settling, IsSettled, Tale, last, Table, Version, Newest, IsTableAt, with_blocks, nothing, replica, IsOpened, IsNewestIn, History, Deed, Wrote, Saw, Event, Extent, Issues, HasExtent, LiesOn, history_after}
+use Rattle.std.proofs.Common.{◌≡◌, inr, ◌+◌, ◌<◌, ◌≤◌, ℕ, Bool, true, false, List, [], ◌∷◌, length, Option, IfSome, Contains, refl, sym, subst, arith}
+use Rattle.std.proofs.lemmas.List.FromFn.{length-map-range_with_len, get_or-map-range_with_len}
+use Rattle.mdv_engine_law.specs.Below.{Identity, VolId, IoFault, Among, AreAllowed, AreApart, range, Settling, IsSettled, Tale, last, Table, Version, Newest, IsTableAt, with_blocks, nothing, replica, IsOpened, IsNewestIn, History, Deed, Wrote, Saw, Event, Extent, Issues, HasExtent, LiesOn, area_of, values_reply, history_after}
+use Rattle.mdv_shelf.proofs.Blocks.{last_may_be_left}
 use Rattle.mdv_shelf.proofs.Frame.{fixed_settled}
+use Rattle.mdv_shelf.proofs.Settled.{covered}
 use Rattle.mdv_home.proofs.Places.{whole_place}
 use Rattle.mdv_store_law.proofs.Covering.{last_image}
 use Rattle.mdv_store_law.proofs.Families.{contains_first, written_firm}
 use Rattle.mdv_store_law.proofs.Frame.{frames}
+use Rattle.mdv_store_law.proofs.Parts.{part_itself}
 use Rattle.mdv_history.proofs.Values.{values_issued, issued_newest}
 use Rattle.mdv_engine_law.specs.declared.answer.Answer.TheVariants as outcome
 use Rattle.mdv_engine_law.specs.declared.host.Host.{Host}
 use Rattle.mdv_engine_law.specs.Home.{IsReady, StaysHome, site_of}
-use Rattle.mdv_engine_law.specs.Line.{Memory, AreBlocksAt}
-use Rattle.mdv_engine_law.specs.Standing.{StandsAt, IsAsked, Goes, Reached, Knows, IsKnown, IsKnownAfter, CarryMoment, CarriedTo}
+use Rattle.mdv_engine_law.specs.Line.{Memory, ToDo, ToSee, AreBlocksAt, blocks_of, drive_content}
+use Rattle.mdv_engine_law.specs.Standing.{StandsAt, Goes, Reached, Knows, IsKnown, IsKnownAfter, CarryMoment, CarriedTo}
 use Rattle.mdv_engine_law.proofs.Beside.{IsPlain, of_home, on_plain, replica_within, opened_beside, table_opened}
-use Rattle.mdv_engine_law.proofs.Going.{goes_none, only_asked}
+use Rattle.mdv_engine_law.proofs.Going.{goes_none}
 use Rattle.mdv_engine_law.proofs.Refusing.{opened_has, knows_opened}
 
 -- A log whose newest table was written, and which the drive stands with, had its creation issued: there is room for its replica.
@@ -71,12 +75,33 @@ module _ (host : Host) (sizes : List ℕ) (ready : IsReady host sizes) (memory :
         };
       }
 
+  -- what the drive has there is among the values that they may have
+  seen_allowed : (h : History) (t : Tale) → IsKnown host memory h t → AreAllowed h.allowed block (blocks_of (drive_content t) block count)
+  seen_allowed h t known k less =
+      let within : k < count = subst (λ (n : ℕ). k < n) (length-map-range_with_len (drive_content t) block count) less in
+      let apart = (has_extent h t known).is_extent.apart in
+      let out : area_of (site_of host) 0 (block + k) ≡ false = not_true (area_of (site_of host) 0 (block + k)) (apart 0 (block + k) (covered 0 block count k within)) in
+      subst (λ (x : List ℕ). Among (h.allowed (block + k)) x) (sym (get_or-map-range_with_len (drive_content t) block count k (block + k) [] within refl))
+      (known.stands.stands.values (block + k) out (last t 0 (block + k)) (last_may_be_left t 0 (block + k)))
+    where
+      not_true : (x : Bool) → (x ≡ true → ⊥) → x ≡ false
+      not_true true never = absurd (never refl)
+      not_true false never = refl
+
   -- they were read
-  pub saw : (t : Tale) (text : List ℕ) → CarriedTo host (Saw volume at count ∷ []) memory (outcome.Values text) memory t t
-  saw t text = record {
-    goes = λ h known. goes_none host (IsAsked (Saw volume at count ∷ [])) (λ es g. IsKnownAfter host (Saw volume at count ∷ []) (outcome.Values text) memory g t) t h known.stands (known, (block, has_extent h t known));
-    knows = λ knows. knows;
-  }
+  pub saw : (t : Tale) (text : List ℕ) → text ≡ values_reply at (blocks_of (drive_content t) block count) → CarriedTo host (ToSee volume at count) memory (outcome.Values text) memory t t
+  saw t text is =
+      let blocks = blocks_of (drive_content t) block count in
+      let counted : length blocks ≡ count = length-map-range_with_len (drive_content t) block count in
+      record {
+        done = Saw volume at blocks ∷ [];
+        acks = inr (record { blocks = blocks; counted = counted; told = is; seen = refl });
+        goes = λ h known. goes_none host [] (λ es g. IsKnownAfter host (Saw volume at blocks ∷ []) (outcome.Values text) memory g t) t h known.stands (
+          known,
+          (block, subst (λ (n : ℕ). HasExtent (site_of host) h extent n) (sym counted) (has_extent h t known), seen_allowed h t known),
+        );
+        knows = λ knows. knows;
+      }
 
 -- blocks of a volume that are written
 module _ (host : Host) (sizes : List ℕ) (ready : IsReady host sizes) (memory : Memory) (volume : VolId) (at block : ℕ) (blocks : List (List ℕ)) (some : 0 < length blocks) (there : AreBlocksAt host memory volume at (length blocks) block)
@@ -98,7 +123,7 @@ module _ (host : Host) (sizes : List ℕ) (ready : IsReady host sizes) (memory :
 
   -- the history goes on by their issue
   issued_by : (After : List Event → History → Type 0) → ((h : History) → HasExtent (site_of host) h written (length blocks) → IsKnown host memory (history_after h (Issues written blocks)) m → After (Issues written blocks ∷ []) (history_after h (Issues written blocks)))
-      → (h : History) → IsKnown host memory h t → Goes host (IsAsked (wrote ∷ [])) [] After m h
+      → (h : History) → IsKnown host memory h t → Goes host (wrote ∷ []) [] After m h
   issued_by After then h known =
       let has = has_extent host sizes ready memory volume at (length blocks) block some there h t known in
       let stands : StandsAt host (history_after h (Issues written blocks)) m = record {
@@ -114,17 +139,19 @@ module _ (host : Host) (sizes : List ℕ) (ready : IsReady host sizes) (memory :
       record {
         es = Issues written blocks ∷ [];
         course = (has, tt);
-        does = record { tells = refl; issues = (only_asked wrote wrote refl, tt) };
+        does = record { tells = refl; issues = (tt, tt); begins = part_itself (wrote ∷ []) };
         stands = stands;
         after = then h has (record { stands = stands; newest = known.newest; knows = knows_written known.knows });
       }
 
-  pub writing_moment : StaysHome host t m → CarryMoment host (wrote ∷ []) memory t m
+  pub writing_moment : StaysHome host t m → CarryMoment host (ToDo wrote) memory t m
   writing_moment home = record { home = home; quiet = settling.quiet; goes = issued_by Reached (λ h has known. tt) }
 
   -- they are on the disk, and the `ok` may be told
-  pub wrote_blocks : IsSettled 0 block blocks m → CarriedTo host (wrote ∷ []) memory outcome.Ok memory t m
+  pub wrote_blocks : IsSettled 0 block blocks m → CarriedTo host (ToDo wrote) memory outcome.Ok memory t m
   wrote_blocks settled = record {
+    done = wrote ∷ [];
+    acks = refl;
     goes = issued_by (λ es g. IsKnownAfter host (wrote ∷ []) outcome.Ok memory g m) (λ h has known. (
       known,
       (
@@ -138,5 +165,5 @@ module _ (host : Host) (sizes : List ℕ) (ready : IsReady host sizes) (memory :
   }
 
   -- a call on the drive failed
-  pub wrote_some : CarriedTo host (wrote ∷ []) memory (outcome.Refused IoFault) memory t m
-  wrote_some = record { goes = issued_by (λ es g. IsKnownAfter host (wrote ∷ []) (outcome.Refused IoFault) memory g m) (λ h has known. known); knows = knows_written }
+  pub wrote_some : CarriedTo host (ToDo wrote) memory (outcome.Refused IoFault) memory t m
+  wrote_some = record { done = []; acks = refl; goes = issued_by (λ es g. IsKnownAfter host [] (outcome.Refused IoFault) memory g m) (λ h has known. known); knows = knows_written }

@@ -13,8 +13,8 @@ pub use Rattle.mdv_base.specs.declared.refusal.Refusal.TheVariants.{NoSuchVolume
 pub use Rattle.mdv_base.specs.declared.refusal.Refusal.TheVariants.{WrongKind, WrongState}
 pub use Rattle.mdv_base.specs.declared.state_word.StateWord.{StateWord}
 pub use Rattle.mdv_base.specs.declared.state_word.StateWord.TheVariants.{Down}
-pub use Rattle.mdv_history.specs.History.{Acknowledges, Adds, Changed, Created, Deed, Event, Extent, HasExtent, HasWoken, History, IsChangeOf}
-pub use Rattle.mdv_history.specs.History.{IsCourse, IsIssue, Issues, IssuesOnly, LiesOn, MayHappen, NoDeed, OfDatabase, Saw, Shows, Woke, Wrote}
+pub use Rattle.mdv_history.specs.History.{Acknowledges, Adds, AreAllowed, Changed, Created, Deed, Event, Extent, HasExtent, HasWoken, History}
+pub use Rattle.mdv_history.specs.History.{IsCourse, IsIssue, Issues, IssuesOnly, LiesOn, MayHappen, OfDatabase, Saw, Shows, Woke, Wrote}
 pub use Rattle.mdv_history.specs.History.{history_after, history_after_all, told_by}
 pub use Rattle.mdv_history.specs.Laws.{CanTell}
 pub use Rattle.mdv_history.specs.Standing.{Stands}
@@ -35,11 +35,11 @@ pub use Rattle.mdv_shelf.specs.Area.{AreApart, Area, KeptOutside, joined, nowher
 pub use Rattle.mdv_shelf.specs.Calls.{OnReplies, and_then}
 pub use Rattle.mdv_shelf.specs.Moments.{Ends, Grew, Moments}
 pub use Rattle.mdv_shelf.specs.Settle.{IsSettled, IsSynced, Settling}
-pub use Rattle.mdv_shelf.specs.Tale.{Gave, IsImage, Tale, Then, covers, last, told}
-pub use Rattle.mdv_status.specs.Telling.{begins_with_digit, lacks, replies_in}
+pub use Rattle.mdv_shelf.specs.Tale.{Among, Gave, IsImage, Tale, Then, covers, last, told}
+pub use Rattle.mdv_status.specs.Telling.{lacks, refused, replies_in}
 pub use Rattle.mdv_status.specs.Values.{block_text, values_reply}
 pub use Rattle.mdv_store_law.specs.Going.{IsCreated, IsWithNewest, created_head, created_newest}
-pub use Rattle.mdv_store_law.specs.Log.{IsMade, IsTellable, IsThis, IsThisChange, Log, NoChange, NoCreation, Version, is_firm}
+pub use Rattle.mdv_store_law.specs.Log.{IsMade, IsTellable, IsThis, Log, NoCreation, Version, is_firm}
 pub use Rattle.mdv_store_law.specs.Site.{HasTable, IsFound, IsNewestOf, IsRecordAt, IsReplica, IsTableAt, Newest, Site, area_of, sized}
 pub use Rattle.mdv_store_law.specs.Standing.{Anything, GoesFrom, GoesOn, GoesOnTo, IsNewestIn, IsOpened, ShowsNothing, nothing, replica}
 pub use Rattle.mdv_store_law.specs.Steps.{IsAdopted, IsTheReplica, adopted_newest, next_newest, rewritten}

@@ -1,6 +1,6 @@
 pub mod Below
 pub use Rattle.mdv_base.specs.Causes
 pub mod Home
-pub mod Replies
 pub mod Line
+pub mod Replies
 pub mod Standing

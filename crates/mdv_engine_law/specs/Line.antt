@@ -1,7 +1,7 @@
 -- What a line comes to, and what is kept then.
 use Rattle.std.specs.Prelude.{◌≡◌, ◌≢◌, ◌⊎◌, ◌+◌, ◌<◌, ◌≤◌, ◌^◌, ℕ, Bool, true, false, List, [], ◌∷◌, length, map, Option, Some, None, slice_index_or}
 use Rattle.std.specs.List.{range_with_len}
-use Rattle.mdv_engine_law.specs.Below.{SliceName, Mark, VolId, Refusal, NoDatabase, NeedForce, NoSuchVolume, NoSuchSlice, SliceInUse, TooSmall, WrongKind, WrongState, OutOfRange, ReplicaFull, IoFault, OutOfMemory, StateWord, HasNoSlice, record_text, Head, First, Second, IsSpareSlot, greatest, other_slot, room_of, shows, Tale, covers, last, values_reply, Change, MakeStripe, One, Table, HasNoVolume, Command, Create, Read, Write, Line, IsMade, Site, Newest, IsReplica, IsFound, HasTable, IsNewestOf, area_of, adopted_newest, next_newest, rewritten, Deed, Created, Changed, Wrote, Saw, LiesOn}
+use Rattle.mdv_engine_law.specs.Below.{SliceName, Mark, VolId, Refusal, NoDatabase, NeedForce, NoSuchVolume, NoSuchSlice, SliceInUse, TooSmall, WrongKind, WrongState, OutOfRange, ReplicaFull, IoFault, OutOfMemory, StateWord, HasNoSlice, record_text, Head, First, Second, IsSpareSlot, greatest, other_slot, room_of, shows, Tale, covers, last, values_reply, Change, MakeStripe, One, Table, HasNoVolume, Command, Create, Read, Write, Line, IsMade, Site, Newest, IsReplica, IsFound, HasTable, IsNewestOf, area_of, adopted_newest, next_newest, rewritten, Deed, Created, Changed, Wrote, LiesOn}
 use Rattle.mdv_base.specs.declared.state_word.StateWord.TheVariants as word
 use Rattle.mdv_store_law.specs.Adoptable.{IsAdoptable}
 use Rattle.mdv_store_law.specs.Standing.{IsReplicaMade}
@@ -264,17 +264,29 @@ abbrev pub ComesTo : Type 0 → Host → Kept → Line → Answer → Kept → T
 ComesTo failed host kept words.Boot answer next = IsRebooted failed host kept answer next
 ComesTo failed host kept (words.Command command) answer next = IsCarriedOut failed host kept command answer next
 
--- what the `ok` of a command acknowledges
-abbrev pub asked_by : Command → List Deed
-asked_by (Create slice force) = Created ∷ []
-asked_by (command.MakeStripe volume slice) = Changed (MakeStripe volume slice) ∷ []
-asked_by (Read volume at count) = Saw volume at count ∷ []
-asked_by (Write volume at block) = Wrote volume at (block ∷ []) ∷ []
+-- what a line asks: nothing that its `ok` acknowledges; a deed; or what so many blocks of a volume hold, from that one on
+pub data Ask : Type 0 where
+  Nothing : Ask
+  ToDo : Deed → Ask
+  ToSee : VolId → ℕ → ℕ → Ask
 
--- and of a line: a boot's acknowledges nothing
-abbrev pub asked_by_line : Line → List Deed
-asked_by_line words.Boot = []
+-- what a command asks
+abbrev pub asked_by : Command → Ask
+asked_by (Create slice force) = ToDo Created
+asked_by (command.MakeStripe volume slice) = ToDo (Changed (MakeStripe volume slice))
+asked_by (Read volume at count) = ToSee volume at count
+asked_by (Write volume at block) = ToDo (Wrote volume at (block ∷ []))
+
+-- a boot asks nothing
+abbrev pub asked_by_line : Line → Ask
+asked_by_line words.Boot = Nothing
 asked_by_line (words.Command command) = asked_by command
+
+-- the deeds that it may begin
+abbrev pub deeds : Ask → List Deed
+deeds Nothing = []
+deeds (ToDo deed) = deed ∷ []
+deeds (ToSee volume at count) = []
 
 -- a command with what its reader made sure of
 abbrev pub IsExecuted : Command → Type 0

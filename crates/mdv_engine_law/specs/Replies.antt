@@ -1,13 +1,14 @@
 -- The bytes of replies, how they are told, and what they acknowledge.
-use Rattle.std.specs.Prelude.{◌≡◌, ◌⊎◌, ℕ, true, ◌||◌, List, [], ◌∷◌, ◌++◌, take, codes, if◌then◌else◌}
+use Rattle.std.specs.Prelude.{◌≡◌, ◌⊎◌, ℕ, true, ◌||◌, List, [], ◌∷◌, ◌++◌, length, take, codes, if◌then◌else◌}
 use Rattle.std.specs.Str.{bytes_eq}
 use Rattle.mdv_shelf.specs.Shelves.{MadeCalls, MadeCallsAtMost}
 use Rattle.mdv_shelf.specs.Story.{NoFewer}
 use Rattle.mdv_shelf.specs.declared.shelf.Shelf.{Ghosts}
-use Rattle.mdv_engine_law.specs.Below.{refusal_text, Refusal, IoFault, Deed, lacks, replies_in, values_reply}
+use Rattle.mdv_engine_law.specs.Below.{refusal_text, VolId, Refusal, IoFault, Deed, Saw, lacks, refused, replies_in, values_reply}
 use Rattle.mdv_engine_law.specs.declared.answer.Answer.{Answer}
 use Rattle.mdv_engine_law.specs.declared.answer.Answer.TheVariants as outcome
 use Rattle.mdv_engine_law.specs.declared.answer.Reply.{Reply}
+use Rattle.mdv_engine_law.specs.Line.{Ask, Nothing, ToDo, ToSee, deeds}
 use Rattle.mdv_engine_law.specs.declared.answer.Reply.TheVariants as reply
 
 abbrev pub refusal_line : Refusal → List ℕ
@@ -25,11 +26,10 @@ text_of outcome.Panic = []
 text_of outcome.Spent = []
 text_of outcome.NoMemory = []
 
--- the refusal's text is one line, and begins with a letter
+-- the refusal's text is one line, and begins as all of them do
 pub record IsPlain (refusal : Refusal) : Type 0 where
   pub one_line : lacks 10 (refusal_text refusal) ≡ true
-  pub behind : List ℕ
-  pub letter : refusal_text refusal ≡ 114 ∷ behind
+  pub begins : take 9 (refusal_text refusal) ≡ refused
 
 -- the text of a read's reply is that of some blocks
 pub record AreValues (text : List ℕ) : Type 0 where
@@ -45,50 +45,71 @@ IsPlainAnswer outcome.Panic = Unit {0}
 IsPlainAnswer outcome.Spent = Unit {0}
 IsPlainAnswer outcome.NoMemory = Unit {0}
 
--- a whole reply: it has one line that begins with no digit, and what comes behind it adds its own lines to that
+-- a whole reply: it is one, whatever comes behind it
 pub record IsReply (bytes : List ℕ) : Type 0 where
-  pub line : List ℕ
-  pub alone : replies_in bytes ≡ line ∷ []
-  pub behind : (rest : List ℕ) → replies_in (bytes ++ rest) ≡ line ∷ replies_in rest
+  pub alone : replies_in bytes ≡ bytes ∷ []
+  pub behind : (rest : List ℕ) → replies_in (bytes ++ rest) ≡ bytes ∷ replies_in rest
 
--- a front of a reply: it has no such line, or one
+-- a front of a reply: it is none yet, or the whole one
 abbrev pub IsFront : List ℕ → Type 0
-IsFront bytes = (replies_in bytes ≡ []) ⊎ ((line : List ℕ) × (replies_in bytes ≡ line ∷ []))
+IsFront bytes = (replies_in bytes ≡ []) ⊎ (replies_in bytes ≡ bytes ∷ [])
 
--- what a line of a reply acknowledges, where these deeds were asked: `ok` all of them
-abbrev pub acked_by : List Deed → List ℕ → List Deed
-acked_by asked line = if bytes_eq line ok_line then asked else []
+-- the reply tells a refusal
+abbrev pub IsRefusal : List ℕ → Type 0
+IsRefusal reply = (refusal : Refusal) × (reply ≡ refusal_line refusal)
 
--- what the bytes told of a reply acknowledge
-abbrev pub acked_in : List Deed → List (List ℕ) → List Deed
-acked_in asked [] = []
-acked_in asked (line ∷ more) = acked_by asked line
+-- the reply tells values of so many blocks, from that one on, and these are what was seen
+pub record TellsValues (volume : VolId) (at count : ℕ) (reply : List ℕ) (done : List Deed) : Type 0 where
+  pub blocks : List (List ℕ)
+  pub counted : length blocks ≡ count
+  pub told : reply ≡ values_reply at blocks
+  pub seen : done ≡ Saw volume at blocks ∷ []
 
-abbrev pub acked : List Deed → List ℕ → List Deed
-acked asked bytes = acked_in asked (replies_in bytes)
+-- What a reply acknowledges to a line that asks this: `ok` the deed, and a reply to a read the values that it tells.
+abbrev pub AcksBy : Ask → List ℕ → List Deed → Type 0
+AcksBy Nothing reply done = done ≡ []
+AcksBy (ToDo deed) reply done = done ≡ (if bytes_eq reply ok_line then deed ∷ [] else [])
+AcksBy (ToSee volume at count) reply done = (IsRefusal reply × (done ≡ [])) ⊎ TellsValues volume at count reply done
 
--- What a line may have issued that was answered so, where these deeds were asked: all of them, where a call on a drive may have been
--- made for them; a line that is refused for another cause than a failed call issues nothing.
-abbrev pub issued_by : List Deed → Answer → List Deed
-issued_by asked outcome.Ok = asked
-issued_by asked (outcome.Values text) = asked
-issued_by asked (outcome.Refused IoFault) = asked
-issued_by asked (outcome.Refused other) = []
-issued_by asked outcome.Panic = asked
-issued_by asked outcome.Spent = []
-issued_by asked outcome.NoMemory = []
+-- what the bytes told of it acknowledge: nothing, while they are no reply yet
+abbrev pub AcksIn : Ask → List (List ℕ) → List Deed → Type 0
+AcksIn ask [] done = done ≡ []
+AcksIn ask (reply ∷ more) done = AcksBy ask reply done
 
--- the same by the line of its reply: `ok`, or that a call failed
-abbrev pub issuable : List Deed → List ℕ → List Deed
-issuable asked line = if bytes_eq line ok_line || bytes_eq line (refusal_line IoFault) then asked else []
+abbrev pub Acks : Ask → List ℕ → List Deed → Type 0
+Acks ask bytes done = AcksIn ask (replies_in bytes) done
 
--- and by the bytes told of it: all, while there is no line of reply yet
-abbrev pub issuable_in : List Deed → List (List ℕ) → List Deed
-issuable_in asked [] = asked
-issuable_in asked (line ∷ more) = issuable asked line
+-- what an answer acknowledges, once it is told
+abbrev pub AcksAnswer : Ask → Answer → List Deed → Type 0
+AcksAnswer ask outcome.Ok done = AcksBy ask ok_line done
+AcksAnswer ask (outcome.Values text) done = AcksBy ask text done
+AcksAnswer ask (outcome.Refused refusal) done = done ≡ []
+AcksAnswer ask outcome.Panic done = done ≡ []
+AcksAnswer ask outcome.Spent done = done ≡ []
+AcksAnswer ask outcome.NoMemory done = done ≡ []
 
-abbrev pub issuable_of : List Deed → List ℕ → List Deed
-issuable_of asked bytes = issuable_in asked (replies_in bytes)
+-- What a line may have begun that was answered so: all that it asks, where a call on a drive may have been made for it; a line that tells
+-- values begins nothing, nor does one that is refused for another cause than a failed call.
+abbrev pub issued_by : Ask → Answer → List Deed
+issued_by ask outcome.Ok = deeds ask
+issued_by ask (outcome.Values text) = []
+issued_by ask (outcome.Refused IoFault) = deeds ask
+issued_by ask (outcome.Refused other) = []
+issued_by ask outcome.Panic = deeds ask
+issued_by ask outcome.Spent = []
+issued_by ask outcome.NoMemory = []
+
+-- the same by its reply: `ok`, or that a call failed
+abbrev pub issuable : Ask → List ℕ → List Deed
+issuable ask reply = if bytes_eq reply ok_line || bytes_eq reply (refusal_line IoFault) then deeds ask else []
+
+-- and by the bytes told of it: all, while they are no reply yet
+abbrev pub issuable_in : Ask → List (List ℕ) → List Deed
+issuable_in ask [] = deeds ask
+issuable_in ask (reply ∷ more) = issuable ask reply
+
+abbrev pub issuable_of : Ask → List ℕ → List Deed
+issuable_of ask bytes = issuable_in ask (replies_in bytes)
 
 -- how an answer is told: whole; or a front of it, where the giving failed; or there is none to tell
 abbrev pub IsTold : Type 0 → Answer → Reply → List ℕ → Type 0

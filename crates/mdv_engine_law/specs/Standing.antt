@@ -1,6 +1,6 @@
 -- How the drive stands with its history at each moment of a line.
 use Rattle.std.specs.Prelude.{◌≡◌, ◌≢◌, ◌⊎◌, ℕ, ◌≤◌, false, List, [], ◌∷◌, ◌++◌, take, None, IfSome, Contains}
-use Rattle.mdv_engine_law.specs.Below.{Identity, KeptOutside, nowhere, Tale, told, Line, area_of, ShowsNothing, IsOpened, IsNewestIn, History, Deed, Created, Event, history_after_all, IsCourse, Adds, HasWoken, NoDeed, CanTell}
+use Rattle.mdv_engine_law.specs.Below.{Identity, KeptOutside, nowhere, Tale, told, Line, area_of, ShowsNothing, IsOpened, IsNewestIn, History, Deed, Created, Event, history_after_all, IsCourse, Adds, HasWoken, CanTell}
 use Rattle.mdv_shelf.specs.Calls.{OnDrive}
 use Rattle.mdv_shelf.specs.Story.{FailedBy, Moment}
 use Rattle.mdv_history.specs.Standing as history
@@ -9,8 +9,8 @@ use Rattle.mdv_engine_law.specs.declared.answer.Answer.TheVariants as outcome
 use Rattle.mdv_engine_law.specs.declared.answer.Reply.{Reply}
 use Rattle.mdv_engine_law.specs.declared.host.Host.{Host}
 use Rattle.mdv_engine_law.specs.Home.{StaysHome, site_of}
-use Rattle.mdv_engine_law.specs.Line.{Kept, Memory, ComesTo, kept_at}
-use Rattle.mdv_engine_law.specs.Replies.{IsReply, IsFront, IsTold, acked, issuable_of, issued_by, text_of}
+use Rattle.mdv_engine_law.specs.Line.{Ask, Kept, Memory, ComesTo, deeds, kept_at}
+use Rattle.mdv_engine_law.specs.Replies.{Acks, AcksAnswer, AcksBy, IsReply, IsFront, IsTold, issuable, issuable_of, issued_by, text_of}
 
 -- the drive stands with the history, in which a database was made only where there is room for it
 pub record StandsAt (host : Host) (h : History) (m : Tale) : Type 0 where
@@ -23,23 +23,19 @@ pub record IsOfRun (host : Host) (identity : Identity) : Type 0 where
   pub room : 8208 ≤ host.home.blocks
 
 -- such a creation, where one is asked
-abbrev pub IsMadeHere : Host → (Deed → Type 0) → Identity → Type 0
-IsMadeHere host Asks identity = IsOfRun host identity × Asks Created
+abbrev pub IsMadeHere : Host → List Deed → Identity → Type 0
+IsMadeHere host asks identity = IsOfRun host identity × Contains asks Created
 
--- the events tell these deeds, and issue only what is asked
-abbrev pub Does : Host → (Deed → Type 0) → List Deed → List Event → Type 0
-Does host Asks done es = Adds (IsMadeHere host Asks) Asks done es
+-- the events tell these deeds, and begin only deeds that are asked, in their order and each once
+abbrev pub Does : Host → List Deed → List Deed → List Event → Type 0
+Does host asks done es = Adds (IsMadeHere host asks) asks done es
 
--- one of these deeds
-abbrev pub IsAsked : List Deed → Deed → Type 0
-IsAsked asked deed = Contains asked deed
-
--- From a history by some events, which tell these deeds and issue only deeds that are asked, to one that the drive stands with, of
+-- From a history by some events, which tell these deeds and begin only deeds that are asked, to one that the drive stands with, of
 -- which more is known.
-pub record Goes (host : Host) (Asks : Deed → Type 0) (done : List Deed) (After : List Event → History → Type 0) (m : Tale) (h : History) : Type 0 where
+pub record Goes (host : Host) (asks done : List Deed) (After : List Event → History → Type 0) (m : Tale) (h : History) : Type 0 where
   pub es : List Event
   pub course : IsCourse (site_of host) h es
-  pub does : Does host Asks done es
+  pub does : Does host asks done es
   pub stands : StandsAt host (history_after_all h es) m
   pub after : After es (history_after_all h es)
 
@@ -79,20 +75,20 @@ pub record IsKnown (host : Host) (memory : Memory) (h : History) (t : Tale) : Ty
 pub record BootMoment (host : Host) (t m : Tale) : Type 0 where
   pub kept : KeptOutside (area_of (site_of host)) t m
   pub quiet : told m ≡ told t
-  pub goes : (h : History) → StandsAt host h t → Goes host NoDeed [] Reached m h
+  pub goes : (h : History) → StandsAt host h t → Goes host [] [] Reached m h
 
 -- a boot that is answered, and leaves this in memory: where it has read the drive, each block has one value since
 pub record BootedTo (host : Host) (memory : Memory) (t u : Tale) : Type 0 where
   pub home : StaysHome host t u
   pub quiet : told u ≡ told t
   pub knows : Knows host memory u
-  pub goes : (h : History) → StandsAt host h t → Goes host NoDeed [] (λ es after. IsKnown host memory after u × (memory.down ≡ false → HasWoken es)) u h
+  pub goes : (h : History) → StandsAt host h t → Goes host [] [] (λ es after. IsKnown host memory after u × (memory.down ≡ false → HasWoken es)) u h
 
--- a moment while a line is carried out, by which these deeds are asked, with nothing told, and nothing done outside the host's blocks
-pub record CarryMoment (host : Host) (asked : List Deed) (memory : Memory) (t m : Tale) : Type 0 where
+-- a moment while a line is carried out that asks this, with nothing told, and nothing done outside the host's blocks
+pub record CarryMoment (host : Host) (ask : Ask) (memory : Memory) (t m : Tale) : Type 0 where
   pub home : StaysHome host t m
   pub quiet : told m ≡ told t
-  pub goes : (h : History) → IsKnown host memory h t → Goes host (IsAsked asked) [] Reached m h
+  pub goes : (h : History) → IsKnown host memory h t → Goes host (deeds ask) [] Reached m h
 
 -- these deeds can be told
 abbrev pub CanTellAll : Host → List Deed → History → Tale → Type 0
@@ -102,12 +98,12 @@ CanTellAll host (deed ∷ more) h u = ⊥
 
 -- what is known once a line was carried out: behind an `ok`, that its deeds may be told
 abbrev pub IsKnownAfter : Host → List Deed → Answer → Memory → History → Tale → Type 0
-IsKnownAfter host asked outcome.Ok next h u = IsKnown host next h u × CanTellAll host asked h u
-IsKnownAfter host asked (outcome.Values text) next h u = IsKnown host next h u × CanTellAll host asked h u
-IsKnownAfter host asked (outcome.Refused refusal) next h u = IsKnown host next h u
-IsKnownAfter host asked outcome.Panic next h u = Unit {0}
-IsKnownAfter host asked outcome.Spent next h u = Unit {0}
-IsKnownAfter host asked outcome.NoMemory next h u = Unit {0}
+IsKnownAfter host done outcome.Ok next h u = IsKnown host next h u × CanTellAll host done h u
+IsKnownAfter host done (outcome.Values text) next h u = IsKnown host next h u × CanTellAll host done h u
+IsKnownAfter host done (outcome.Refused refusal) next h u = IsKnown host next h u
+IsKnownAfter host done outcome.Panic next h u = Unit {0}
+IsKnownAfter host done outcome.Spent next h u = Unit {0}
+IsKnownAfter host done outcome.NoMemory next h u = Unit {0}
 
 -- what is known of the drive alone, where a reply is to be told
 abbrev pub KnowsAfter : Host → Answer → Memory → Tale → Type 0
@@ -118,16 +114,18 @@ KnowsAfter host outcome.Panic next u = Unit {0}
 KnowsAfter host outcome.Spent next u = Unit {0}
 KnowsAfter host outcome.NoMemory next u = Unit {0}
 
--- A line that was carried out, and came to this answer: each history goes on by what the answer says may have been issued, so by
--- nothing where it is refused for another cause than a failed call.
-pub record CarriedTo (host : Host) (asked : List Deed) (old : Memory) (answer : Answer) (new : Memory) (t u : Tale) : Type 0 where
-  pub goes : (h : History) → IsKnown host old h t → Goes host (IsAsked (issued_by asked answer)) [] (λ es after. IsKnownAfter host asked answer new after u) u h
+-- A line that was carried out, and came to this answer: each history goes on by what the answer says may have been begun, so by
+-- nothing where it is refused for another cause than a failed call; and behind it may be told what the answer acknowledges.
+pub record CarriedTo (host : Host) (ask : Ask) (old : Memory) (answer : Answer) (new : Memory) (t u : Tale) : Type 0 where
+  pub done : List Deed
+  pub acks : AcksAnswer ask answer done
+  pub goes : (h : History) → IsKnown host old h t → Goes host (issued_by ask answer) [] (λ es after. IsKnownAfter host done answer new after u) u h
   pub knows : Knows host old t → KnowsAfter host answer new u
 
 -- The end of a line that was carried out: what it came to, and what it led to.
-pub record CarryEnd (Comes : Kept → Answer → Kept → Type 0) (host : Host) (asked : List Deed) (old : Memory) (answer : Answer) (new : Memory) (t u : Tale) : Type 0 where
+pub record CarryEnd (Comes : Kept → Answer → Kept → Type 0) (host : Host) (ask : Ask) (old : Memory) (answer : Answer) (new : Memory) (t u : Tale) : Type 0 where
   pub answered : Knows host old t → Comes (kept_at old t) answer (kept_at new u)
-  pub carried : CarriedTo host asked old answer new t u
+  pub carried : CarriedTo host ask old answer new t u
 
 -- a deed is told only where the last boot read the drive
 abbrev pub IsAwake : Memory → Type 0
@@ -151,24 +149,27 @@ pub record FrontTold (Comes : Type 0 → Kept → Answer → Kept → Type 0) (o
 abbrev pub TellsFront : (Type 0 → Kept → Answer → Kept → Type 0) → Memory → Moment → Moment → Type 0
 TellsFront Comes old t m = (told m.tale ≡ told t.tale) ⊎ FrontTold Comes old t m
 
--- A moment of a line, by which these deeds are asked, and of its reply: at most a front of one reply is told, and each
--- history goes on by as many acknowledgements as that front says, with what it lets the line issue. A creation is told only where no
--- database was open.
-pub record TurnMoment (host : Host) (asked : List Deed) (old : Memory) (t m : Tale) : Type 0 where
+-- A moment of a line that asks this, and of its reply: at most a front of one reply is told, which acknowledges these deeds, and each
+-- history goes on by telling them, with what the front lets the line begin. A creation is told only where no database was open.
+pub record TurnMoment (host : Host) (ask : Ask) (old : Memory) (t m : Tale) : Type 0 where
   pub home : StaysHome host t m
   pub bytes : List ℕ
   pub is_told : told m ≡ told t ++ bytes
   pub front : IsFront bytes
-  pub awake : acked asked bytes ≢ [] → IsAwake old
-  pub free : Contains (acked asked bytes) Created → old.opened ≡ None
-  pub goes : (h : History) → IsKnown host old h t → Goes host (IsAsked (issuable_of asked bytes)) (acked asked bytes) Reached m h
+  pub done : List Deed
+  pub acks : Acks ask bytes done
+  pub awake : done ≢ [] → IsAwake old
+  pub free : Contains done Created → old.opened ≡ None
+  pub goes : (h : History) → IsKnown host old h t → Goes host (issuable_of ask bytes) done Reached m h
 
 -- a line and its reply, told whole, that led from one memory to the other
-pub record Turned (host : Host) (asked : List Deed) (old new : Memory) (t u : Tale) : Type 0 where
+pub record Turned (host : Host) (ask : Ask) (old new : Memory) (t u : Tale) : Type 0 where
   pub bytes : List ℕ
   pub is_told : told u ≡ told t ++ bytes
   pub reply : IsReply bytes
-  pub awake : acked asked bytes ≢ [] → IsAwake old
-  pub free : Contains (acked asked bytes) Created → old.opened ≡ None
+  pub done : List Deed
+  pub acks : AcksBy ask bytes done
+  pub awake : done ≢ [] → IsAwake old
+  pub free : Contains done Created → old.opened ≡ None
   pub knows : Knows host old t → Knows host new u
-  pub goes : (h : History) → IsKnown host old h t → Goes host (IsAsked (issuable_of asked bytes)) (acked asked bytes) (λ es after. IsKnown host new after u) u h
+  pub goes : (h : History) → IsKnown host old h t → Goes host (issuable ask bytes) done (λ es after. IsKnown host new after u) u h

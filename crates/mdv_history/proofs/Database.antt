@@ -1,10 +1,12 @@
 -- What goes on in the database is a part of the history; the blocks of volumes keep their values.
-use Rattle.std.proofs.Common.{◌≡◌, List, [], ◌∷◌, map, Some, None, refl, sym, subst}
+use Rattle.std.proofs.Common.{◌≡◌, List, [], ◌∷◌, map, Some, None, refl, sym, ap, subst}
 use Rattle.mdv_history.specs.Below.{Identity, KeptOutside, Tale, Change, Log, Site, area_of}
 use Rattle.mdv_store_law.specs.Log as log
 use Rattle.mdv_store_law.specs.Standing as database
+use Rattle.mdv_store_law.specs.Part.{IsPart}
 use Rattle.mdv_store_law.proofs.Logs.{courses_are_logs}
-use Rattle.mdv_history.specs.History.{History, Event, OfDatabase, history_after_all, IsCourse, told_by, IssuesOnly, IsChangeOf}
+use Rattle.mdv_store_law.proofs.Parts.{part_mapped}
+use Rattle.mdv_history.specs.History.{History, Event, OfDatabase, history_after_all, IsCourse, told_by, issued_by, Deed, Changed, IssuesOnly}
 use Rattle.mdv_history.specs.Standing.{Stands, Goes}
 use Rattle.mdv_history.proofs.Values.{values_kept}
 
@@ -28,19 +30,27 @@ lifted_tells (log.Writing mark asked before table ∷ es) none = lifted_tells es
 lifted_tells (log.Written ∷ es) none = lifted_tells es none
 lifted_tells (log.Told asked ∷ es) none = absurd (cc (none))
 
-lifted_issues : (Which : Identity → Type 0) (Asks : Change → Type 0) (es : List log.Event) → log.IssuesOnly Which Asks es → IssuesOnly Which (IsChangeOf Asks) (lifted es)
-lifted_issues Which Asks [] is = tt
-lifted_issues Which Asks (log.Issued identity ∷ es) is = (is.0, lifted_issues Which Asks es is.1)
-lifted_issues Which Asks (log.Writing mark None before table ∷ es) is = (tt, lifted_issues Which Asks es is.1)
-lifted_issues Which Asks (log.Writing mark (Some change) before table ∷ es) is = (is.0, lifted_issues Which Asks es is.1)
-lifted_issues Which Asks (log.Written ∷ es) is = (tt, lifted_issues Which Asks es is)
-lifted_issues Which Asks (log.Told asked ∷ es) is = (tt, lifted_issues Which Asks es is)
+lifted_issues : (Which : Identity → Type 0) (es : List log.Event) → log.IssuesOnly Which es → IssuesOnly Which (lifted es)
+lifted_issues Which [] is = tt
+lifted_issues Which (log.Issued identity ∷ es) is = (is.0, lifted_issues Which es is.1)
+lifted_issues Which (log.Writing mark asked before table ∷ es) is = (tt, lifted_issues Which es is)
+lifted_issues Which (log.Written ∷ es) is = (tt, lifted_issues Which es is)
+lifted_issues Which (log.Told asked ∷ es) is = (tt, lifted_issues Which es is)
+
+-- they begin the changes that those write
+lifted_begins : (es : List log.Event) → issued_by (lifted es) ≡ map Changed (log.written_by es)
+lifted_begins [] = refl
+lifted_begins (log.Issued identity ∷ es) = lifted_begins es
+lifted_begins (log.Writing mark None before table ∷ es) = lifted_begins es
+lifted_begins (log.Writing mark (Some change) before table ∷ es) = ap (λ (behind : List Deed). Changed change ∷ behind) (lifted_begins es)
+lifted_begins (log.Written ∷ es) = lifted_begins es
+lifted_begins (log.Told asked ∷ es) = lifted_begins es
 
 -- what goes on in the database, where nothing is done outside its place
-pub lift_database : (site : Site) (Known : Log → Type 0) (Which : Identity → Type 0) (Asks : Change → Type 0) (After : Log → Type 0) (t m : Tale) → KeptOutside (area_of site) t m
-    → ((lg : Log) → database.Stands site lg t → Known lg → (es : List log.Event) × log.IsCourse site.drives lg es × log.Adds Which Asks [] es × database.Covers site (log.log_after_all lg es) m × After (log.log_after_all lg es))
-    → Goes site (λ history. Known history.database) Which (IsChangeOf Asks) [] (λ es history. After history.database) t m
-lift_database site Known Which Asks After t m kept goes history stands known =
+pub lift_database : (site : Site) (Known : Log → Type 0) (Which : Identity → Type 0) (asks : List Change) (After : Log → Type 0) (t m : Tale) → KeptOutside (area_of site) t m
+    → ((lg : Log) → database.Stands site lg t → Known lg → (es : List log.Event) × log.IsCourse site.drives lg es × log.Adds Which asks [] es × database.Covers site (log.log_after_all lg es) m × After (log.log_after_all lg es))
+    → Goes site (λ history. Known history.database) Which (map Changed asks) [] (λ es history. After history.database) t m
+lift_database site Known Which asks After t m kept goes history stands known =
     let one = goes history.database stands.database known in
     let same = sym (lifted_after history one.0) in
     let now : Stands site (record history { database = log.log_after_all history.database one.0 }) m = record {
@@ -52,7 +62,11 @@ lift_database site Known Which Asks After t m kept goes history stands known =
     } in (
       lifted one.0,
       lifted_course site history one.0 one.1,
-      record { tells = lifted_tells one.0 one.2.tells; issues = lifted_issues Which Asks one.0 one.2.issues },
+      record {
+        tells = lifted_tells one.0 one.2.tells;
+        issues = lifted_issues Which one.0 one.2.issues;
+        begins = subst (λ (l : List Deed). IsPart l (map Changed asks)) (sym (lifted_begins one.0)) (part_mapped Changed (log.written_by one.0) asks one.2.writes);
+      },
       subst (λ (h : History). Stands site h m) same now,
       subst (λ (h : History). After h.database) same one.4,
     )

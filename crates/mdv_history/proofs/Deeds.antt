@@ -6,8 +6,9 @@ use Rattle.mdv_shelf.proofs.Frame.{fixed_kept, fixed_settled}
 use Rattle.mdv_store_law.specs.Log as log
 use Rattle.mdv_store_law.proofs.Frame.{frames}
 use Rattle.mdv_store_law.proofs.Logs.{courses_are_logs, told_covers}
+use Rattle.mdv_store_law.proofs.Parts.{part_itself}
 use Rattle.mdv_history.specs.History.{History, Created, Changed, Wrote, Saw, Event, Extent, OfDatabase, Issues, Acknowledges, Shows, Woke, HasExtent, history_after}
-use Rattle.mdv_history.specs.Laws.{CanTell, TellsGo, IsDeed, WritesGo, Wakes}
+use Rattle.mdv_history.specs.Laws.{CanTell, TellsGo, WritesGo, Wakes}
 use Rattle.mdv_history.specs.Standing.{Stands, Goes, Reached}
 use Rattle.mdv_history.proofs.Going.{stays_standing}
 use Rattle.mdv_history.proofs.Values.{values_issued, values_settled, issued_newest}
@@ -35,14 +36,14 @@ pub tells_go : TellsGo
 tells_go site Created t m kept history stands can = (
   OfDatabase (log.Told None) ∷ [],
   (can, tt),
-  record { tells = refl; issues = (tt, tt) },
+  record { tells = refl; issues = (tt, tt); begins = tt },
   told_stands site history None m (stays_standing site history t m kept stands) can,
   tt,
 )
 tells_go site (Changed change) t m kept history stands can = (
   OfDatabase (log.Told (Some change)) ∷ [],
   (can, tt),
-  record { tells = refl; issues = (tt, tt) },
+  record { tells = refl; issues = (tt, tt); begins = tt },
   told_stands site history (Some change) m (stays_standing site history t m kept stands) can,
   tt,
 )
@@ -50,15 +51,15 @@ tells_go site (Wrote volume at blocks) t m kept history stands can =
     let extent : Extent = record { volume = volume; at = at; block = can.0 } in (
       Acknowledges extent blocks ∷ [],
       ((can.1, can.2), tt),
-      record { tells = refl; issues = (tt, tt) },
+      record { tells = refl; issues = (tt, tt); begins = tt },
       wrote_stands site history extent blocks t m kept can.3 stands,
       tt,
     )
-tells_go site (Saw volume at count) t m kept history stands can =
+tells_go site (Saw volume at blocks) t m kept history stands can =
     let extent : Extent = record { volume = volume; at = at; block = can.0 } in (
-      Shows extent count ∷ [],
-      (can.1, tt),
-      record { tells = refl; issues = (tt, tt) },
+      Shows extent blocks ∷ [],
+      ((can.1, can.2), tt),
+      record { tells = refl; issues = (tt, tt); begins = tt },
       stays_standing site history t m kept stands,
       tt,
     )
@@ -75,11 +76,11 @@ module _ (site : Site) (extent : Extent) (blocks : List (List ℕ)) (t m : Tale)
 
   goes_issued : (After : List Event → History → Type 0)
       → ((history : History) → HasExtent site history extent (length blocks) → After (Issues extent blocks ∷ []) (history_after history (Issues extent blocks)))
-      → Goes site (λ history. HasExtent site history extent (length blocks)) NoCreation (IsDeed (Wrote extent.volume extent.at blocks)) [] After t m
+      → Goes site (λ history. HasExtent site history extent (length blocks)) NoCreation (Wrote extent.volume extent.at blocks ∷ []) [] After t m
   goes_issued After then history stands has = (
     Issues extent blocks ∷ [],
     (has, tt),
-    record { tells = refl; issues = (refl, tt) },
+    record { tells = refl; issues = (tt, tt); begins = part_itself (Wrote extent.volume extent.at blocks ∷ []) },
     issued_stands history stands has,
     then history has,
   )
@@ -109,7 +110,7 @@ pub wakes : Wakes
 wakes site t synced history stands known = (
   Woke (λ block. last t site.at.drive.0 block) ∷ [],
   ((λ block out. stands.values block out (last t site.at.drive.0 block) (last_may_be_left t site.at.drive.0 block)), tt),
-  record { tells = refl; issues = (tt, tt) },
+  record { tells = refl; issues = (tt, tt); begins = tt },
   record { database = stands.database; values = λ block out x left. inl (synced block x left) },
   (tt, refl),
 )

@@ -2,6 +2,7 @@
 use Rattle.std.specs.Prelude.{◌≡◌, ℕ, ◌+◌, ◌-◌, ◌<◌, ◌≤◌, true, false, List, [], ◌∷◌, length, slice_index_or, if◌then◌else◌, Some, None}
 use Rattle.mdv_history.specs.Below.{SliceName, Identity, VolId, SliceAt, HasSlice, AreApart, range, Among, covers, Change, Table, Slice, Component, Volume, Stripe, HasVolume, Version, Log, Site, area_of}
 use Rattle.mdv_store_law.specs.Log as log
+use Rattle.mdv_store_law.specs.Part.{IsPart}
 
 -- blocks of a volume from block `at` of it on, and where they lie: from block `block` of the drive on
 pub record Extent : Type 0 where
@@ -44,12 +45,12 @@ pub record History : Type 0 where
 abbrev pub may : History → ℕ → ℕ → List (List ℕ)
 may history first block = history.allowed (first + block)
 
--- what commands ask, as far as an `ok` acknowledges it: a database, a change of its table, blocks of a volume written, and read
+-- what an `ok` acknowledges: a database, a change of its table, blocks of a volume written, or told to hold these values
 pub data Deed : Type 0 where
   Created : Deed
   Changed : Change → Deed
   Wrote : VolId → ℕ → List (List ℕ) → Deed
-  Saw : VolId → ℕ → ℕ → Deed
+  Saw : VolId → ℕ → List (List ℕ) → Deed
 
 pub data Event : Type 0 where
   -- an event of the database
@@ -58,8 +59,8 @@ pub data Event : Type 0 where
   Issues : Extent → List (List ℕ) → Event
   -- the newline of that write's `ok` was told
   Acknowledges : Extent → List (List ℕ) → Event
-  -- the newline of a read's `ok` was told, of so many blocks
-  Shows : Extent → ℕ → Event
+  -- the newline of a read's `ok` was told, and behind its lines these values
+  Shows : Extent → List (List ℕ) → Event
   -- a boot has read the drive, and each block has one value since
   Woke : (ℕ → List ℕ) → Event
 
@@ -74,7 +75,7 @@ abbrev pub history_after : History → Event → History
 history_after history (OfDatabase event) = record history { database = log.log_after history.database event }
 history_after history (Issues extent blocks) = record history { allowed = issued history.allowed extent.block blocks }
 history_after history (Acknowledges extent blocks) = record history { allowed = settled history.allowed extent.block blocks }
-history_after history (Shows extent count) = history
+history_after history (Shows extent blocks) = history
 history_after history (Woke content) = record history { allowed = λ block. content block ∷ [] }
 
 abbrev pub history_after_all : History → List Event → History
@@ -93,12 +94,16 @@ pub record HasExtent (site : Site) (history : History) (extent : Extent) (count 
 abbrev pub AreNewest : (ℕ → List (List ℕ)) → ℕ → List (List ℕ) → Type 0
 AreNewest allowed from blocks = (k : ℕ) → k < length blocks → (older : List (List ℕ)) × (allowed (from + k) ≡ slice_index_or blocks k [] ∷ older)
 
+-- each of these values is one that its block may have
+abbrev pub AreAllowed : (ℕ → List (List ℕ)) → ℕ → List (List ℕ) → Type 0
+AreAllowed allowed from blocks = (k : ℕ) → k < length blocks → Among (allowed (from + k)) (slice_index_or blocks k [])
+
 -- when each event may happen
 abbrev pub MayHappen : Site → History → Event → Type 0
 MayHappen site history (OfDatabase event) = log.MayHappen site.drives history.database event
 MayHappen site history (Issues extent blocks) = HasExtent site history extent (length blocks)
 MayHappen site history (Acknowledges extent blocks) = HasExtent site history extent (length blocks) × AreNewest history.allowed extent.block blocks
-MayHappen site history (Shows extent count) = HasExtent site history extent count
+MayHappen site history (Shows extent blocks) = HasExtent site history extent (length blocks) × AreAllowed history.allowed extent.block blocks
 MayHappen site history (Woke content) = (block : ℕ) → area_of site site.at.drive.0 block ≡ false → Among (history.allowed block) (content block)
 
 -- each of the events may happen where it happens
@@ -119,40 +124,53 @@ told_by [] = []
 told_by (OfDatabase event ∷ es) = told_of event (told_by es)
 told_by (Issues extent blocks ∷ es) = told_by es
 told_by (Acknowledges extent blocks ∷ es) = Wrote extent.volume extent.at blocks ∷ told_by es
-told_by (Shows extent count ∷ es) = Saw extent.volume extent.at count ∷ told_by es
+told_by (Shows extent blocks ∷ es) = Saw extent.volume extent.at blocks ∷ told_by es
 told_by (Woke content ∷ es) = told_by es
 
--- an event issues only such a creation, and only what is asked
-abbrev pub IsIssue : (Identity → Type 0) → (Deed → Type 0) → Event → Type 0
-IsIssue Which Asks (OfDatabase (log.Issued identity)) = Which identity
-IsIssue Which Asks (OfDatabase (log.Writing mark None before table)) = Unit {0}
-IsIssue Which Asks (OfDatabase (log.Writing mark (Some change) before table)) = Asks (Changed change)
-IsIssue Which Asks (OfDatabase log.Written) = Unit {0}
-IsIssue Which Asks (OfDatabase (log.Told asked)) = Unit {0}
-IsIssue Which Asks (Issues extent blocks) = Asks (Wrote extent.volume extent.at blocks)
-IsIssue Which Asks (Acknowledges extent blocks) = Unit {0}
-IsIssue Which Asks (Shows extent count) = Unit {0}
-IsIssue Which Asks (Woke content) = Unit {0}
+-- the changes among these deeds, in order
+abbrev pub changes_in : List Deed → List Change
+changes_in [] = []
+changes_in (Created ∷ deeds) = changes_in deeds
+changes_in (Changed change ∷ deeds) = change ∷ changes_in deeds
+changes_in (Wrote volume at blocks ∷ deeds) = changes_in deeds
+changes_in (Saw volume at blocks ∷ deeds) = changes_in deeds
 
-abbrev pub IssuesOnly : (Identity → Type 0) → (Deed → Type 0) → List Event → Type 0
-IssuesOnly Which Asks [] = Unit {0}
-IssuesOnly Which Asks (e ∷ es) = IsIssue Which Asks e × IssuesOnly Which Asks es
+abbrev pub issued_of : log.Event → List Deed → List Deed
+issued_of (log.Issued identity) behind = behind
+issued_of (log.Writing mark None before table) behind = behind
+issued_of (log.Writing mark (Some change) before table) behind = Changed change ∷ behind
+issued_of log.Written behind = behind
+issued_of (log.Told asked) behind = behind
 
--- the events tell these deeds, and issue only such creations and deeds
-pub record Adds (Which : Identity → Type 0) (Asks : Deed → Type 0) (told : List Deed) (es : List Event) : Type 0 where
+-- the changes and the writes of blocks that these events begin, in order
+abbrev pub issued_by : List Event → List Deed
+issued_by [] = []
+issued_by (OfDatabase event ∷ es) = issued_of event (issued_by es)
+issued_by (Issues extent blocks ∷ es) = Wrote extent.volume extent.at blocks ∷ issued_by es
+issued_by (Acknowledges extent blocks ∷ es) = issued_by es
+issued_by (Shows extent blocks ∷ es) = issued_by es
+issued_by (Woke content ∷ es) = issued_by es
+
+-- an event issues only such a creation
+abbrev pub IsIssue : (Identity → Type 0) → Event → Type 0
+IsIssue Which (OfDatabase (log.Issued identity)) = Which identity
+IsIssue Which (OfDatabase (log.Writing mark asked before table)) = Unit {0}
+IsIssue Which (OfDatabase log.Written) = Unit {0}
+IsIssue Which (OfDatabase (log.Told asked)) = Unit {0}
+IsIssue Which (Issues extent blocks) = Unit {0}
+IsIssue Which (Acknowledges extent blocks) = Unit {0}
+IsIssue Which (Shows extent blocks) = Unit {0}
+IsIssue Which (Woke content) = Unit {0}
+
+abbrev pub IssuesOnly : (Identity → Type 0) → List Event → Type 0
+IssuesOnly Which [] = Unit {0}
+IssuesOnly Which (e ∷ es) = IsIssue Which e × IssuesOnly Which es
+
+-- The events tell these deeds; they issue only such creations, and begin only deeds that are asked, in their order and each once.
+pub record Adds (Which : Identity → Type 0) (asks told : List Deed) (es : List Event) : Type 0 where
   pub tells : told_by es ≡ told
-  pub issues : IssuesOnly Which Asks es
-
--- nothing is asked
-abbrev pub NoDeed : Deed → Type 0
-NoDeed deed = ⊥
-
--- one of these changes is asked, and nothing else
-abbrev pub IsChangeOf : (Change → Type 0) → Deed → Type 0
-IsChangeOf Asks Created = ⊥
-IsChangeOf Asks (Changed change) = Asks change
-IsChangeOf Asks (Wrote volume at blocks) = ⊥
-IsChangeOf Asks (Saw volume at count) = ⊥
+  pub issues : IssuesOnly Which es
+  pub begins : IsPart (issued_by es) asks
 
 -- one of them is a boot that has read the drive
 abbrev pub HasWoken : List Event → Type 0
@@ -160,5 +178,5 @@ HasWoken [] = ⊥
 HasWoken (OfDatabase event ∷ es) = HasWoken es
 HasWoken (Issues extent blocks ∷ es) = HasWoken es
 HasWoken (Acknowledges extent blocks ∷ es) = HasWoken es
-HasWoken (Shows extent count ∷ es) = HasWoken es
+HasWoken (Shows extent blocks ∷ es) = HasWoken es
 HasWoken (Woke content ∷ es) = Unit {0}

@@ -1,9 +1,9 @@
 -- Laws of histories: over crashes and new drives, over what is done to the database and to blocks of volumes, and over boots.
 use Rattle.std.specs.Prelude.{◌≡◌, ℕ, false, List, [], ◌∷◌, length, Some, None}
-use Rattle.mdv_history.specs.Below.{Image, KeptOutside, nowhere, Settling, IsSettled, IsFixed, IsSynced, Tale, Among, last, IsImage, restarted, Log, IsTellable, NoCreation, Site, area_of}
+use Rattle.mdv_history.specs.Below.{Image, KeptOutside, nowhere, Settling, IsSettled, IsFixed, IsSynced, Tale, Among, last, IsImage, restarted, IsTellable, NoCreation, Site, area_of}
 use Rattle.mdv_store_law.specs.Site.{IsFound}
 use Rattle.mdv_store_law.specs.Log as log
-use Rattle.mdv_history.specs.History.{History, Deed, Created, Changed, Wrote, Saw, Extent, HasExtent, HasWoken, AreNewest, NoDeed}
+use Rattle.mdv_history.specs.History.{History, Deed, Created, Changed, Wrote, Saw, Extent, HasExtent, HasWoken, AreAllowed, AreNewest}
 use Rattle.mdv_history.specs.Standing.{Stands, Goes, Reached, Anything}
 
 -- what a crash leaves of a drive that stands with a history stands with it
@@ -27,30 +27,28 @@ abbrev pub StaysStanding : Type 0
 StaysStanding = (site : Site) (history : History) (t m : Tale) → KeptOutside nowhere t m → Stands site history t → Stands site history m
 
 -- What an `ok` may tell of a history: the creation or the change that came to its newest table; a write of blocks of a volume
--- that are on the disk, and whose values are the last that were issued; a read of blocks of a volume.
+-- that are on the disk, and whose values are the last that were issued; values that blocks of a volume may have.
 abbrev pub CanTell : Site → Deed → History → Tale → Type 0
 CanTell site Created history t = IsTellable history.database None
 CanTell site (Changed change) history t = IsTellable history.database (Some change)
 CanTell site (Wrote volume at blocks) history t =
     (block : ℕ) × HasExtent site history (record { volume = volume; at = at; block = block }) (length blocks) × AreNewest history.allowed block blocks × IsFixed site.at.drive.0 block blocks t
-CanTell site (Saw volume at count) history t = (block : ℕ) × HasExtent site history (record { volume = volume; at = at; block = block }) count
+CanTell site (Saw volume at blocks) history t =
+    (block : ℕ) × HasExtent site history (record { volume = volume; at = at; block = block }) (length blocks) × AreAllowed history.allowed block blocks
 
 -- telling it is one event, by which nothing is asked
 abbrev pub TellsGo : Type 0
-TellsGo = (site : Site) (deed : Deed) (t m : Tale) → KeptOutside nowhere t m → Goes site (λ history. CanTell site deed history t) NoCreation NoDeed (deed ∷ []) Reached t m
-
-abbrev pub IsDeed : Deed → Deed → Type 0
-IsDeed deed other = other ≡ deed
+TellsGo = (site : Site) (deed : Deed) (t m : Tale) → KeptOutside nowhere t m → Goes site (λ history. CanTell site deed history t) NoCreation [] (deed ∷ []) Reached t m
 
 -- blocks of a volume are written and synced
 pub record WritesGo : Type 0 where
   -- at each moment the history goes on by their issue, or as it was
   pub goes : (site : Site) (extent : Extent) (blocks : List (List ℕ)) (t m : Tale) → Settling site.at.drive.0 extent.block blocks t m
-      → Goes site (λ history. HasExtent site history extent (length blocks)) NoCreation (IsDeed (Wrote extent.volume extent.at blocks)) [] Reached t m
+      → Goes site (λ history. HasExtent site history extent (length blocks)) NoCreation (Wrote extent.volume extent.at blocks ∷ []) [] Reached t m
   -- in the end they can be told
   pub ends : (site : Site) (extent : Extent) (blocks : List (List ℕ)) (t u : Tale) → Settling site.at.drive.0 extent.block blocks t u → IsSettled site.at.drive.0 extent.block blocks u
-      → Goes site (λ history. HasExtent site history extent (length blocks)) NoCreation (IsDeed (Wrote extent.volume extent.at blocks)) [] (λ es history. CanTell site (Wrote extent.volume extent.at blocks) history u) t u
+      → Goes site (λ history. HasExtent site history extent (length blocks)) NoCreation (Wrote extent.volume extent.at blocks ∷ []) [] (λ es history. CanTell site (Wrote extent.volume extent.at blocks) history u) t u
 
 -- a boot that has read the drive, which is synced: each block has one value from then on
 abbrev pub Wakes : Type 0
-Wakes = (site : Site) (t : Tale) → IsSynced site.at.drive.0 t → Goes site Anything NoCreation NoDeed [] (λ es history. HasWoken es × (history.allowed ≡ λ block. last t site.at.drive.0 block ∷ [])) t t
+Wakes = (site : Site) (t : Tale) → IsSynced site.at.drive.0 t → Goes site Anything NoCreation [] [] (λ es history. HasWoken es × (history.allowed ≡ λ block. last t site.at.drive.0 block ∷ [])) t t

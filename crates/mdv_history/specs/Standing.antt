@@ -17,11 +17,11 @@ abbrev pub Anything : History → Type 0
 Anything history = Unit {0}
 
 -- A history that the drive stood with, and of which so much was known, goes on by some events, which tell these deeds and
--- issue only such creations and deeds, to one that it stands with, of which more is known.
-abbrev pub Goes : Site → (History → Type 0) → (Identity → Type 0) → (Deed → Type 0) → List Deed → (List Event → History → Type 0) → Tale → Tale → Type 0
-Goes site Known Which Asks told After t m =
+-- issue only such creations and deeds that are asked, to one that it stands with, of which more is known.
+abbrev pub Goes : Site → (History → Type 0) → (Identity → Type 0) → List Deed → List Deed → (List Event → History → Type 0) → Tale → Tale → Type 0
+Goes site Known Which asks told After t m =
     (history : History) → Stands site history t → Known history
-    → (es : List Event) × IsCourse site history es × Adds Which Asks told es × Stands site (history_after_all history es) m × After es (history_after_all history es)
+    → (es : List Event) × IsCourse site history es × Adds Which asks told es × Stands site (history_after_all history es) m × After es (history_after_all history es)
 
 -- of which nothing more is known
 abbrev pub Reached : List Event → History → Type 0

@@ -1,6 +1,7 @@
 -- One line, answered.
+use Rattle.mdv_engine_law.specs.Line.{Nothing, Ask}
 use Rattle.std.proofs.Common.{inl, inr, ℕ, List, [], ◌++◌, refl, sym, ◌∙◌, ap}
-use Rattle.mdv_run.specs.Below.{Script, line, Tale, replies_in, Command, Create, MakeStripe, Read, Write, Spelled, Boot, IsCommand, IsLine, Deed, Reply, IsReplied, IsTurnedDown, Host, Memory, IsExecuted, Executed, Knows, IsAwake, Turned, Asks, RanTo, behind, kept_at}
+use Rattle.mdv_run.specs.Below.{Script, line, Tale, replies_in, Command, Create, MakeStripe, Read, Write, Spelled, Boot, IsCommand, IsLine, Reply, IsReplied, IsTurnedDown, Host, Memory, IsExecuted, Executed, Knows, IsAwake, Turned, Asks, RanTo, behind, kept_at}
 use Rattle.mdv_run.specs.Turns.{LineAnswered}
 use Rattle.mdv_shelf.proofs.Blocks.{both_ways}
 use Rattle.mdv_words.specs.declared.command.Line.TheVariants as words
@@ -28,7 +29,7 @@ no_boot text command is boot = absurd (let same = one_line text (words.Command c
 
 -- A line that is no boot, whose reply was told whole, where the last boot is known to have read the drive only where it is known of the
 -- memory before.
-module _ (host : Host) (text : List ℕ) (more : Script) (asked : List Deed) (asks : Asks text asked) (old new : Memory) (t u : Tale) (turned : Turned host asked old new t u) (other : IsLine text Boot → ⊥) where
+module _ (host : Host) (text : List ℕ) (more : Script) (ask : Ask) (asks : Asks text ask) (old new : Memory) (t u : Tale) (turned : Turned host ask old new t u) (other : IsLine text Boot → ⊥) where
   unknown_ran : (Knows host old t → ⊥) → RanTo host (line text more) old new more t u
   unknown_ran never = record {
     bytes = turned.bytes;
@@ -42,10 +43,10 @@ module _ (host : Host) (text : List ℕ) (more : Script) (asked : List Deed) (as
 
   pub known_ran : (Knows host old t → IsAwake new → IsAwake old) → RanTo host (line text more) old new more t u
   known_ran awake = elim (both_ways new.down) [
-    | inl down ↦ line_ran host text asked asks more old new t u turned (λ up. absurd (cc (down, up))) other
+    | inl down ↦ line_ran host text ask asks more old new t u turned (λ up. absurd (cc (down, up))) other
     | inr up ↦ elim (both_ways old.down) [
       | inl down ↦ unknown_ran (λ knows. absurd (let before = awake knows up in cc (down, before)))
-      | inr before ↦ line_ran host text asked asks more old new t u turned (λ same. before) other
+      | inr before ↦ line_ran host text ask asks more old new t u turned (λ same. before) other
     ]
   ]
 
@@ -55,8 +56,8 @@ line_executed text spelled is drive replies host old new reply t u done = record
 
 -- a refusal that was told, and nothing else happened
 module _ (host : Host) (memory : Memory) (r : Refusal) (plain : IsPlain r) (replies : Type 0) (reply : Reply) (t u : Tale) (given : OnlyReplied replies (outcome.Refused r) reply t u) where
-  pub refused_turned : (asked : List Deed) → IsReplied reply → Turned host asked memory memory t u
-  refused_turned asked on = turned host asked memory memory replies t t u refl (outcome.Refused r) plain (λ on some. absurd on) (λ on has. absurd on) (refused_none host asked memory r t) reply on given
+  pub refused_turned : (ask : Ask) → IsReplied reply → Turned host ask memory memory t u
+  refused_turned ask on = turned host ask memory memory replies t t u refl (outcome.Refused r) plain (λ on some. absurd on) (λ on has. absurd on) (refused_none host ask memory r t) reply on given
 
   pub refused_down : IsTurnedDown r (kept_at memory t) (outcome.Refused r) (kept_at memory u)
   refused_down = (refl, record { memory = refl; content = λ block. (given.kept 0 block refl).last })
@@ -65,6 +66,6 @@ module _ (host : Host) (memory : Memory) (r : Refusal) (plain : IsPlain r) (repl
   refused_knows = knows_kept host t u given.kept memory
 
 -- an `ok` of a boot that was told
-pub accepted_turned : (host : Host) (memory : Memory) (replies : Type 0) (reply : Reply) (t u : Tale) → OnlyReplied replies outcome.Ok reply t u → IsReplied reply → Turned host [] memory memory t u
+pub accepted_turned : (host : Host) (memory : Memory) (replies : Type 0) (reply : Reply) (t u : Tale) → OnlyReplied replies outcome.Ok reply t u → IsReplied reply → Turned host Nothing memory memory t u
 accepted_turned host memory replies reply t u given on =
-    turned host [] memory memory replies t t u refl outcome.Ok tt (λ on some. absurd (some refl)) (λ on has. absurd (never_among [] Created refl has)) (accepted_none host memory t) reply on given
+    turned host Nothing memory memory replies t t u refl outcome.Ok tt (λ on some. absurd (some refl)) (λ on has. absurd (never_among [] Created refl has)) (accepted_none host memory t) reply on given

@@ -5,6 +5,7 @@ ghost use Rattle.mdv_home.specs.declared.geometry.Home.{Home};
 ghost use Rattle.mdv_words.specs.declared.command.Line.TheVariants.{Boot};
 ghost use Rattle.mdv_words.specs.Line.{IsLine};
 ghost use Rattle.mdv_engine_law.specs.Home.{IsReady};
+ghost use Rattle.mdv_engine_law.specs.Line.{Nothing};
 ghost use Rattle.mdv_engine_law.specs.Replies.{IsReplied};
 ghost use Rattle.mdv_engine_law.specs.Standing.{TurnMoment};
 ghost use Rattle.mdv_engine.specs.Engine.{IsWell};
@@ -234,7 +235,7 @@ fn answer<B: Bench>(engine: &mut Engine, alloc: Global, bench: &mut B, line: &[u
 fn boot_anew<B: Bench>(engine: &mut Engine, alloc: Global, bench: &mut B) -> Reply
     requires ready { IsReady engine.old.host (B.sizes bench.old) }
     requires well { IsWell engine.old.host engine.old.state }
-    ensures moments { AtEachTale B.Shelf (TurnMoment engine.old.host [] engine.old.state) bench.old bench.new }
+    ensures moments { AtEachTale B.Shelf (TurnMoment engine.old.host Nothing engine.old.state) bench.old bench.new }
     ensures end { (text : List ℕ) → IsLine text Boot → LineEnds B.Shelf bench.old bench.new engine.old.host text engine.old.state engine.new.state result }
     ensures stays { (text : List ℕ) → IsLine text Boot → LineStays B.Shelf engine.old.host (IsReplied result) (LineTells B.Shelf engine.old text bench.old bench.new) bench.old bench.new }
     ensures answer { LineReply (DriveFailed B.Shelf bench.old bench.new 0) (GivingFailed B.Shelf bench.old bench.new) engine.old.host engine.old.state engine.new result }

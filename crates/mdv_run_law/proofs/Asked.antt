@@ -1,112 +1,72 @@
--- Each change of the tables of a history was asked by a line of its runs.
-use Rattle.std.proofs.Common.{◌≡◌, ◌⊎◌, inl, inr, ℕ, Bool, false, true, Option, refl, List, [], ◌∷◌, ◌++◌, Some, None, Contains, sym, subst, arith}
-use Rattle.std.proofs.lemmas.List.Elements.{Contains-append_right}
-use Rattle.mdv_base.specs.declared.mark.Identity.{Identity}
-use Rattle.mdv_run_law.specs.Below.{Home, Geometry, Script, at_end, spent, too_long, line, replies_in, Change, Table, Version, Log, answered, with_asked, Deed, Changed, Event, NoDeed, Host}
-use Rattle.mdv_store_law.specs.Log as log
-use Rattle.mdv_history.specs.History.{IssuesOnly, OfDatabase, Issues, Acknowledges, Shows, Woke}
-use Rattle.mdv_history.proofs.Histories.{issues_more, issues_weaker}
-use Rattle.mdv_history.proofs.Parts.{of_database, first_or_behind}
-use Rattle.mdv_run_law.specs.Standing.{AreIdle, AreOfRun, ComeOf, InWork, IsIssued}
-use Rattle.mdv_run_law.specs.Lives.{Ran, AreOfRuns, IsIssuedBy, host_of}
+-- What the events of runs begin was asked by their lines, and what they tell their replies tell, in the same order.
+use Rattle.std.proofs.Common.{◌≡◌, inl, inr, ℕ, Bool, List, [], ◌∷◌, ◌++◌, refl, sym, ◌∙◌, ap, subst}
+use Rattle.mdv_run_law.specs.Below.{Geometry, Script, at_end, spent, too_long, line, replies_in, Deed, Event, Host, deeds, issuable, issued_by, told_by}
+use Rattle.mdv_store_law.specs.Part.{IsPart}
+use Rattle.mdv_store_law.proofs.Parts.{part_more}
+use Rattle.mdv_history.proofs.Histories.{issued_more, told_more}
+use Rattle.mdv_run_law.specs.Standing.{AreBegun, AreIdle, AreTold, ComeOf, InWork}
+use Rattle.mdv_run_law.specs.Lives.{Ran, AreAsked, AreOfRuns, AreSaid, host_of}
 
--- what the events of a history issue, those of its log issue
-database_issues : (Which : Identity → Type 0) (Asked : Deed → Type 0) (es : List Event) → IssuesOnly Which Asked es → log.IssuesOnly Which (λ (c : Change). Asked (Changed c)) (of_database es)
-database_issues Which Asked [] is = tt
-database_issues Which Asked (OfDatabase (log.Issued identity) ∷ es) is = (is.0, database_issues Which Asked es is.1)
-database_issues Which Asked (OfDatabase (log.Writing mark None before table) ∷ es) is = (tt, database_issues Which Asked es is.1)
-database_issues Which Asked (OfDatabase (log.Writing mark (Some change) before table) ∷ es) is = (is.0, database_issues Which Asked es is.1)
-database_issues Which Asked (OfDatabase log.Written ∷ es) is = database_issues Which Asked es is.1
-database_issues Which Asked (OfDatabase (log.Told asked) ∷ es) is = database_issues Which Asked es is.1
-database_issues Which Asked (Issues extent blocks ∷ es) is = database_issues Which Asked es is.1
-database_issues Which Asked (Acknowledges extent blocks ∷ es) is = database_issues Which Asked es is.1
-database_issues Which Asked (Shows extent count ∷ es) is = database_issues Which Asked es is.1
-database_issues Which Asked (Woke content ∷ es) is = database_issues Which Asked es is.1
+-- what lines may have begun, of which these events begin a part; and what their replies tell, which is all that these events tell
+pub record Answers (Asked Said : List Deed → Type 0) (es : List Event) : Type 0 where
+  pub asked : List Deed
+  pub are_asked : Asked asked
+  pub begins : IsPart (issued_by es) asked
+  pub said : List Deed
+  pub are_said : Said said
+  pub tells : told_by es ≡ said
 
-module _ (Which : Identity → Type 0) (P : Change → Type 0) (g : Geometry) where
-  -- each change of these tables is such a one
-  abbrev Each : List Version → Type 0
-  Each family = (v : Version) → Contains family v → (change : Change) → Contains v.changes change → P change
+-- both parts of some events begin what both were asked, and tell what both tell
+answers_both : (Asked Said : List Deed → Type 0) (es first rest : List Event) (asked more said others : List Deed) → es ≡ first ++ rest → Asked (asked ++ more) → Said (said ++ others)
+    → IsPart (issued_by first) asked → IsPart (issued_by rest) more → told_by first ≡ said → told_by rest ≡ others → Answers Asked Said es
+answers_both Asked Said es first rest asked more said others is are_asked are_said begins begin tells tell = record {
+  asked = asked ++ more;
+  are_asked = are_asked;
+  begins = subst (λ (l : List Deed). IsPart l (asked ++ more)) (sym (ap issued_by is ∙ issued_more first rest)) (part_more (issued_by first) asked (issued_by rest) more begins begin);
+  said = said ++ others;
+  are_said = are_said;
+  tells = ap told_by is ∙ told_more first rest ∙ ap (λ (l : List Deed). l ++ told_by rest) tells ∙ ap (λ (l : List Deed). said ++ l) tell;
+}
 
-  each_first : (v : Version) (older : List Version) → ((change : Change) → Contains v.changes change → P change) → Each older → Each (v ∷ older)
-  each_first v older here each w has change of = elim (first_or_behind v w older has) [
-    | inl same ↦ here change (subst (λ (x : Version). Contains x.changes change) (sym same) of)
-    | inr behind ↦ each w behind change of
-  ]
+idle_answers : (host : Host) (Asked Said : List Deed → Type 0) (es : List Event) → Asked [] → Said [] → AreIdle host es → Answers Asked Said es
+idle_answers host Asked Said es none nothing idle = record { asked = []; are_asked = none; begins = idle.begins; said = []; are_said = nothing; tells = idle.tells }
 
-  each_answered : (family : List Version) → Each family → Each (answered family)
-  each_answered [] each = each
-  each_answered (v ∷ older) each =
-      each_first (record v { is_written = true }) older (λ change of. each v (0, omega arith, refl) change of) (λ w has. each w (Contains-append_right (v ∷ []) older w has))
+none_answers : (Asked Said : List Deed → Type 0) (es : List Event) → Asked [] → Said [] → es ≡ [] → Answers Asked Said es
+none_answers Asked Said es none nothing empty = record { asked = []; are_asked = none; begins = subst (λ (l : List Event). IsPart (issued_by l) []) (sym empty) tt; said = []; are_said = nothing; tells = ap told_by empty }
 
-  -- those of the table that another comes from
-  each_before : (family : List Version) (asked : Option Change) (before : List Change) (table : Table) → Each family → log.IsFirst family asked before table ⊎ log.IsNext g family asked before table → (change : Change) → Contains before change → P change
-  each_before family asked before table each (inl first) change of = absurd (let none : Contains [] change = subst (λ (l : List Change). Contains l change) first.unchanged of in omega (arith, none.1))
-  each_before family asked before table each (inr next) change of = each next.parent next.one_of change (subst (λ (l : List Change). Contains l change) (sym next.changes) of)
+work_answers : (host : Host) (down : Bool) (script : Script) (es : List Event) → InWork host down script es → Answers (AreBegun script []) (AreTold script []) es
+work_answers host down at_end es work = idle_answers host (AreBegun at_end []) (AreTold at_end []) es refl refl work
+work_answers host down (spent lines bytes) es work = idle_answers host (AreBegun (spent lines bytes) []) (AreTold (spent lines bytes) []) es refl refl work
+work_answers host down (too_long more) es work = idle_answers host (AreBegun (too_long more) []) (AreTold (too_long more) []) es refl refl work
+work_answers host down (line text more) es (inl none) = none_answers (AreBegun (line text more) []) (AreTold (line text more) []) es (inl refl) refl none
+work_answers host down (line text more) es (inr (ask, asks, does)) = record { asked = deeds ask; are_asked = inr (ask, asks, refl); begins = does.begins; said = []; are_said = refl; tells = does.tells }
 
-  each_asked : (asked : Option Change) (before : List Change) → log.IsAsked P asked → ((change : Change) → Contains before change → P change) → (change : Change) → Contains (with_asked asked before) change → P change
-  each_asked None before is each change of = each change of
-  each_asked (Some asked) before is each change of = elim (first_or_behind asked change before of) [
-    | inl same ↦ subst P same is
-    | inr behind ↦ each change behind
-  ]
+come_answers : (host : Host) (down : Bool) (script : Script) (replies : List (List ℕ)) (es : List Event) → ComeOf host (InWork host) down script replies es → Answers (AreBegun script replies) (AreTold script replies) es
+come_answers host down script [] es come = work_answers host down script es come
+come_answers host down at_end (reply ∷ replies) es come = idle_answers host (AreBegun at_end (reply ∷ replies)) (AreTold at_end (reply ∷ replies)) es refl refl come
+come_answers host down (spent lines bytes) (reply ∷ replies) es come =
+    idle_answers host (AreBegun (spent lines bytes) (reply ∷ replies)) (AreTold (spent lines bytes) (reply ∷ replies)) es refl refl come
+come_answers host down (too_long more) (reply ∷ replies) es come =
+    let rest = come_answers host down more replies come.1 come.4 in
+    answers_both (AreBegun (too_long more) (reply ∷ replies)) (AreTold (too_long more) (reply ∷ replies)) es come.0 come.1 [] rest.asked [] rest.said come.2 rest.are_asked rest.are_said
+    come.3.begins rest.begins come.3.tells rest.tells
+come_answers host down (line text more) (reply ∷ replies) es come =
+    let of_line = come.4 in
+    let rest = come_answers host come.3 more replies come.1 come.5 in
+    answers_both (AreBegun (line text more) (reply ∷ replies)) (AreTold (line text more) (reply ∷ replies)) es come.0 come.1 (issuable of_line.ask reply) rest.asked of_line.done rest.said come.2
+    (of_line.ask, of_line.asks, rest.asked, rest.are_asked, refl) (of_line.ask, of_line.asks, of_line.done, of_line.acks, rest.said, rest.are_said, refl)
+    of_line.does.begins rest.begins of_line.does.tells rest.tells
 
-  -- so is each change of a log from one of which it holds
-  pub each_after : (lg : Log) (es : List log.Event) → Each lg.family → log.IsCourse g lg es → log.IssuesOnly Which P es → Each (log.log_after_all lg es).family
-  each_after lg [] each course is = each
-  each_after lg (log.Issued identity ∷ es) each course is = each_after (log.log_after lg (log.Issued identity)) es (λ v has. absurd (omega (arith, has.1))) course.1 is.1
-  each_after lg (log.Writing mark asked before table ∷ es) each course is =
-      each_after (log.log_after lg (log.Writing mark asked before table)) es
-      (each_first (record { mark = mark; table = table; changes = with_asked asked before; is_written = false }) lg.family (each_asked asked before is.0 (each_before lg.family asked before table each course.0.1)) each) course.1 is.1
-  each_after lg (log.Written ∷ es) each course is = each_after (log.log_after lg log.Written) es (each_answered lg.family each) course.1 is
-  each_after lg (log.Told asked ∷ es) each course is = each_after (log.log_after lg (log.Told asked)) es each course.1 is
-
--- a creation of any identity
-abbrev pub AnyIdentity : Identity → Type 0
-AnyIdentity identity = Unit {0}
-
-idle_issues : (host : Host) (P : Deed → Type 0) (es : List Event) → AreIdle host es → IssuesOnly AnyIdentity P es
-idle_issues host P es idle = issues_weaker _ AnyIdentity NoDeed P (λ identity is. tt) (λ deed never. absurd never) es idle.issues
-
-both_issue : (P : Deed → Type 0) (es first rest : List Event) → es ≡ first ++ rest → IssuesOnly AnyIdentity P first → IssuesOnly AnyIdentity P rest → IssuesOnly AnyIdentity P es
-both_issue P es first rest is one other = subst (IssuesOnly AnyIdentity P) (sym is) (issues_more AnyIdentity P first rest one other)
-
--- the events of the lines of a script issue what these lines may
-work_issues : (host : Host) (down : Bool) (script : Script) (es : List Event) → InWork host down script es → IssuesOnly AnyIdentity (IsIssued script []) es
-work_issues host down at_end es work = idle_issues host (IsIssued at_end []) es work
-work_issues host down (spent lines bytes) es work = idle_issues host (IsIssued (spent lines bytes) []) es work
-work_issues host down (too_long more) es work = idle_issues host (IsIssued (too_long more) []) es work
-work_issues host down (line text more) es (inl none) = subst (IssuesOnly AnyIdentity (IsIssued (line text more) [])) (sym none) tt
-work_issues host down (line text more) es (inr (asked, asks, does)) = issues_weaker _ AnyIdentity _ (IsIssued (line text more) []) (λ identity is. tt) (λ deed has. (asked, asks, has)) es does.issues
-
-come_issues : (host : Host) (down : Bool) (script : Script) (replies : List (List ℕ)) (es : List Event) → ComeOf host (InWork host) down script replies es → IssuesOnly AnyIdentity (IsIssued script replies) es
-come_issues host down script [] es come = work_issues host down script es come
-come_issues host down at_end (reply ∷ replies) es come = idle_issues host (IsIssued at_end (reply ∷ replies)) es come
-come_issues host down (spent lines bytes) (reply ∷ replies) es come = idle_issues host (IsIssued (spent lines bytes) (reply ∷ replies)) es come
-come_issues host down (too_long more) (reply ∷ replies) es come =
-    both_issue (IsIssued (too_long more) (reply ∷ replies)) es come.0 come.1 come.2 (idle_issues host (IsIssued (too_long more) (reply ∷ replies)) come.0 come.3) (come_issues host down more replies come.1 come.4)
-come_issues host down (line text more) (reply ∷ replies) es come =
-    let P = IsIssued (line text more) (reply ∷ replies) in
-    both_issue P es come.0 come.1 come.2
-    (issues_weaker _ AnyIdentity _ P (λ identity is. tt) (λ deed has. inl (come.4.asked, come.4.asks, has)) come.0 come.4.does.issues)
-    (issues_weaker AnyIdentity AnyIdentity (IsIssued more replies) P (λ identity is. tt) (λ deed is. inr is) come.1 (come_issues host come.3 more replies come.1 come.5))
-
-run_issues : (host : Host) (script : Script) (bytes : List ℕ) (es : List Event) → AreOfRun host script bytes es → IssuesOnly AnyIdentity (IsIssued script (replies_in bytes)) es
-run_issues host script bytes es are =
-    both_issue (IsIssued script (replies_in bytes)) es are.boot are.lines are.both (idle_issues host (IsIssued script (replies_in bytes)) are.boot are.idle) (come_issues host are.down script (replies_in bytes) are.lines are.come)
-
--- those of runs issue what their lines may
-runs_issue : (drives : Geometry) (home : Home) (ran : List Ran) (es : List Event) → AreOfRuns drives home ran es → IssuesOnly AnyIdentity (IsIssuedBy ran) es
-runs_issue drives home [] es none = subst (IssuesOnly AnyIdentity (IsIssuedBy [])) (sym none) tt
-runs_issue drives home (ran ∷ before) es are =
-    both_issue (IsIssuedBy (ran ∷ before)) es are.0 are.1 are.2
-    (issues_weaker AnyIdentity AnyIdentity (IsIssuedBy before) (IsIssuedBy (ran ∷ before)) (λ identity is. tt) (λ deed is. inr is) are.0 (runs_issue drives home before are.0 are.3))
-    (issues_weaker AnyIdentity AnyIdentity (IsIssued ran.script (replies_in ran.bytes)) (IsIssuedBy (ran ∷ before)) (λ identity is. tt) (λ deed is. inl is) are.1 (run_issues (host_of drives home ran.fresh) ran.script ran.bytes are.1 are.4))
-
--- each change of a version of their log was issued by one of their lines
-pub version_issued : (drives : Geometry) (home : Home) (ran : List Ran) (es : List Event) (lg : Log) → AreOfRuns drives home ran es → lg ≡ log.log_after_all log.empty_log (of_database es) → log.IsCourse drives log.empty_log (of_database es)
-    → (v : Version) → Contains lg.family v → (change : Change) → Contains v.changes change → IsIssuedBy ran (Changed change)
-version_issued drives home ran es lg are is course v has change of =
-    each_after AnyIdentity (λ c. IsIssuedBy ran (Changed c)) drives log.empty_log (of_database es) (λ w none. absurd (omega (arith, none.1))) course
-    (database_issues AnyIdentity (IsIssuedBy ran) es (runs_issue drives home ran es are))
-    v (subst (λ (l : Log). Contains l.family v) is has) change of
+-- the same of runs
+pub runs_answer : (drives : Geometry) (ran : List Ran) (es : List Event) → AreOfRuns drives ran es → Answers (AreAsked ran) (AreSaid ran) es
+runs_answer drives [] es none = none_answers (AreAsked []) (AreSaid []) es refl refl none
+runs_answer drives (ran ∷ before) es are =
+    let old = runs_answer drives before are.0 are.3 in
+    let run = are.4 in
+    let lines = come_answers (host_of drives ran.home ran.fresh) run.down ran.script (replies_in ran.bytes) run.lines run.come in
+    let new : Answers (AreBegun ran.script (replies_in ran.bytes)) (AreTold ran.script (replies_in ran.bytes)) are.1 =
+        answers_both (AreBegun ran.script (replies_in ran.bytes)) (AreTold ran.script (replies_in ran.bytes)) are.1 run.boot run.lines [] lines.asked [] lines.said run.both lines.are_asked lines.are_said
+        run.idle.begins lines.begins run.idle.tells lines.tells in
+    answers_both (AreAsked (ran ∷ before)) (AreSaid (ran ∷ before)) es are.0 are.1 old.asked new.asked old.said new.said are.2
+    (old.asked, old.are_asked, new.asked, new.are_asked, refl) (old.said, old.are_said, new.said, new.are_said, refl)
+    old.begins new.begins old.tells new.tells

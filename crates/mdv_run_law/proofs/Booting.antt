@@ -1,49 +1,46 @@
 -- A boot, as a line of the script and as the start of a run.
 use Rattle.std.proofs.Common.{◌≡◌, inl, inr, ℕ, true, List, [], ◌++◌, Contains, refl, sym, ◌∙◌, ap, subst, arith}
 use Rattle.std.proofs.lemmas.List.{append-nil}
-use Rattle.mdv_run_law.specs.Below.{Script, line, Tale, told, replies_in, Boot, IsLine, History, Deed, Created, Event, NoDeed, history_after_all, HasWoken, Host, site_of, Memory, IsFront, acked, issuable_of, StandsAt, IsMadeHere, Does, IsAsked, IsKnown, IsAwake, BootMoment, BootedTo, TurnMoment, Turned}
-use Rattle.mdv_history.proofs.Histories.{history_after_more, course_more, adds_more, adds_weaker, woken_first}
-use Rattle.mdv_engine_law.proofs.Plain.{nothing_answers}
+use Rattle.mdv_run_law.specs.Below.{Script, line, Tale, told, replies_in, Boot, IsLine, History, Deed, Created, Event, history_after_all, HasWoken, Host, site_of, Nothing, Memory, issuable, issuable_of, StandsAt, IsKnown, IsAwake, BootMoment, BootedTo, TurnMoment, Turned}
+use Rattle.mdv_history.proofs.Histories.{history_after_more, course_more, woken_first}
+use Rattle.mdv_engine_law.proofs.Plain.{nothing_answers, nothing_acked, nothing_issuable}
+use Rattle.mdv_engine_law.proofs.Going.{does_more}
+use Rattle.mdv_store_law.proofs.Parts.{part_itself}
 use Rattle.mdv_engine_law.proofs.Staying.{stays_in_replica, stays_more}
 use Rattle.mdv_engine_law.specs.Standing as turn
 use Rattle.mdv_run_law.specs.Standing.{Asks, AreIdle, AreOfRun, ComeOf, InWork, IsTold, behind, LinesMoment, RanTo, RunMoment}
 use Rattle.mdv_run_law.proofs.Coming.{behind_none, told_none, in_work_none, idle_none}
-use Rattle.mdv_run_law.proofs.Turning.{none_acked, front_told, reply_come}
+use Rattle.mdv_run_law.proofs.Turning.{none_acked, reply_come, reply_told}
 
 module _ (host : Host) where
-  -- by which nothing is asked
-  idly : (asked told other : List Deed) (es : List Event) → told ≡ other → Does host NoDeed told es → Does host (IsAsked asked) other es
-  idly asked told other es same does =
-      adds_weaker (IsMadeHere host NoDeed) (IsMadeHere host (IsAsked asked)) NoDeed (IsAsked asked) (λ identity is. absurd is.1) (λ deed none. absurd none) other es (subst (λ (l : List Deed). Does host NoDeed l es) same does)
-
-  -- the events of a boot, and those of a turn by which nothing is asked
-  booted_goes : (bytes : List ℕ) (front : IsFront bytes) (Between After : List Event → History → Type 0) (u m : Tale) (h : History) (first : turn.Goes host NoDeed [] Between u h)
-      → (second : turn.Goes host (IsAsked (issuable_of [] bytes)) (acked [] bytes) After m (history_after_all h first.es)) → turn.Goes host (IsAsked (issuable_of [] bytes)) (acked [] bytes) (λ es after. (fs : List Event) × (gs : List Event) × (es ≡ fs ++ gs) × Between fs (history_after_all h fs) × After gs after) m h
-  booted_goes bytes front Between After u m h first second =
+  -- the events of a boot, and those of a turn
+  booted_goes : (asks done : List Deed) (Between After : List Event → History → Type 0) (u m : Tale) (h : History) (first : turn.Goes host [] [] Between u h)
+      → (second : turn.Goes host asks done After m (history_after_all h first.es)) → turn.Goes host asks done (λ es after. (fs : List Event) × (gs : List Event) × (es ≡ fs ++ gs) × Between fs (history_after_all h fs) × After gs after) m h
+  booted_goes asks done Between After u m h first second =
       let same : history_after_all (history_after_all h first.es) second.es ≡ history_after_all h (first.es ++ second.es) = sym (history_after_more h first.es second.es) in
       record {
         es = first.es ++ second.es;
         course = course_more (site_of host) h first.es second.es first.course second.course;
-        does = adds_more (IsMadeHere host (IsAsked (issuable_of [] bytes))) (IsAsked (issuable_of [] bytes)) [] (acked [] bytes) first.es second.es (idly (issuable_of [] bytes) [] [] first.es refl first.does) second.does;
+        does = does_more host [] asks asks [] done first.es second.es (part_itself asks) first.does second.does;
         stands = subst (λ (x : History). StandsAt host x m) same second.stands;
         after = (first.es, second.es, refl, first.after, subst (λ (x : History). After second.es x) same second.after);
       }
 
-  never : (bytes : List ℕ) → IsFront bytes → Contains (acked [] bytes) Created → ⊥
-  never bytes front has = absurd (let in_none : Contains [] Created = subst (λ (l : List Deed). Contains l Created) (none_acked bytes front) has in omega (arith, in_none.1))
+  never : (done : List Deed) → done ≡ [] → Contains done Created → ⊥
+  never done none has = absurd (let in_none : Contains [] Created = subst (λ (l : List Deed). Contains l Created) none has in omega (arith, in_none.1))
 
   -- while the host boots nothing is told
-  pub boot_turn : (old : Memory) (t m : Tale) → BootMoment host t m → TurnMoment host [] old t m
+  pub boot_turn : (old : Memory) (t m : Tale) → BootMoment host t m → TurnMoment host Nothing old t m
   boot_turn old t m moment = record {
     home = stays_in_replica host t m moment.kept;
     bytes = [];
     is_told = moment.quiet ∙ sym (append-nil (told t));
     front = inl nothing_answers;
-    awake = λ some. absurd (some (none_acked [] (inl nothing_answers)));
-    free = λ has. absurd (never [] (inl nothing_answers) has);
-    goes = λ h known.
-        let went = moment.goes h known.stands in
-        record { es = went.es; course = went.course; does = idly (issuable_of [] []) [] (acked [] []) went.es (sym (none_acked [] (inl nothing_answers))) went.does; stands = went.stands; after = tt };
+    done = [];
+    acks = nothing_acked Nothing;
+    awake = λ some. absurd (some refl);
+    free = λ has. absurd (never [] refl has);
+    goes = λ h known. subst (λ (may : List Deed). turn.Goes host may [] turn.Reached m h) (sym (nothing_issuable Nothing)) (moment.goes h known.stands);
   }
 
   module _ (old new : Memory) (t u : Tale) (booted : BootedTo host new t u) where
@@ -51,41 +48,43 @@ module _ (host : Host) where
     told_both m bytes more = more ∙ ap (λ (l : List ℕ). l ++ bytes) booted.quiet
 
     -- while the `ok` of a line `boot` is told
-    pub booted_turn : (m : Tale) → TurnMoment host [] new u m → TurnMoment host [] old t m
-    booted_turn m moment = record {
-      home = stays_more host t u m booted.home moment.home;
-      bytes = moment.bytes;
-      is_told = told_both m moment.bytes moment.is_told;
-      front = moment.front;
-      awake = λ some. absurd (some (none_acked moment.bytes moment.front));
-      free = λ has. absurd (never moment.bytes moment.front has);
-      goes = λ h known.
-          let before = booted.goes h known.stands in
-          let both = booted_goes moment.bytes moment.front (λ es after. IsKnown host new after u × (IsAwake new → HasWoken es)) turn.Reached u m h before (moment.goes (history_after_all h before.es) before.after.0) in
-          record { es = both.es; course = both.course; does = both.does; stands = both.stands; after = tt };
-    }
+    pub booted_turn : (m : Tale) → TurnMoment host Nothing new u m → TurnMoment host Nothing old t m
+    booted_turn m moment =
+        let none = none_acked moment.bytes moment.done moment.acks in
+        record {
+          home = stays_more host t u m booted.home moment.home;
+          bytes = moment.bytes;
+          is_told = told_both m moment.bytes moment.is_told;
+          front = moment.front;
+          done = moment.done;
+          acks = moment.acks;
+          awake = λ some. absurd (some none);
+          free = λ has. absurd (never moment.done none has);
+          goes = λ h known.
+              let before = booted.goes h known.stands in
+              let both = booted_goes (issuable_of Nothing moment.bytes) moment.done (λ es after. IsKnown host new after u × (IsAwake new → HasWoken es)) turn.Reached u m h before (moment.goes (history_after_all h before.es) before.after.0) in
+              record { es = both.es; course = both.course; does = both.does; stands = both.stands; after = tt };
+        }
 
     -- and once it is
-    pub booted_ran : (text : List ℕ) (more : Script) → IsLine text Boot → (v : Tale) → Turned host [] new new u v → RanTo host (line text more) old new more t v
+    pub booted_ran : (text : List ℕ) (more : Script) → IsLine text Boot → (v : Tale) → Turned host Nothing new new u v → RanTo host (line text more) old new more t v
     booted_ran text more is v turned =
-        let asks : Asks text [] = inr (Boot, is, refl) in
-        let front : IsFront turned.bytes = inr (turned.reply.line, turned.reply.alone) in
-        let none = none_acked turned.bytes front in
+        let asks : Asks text Nothing = inr (Boot, is, refl) in
         record {
           bytes = turned.bytes;
           is_told = told_both v turned.bytes turned.is_told;
           replies = λ rest. turned.reply.behind rest ∙ ap (λ (l : List (List ℕ)). l ++ replies_in rest) (sym turned.reply.alone);
           left_is = ap (behind (line text more)) turned.reply.alone ∙ behind_none more;
           knows = λ known. turned.knows booted.knows;
-          made = λ known told. absurd (never turned.bytes front (front_told host text [] asks more turned.bytes Created front told));
+          made = λ known told. absurd (never turned.done turned.acks (reply_told host text Nothing asks more turned.bytes turned.reply turned.done turned.acks told));
           goes = λ h known.
               let before = booted.goes h known.stands in
-              let both = booted_goes turned.bytes front (λ es after. IsKnown host new after u × (IsAwake new → HasWoken es)) (λ es after. IsKnown host new after v) u v h before (turned.goes (history_after_all h before.es) before.after.0) in
+              let both = booted_goes (issuable Nothing turned.bytes) turned.done (λ es after. IsKnown host new after u × (IsAwake new → HasWoken es)) (λ es after. IsKnown host new after v) u v h before (turned.goes (history_after_all h before.es) before.after.0) in
               let woken : IsAwake new → HasWoken both.es = λ up. subst HasWoken (sym both.after.2) (woken_first both.after.0 both.after.1 (both.after.3.1 up)) in
               record {
                 es = both.es;
                 course = both.course;
-                come = reply_come host text [] asks more old new turned.bytes turned.reply (λ some. absurd (some none)) both.es both.does (λ up. inl (is, woken up));
+                come = reply_come host text Nothing asks more old new turned.bytes turned.reply turned.done turned.acks (λ some. absurd (some turned.acks)) both.es both.does (λ up. inl (is, woken up));
                 stands = both.stands;
                 after = both.after.4;
               };

@@ -1,18 +1,37 @@
 -- The events that come of a script's lines, and what its replies tell.
-use Rattle.std.proofs.Common.{◌≡◌, ◌⊎◌, inl, inr, ⊎_elim, ℕ, Bool, List, [], ◌∷◌, ◌++◌, refl, sym, ◌∙◌, ap, subst, append_assoc, Contains}
+use Rattle.std.proofs.Common.{◌≡◌, ◌⊎◌, inl, inr, ⊎_elim, ℕ, Bool, List, [], ◌∷◌, ◌++◌, refl, sym, ◌∙◌, ap, subst, append_assoc, Contains, arith}
 use Rattle.std.proofs.lemmas.List.{append-nil}
 use Rattle.std.proofs.lemmas.List.Elements.{Contains-append_left, Contains-append_right}
-use Rattle.mdv_run_law.specs.Below.{Script, at_end, spent, too_long, line, Deed, Event, told_by, Host, asked_by_line, acked_by}
+use Rattle.mdv_run_law.specs.Below.{Script, at_end, spent, too_long, line, Deed, Created, Changed, Saw, Event, told_by, Host, Ask, Nothing, ToDo, ToSee, asked_by_line, AcksBy}
+use Rattle.mdv_history.specs.History.{Wrote}
+use Rattle.mdv_history.proofs.Parts.{first_or_behind}
 use Rattle.mdv_words.proofs.Lines.{one_line}
 use Rattle.mdv_history.proofs.Histories.{told_more}
 use Rattle.mdv_run_law.specs.Standing.{Asks, AreIdle, AreOfLine, ComeOf, InWork, NothingLeft, IsTold, behind}
 
--- a line asks one list of deeds
-pub one_asked : (text : List ℕ) (a b : List Deed) → Asks text a → Asks text b → a ≡ b
+-- a line asks one thing
+pub one_asked : (text : List ℕ) (a b : Ask) → Asks text a → Asks text b → a ≡ b
 one_asked text a b (inl one) (inl other) = one.1 ∙ sym other.1
 one_asked text a b (inl one) (inr other) = absurd (one.0 other.0 other.1)
 one_asked text a b (inr one) (inl other) = absurd (other.0 one.0 one.1)
 one_asked text a b (inr one) (inr other) = one.2 ∙ ap asked_by_line (one_line text one.0 other.0 one.1 other.1) ∙ sym other.2
+
+-- any deed but values that were seen
+abbrev pub IsDone : Deed → Type 0
+IsDone Created = Unit {0}
+IsDone (Changed change) = Unit {0}
+IsDone (Wrote volume at blocks) = Unit {0}
+IsDone (Saw volume at blocks) = ⊥
+
+-- a reply acknowledges such a deed to one ask in one way
+pub acked_once : (ask : Ask) (reply : List ℕ) (a b : List Deed) (deed : Deed) → IsDone deed → AcksBy ask reply a → AcksBy ask reply b → Contains a deed → Contains b deed
+acked_once Nothing reply a b deed done one other has = subst (λ (l : List Deed). Contains l deed) (one ∙ sym other) has
+acked_once (ToDo asked) reply a b deed done one other has = subst (λ (l : List Deed). Contains l deed) (one ∙ sym other) has
+acked_once (ToSee volume at count) reply a b deed done (inl one) other has = absurd (let in_none : Contains [] deed = subst (λ (l : List Deed). Contains l deed) one.1 has in omega (arith, in_none.1))
+acked_once (ToSee volume at count) reply a b deed done (inr one) other has = elim (first_or_behind (Saw volume at one.blocks) deed [] (subst (λ (l : List Deed). Contains l deed) one.seen has)) [
+  | inl same ↦ absurd (subst IsDone (sym same) done)
+  | inr none ↦ absurd (omega (arith, none.1))
+]
 
 pub behind_none : (script : Script) → behind script [] ≡ script
 behind_none at_end = refl
@@ -50,7 +69,7 @@ nothing_front es fs none = ap (λ (l : List Event). l ++ fs) none
 module _ (host : Host) where
   -- nothing happened yet
   pub idle_none : AreIdle host []
-  idle_none = record { tells = refl; issues = tt }
+  idle_none = record { tells = refl; issues = tt; begins = tt }
 
   pub in_work_none : (down : Bool) (script : Script) → InWork host down script []
   in_work_none down at_end = idle_none
@@ -94,18 +113,19 @@ module _ (host : Host) where
     )
 
     -- what the replies tell, the events tell
-    pub come_told : (down : Bool) (script : Script) (replies : List (List ℕ)) (es : List Event) (deed : Deed) → ComeOf host Left down script replies es → IsTold script replies deed → Contains (told_by es) deed
-    come_told down script [] es deed come is = absurd (told_none script deed is)
-    come_told down at_end (reply ∷ replies) es deed come is = absurd is
-    come_told down (spent lines bytes) (reply ∷ replies) es deed come is = absurd is
-    come_told down (too_long more) (reply ∷ replies) es deed come is =
-        subst (λ (l : List Deed). Contains l deed) (sym (ap told_by come.2 ∙ told_more come.0 come.1)) (Contains-append_right (told_by come.0) (told_by come.1) deed (come_told down more replies come.1 deed come.4 is))
-    come_told down (line text more) (reply ∷ replies) es deed come (inl here) =
-        let same = one_asked text here.0 come.4.asked here.1 come.4.asks in
-        let told : Contains (told_by come.0) deed = subst (λ (l : List Deed). Contains l deed) (sym come.4.does.tells) (subst (λ (asked : List Deed). Contains (acked_by asked reply) deed) same here.2) in
+    pub come_told : (down : Bool) (script : Script) (replies : List (List ℕ)) (es : List Event) (deed : Deed) → IsDone deed → ComeOf host Left down script replies es → IsTold script replies deed → Contains (told_by es) deed
+    come_told down script [] es deed done come is = absurd (told_none script deed is)
+    come_told down at_end (reply ∷ replies) es deed done come is = absurd is
+    come_told down (spent lines bytes) (reply ∷ replies) es deed done come is = absurd is
+    come_told down (too_long more) (reply ∷ replies) es deed done come is =
+        subst (λ (l : List Deed). Contains l deed) (sym (ap told_by come.2 ∙ told_more come.0 come.1)) (Contains-append_right (told_by come.0) (told_by come.1) deed (come_told down more replies come.1 deed done come.4 is))
+    come_told down (line text more) (reply ∷ replies) es deed done come (inl here) =
+        let same = one_asked text here.0 come.4.ask here.1 come.4.asks in
+        let acks : AcksBy come.4.ask reply here.2 = subst (λ (ask : Ask). AcksBy ask reply here.2) same here.3 in
+        let told : Contains (told_by come.0) deed = subst (λ (l : List Deed). Contains l deed) (sym come.4.does.tells) (acked_once come.4.ask reply here.2 come.4.done deed done acks come.4.acks here.4) in
         subst (λ (l : List Deed). Contains l deed) (sym (ap told_by come.2 ∙ told_more come.0 come.1)) (Contains-append_left (told_by come.0) (told_by come.1) deed told)
-    come_told down (line text more) (reply ∷ replies) es deed come (inr is) =
-        subst (λ (l : List Deed). Contains l deed) (sym (ap told_by come.2 ∙ told_more come.0 come.1)) (Contains-append_right (told_by come.0) (told_by come.1) deed (come_told come.3 more replies come.1 deed come.5 is))
+    come_told down (line text more) (reply ∷ replies) es deed done come (inr is) =
+        subst (λ (l : List Deed). Contains l deed) (sym (ap told_by come.2 ∙ told_more come.0 come.1)) (Contains-append_right (told_by come.0) (told_by come.1) deed (come_told come.3 more replies come.1 deed done come.5 is))
 
   -- those of one line, told by its one reply
   pub come_line : (Left : Bool → Script → List Event → Type 0) (down then : Bool) (text : List ℕ) (more : Script) (reply : List ℕ) (es : List Event) → AreOfLine host text down reply es then → Left then more [] → ComeOf host Left down (line text more) (reply ∷ []) es

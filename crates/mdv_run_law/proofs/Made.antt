@@ -82,9 +82,9 @@ pub some_told : {X : Type 0} (xs : List X) (x : X) → Contains xs x → xs ≡ 
 some_told xs x has none = absurd (let in_none : Contains [] x = subst (λ (l : List _). Contains l x) none has in omega (arith, in_none.1))
 
 -- Where nothing was there, and then a creation was told, the history is one of this run's database.
-pub made_ours : (host : Host) (Asks : Deed → Type 0) (told : List Deed) (t m : Tale) (es : List Event) → IsCourse (site_of host) (began host t) es → Does host Asks told es → Contains told Created
+pub made_ours : (host : Host) (asks told : List Deed) (t m : Tale) (es : List Event) → IsCourse (site_of host) (began host t) es → Does host asks told es → Contains told Created
     → StandsAt host (history_after_all (began host t) es) m → (number : ℕ) × IsOurs host number (history_after_all (began host t) es).database
-made_ours host Asks told t m es course adds has stands =
+made_ours host asks told t m es course adds has stands =
     let events = of_database es in
     let is_course = database_course (site_of host) (began host t) es course in
     let in_log : Contains (told_of_database (told_by es)) None = told_created (told_by es) (subst (λ (l : List Deed). Contains l Created) (sym adds.tells) has) in
@@ -92,7 +92,7 @@ made_ours host Asks told t m es course adds has stands =
     let is_log = is_log_after_all host.drives empty_log events (empty_is_log host.drives) is_course in
     let after = history_after_all (began host t) es in
     let firm : is_firm after.database ≡ true = ap is_firm (database_after (began host t) es) ∙ told_firm host.drives (log.log_after_all empty_log events) acknowledged.0 is_log acknowledged.1 in
-    let issued = issued_has (IsOfRun host) (IsMadeHere host Asks) Asks (λ identity is. is.0) (began host t) es adds.issues tt in
+    let issued = issued_has (IsOfRun host) (IsMadeHere host asks) (λ identity is. is.0) (began host t) es adds.issues tt in
     elim (stands.stands.database.covers (last m) (last_image m)) [
       | nothing not_firm none ↦ absurd (cc (firm, not_firm))
       | replica head agrees ↦ (head.master.identity.number, record { issued = ours_by host after.database.issued head.master.identity agrees.as_issued issued; firm = firm })

@@ -14,16 +14,17 @@ pub use Rattle.mdv_engine_law.specs.Home.{identity_of, site_of}
 pub use Rattle.mdv_engine_law.specs.Line.{AreBlocksAt, AreBlocksRefused, ArePut, HasVolumeOn, IsCarriedOut, IsChange, IsChangeRefused, IsChanged}
 pub use Rattle.mdv_engine_law.specs.Line.{IsCommitted, IsCreateRefused, IsCreated, IsCreation, IsDownWord, IsExecuted, IsHomeSlice, IsNew, IsOther}
 pub use Rattle.mdv_engine_law.specs.Line.{IsRead, IsRebooted, IsRewritten, IsSame, IsSameBeside, IsTurnedDown, IsWrite, Kept, MayChange, MayCreate}
-pub use Rattle.mdv_engine_law.specs.Line.{ComesTo, Memory, Stays, adopted, asked_by, asked_by_line, blocks_of, down, drive_content, empty, kept_at, lost, record_room}
+pub use Rattle.mdv_engine_law.specs.Line.{Ask, ComesTo, Memory, Nothing, Stays, ToDo, ToSee, adopted, asked_by, asked_by_line, blocks_of, deeds, down, drive_content}
+pub use Rattle.mdv_engine_law.specs.Line.{empty, kept_at, lost, record_room}
 pub use Rattle.mdv_engine_law.specs.Line.{unbooted, wanting}
-pub use Rattle.mdv_engine_law.specs.Replies.{IsFront, IsPlain, IsPlainAnswer, IsReplied, IsReply, IsTold, acked, acked_by, acked_in, issuable}
-pub use Rattle.mdv_engine_law.specs.Replies.{issuable_in, issuable_of, ok_line, refusal_line}
-pub use Rattle.mdv_engine_law.specs.Standing.{BootMoment, BootedTo, Does, Executed, IsAsked, IsAwake, IsKnown, IsMadeHere, IsOfRun, Knows, Reached}
+pub use Rattle.mdv_engine_law.specs.Replies.{Acks, AcksBy, AcksIn, IsFront, IsPlain, IsPlainAnswer, IsReplied, IsReply, IsTold, issuable, issuable_in, issuable_of}
+pub use Rattle.mdv_engine_law.specs.Replies.{ok_line, refusal_line}
+pub use Rattle.mdv_engine_law.specs.Standing.{BootMoment, BootedTo, Does, Executed, IsAwake, IsKnown, IsMadeHere, IsOfRun, Knows, Reached}
 pub use Rattle.mdv_engine_law.specs.Standing.{StandsAt, TurnMoment, Turned}
 pub use Rattle.mdv_engine_law.specs.declared.answer.Answer.{Answer}
 pub use Rattle.mdv_engine_law.specs.declared.answer.Reply.{Reply}
 pub use Rattle.mdv_engine_law.specs.declared.host.Host.{Host}
-pub use Rattle.mdv_history.specs.History.{Changed, Created, Deed, Event, HasWoken, History, IsCourse, LiesOn, NoDeed, history_after_all, told_by}
+pub use Rattle.mdv_history.specs.History.{Changed, Created, Deed, Event, HasWoken, History, IsCourse, LiesOn, Saw, changes_in, history_after_all, issued_by, told_by}
 pub use Rattle.mdv_history.specs.Laws.{new_history}
 pub use Rattle.mdv_history.specs.Standing.{ValuesHold}
 pub use Rattle.mdv_home.specs.Home.{IsHome, line_of}
@@ -44,7 +45,7 @@ pub use Rattle.mdv_replica.specs.declared.replica.Slot.TheVariants.{First, Secon
 pub use Rattle.mdv_shelf.specs.Calls.{OnDrive, OnReplies, Part}
 pub use Rattle.mdv_replica.specs.Images.{Image}
 pub use Rattle.mdv_shelf.specs.Tale.{Among, IsImage, MayLeave, Tale, covers, last, told, values}
-pub use Rattle.mdv_status.specs.Telling.{begins_with_digit, replies_in}
+pub use Rattle.mdv_status.specs.Telling.{replies_in}
 pub use Rattle.mdv_status.specs.Values.{values_reply}
 pub use Rattle.mdv_store_law.specs.Laws.{restarted}
 pub use Rattle.mdv_store_law.specs.Log.{AreMade, Extends, IsLog, IsTellable, Log, Version, answered, empty_log, is_firm, with_asked}

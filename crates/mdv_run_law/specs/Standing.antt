@@ -1,27 +1,30 @@
 -- How the drive stands with its history at each moment of a run.
 use Rattle.std.specs.Prelude.{◌≡◌, ◌≢◌, ◌⊎◌, ℕ, Bool, true, false, List, [], ◌∷◌, ◌++◌, Some, Contains}
-use Rattle.mdv_run_law.specs.Below.{Script, at_end, spent, too_long, line, Head, shows, Tale, told, IsImage, replies_in, Line, Boot, IsLine, is_firm, IsReplica, History, Deed, Created, Event, HasWoken, IsCourse, NoDeed, history_after_all, Host, site_of, identity_of, Memory, asked_by_line, acked_by, issuable, StandsAt, Does, IsAsked, Reached, Knows, IsKnown}
+use Rattle.mdv_run_law.specs.Below.{Script, at_end, spent, too_long, line, Head, shows, Tale, told, IsImage, replies_in, Line, Boot, IsLine, is_firm, IsReplica, History, Deed, Created, Event, HasWoken, IsCourse, history_after_all, Host, site_of, identity_of, Ask, Nothing, Memory, asked_by_line, AcksBy, deeds, issuable, StandsAt, Does, Reached, Knows, IsKnown}
 use Rattle.mdv_run_law.specs.Run.{IsNoCommand}
 
--- what the `ok` of a line acknowledges: nothing, where the grammar doesn't have the line
-abbrev pub Asks : List ℕ → List Deed → Type 0
-Asks text asked = (IsNoCommand text × (asked ≡ [])) ⊎ ((spelled : Line) × IsLine text spelled × (asked ≡ asked_by_line spelled))
+-- what a line asks: nothing, where the grammar doesn't have the line
+abbrev pub Asks : List ℕ → Ask → Type 0
+Asks text ask = (IsNoCommand text × (ask ≡ Nothing)) ⊎ ((spelled : Line) × IsLine text spelled × (ask ≡ asked_by_line spelled))
 
 -- events by which nothing is asked and nothing is told
 abbrev pub AreIdle : Host → List Event → Type 0
-AreIdle host es = Does host NoDeed [] es
+AreIdle host es = Does host [] [] es
 
--- Events of a line that was answered by this line of reply: they issue what it asks only where the reply is `ok`, or tells that a call on
--- a drive failed, and else nothing; they tell it exactly where the reply is `ok`, which comes only where the last boot has read the drive.
+-- Events of a line that was answered by this reply: they begin what it asks only where the reply is `ok`, or tells that a call on
+-- a drive failed, and else nothing; they tell exactly what the reply acknowledges, which is something only where the last boot has read the
+-- drive: the deed where it is `ok`, and of a read the values that the reply tells.
 -- Behind it the last boot has read the drive only where the line is a boot that did, or where it had and the line is none.
 pub record AreOfLine (host : Host) (text : List ℕ) (down : Bool) (reply : List ℕ) (es : List Event) (then : Bool) : Type 0 where
-  pub asked : List Deed
-  pub asks : Asks text asked
-  pub does : Does host (IsAsked (issuable asked reply)) (acked_by asked reply) es
-  pub awake : acked_by asked reply ≢ [] → down ≡ false
+  pub ask : Ask
+  pub asks : Asks text ask
+  pub done : List Deed
+  pub acks : AcksBy ask reply done
+  pub does : Does host (issuable ask reply) done es
+  pub awake : done ≢ [] → down ≡ false
   pub up : then ≡ false → (IsLine text Boot × HasWoken es) ⊎ ((down ≡ false) × (IsLine text Boot → ⊥))
 
--- Events that come, in order, of the lines of the script that these replies answer, one line of reply for each, where the last boot
+-- Events that come, in order, of the lines of the script that these replies answer, one for each, where the last boot
 -- before them has read the drive, or was down; behind them come events of what is left of the script.
 abbrev pub ComeOf : Host → (Bool → Script → List Event → Type 0) → Bool → Script → List (List ℕ) → List Event → Type 0
 ComeOf host Left down script [] es = Left down script es
@@ -37,29 +40,39 @@ abbrev pub InWork : Host → Bool → Script → List Event → Type 0
 InWork host down at_end es = AreIdle host es
 InWork host down (spent lines bytes) es = AreIdle host es
 InWork host down (too_long more) es = AreIdle host es
-InWork host down (line text more) es = (es ≡ []) ⊎ ((asked : List Deed) × Asks text asked × Does host (IsAsked asked) [] es)
+InWork host down (line text more) es = (es ≡ []) ⊎ ((ask : Ask) × Asks text ask × Does host (deeds ask) [] es)
 
 -- none, and the last boot has read the drive, or not
 abbrev pub NothingLeft : Bool → Bool → Script → List Event → Type 0
 NothingLeft now down script es = (es ≡ []) × (down ≡ now)
 
--- the deed was told by these replies to the script: its line's reply is `ok`
+-- the deed was told by these replies to the script: its line's reply acknowledges it
 abbrev pub IsTold : Script → List (List ℕ) → Deed → Type 0
 IsTold at_end replies deed = ⊥
 IsTold (spent lines bytes) replies deed = ⊥
 IsTold (too_long more) [] deed = ⊥
 IsTold (too_long more) (reply ∷ replies) deed = IsTold more replies deed
 IsTold (line text more) [] deed = ⊥
-IsTold (line text more) (reply ∷ replies) deed = ((asked : List Deed) × Asks text asked × Contains (acked_by asked reply) deed) ⊎ IsTold more replies deed
+IsTold (line text more) (reply ∷ replies) deed = ((ask : Ask) × Asks text ask × (done : List Deed) × AcksBy ask reply done × Contains done deed) ⊎ IsTold more replies deed
 
--- a line may have issued the deed: it asks it, and its reply is `ok` or tells that a call failed, or none was told of it yet
-abbrev pub IsIssued : Script → List (List ℕ) → Deed → Type 0
-IsIssued at_end replies deed = ⊥
-IsIssued (spent lines bytes) replies deed = ⊥
-IsIssued (too_long more) [] deed = ⊥
-IsIssued (too_long more) (reply ∷ replies) deed = IsIssued more replies deed
-IsIssued (line text more) [] deed = (asked : List Deed) × Asks text asked × Contains asked deed
-IsIssued (line text more) (reply ∷ replies) deed = ((asked : List Deed) × Asks text asked × Contains (issuable asked reply) deed) ⊎ IsIssued more replies deed
+-- all that was told so, in the order of the lines
+abbrev pub AreTold : Script → List (List ℕ) → List Deed → Type 0
+AreTold at_end replies told = told ≡ []
+AreTold (spent lines bytes) replies told = told ≡ []
+AreTold (too_long more) [] told = told ≡ []
+AreTold (too_long more) (reply ∷ replies) told = AreTold more replies told
+AreTold (line text more) [] told = told ≡ []
+AreTold (line text more) (reply ∷ replies) told = (ask : Ask) × Asks text ask × (done : List Deed) × AcksBy ask reply done × (rest : List Deed) × AreTold more replies rest × (told ≡ done ++ rest)
+
+-- What the lines may have begun, in their order: each what it asks, where its reply is `ok` or tells that a call failed, or where it is
+-- the next one, of which none was told yet.
+abbrev pub AreBegun : Script → List (List ℕ) → List Deed → Type 0
+AreBegun at_end replies begun = begun ≡ []
+AreBegun (spent lines bytes) replies begun = begun ≡ []
+AreBegun (too_long more) [] begun = begun ≡ []
+AreBegun (too_long more) (reply ∷ replies) begun = AreBegun more replies begun
+AreBegun (line text more) [] begun = (begun ≡ []) ⊎ ((ask : Ask) × Asks text ask × (begun ≡ deeds ask))
+AreBegun (line text more) (reply ∷ replies) begun = (ask : Ask) × Asks text ask × (rest : List Deed) × AreBegun more replies rest × (begun ≡ issuable ask reply ++ rest)
 
 -- the events of a run, of which these bytes were told: those of its boot, and those of the lines so far
 pub record AreOfRun (host : Host) (script : Script) (bytes : List ℕ) (es : List Event) : Type 0 where
@@ -85,9 +98,9 @@ pub record ShowsMade (host : Host) (t : Tale) : Type 0 where
   pub each : (image : ℕ → ℕ → List ℕ) → IsImage t image → (head : Head) × IsReplica (site_of host) (image 0) head × (shows head ≡ true) × (head.master.identity ≡ identity_of host number)
 
 -- A moment of a run of that script that began at t: the drive stands with each history that it stood with at the start, gone on
--- by the events of the boot and of the lines so far, in their order; each line's events issue what it asks only where it was answered
--- `ok`, or that a call failed, or where nothing whole was told of it, and tell
--- it exactly where its `ok` was told. Wherever one is told, the last boot before it has read the drive, since when each block has
+-- by the events of the boot and of the lines so far, in their order; each line's events begin what it asks only where it was answered
+-- `ok`, or that a call failed, or where nothing whole was told of it, and tell exactly what its reply acknowledges: a deed where it is `ok`, and
+-- of a read the values that it tells, each of which its block may have. Wherever one is told, the last boot before it has read the drive, since when each block has
 -- one value until it is written. Where a creation was told, whatever a crash leaves is a replica of a database that this run made.
 pub record RunMoment (host : Host) (script : Script) (t m : Tale) : Type 0 where
   pub bytes : List ℕ

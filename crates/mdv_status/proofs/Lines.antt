@@ -80,7 +80,7 @@ pub are_value_lines : (at : ℕ) (blocks : List (List ℕ)) → AreValueLines (v
 are_value_lines at [] = tt
 are_value_lines at (block ∷ blocks) = (is_value_line at block, are_value_lines (at + 1) blocks)
 
-line_cut : (bytes rest : List ℕ) → IsValueLine bytes → pieces (bytes ++ rest) ≡ bytes ∷ pieces rest
+pub line_cut : (bytes rest : List ℕ) → IsValueLine bytes → pieces (bytes ++ rest) ≡ bytes ∷ pieces rest
 line_cut bytes rest is =
     ap (λ (l : List ℕ). pieces (l ++ rest)) is.line ∙ ap pieces (append_assoc is.text (10 ∷ []) rest) ∙ pieces_line is.text rest is.whole
     ∙ ap (λ (l : List ℕ). l ∷ pieces rest) (sym is.line)

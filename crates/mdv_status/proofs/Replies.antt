@@ -1,99 +1,134 @@
--- Which lines answer.
-use Rattle.std.proofs.Common.{◌≡◌, ◌⊎◌, ⊎_elim, ℕ, ◌+◌, ◌-◌, ◌≤◌, ◌<◌, Bool, true, false, cond, not, ◌&&◌, List, [], ◌∷◌, ◌++◌, length, take, codes, refl, sym, ◌∙◌, ap, append_assoc, length-append, arith}
-use Rattle.std.specs.List.{filter}
-use Rattle.std.proofs.lemmas.List.{append-nil, take-append-le}
-use Rattle.std.proofs.lemmas.List.Elements.{filter-append}
+-- How replies are put together of their lines.
+use Rattle.std.proofs.Common.{◌≡◌, ◌⊎◌, ⊎_elim, ℕ, ◌+◌, ◌-◌, ◌≤◌, ◌<◌, Bool, true, false, cond, not, ◌&&◌, ◌||◌, ◌==◌, List, [], ◌∷◌, ◌++◌, length, take, codes, refl, sym, ◌∙◌, ap, subst, append_assoc, length-append, arith, ne_eqb}
+use Rattle.std.specs.Char.{is_ascii_digit}
+use Rattle.std.specs.Str.{bytes_eq}
+use Rattle.std.specs.Cmp.Lexicographic.{same_text}
+use Rattle.std.proofs.lemmas.Bool.Decides.{nat_tests}
+use Rattle.std.proofs.lemmas.List.{take-append-le, length-take}
 use Rattle.std.proofs.Math.Seq.{take-append-add}
 use Rattle.mdv_port.specs.Script.{pieces}
 use Rattle.mdv_status.specs.Values.{value_line, values_text, values_reply, ok_line}
-use Rattle.mdv_status.specs.Telling.{lacks, begins_with_digit, is_reply, replies_in, IsValueLine, ValuesAreLines, ValuesTellOk, LinesTellOnce}
+use Rattle.mdv_status.specs.Telling.{lacks, begins_with_digit, refused, ends_reply, gathered, replies_in, value_lines, IsValueLine, ValuesAreLines, ValuesAreOneReply, RefusalsAreOneReply}
 use Rattle.mdv_status.proofs.Pieces.{lacks_take, has_newline, pieces_none, pieces_line, pieces_front}
-use Rattle.mdv_status.proofs.Lines.{is_value_line, are_value_lines, reply_cut}
+use Rattle.mdv_status.proofs.Lines.{is_value_line, are_value_lines, reply_cut, line_cut}
 
--- a line that begins so, or is empty
-begins_same : (text : List ℕ) → begins_with_digit (text ++ 10 ∷ []) ≡ begins_with_digit text
-begins_same [] = refl
-begins_same (b ∷ bs) = refl
+-- no line that begins with a digit ends a reply
+neither : (x y a b c : Bool) → x ≡ false → y ≡ false → (x && a) || b && (y && c) ≡ false
+neither false false a true c ok other = refl
+neither false false a false c ok other = refl
+neither true y a b c ok other = absurd (cc (ok))
+neither false true a b c ok other = absurd (cc (other))
 
-answers : (text : List ℕ) → is_reply (text ++ 10 ∷ []) ≡ not (begins_with_digit text)
-answers text = ap (λ (x : Bool). not x && not (begins_with_digit (text ++ 10 ∷ []))) (has_newline text) ∙ ap not (begins_same text)
+digit_ends_not : (d : ℕ) (rest : List ℕ) → is_ascii_digit d ≡ true → ends_reply (d ∷ rest) ≡ false
+digit_ends_not d rest is =
+    let below : d ≤ 57 = grind (arith, nat_tests) in
+    neither (d == 111) (d == 114) (bytes_eq rest (107 ∷ 10 ∷ [])) (not (lacks 10 (d ∷ rest))) (bytes_eq (take 8 rest) (codes "efused E")) (ne_eqb d 111 (λ e. omega arith)) (ne_eqb d 114 (λ e. omega arith))
 
-replies_line : (text rest : List ℕ) → lacks 10 text ≡ true → replies_in (text ++ 10 ∷ rest) ≡ cond (not (begins_with_digit text)) ((text ++ 10 ∷ []) ∷ replies_in rest) (replies_in rest)
-unfolding replies_in
-replies_line text rest is =
-    ap (filter is_reply) (pieces_line text rest is)
-    ∙ ap (λ (x : Bool). cond x ((text ++ 10 ∷ []) ∷ replies_in rest) (replies_in rest)) (answers text)
+begun_ends_not : (text rest : List ℕ) → begins_with_digit text ≡ true → ends_reply (text ++ rest) ≡ false
+begun_ends_not [] rest is = absurd (cc (is))
+begun_ends_not (d ∷ text) rest is = digit_ends_not d (text ++ rest) is
 
-line_answers : (text rest : List ℕ) → lacks 10 text ≡ true → begins_with_digit text ≡ false → replies_in (text ++ 10 ∷ rest) ≡ (text ++ 10 ∷ []) ∷ replies_in rest
-line_answers text rest is other = replies_line text rest is ∙ ap (λ (x : Bool). cond (not x) ((text ++ 10 ∷ []) ∷ replies_in rest) (replies_in rest)) other
+value_ends_not : (bytes : List ℕ) → IsValueLine bytes → ends_reply bytes ≡ false
+value_ends_not bytes is = ap ends_reply is.line ∙ begun_ends_not is.text (10 ∷ []) is.digit
 
-values_answer_not : (bytes rest : List ℕ) → IsValueLine bytes → replies_in (bytes ++ rest) ≡ replies_in rest
-values_answer_not bytes rest is =
-    ap (λ (l : List ℕ). replies_in (l ++ rest)) is.line ∙ ap replies_in (append_assoc is.text (10 ∷ []) rest) ∙ replies_line is.text rest is.whole
-    ∙ ap (λ (x : Bool). cond (not x) ((is.text ++ 10 ∷ []) ∷ replies_in rest) (replies_in rest)) is.digit
+-- nor does one that lacks its newline
+open_ends_not : (text : List ℕ) → lacks 10 text ≡ true → ends_reply text ≡ false
+open_ends_not text is = by (bytes_eq text ok_line) (λ same. ap (lacks 10) (sym (same_text text ok_line (sym same)))) (lacks 10 text) is where
+  by : (x : Bool) → (x ≡ true → lacks 10 ok_line ≡ lacks 10 text) → (y : Bool) → y ≡ true → x || not y && bytes_eq (take 9 text) refused ≡ false
+  by true same y whole = absurd (let broken : false ≡ true = same refl ∙ is in cc (broken))
+  by false same true whole = refl
+  by false same false whole = absurd (cc (whole))
 
-none_answer : replies_in [] ≡ []
-unfolding replies_in
-none_answer = ap (filter is_reply) pieces_none
+-- one that tells a refusal does
+refusal_ends : (text : List ℕ) → take 9 text ≡ refused → ends_reply (text ++ 10 ∷ []) ≡ true
+refusal_ends text begins =
+    let long : 9 ≤ length text = (let size = length-take 9 text in let nine : length (take 9 text) ≡ 9 = ap length begins in grind arith) in
+    let front : take 9 (text ++ 10 ∷ []) ≡ refused = take-append-le 9 text (10 ∷ []) long ∙ begins in
+    ap (λ (b : Bool). bytes_eq (text ++ 10 ∷ []) ok_line || not b && bytes_eq (take 9 (text ++ 10 ∷ [])) refused) (has_newline text)
+    ∙ ap (λ (l : List ℕ). bytes_eq (text ++ 10 ∷ []) ok_line || bytes_eq l refused) front
+    ∙ or_true (bytes_eq (text ++ 10 ∷ []) ok_line)
+  where
+    or_true : (x : Bool) → x || true ≡ true
+    or_true true = refl
+    or_true false = refl
 
-front_answers_not : (text : List ℕ) → lacks 10 text ≡ true → replies_in text ≡ []
-unfolding replies_in
-front_answers_not [] is = none_answer
-front_answers_not (b ∷ bs) is =
-    ap (filter is_reply) (pieces_front b bs is) ∙ ap (λ (x : Bool). cond (not x && not (begins_with_digit (b ∷ bs))) ((b ∷ bs) ∷ []) []) is
+-- a piece that ends a reply, and one that doesn't
+ending : (before piece : List ℕ) (more : List (List ℕ)) → ends_reply piece ≡ true → gathered before (piece ∷ more) ≡ (before ++ piece) ∷ gathered [] more
+ending before piece more is = ap (λ (x : Bool). cond x ((before ++ piece) ∷ gathered [] more) (gathered (before ++ piece) more)) is
 
-reply_answers : (at : ℕ) (blocks : List (List ℕ)) (rest : List ℕ) → replies_in (values_reply at blocks ++ rest) ≡ ok_line ∷ replies_in rest
-reply_answers at [] rest = line_answers (codes "ok") rest refl refl
-reply_answers at (block ∷ blocks) rest =
+on : (before piece : List ℕ) (more : List (List ℕ)) → ends_reply piece ≡ false → gathered before (piece ∷ more) ≡ gathered (before ++ piece) more
+on before piece more is = ap (λ (x : Bool). cond x ((before ++ piece) ∷ gathered [] more) (gathered (before ++ piece) more)) is
+
+reply_of : (at : ℕ) (block : List ℕ) (blocks : List (List ℕ)) → values_reply at (block ∷ blocks) ≡ value_line at block ++ values_reply (at + 1) blocks
+reply_of at block blocks = append_assoc (value_line at block) (values_text (at + 1) blocks) ok_line
+
+values_gathered : (before : List ℕ) (at : ℕ) (blocks : List (List ℕ)) (more : List (List ℕ)) → gathered before (value_lines at blocks ++ ok_line ∷ more) ≡ (before ++ values_reply at blocks) ∷ gathered [] more
+values_gathered before at [] more = refl
+values_gathered before at (block ∷ blocks) more =
     let line : List ℕ = value_line at block in
-    let more : List ℕ = values_text (at + 1) blocks in
-    ap (λ (l : List ℕ). replies_in (l ++ rest)) (append_assoc line more ok_line) ∙ ap replies_in (append_assoc line (more ++ ok_line) rest)
-    ∙ values_answer_not line ((more ++ ok_line) ++ rest) (is_value_line at block) ∙ reply_answers (at + 1) blocks rest
+    on before line (value_lines (at + 1) blocks ++ ok_line ∷ more) (value_ends_not line (is_value_line at block))
+    ∙ values_gathered (before ++ line) (at + 1) blocks more
+    ∙ ap (λ (l : List ℕ). l ∷ gathered [] more) (append_assoc before line (values_reply (at + 1) blocks) ∙ ap (λ (l : List ℕ). before ++ l) (sym (reply_of at block blocks)))
+
+values_more : (at : ℕ) (blocks : List (List ℕ)) (rest : List ℕ) → replies_in (values_reply at blocks ++ rest) ≡ values_reply at blocks ∷ replies_in rest
+unfolding replies_in
+values_more at blocks rest = ap (gathered []) (reply_cut at blocks rest) ∙ values_gathered [] at blocks (pieces rest)
+
+refusal_more : (text rest : List ℕ) → lacks 10 text ≡ true → take 9 text ≡ refused → replies_in (text ++ 10 ∷ rest) ≡ (text ++ 10 ∷ []) ∷ replies_in rest
+unfolding replies_in
+refusal_more text rest is begins = ap (gathered []) (pieces_line text rest is) ∙ ending [] (text ++ 10 ∷ []) (pieces rest) (refusal_ends text begins)
+
+-- bytes without a newline are no reply, whatever came before
+open_gathered : (before text : List ℕ) → lacks 10 text ≡ true → gathered before (pieces text) ≡ []
+open_gathered before [] is = ap (gathered before) pieces_none
+open_gathered before (b ∷ bs) is = ap (gathered before) (pieces_front b bs is) ∙ on before (b ∷ bs) [] (open_ends_not (b ∷ bs) is)
+
+open_front : (text : List ℕ) → lacks 10 text ≡ true → replies_in text ≡ []
+unfolding replies_in
+open_front text is = open_gathered [] text is
 
 le_or_gt : (a b : ℕ) → (a ≤ b) ⊎ (b < a)
 le_or_gt a b = grind arith
 
 -- a front of a line that lacks the newline
-short_front : (text : List ℕ) (count : ℕ) → count ≤ length text → (rest : List ℕ) → lacks 10 text ≡ true → replies_in (take count (text ++ rest)) ≡ []
-short_front text count short rest is = ap replies_in (take-append-le count text rest short) ∙ front_answers_not (take count text) (lacks_take count text is)
+short_front : (before text : List ℕ) (count : ℕ) → count ≤ length text → (rest : List ℕ) → lacks 10 text ≡ true → gathered before (pieces (take count (text ++ rest))) ≡ []
+short_front before text count short rest is =
+    ap (λ (l : List ℕ). gathered before (pieces l)) (take-append-le count text rest short) ∙ open_gathered before (take count text) (lacks_take count text is)
 
 -- a front of a line of values and of what is told behind it
-line_front : (bytes rest : List ℕ) (count : ℕ) → IsValueLine bytes → count < length (bytes ++ rest)
-    → ((left : ℕ) → left < length rest → replies_in (take left rest) ≡ []) → replies_in (take count (bytes ++ rest)) ≡ []
-line_front bytes rest count is below behind = ⊎_elim
+line_front : (before bytes rest : List ℕ) (count : ℕ) → IsValueLine bytes → count < length (bytes ++ rest)
+    → ((left : ℕ) → left < length rest → gathered (before ++ bytes) (pieces (take left rest)) ≡ []) → gathered before (pieces (take count (bytes ++ rest))) ≡ []
+line_front before bytes rest count is below behind = ⊎_elim
     (λ (short : count ≤ length is.text). (
-    ap (λ (l : List ℕ). replies_in (take count (l ++ rest))) is.line ∙ ap (λ (l : List ℕ). replies_in (take count l)) (append_assoc is.text (10 ∷ []) rest)
-    ∙ short_front is.text count short (10 ∷ rest) is.whole))
+    ap (λ (l : List ℕ). gathered before (pieces (take count (l ++ rest)))) is.line ∙ ap (λ (l : List ℕ). gathered before (pieces (take count l))) (append_assoc is.text (10 ∷ []) rest)
+    ∙ short_front before is.text count short (10 ∷ rest) is.whole))
     (λ (long : length is.text < count). (
     let size : length bytes ≡ length is.text + 1 = ap length is.line ∙ length-append is.text (10 ∷ []) in
     let split : count ≡ length bytes + (count - length bytes) = omega arith in
-    ap (λ (n : ℕ). replies_in (take n (bytes ++ rest))) split ∙ ap replies_in (take-append-add bytes rest (count - length bytes))
-    ∙ values_answer_not bytes (take (count - length bytes) rest) is
+    let left : List ℕ = take (count - length bytes) rest in
+    ap (λ (n : ℕ). gathered before (pieces (take n (bytes ++ rest)))) split ∙ ap (λ (l : List ℕ). gathered before (pieces l)) (take-append-add bytes rest (count - length bytes))
+    ∙ ap (gathered before) (line_cut bytes left is) ∙ on before bytes (pieces left) (value_ends_not bytes is)
     ∙ behind (count - length bytes) (let all = length-append bytes rest in omega arith)))
     (le_or_gt count (length is.text))
 
-front_tells_nothing : (at : ℕ) (blocks : List (List ℕ)) (count : ℕ) → count < length (values_reply at blocks) → replies_in (take count (values_reply at blocks)) ≡ []
-front_tells_nothing at [] count below = short_front (codes "ok") count (omega arith) (10 ∷ []) refl
-front_tells_nothing at (block ∷ blocks) count below =
+values_front : (before : List ℕ) (at : ℕ) (blocks : List (List ℕ)) (count : ℕ) → count < length (values_reply at blocks) → gathered before (pieces (take count (values_reply at blocks))) ≡ []
+values_front before at [] count below = short_front before (codes "ok") count (omega arith) (10 ∷ []) refl
+values_front before at (block ∷ blocks) count below =
     let line : List ℕ = value_line at block in
     let more : List ℕ = values_reply (at + 1) blocks in
-    let same : values_reply at (block ∷ blocks) ≡ line ++ more = append_assoc line (values_text (at + 1) blocks) ok_line in
-    ap (λ (l : List ℕ). replies_in (take count l)) same
-    ∙ line_front line more count (is_value_line at block) (let size = ap length same in omega arith) (front_tells_nothing (at + 1) blocks)
+    let same : values_reply at (block ∷ blocks) ≡ line ++ more = reply_of at block blocks in
+    ap (λ (l : List ℕ). gathered before (pieces (take count l))) same
+    ∙ line_front before line more count (is_value_line at block) (let size = ap length same in omega arith) (values_front (before ++ line) (at + 1) blocks)
+
+front_is_none : (at : ℕ) (blocks : List (List ℕ)) (count : ℕ) → count < length (values_reply at blocks) → replies_in (take count (values_reply at blocks)) ≡ []
+unfolding replies_in
+front_is_none at blocks count below = values_front [] at blocks count below
 
 pub values_are_lines : ValuesAreLines
 values_are_lines = record { lines = are_value_lines; cut = reply_cut }
 
-pub values_tell_ok : ValuesTellOk
-values_tell_ok = record {
-  whole = λ at blocks. ap replies_in (sym (append-nil (values_reply at blocks))) ∙ reply_answers at blocks [] ∙ ap (λ (l : List (List ℕ)). ok_line ∷ l) none_answer;
-  more = reply_answers;
-  front = front_tells_nothing;
-}
+pub values_are_one_reply : ValuesAreOneReply
+values_are_one_reply = record { more = values_more; front = front_is_none }
 
-answer_apart : (bytes : List ℕ) → ((rest : List ℕ) → pieces (bytes ++ rest) ≡ pieces bytes ++ pieces rest) → (rest : List ℕ) → replies_in (bytes ++ rest) ≡ replies_in bytes ++ replies_in rest
-unfolding replies_in
-answer_apart bytes cut rest = ap (filter is_reply) (cut rest) ∙ filter-append is_reply (pieces bytes) (pieces rest)
-
-pub lines_tell_once : LinesTellOnce
-lines_tell_once = record { more = line_answers; front = front_answers_not; apart = answer_apart }
+pub refusals_are_one_reply : RefusalsAreOneReply
+refusals_are_one_reply = record { more = refusal_more; front = open_front }

@@ -1,7 +1,8 @@
--- How a reply to a read lies among the bytes that are told: which of the lines there answer a line of the script.
-use Rattle.std.specs.Prelude.{◌≡◌, ℕ, Bool, true, false, not, ◌&&◌, ◌==◌, ◌+◌, ◌<◌, List, [], ◌∷◌, ◌++◌, length, take}
+-- How replies lie among the bytes that are told: a reply to a read is its lines of values and the line `ok`.
+use Rattle.std.specs.Prelude.{◌≡◌, ℕ, Bool, true, false, not, ◌&&◌, ◌||◌, ◌==◌, ◌+◌, ◌<◌, List, [], ◌∷◌, ◌++◌, length, take, codes, if◌then◌else◌}
 use Rattle.std.specs.Char.{is_ascii_digit}
-use Rattle.std.specs.List.{list_all, filter}
+use Rattle.std.specs.List.{list_all}
+use Rattle.std.specs.Str.{bytes_eq}
 use Rattle.mdv_port.specs.Script.{pieces}
 use Rattle.mdv_status.specs.Values.{value_line, values_reply, ok_line}
 
@@ -29,29 +30,34 @@ abbrev pub value_lines : ℕ → List (List ℕ) → List (List ℕ)
 value_lines at [] = []
 value_lines at (block ∷ blocks) = value_line at block ∷ value_lines (at + 1) blocks
 
--- A whole line, of which a piece has the newline at its end, that begins with no digit. Such a line answers a line
--- of the script; lines of values stand before it.
-abbrev pub is_reply : List ℕ → Bool
-is_reply piece = not (lacks 10 piece) && not (begins_with_digit piece)
+-- the line that tells a refusal begins so
+abbrev pub refused : List ℕ
+refused = codes "refused E"
 
--- the lines that answer, among bytes that are told
+-- A whole line with which a reply ends: `ok`, or one that tells a refusal. A volume may be called `ok` or `refused`, but no line on it is one of these.
+abbrev pub ends_reply : List ℕ → Bool
+ends_reply piece = bytes_eq piece ok_line || not (lacks 10 piece) && bytes_eq (take 9 piece) refused
+
+-- pieces put together up to each one that ends a reply, behind these bytes; those behind the last such one are no reply yet
+abbrev pub gathered : List ℕ → List (List ℕ) → List (List ℕ)
+gathered before [] = []
+gathered before (piece ∷ more) = if ends_reply piece then (before ++ piece) ∷ gathered [] more else gathered (before ++ piece) more
+
+-- the replies among bytes that are told, each with all its lines
 unfoldable pub replies_in : List ℕ → List (List ℕ)
-replies_in bytes = filter is_reply (pieces bytes)
+replies_in bytes = gathered [] (pieces bytes)
 
 -- the lines of values are lines, and a reply is cut into them and the line `ok`, whatever is told behind it
 pub record ValuesAreLines : Type 0 where
   pub lines : (at : ℕ) (blocks : List (List ℕ)) → AreValueLines (value_lines at blocks)
   pub cut : (at : ℕ) (blocks : List (List ℕ)) (rest : List ℕ) → pieces (values_reply at blocks ++ rest) ≡ value_lines at blocks ++ ok_line ∷ pieces rest
 
--- a reply to a read answers once, with `ok`, and a front of it that isn't whole doesn't answer
-pub record ValuesTellOk : Type 0 where
-  pub whole : (at : ℕ) (blocks : List (List ℕ)) → replies_in (values_reply at blocks) ≡ ok_line ∷ []
-  pub more : (at : ℕ) (blocks : List (List ℕ)) (rest : List ℕ) → replies_in (values_reply at blocks ++ rest) ≡ ok_line ∷ replies_in rest
+-- A reply to a read is one, whatever is told behind it, as soon as it is whole; of no block it is the line `ok`.
+pub record ValuesAreOneReply : Type 0 where
+  pub more : (at : ℕ) (blocks : List (List ℕ)) (rest : List ℕ) → replies_in (values_reply at blocks ++ rest) ≡ values_reply at blocks ∷ replies_in rest
   pub front : (at : ℕ) (blocks : List (List ℕ)) (count : ℕ) → count < length (values_reply at blocks) → replies_in (take count (values_reply at blocks)) ≡ []
 
--- Every other line answers once, and a front of one that has no newline doesn't answer. Where bytes are cut apart from
--- whatever is told behind them, as whole lines are, their answers come first.
-pub record LinesTellOnce : Type 0 where
-  pub more : (text rest : List ℕ) → lacks 10 text ≡ true → begins_with_digit text ≡ false → replies_in (text ++ 10 ∷ rest) ≡ (text ++ 10 ∷ []) ∷ replies_in rest
+-- So is a line that tells a refusal; and bytes without a newline are no reply.
+pub record RefusalsAreOneReply : Type 0 where
+  pub more : (text rest : List ℕ) → lacks 10 text ≡ true → take 9 text ≡ refused → replies_in (text ++ 10 ∷ rest) ≡ (text ++ 10 ∷ []) ∷ replies_in rest
   pub front : (text : List ℕ) → lacks 10 text ≡ true → replies_in text ≡ []
-  pub apart : (bytes : List ℕ) → ((rest : List ℕ) → pieces (bytes ++ rest) ≡ pieces bytes ++ pieces rest) → (rest : List ℕ) → replies_in (bytes ++ rest) ≡ replies_in bytes ++ replies_in rest

@@ -1,4 +1,4 @@
-ghost use Rattle.mdv_status.specs.Telling.{ValuesAreLines, ValuesTellOk, LinesTellOnce};
+ghost use Rattle.mdv_status.specs.Telling.{ValuesAreLines, ValuesAreOneReply, RefusalsAreOneReply};
 
 /// The reply to a read is one line for each block, which begins with a digit, and the line `ok`, and bytes
 /// behind it change none of them.
@@ -6,14 +6,14 @@ pub fn values_are_lines()
     ensures { ValuesAreLines }
 {}
 
-/// Among the bytes that are told a reply to a read answers one line of the script, and only once its last
+/// Among the bytes that are told a reply to a read is one reply with all its lines, and only once its last
 /// byte is told.
-pub fn values_tell_ok()
-    ensures { ValuesTellOk }
+pub fn values_are_one_reply()
+    ensures { ValuesAreOneReply }
 {}
 
-/// Among the bytes that are told a line that begins with no digit answers one line of the script, and only
-/// once its newline is told.
-pub fn lines_tell_once()
-    ensures { LinesTellOnce }
+/// Among the bytes that are told a line that begins with `refused E` is one reply, and only once its newline is
+/// told.
+pub fn refusals_are_one_reply()
+    ensures { RefusalsAreOneReply }
 {}

@@ -4,5 +4,5 @@
 mod law;
 mod values;
 
-pub use law::{lines_tell_once, values_are_lines, values_tell_ok};
+pub use law::{refusals_are_one_reply, values_are_lines, values_are_one_reply};
 pub use values::ValueText;

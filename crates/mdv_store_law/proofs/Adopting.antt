@@ -114,11 +114,11 @@ module _ (site : Site) (head : Head) (spare : Slot) (table : Table) (t : Tale) (
 
   goes : (m : Tale) → Rewrites (sized site head) spare mark table t m → GoesOn site NoCreation t m
   goes m rewrites log covers known = ⊎_elim
-      (λ claim. ([], tt, record { tells = refl; issues = tt }, in_claim log covers m claim, tt))
+      (λ claim. ([], tt, record { tells = refl; issues = tt; writes = tt }, in_claim log covers m claim, tt))
       (λ writing. (
         Writing mark None (kept log covers).version.changes table ∷ [],
         ((above log covers, inr (next log covers)), tt),
-        record { tells = refl; issues = (tt, tt) },
+        record { tells = refl; issues = tt; writes = tt },
         in_table log covers m writing,
         tt,
       ))
@@ -128,7 +128,7 @@ module _ (site : Site) (head : Head) (spare : Slot) (table : Table) (t : Tale) (
   ends u leaves log covers known = (
     Writing mark None (kept log covers).version.changes table ∷ Written ∷ [],
     ((above log covers, inr (next log covers)), (tt, tt)),
-    record { tells = refl; issues = (tt, tt) },
+    record { tells = refl; issues = tt; writes = tt },
     in_end log covers u leaves,
     record {
       version = record { mark = mark; table = table; changes = (kept log covers).version.changes; is_written = true };

@@ -4,10 +4,11 @@ use Rattle.std.proofs.lemmas.List.Elements.{All-cons, All-weaker}
 use Rattle.std.specs.Prelude.{Contains}
 use Rattle.mdv_store_law.specs.Below.{IsBelow, Mark, record_text, Gate, Closed, Open, Head, Slot, First, Second, shows, IsNewest, IsNewestGate, IsSpare, IsSpareSlot, gate_of, other_slot, with_slot, IsMark, Image, Leaves, with_blocks, Tale, IsImage, last, Change, Table}
 use Rattle.mdv_store_law.specs.Going.{Commits, CommitsGo, IsWithNewest, next_mark}
-use Rattle.mdv_store_law.specs.Log.{Version, Log, Writing, Written, IsAbove, IsAsked, IsMade, IsNext, IsNotOlder, IsRising, IsTellable, with_asked, IsThisChange, NoCreation}
+use Rattle.mdv_store_law.specs.Log.{Version, Log, Writing, Written, IsAbove, IsMade, IsNext, IsNotOlder, IsRising, IsTellable, with_asked, NoCreation}
 use Rattle.mdv_store_law.specs.Site.{Site, sized, IsTableAt, Newest, IsNewestOf}
 use Rattle.mdv_store_law.specs.Standing.{Agrees, Covers, IsNewestIn, Anything, GoesFrom}
 use Rattle.mdv_store_law.specs.Steps.{MayTake, Takes, next_newest}
+use Rattle.mdv_store_law.proofs.Parts.{part_itself}
 use Rattle.mdv_store_law.proofs.Families.{contains_first}
 use Rattle.mdv_store_law.proofs.Kept.{text_taken}
 use Rattle.mdv_store_law.proofs.Logs.{tellable}
@@ -29,10 +30,6 @@ spare_beside head Second is = spare_gate head.second head.first is
 newest_gate : (head : Head) (slot : Slot) (mark other : Mark) (bytes more : ℕ) → gate_of head slot ≡ Open mark bytes → gate_of head (other_slot (other_slot slot)) ≡ Open other more → mark ≡ other
 newest_gate head First mark other bytes more is also = let same : Open mark bytes ≡ Open other more = sym is ∙ also in cc (same)
 newest_gate head Second mark other bytes more is also = let same : Open mark bytes ≡ Open other more = sym is ∙ also in cc (same)
-
-asked_this : (asked : Option Change) → IsAsked (IsThisChange asked) asked
-asked_this None = tt
-asked_this (Some change) = refl
 
 not_itself : (m : Mark) → IsBelow m m → ⊥
 not_itself m below = ⊎_elim (λ less. absurd (omega (arith, less))) (λ less. absurd (omega (arith, less.1))) below
@@ -147,21 +144,21 @@ module _ (site : Site) (newest : Newest) (asked : Option Change) (table : Table)
     may_tell change is =
         subst (λ (a : Option Change). IsTellable (next_log log mark a parent.changes table true) a) (sym is) (tellable site.drives log newest with_newest.is_newest mark change table with_newest.is_log)
 
-  goes : (m : Tale) → Leaves (MayTake (with_blocks site.at newest.blocks) slot mark table) t m → GoesFrom site (IsWithNewest site newest) NoCreation (IsThisChange asked) Anything t m
+  goes : (m : Tale) → Leaves (MayTake (with_blocks site.at newest.blocks) slot mark table) t m → GoesFrom site (IsWithNewest site newest) NoCreation (with_asked asked []) Anything t m
   goes m leaves log covers known = (
     Writing mark asked (parent log covers known).changes table ∷ [],
     ((above log covers known, inr (next log covers known)), tt),
-    record { tells = refl; issues = (asked_this asked, tt) },
+    record { tells = refl; issues = tt; writes = part_itself (with_asked asked []) },
     in_table log covers known m leaves,
     tt,
   )
 
   ends : (u : Tale) → Leaves (Takes (with_blocks site.at newest.blocks) slot mark table) t u
-      → GoesFrom site (IsWithNewest site newest) NoCreation (IsThisChange asked) (λ log. IsNewestIn (next_newest newest table) log × ((change : Change) → asked ≡ Some change → IsTellable log asked)) t u
+      → GoesFrom site (IsWithNewest site newest) NoCreation (with_asked asked []) (λ log. IsNewestIn (next_newest newest table) log × ((change : Change) → asked ≡ Some change → IsTellable log asked)) t u
   ends u leaves log covers known = (
     Writing mark asked (parent log covers known).changes table ∷ Written ∷ [],
     ((above log covers known, inr (next log covers known)), (tt, tt)),
-    record { tells = refl; issues = (asked_this asked, tt) },
+    record { tells = refl; issues = tt; writes = part_itself (with_asked asked []) },
     in_end log covers known u leaves,
     (
       record {

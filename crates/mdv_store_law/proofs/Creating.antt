@@ -37,12 +37,12 @@ module _ (site : Site) where
 
     format_goes_on : (t m : Tale) → ShowsNothing site t → Formatting site.at master 1 t m → GoesOn site (IsThis identity) t m
     format_goes_on t m none formatting log covers known =
-        ([], tt, record { tells = refl; issues = tt }, nothing_covers site log m (not_firm site log t covers none) (format_nothing t m none formatting), tt)
+        ([], tt, record { tells = refl; issues = tt; writes = tt }, nothing_covers site log m (not_firm site log t covers none) (format_nothing t m none formatting), tt)
 
     -- a format that failed began a creation of which nothing is left
     format_ends_on : (t m : Tale) → ShowsNothing site t → Formatting site.at master 1 t m → GoesOnTo site (IsThis identity) (λ log. is_firm log ≡ false) t m
     format_ends_on t m none formatting log covers known =
-        (Issued identity ∷ [], (not_firm site log t covers none, tt), record { tells = refl; issues = (refl, tt) }, nothing_covers site (log_after log (Issued identity)) m refl (format_nothing t m none formatting), refl)
+        (Issued identity ∷ [], (not_firm site log t covers none, tt), record { tells = refl; issues = (refl, tt); writes = tt }, nothing_covers site (log_after log (Issued identity)) m refl (format_nothing t m none formatting), refl)
 
     -- once the place is formatted
     module _ (table : Table) (creates : Creates site identity table) (u : Tale) (is_formatted : IsFormatted site.at master 1 u) where
@@ -123,7 +123,7 @@ module _ (site : Site) where
       table_goes_on t m none leaves log covers known = (
         Issued identity ∷ Writing first_mark None [] table ∷ [],
         (not_firm site log t covers none, ((All-nil (λ v. IsBelow v.mark first_mark), inl is_first), tt)),
-        record { tells = refl; issues = (refl, (tt, tt)) },
+        record { tells = refl; issues = (refl, tt); writes = tt },
         (λ image is. (let from = leaves image is in in_table from.0 image from.1 from.2)),
         tt,
       )
@@ -132,7 +132,7 @@ module _ (site : Site) where
       table_ends_on t v none leaves log covers known = (
         Issued identity ∷ Writing first_mark None [] table ∷ Written ∷ [],
         (not_firm site log t covers none, ((All-nil (λ v. IsBelow v.mark first_mark), inl is_first), (tt, tt))),
-        record { tells = refl; issues = (refl, (tt, tt)) },
+        record { tells = refl; issues = (refl, tt); writes = tt },
         (λ image is. (let from = leaves image is in replica made_head (made_agrees true from.0 image from.1 from.2))),
         record {
           is = refl;

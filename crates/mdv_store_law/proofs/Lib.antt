@@ -8,5 +8,7 @@ pub mod Frame
 pub mod Kept
 pub mod Lawful
 pub mod Logs
+pub mod Orders
+pub mod Parts
 pub mod Replicas
 pub mod Shown

@@ -2,6 +2,7 @@
 use Rattle.std.specs.Prelude.{◌≡◌, ◌⊎◌, Bool, true, false, List, [], ◌∷◌, ◌++◌, Option, Some, None, All, Contains}
 use Rattle.std.specs.List.{list_any}
 use Rattle.mdv_store_law.specs.Below.{IsBelow, Identity, Mark, Geometry, IsAfter, Change, Table}
+use Rattle.mdv_store_law.specs.Part.{IsPart}
 
 -- A table that was written to a slot, or began to be: its mark, the changes that made it from the table without volumes,
 -- the newest first, and whether its write was answered.
@@ -130,34 +131,33 @@ told_by (Writing mark asked before table ∷ es) = told_by es
 told_by (Written ∷ es) = told_by es
 told_by (Told asked ∷ es) = asked ∷ told_by es
 
-abbrev pub IsAsked : (Change → Type 0) → Option Change → Type 0
-IsAsked Asks None = Unit {0}
-IsAsked Asks (Some change) = Asks change
+-- the changes that these events begin to write, in order
+abbrev pub written_by : List Event → List Change
+written_by [] = []
+written_by (Issued identity ∷ es) = written_by es
+written_by (Writing mark asked before table ∷ es) = with_asked asked (written_by es)
+written_by (Written ∷ es) = written_by es
+written_by (Told asked ∷ es) = written_by es
 
--- each creation that these events issue is such a one, and each change that they write
-abbrev pub IssuesOnly : (Identity → Type 0) → (Change → Type 0) → List Event → Type 0
-IssuesOnly Which Asks [] = Unit {0}
-IssuesOnly Which Asks (Issued identity ∷ es) = Which identity × IssuesOnly Which Asks es
-IssuesOnly Which Asks (Writing mark asked before table ∷ es) = IsAsked Asks asked × IssuesOnly Which Asks es
-IssuesOnly Which Asks (Written ∷ es) = IssuesOnly Which Asks es
-IssuesOnly Which Asks (Told asked ∷ es) = IssuesOnly Which Asks es
+-- each creation that these events issue is such a one
+abbrev pub IssuesOnly : (Identity → Type 0) → List Event → Type 0
+IssuesOnly Which [] = Unit {0}
+IssuesOnly Which (Issued identity ∷ es) = Which identity × IssuesOnly Which es
+IssuesOnly Which (Writing mark asked before table ∷ es) = IssuesOnly Which es
+IssuesOnly Which (Written ∷ es) = IssuesOnly Which es
+IssuesOnly Which (Told asked ∷ es) = IssuesOnly Which es
 
--- the events tell these, and issue only such ones
-pub record Adds (Which : Identity → Type 0) (Asks : Change → Type 0) (told : List (Option Change)) (es : List Event) : Type 0 where
+-- The events tell these; they issue only such creations, and begin to write only changes that are asked, in their order and each once.
+pub record Adds (Which : Identity → Type 0) (asks : List Change) (told : List (Option Change)) (es : List Event) : Type 0 where
   pub tells : told_by es ≡ told
-  pub issues : IssuesOnly Which Asks es
+  pub issues : IssuesOnly Which es
+  pub writes : IsPart (written_by es) asks
 
 abbrev pub NoCreation : Identity → Type 0
 NoCreation identity = ⊥
 
-abbrev pub NoChange : Change → Type 0
-NoChange change = ⊥
-
 abbrev pub IsThis : Identity → Identity → Type 0
 IsThis identity other = other ≡ identity
-
-abbrev pub IsThisChange : Option Change → Change → Type 0
-IsThisChange asked change = asked ≡ Some change
 
 -- the table after these changes, the newest first, from one without volumes
 abbrev pub AreMade : Geometry → List Change → Table → Type 0

@@ -1,7 +1,7 @@
 -- What a crash may leave of a database with one place, told by its log.
 use Rattle.std.specs.Prelude.{◌≡◌, ◌⊎◌, ℕ, ◌≤◌, true, false, List, [], ◌∷◌, Some, None, All, Contains}
 use Rattle.mdv_store_law.specs.Below.{IsBelow, Identity, Mark, record_text, Gate, Closed, Open, Head, Slot, First, Second, greatest, shows, text_of, Image, Tale, IsImage, Change}
-use Rattle.mdv_store_law.specs.Log.{Version, Log, Event, log_after_all, is_firm, IsCourse, Adds, IsLog, NoChange}
+use Rattle.mdv_store_law.specs.Log.{Version, Log, Event, log_after_all, is_firm, IsCourse, Adds, IsLog}
 use Rattle.mdv_store_law.specs.Site.{Site, sized, IsTableAt, IsReplica, IsFound, Newest, IsNewestOf}
 
 -- the version under the mark of an open gate, with the table whose record the slot has
@@ -82,15 +82,15 @@ abbrev pub Anything : Log → Type 0
 Anything log = Unit {0}
 
 -- A log that the drives stood with, and of which so much was known, goes on, with nothing told and only such creations
--- and changes issued, to one that they stand with, of which more is known.
-abbrev pub GoesFrom : Site → (Log → Type 0) → (Identity → Type 0) → (Change → Type 0) → (Log → Type 0) → Tale → Tale → Type 0
-GoesFrom site Known Which Asks After t m =
+-- and these changes issued, to one that they stand with, of which more is known.
+abbrev pub GoesFrom : Site → (Log → Type 0) → (Identity → Type 0) → List Change → (Log → Type 0) → Tale → Tale → Type 0
+GoesFrom site Known Which asks After t m =
     (log : Log) → Covers site log t → Known log
-    → (es : List Event) × IsCourse site.drives log es × Adds Which Asks [] es × Covers site (log_after_all log es) m × After (log_after_all log es)
+    → (es : List Event) × IsCourse site.drives log es × Adds Which asks [] es × Covers site (log_after_all log es) m × After (log_after_all log es)
 
 -- the same of a log of which nothing is known, where no change is asked
 abbrev pub GoesOnTo : Site → (Identity → Type 0) → (Log → Type 0) → Tale → Tale → Type 0
-GoesOnTo site Which After t m = GoesFrom site Anything Which NoChange After t m
+GoesOnTo site Which After t m = GoesFrom site Anything Which [] After t m
 
 abbrev pub GoesOn : Site → (Identity → Type 0) → Tale → Tale → Type 0
 GoesOn site Which t m = GoesOnTo site Which Anything t m

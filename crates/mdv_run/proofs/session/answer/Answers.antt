@@ -1,4 +1,5 @@
-use Rattle.std.proofs.Common.{[], refl, inl, inr, subst, sym}
+use Rattle.std.proofs.Common.{refl, inl, inr, subst, sym}
+use Rattle.mdv_engine_law.specs.Line.{Nothing}
 use Rattle.mdv_run.specs.Below.{line, Ends, Boot, IsCommand, IsLine, asked_by, IsAnswered, Knows, TellsFront, TurnMoment, Engine, LinesMoment}
 use Rattle.mdv_words.specs.declared.command.Line.TheVariants as words
 use Rattle.mdv_engine_law.specs.declared.answer.Answer.TheVariants as outcome
@@ -64,8 +65,8 @@ pub returns-in_default-clause-moments : goal.returns-in_default-clause-moments
 returns-in_default-clause-moments g c = λ more.
     let host = c.args.engine.now.host in
     let old = c.args.engine.now.state in
-    moments_weaker (TurnMoment host [] old) (LinesMoment host (line c.args.line.now more) old) _ _
-    (λ t m turn. line_moment host c.args.line.now [] (inl (c.in_default.ensures.none, refl)) more old t m turn) (c.refuse.ensures.moments []).each
+    moments_weaker (TurnMoment host Nothing old) (LinesMoment host (line c.args.line.now more) old) _ _
+    (λ t m turn. line_moment host c.args.line.now Nothing (inl (c.in_default.ensures.none, refl)) more old t m turn) (c.refuse.ensures.moments Nothing).each
 
 pub returns-in_default-clause-end : goal.returns-in_default-clause-end
 returns-in_default-clause-end g c =
@@ -80,17 +81,17 @@ returns-in_default-clause-end g c =
       end.1,
       record {
         answered = λ knows. record { answer = outcome.Refused BadLine; done = inl (c.in_default.ensures.none, refused_down host old BadLine bad_line_plain replies c.refuse.result t end.0 end.2); replied = end.2.replied };
-        ran = λ on more. line_ran host c.args.line.now [] (inl (c.in_default.ensures.none, refl)) more old old t end.0 (refused_turned host old BadLine bad_line_plain replies c.refuse.result t end.0 end.2 [] on) (λ up. up) (c.in_default.ensures.none Boot);
+        ran = λ on more. line_ran host c.args.line.now Nothing (inl (c.in_default.ensures.none, refl)) more old old t end.0 (refused_turned host old BadLine bad_line_plain replies c.refuse.result t end.0 end.2 Nothing on) (λ up. up) (c.in_default.ensures.none Boot);
         knows = λ kept. refused_knows host old BadLine bad_line_plain replies c.refuse.result t end.0 end.2;
       },
     )))
 
 pub returns-in_default-clause-stays : goal.returns-in_default-clause-stays
 returns-in_default-clause-stays g c = record {
-  home = turn_stays c.args.engine.now.host [] c.args.engine.now.state _ _ (c.refuse.ensures.moments []).each;
+  home = turn_stays c.args.engine.now.host Nothing c.args.engine.now.state _ _ (c.refuse.ensures.moments Nothing).each;
   told = c.refuse.ensures.counted.told;
   tells = moment_weaker g.B.Shelf (AnswerFront c.args.engine.now.host (outcome.Refused BadLine) c.args.engine.now.state) (LineFront c.args.engine.now.host c.args.line.now c.args.engine.now.state) _ _
-      (λ t m up down here known. front_of (OnlyAnswers (outcome.Refused BadLine)) (λ failed kept answer next. IsAnswered failed c.args.engine.now.host kept c.args.line.now answer next) c.args.engine.now.state t m (λ failed kept answer next is. inl (c.in_default.ensures.none, only_refused BadLine failed kept answer next is)) (here known)) (c.refuse.ensures.moments []).fronts;
+      (λ t m up down here known. front_of (OnlyAnswers (outcome.Refused BadLine)) (λ failed kept answer next. IsAnswered failed c.args.engine.now.host kept c.args.line.now answer next) c.args.engine.now.state t m (λ failed kept answer next is. inl (c.in_default.ensures.none, only_refused BadLine failed kept answer next is)) (here known)) (c.refuse.ensures.moments Nothing).fronts;
 }
 
 -- a boot
@@ -98,8 +99,8 @@ pub returns-in-Boot-clause-moments : goal.returns-in-Boot-clause-moments
 returns-in-Boot-clause-moments g c = λ more.
     let host = c.args.engine.now.host in
     let old = c.args.engine.now.state in
-    moments_weaker (TurnMoment host [] old) (LinesMoment host (line c.args.line.now more) old) _ _
-    (λ t m turn. line_moment host c.args.line.now [] (inr (Boot, subst (IsLine c.args.line.now) c.in-Boot.is c.in-Some.ensures.value, refl)) more old t m turn) c.boot_anew.ensures.moments
+    moments_weaker (TurnMoment host Nothing old) (LinesMoment host (line c.args.line.now more) old) _ _
+    (λ t m turn. line_moment host c.args.line.now Nothing (inr (Boot, subst (IsLine c.args.line.now) c.in-Boot.is c.in-Some.ensures.value, refl)) more old t m turn) c.boot_anew.ensures.moments
 
 pub returns-in-Boot-clause-end : goal.returns-in-Boot-clause-end
 returns-in-Boot-clause-end g c = c.boot_anew.ensures.end c.args.line.now (subst (IsLine c.args.line.now) c.in-Boot.is c.in-Some.ensures.value)

@@ -1,4 +1,5 @@
 use Rattle.std.proofs.Common.{◌≡◌, [], inl, inr, Option, refl, sym, ◌∙◌, ap, subst, arith}
+use Rattle.mdv_engine_law.specs.Line.{Nothing}
 use Rattle.std.proofs.lemmas.List.{append-nil}
 use Rattle.mdv_shelf.specs.Shelves.{DriveFailed, GivingFailed}
 use Rattle.mdv_run.specs.Below.{OnDrive, OnReplies, Moments, Ends, told, Boot, Host, StaysHome, BootMoment, BootedTo, TurnMoment, Engine, Knows, IsRebooted, Tale, kept_at}
@@ -24,8 +25,8 @@ returns-in-Ok-clause-moments g c =
     let host = c.args.engine.now.host in
     let old = c.args.engine.now.state in
     let new = c.reboot.new.self.state in
-    moments_after (BootMoment host) (BootedTo host new) (TurnMoment c.reboot.new.self.host [] new) (TurnMoment host [] old) _ _ _ (λ t m moment. boot_turn host old t m moment)
-    (λ t u m booted turn. booted_turn host old new t u booted m (subst (λ (h : Host). TurnMoment h [] new u m) c.in-Ok.ensures.answer.host turn))
+    moments_after (BootMoment host) (BootedTo host new) (TurnMoment c.reboot.new.self.host Nothing new) (TurnMoment host Nothing old) _ _ _ (λ t m moment. boot_turn host old t m moment)
+    (λ t u m booted turn. booted_turn host old new t u booted m (subst (λ (h : Host). TurnMoment h Nothing new u m) c.in-Ok.ensures.answer.host turn))
     c.reboot.ensures.moments (λ t is. (let up = c.in-Ok.ensures.end t is in (up.0, up.1, up.2.booted refl))) c.accept.ensures.moments.each
 
 pub returns-in-Ok-clause-end : goal.returns-in-Ok-clause-end
@@ -60,7 +61,7 @@ returns-in-Ok-clause-stays g c = λ text boots.
     let new = c.reboot.new.self.state in
     let quiet = moments_weaker (BootMoment host) (λ t m. told m ≡ told t) _ _ (λ t m moment. moment.quiet) c.reboot.ensures.moments in record {
       home = both_stay host _ _ _ (boot_stays host _ _ c.reboot.ensures.moments)
-          (subst (λ (h : Host). Moments (StaysHome h) (g.B.Shelf.tale c.reboot.new.shelf) (g.B.Shelf.tale c.accept.new.bench)) c.in-Ok.ensures.answer.host (turn_stays c.reboot.new.self.host [] c.reboot.new.self.state _ _ c.accept.ensures.moments.each));
+          (subst (λ (h : Host). Moments (StaysHome h) (g.B.Shelf.tale c.reboot.new.shelf) (g.B.Shelf.tale c.accept.new.bench)) c.in-Ok.ensures.answer.host (turn_stays c.reboot.new.self.host Nothing c.reboot.new.self.state _ _ c.accept.ensures.moments.each));
       told = λ on. told_behind g.B.Shelf g.met.B.Shelf.telling _ _ _ c.reboot.ensures.kept.goes quiet (c.accept.ensures.counted.told on);
       tells = each_joined (OfTales (λ t m. told m ≡ told t)) (AnswerFront host outcome.Ok new) (LineFront host text old) _ _ _ _ _ _
           (λ s u v first mid last turn there ahead m here within knows. inl here)
@@ -96,7 +97,7 @@ pub returns-in-Err-Lost-clause-moments : goal.returns-in-Err-Lost-clause-moments
 returns-in-Err-Lost-clause-moments g c =
     let host = c.args.engine.now.host in
     let old = c.args.engine.now.state in
-    moments_weaker (BootMoment host) (TurnMoment host [] old) _ _ (λ t m moment. boot_turn host old t m moment) c.reboot.ensures.moments
+    moments_weaker (BootMoment host) (TurnMoment host Nothing old) _ _ (λ t m moment. boot_turn host old t m moment) c.reboot.ensures.moments
 
 pub returns-in-Err-Lost-clause-stays : goal.returns-in-Err-Lost-clause-stays
 returns-in-Err-Lost-clause-stays g c = λ text boots. record {
@@ -128,7 +129,7 @@ pub returns-in-Err-Spent-clause-moments : goal.returns-in-Err-Spent-clause-momen
 returns-in-Err-Spent-clause-moments g c =
     let host = c.args.engine.now.host in
     let old = c.args.engine.now.state in
-    moments_weaker (BootMoment host) (TurnMoment host [] old) _ _ (λ t m moment. boot_turn host old t m moment) c.reboot.ensures.moments
+    moments_weaker (BootMoment host) (TurnMoment host Nothing old) _ _ (λ t m moment. boot_turn host old t m moment) c.reboot.ensures.moments
 
 pub returns-in-Err-Spent-clause-stays : goal.returns-in-Err-Spent-clause-stays
 returns-in-Err-Spent-clause-stays g c = λ text boots. record {
@@ -160,7 +161,7 @@ pub returns-in-Err-Memory-clause-moments : goal.returns-in-Err-Memory-clause-mom
 returns-in-Err-Memory-clause-moments g c =
     let host = c.args.engine.now.host in
     let old = c.args.engine.now.state in
-    moments_weaker (BootMoment host) (TurnMoment host [] old) _ _ (λ t m moment. boot_turn host old t m moment) c.reboot.ensures.moments
+    moments_weaker (BootMoment host) (TurnMoment host Nothing old) _ _ (λ t m moment. boot_turn host old t m moment) c.reboot.ensures.moments
 
 pub returns-in-Err-Memory-clause-stays : goal.returns-in-Err-Memory-clause-stays
 returns-in-Err-Memory-clause-stays g c = λ text boots. record {

@@ -1,4 +1,5 @@
-use Rattle.std.proofs.Common.{◌≤◌, [], refl, sym, ap, subst, arith}
+use Rattle.std.proofs.Common.{◌≤◌, refl, sym, ap, subst, arith}
+use Rattle.mdv_engine_law.specs.Line.{Nothing}
 use Rattle.mdv_run.specs.Below.{Script, Engine, line, too_long, script_before, IsTurn, Line, TooLong, End, Spent, Moments, TurnMoment, IsWell, OnDrive, OnReplies, ScriptTooLong, counts, LinesMoment, RanTo}
 use Rattle.mdv_run_law.specs.Run.{EndsAs}
 use Rattle.mdv_shelf.proofs.Stories.{moment}
@@ -85,8 +86,8 @@ returns-in-Ok-TooLong-clause-moments g c = λ lines before.
     let old = c.args.engine.now.state in
     let reads : IsTurn lines TooLong c.next.new.self (g.I.Source.left c.next.new.source) = rw c.in-Ok-TooLong.field-0-is at (c.in-Ok-TooLong.ensures.reads lines before) in
     let script = long_is lines c.next.new.self (g.I.Source.left c.next.new.source) reads in
-    moments_weaker (TurnMoment host [] old) (LinesMoment host lines old) _ _
-    (λ t m turn. subst (λ (s : Script). LinesMoment host s old t m) (sym script.1) (long_moment host script.0 old t m turn)) (c.refuse.ensures.moments []).each
+    moments_weaker (TurnMoment host Nothing old) (LinesMoment host lines old) _ _
+    (λ t m turn. subst (λ (s : Script). LinesMoment host s old t m) (sym script.1) (long_moment host script.0 old t m turn)) (c.refuse.ensures.moments Nothing).each
 
 pub returns-in-Ok-TooLong-clause-end : goal.returns-in-Ok-TooLong-clause-end
 returns-in-Ok-TooLong-clause-end g c = λ lines before t told.
@@ -106,7 +107,7 @@ returns-in-Ok-TooLong-clause-end g c = λ lines before t told.
             turns = λ knows. leads_long now last (record { drive = c.refuse.ensures.kept.keeps.no_fewer_faults (OnDrive 0); source = c.next.ensures.cause.later; replies = c.refuse.ensures.kept.keeps.no_fewer_faults OnReplies })
                 host old c.args.any_refused lines script.0 c.refuse.result rest t end.0 script.1 script.2 (refused_down host old LineTooLong too_long_plain _ c.refuse.result t end.0 end.2) end.2.replied;
             ran = λ on left is.
-                let turned = refused_turned host old LineTooLong too_long_plain _ c.refuse.result t end.0 end.2 [] (on_replied c.refuse.result c.args.any_refused _ refl on) in
+                let turned = refused_turned host old LineTooLong too_long_plain _ c.refuse.result t end.0 end.2 Nothing (on_replied c.refuse.result c.args.any_refused _ refl on) in
                 subst (λ (s : Script). RanTo host s old old left t end.0) (sym script.1)
                 (subst (λ (s : Script). RanTo host (too_long s) old old left t end.0) (sym (same_left left script.0 is script.2)) (long_ran host left old t end.0 turned));
             knows = λ kept. refused_knows host old LineTooLong too_long_plain _ c.refuse.result t end.0 end.2;
@@ -129,13 +130,13 @@ returns-in-Ok-TooLong-clause-answer g c = record {
 
 pub returns-in-Ok-TooLong-clause-stays : goal.returns-in-Ok-TooLong-clause-stays
 returns-in-Ok-TooLong-clause-stays g c = record {
-  home = turn_stays c.args.engine.now.host [] c.args.engine.now.state _ _ (c.refuse.ensures.moments []).each;
+  home = turn_stays c.args.engine.now.host Nothing c.args.engine.now.state _ _ (c.refuse.ensures.moments Nothing).each;
   told = λ on. c.refuse.ensures.counted.told (on_replied c.refuse.result c.args.any_refused _ c.turn_of-in-Ok-TooLong.ensures on);
   tells = λ lines before.
       let reads : IsTurn lines TooLong c.next.new.self (g.I.Source.left c.next.new.source) = rw c.in-Ok-TooLong.field-0-is at (c.in-Ok-TooLong.ensures.reads lines before) in
       let script = long_is lines c.next.new.self (g.I.Source.left c.next.new.source) reads in
       each_within (AnswerFront c.args.engine.now.host (outcome.Refused LineTooLong) c.args.engine.now.state) (ScriptFront c.args.engine.now.host (counts (g.B.Shelf.faults c.args.bench.now) (g.I.Source.faults c.args.script.now)) c.args.engine.now.state c.args.any_refused lines) _ _ _ _
-      (λ s u first last m there here within known. long_front c.args.engine.now.host c.args.engine.now.state (counts (g.B.Shelf.faults c.args.bench.now) (g.I.Source.faults c.args.script.now)) c.args.any_refused (moment s _) m refl within.counts.0 lines script.0 script.1 (here known)) (c.refuse.ensures.moments []).fronts;
+      (λ s u first last m there here within known. long_front c.args.engine.now.host c.args.engine.now.state (counts (g.B.Shelf.faults c.args.bench.now) (g.I.Source.faults c.args.script.now)) c.args.any_refused (moment s _) m refl within.counts.0 lines script.0 script.1 (here known)) (c.refuse.ensures.moments Nothing).fronts;
 }
 
 -- the end of the script, a limit, and a source that failed

@@ -1,4 +1,5 @@
-use Rattle.std.proofs.Common.{refl, []}
+use Rattle.std.proofs.Common.{refl}
+use Rattle.mdv_engine_law.specs.Line.{Nothing}
 use Rattle.mdv_shelf.proofs.Moments.{moments_weaker}
 use Rattle.mdv_shelf.proofs.Telling.{told_once}
 use Rattle.mdv_engine.specs.Below.{text_of, TellMoment, TurnMoment}
@@ -13,7 +14,7 @@ pub returns-clause-moments : goal.returns-clause-moments
 returns-clause-moments g c =
     let host = c.args.self.now.host in
     let memory = c.args.self.now.state in record {
-      each = moments_weaker (TellMoment (text_of outcome.Ok)) (TurnMoment host [] memory) _ _ (ok_told host memory) c.tell.ensures.fronts;
+      each = moments_weaker (TellMoment (text_of outcome.Ok)) (TurnMoment host Nothing memory) _ _ (ok_told host memory) c.tell.ensures.fronts;
       fronts = fronts_alone g.B.Shelf g.met.B.Shelf.telling _ _ host memory outcome.Ok c.tell.ensures.kept.goes c.tell.ensures.fronts;
     }
 

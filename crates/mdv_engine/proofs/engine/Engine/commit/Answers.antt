@@ -1,4 +1,5 @@
-use Rattle.std.proofs.Common.{arith, ◌≡◌, ◌∙◌, ◌∷◌, [], rules, Some, ap, sym, subst}
+use Rattle.std.proofs.Common.{arith, ◌≡◌, ◌∙◌, rules, Some, ap, sym, subst}
+use Rattle.mdv_engine_law.specs.Line.{ToDo}
 use Rattle.mdv_base.specs.declared.refusal.Refusal.TheVariants.{NoDatabase}
 use Rattle.mdv_engine.specs.Below.{Changed, Rose, Local, place_of, PlaceAt, OnDrive, TooLong, HasCommitCause, Newest, IsPlainAnswer}
 use Rattle.mdv_engine_law.specs.declared.answer.Answer.TheVariants as outcome
@@ -92,8 +93,8 @@ returns-clause-answer g c = λ change. record {
 pub returns-in_default-clause-answer : goal.returns-in_default-clause-answer
 returns-in_default-clause-answer g c = λ change.
     let failed = Rose (g.S.Shelf.faults c.args.shelf.now (OnDrive 0)) (g.S.Shelf.faults c.args.shelf.now (OnDrive 0)) in
-    subst (λ (e : Engine). HasAnswered failed (Changed change ∷ []) c.args.self.now (outcome.Refused NoDatabase) e) (sym c.self.view_is)
-    (refused_answer failed (Changed change ∷ []) c.args.self.now c.requires.well NoDatabase no_database_plain)
+    subst (λ (e : Engine). HasAnswered failed (ToDo (Changed change)) c.args.self.now (outcome.Refused NoDatabase) e) (sym c.self.view_is)
+    (refused_answer failed (ToDo (Changed change)) c.args.self.now c.requires.well NoDatabase no_database_plain)
 
 pub returns-clause-counted : goal.returns-clause-counted
 returns-clause-counted g c =

@@ -26,7 +26,7 @@ returns-clause-moments g c =
     record {
       each = moments_after (CarryMoment host asked old) (Carried host asked old new answer) (TellMoment (text_of answer)) (TurnMoment host asked old) _ _ _
           (λ t m carry. turn_carry host asked old t m carry)
-          (λ t u m both tell. turn_tell host asked old new answer says.plain (λ on some. says.awake on) says.free t u both.0 both.1 m tell)
+          (λ t u m both tell. turn_tell host asked old new answer (λ on some. says.awake on) says.free says.plain t u both.0 both.1 m tell)
           c.carry_out-answer.ensures.moments (carried_ends host asked old new answer _ _ c.carry_out-answer.ensures.moments carried) c.tell.ensures.fronts;
       fronts = fronts_then g.B.Shelf g.met.B.Shelf.telling _ _ _ (CarriesOut host c.args.command.now) host old answer new
           (λ failed more cause kept next is. carried_more failed more cause host kept next answer c.args.command.now is)

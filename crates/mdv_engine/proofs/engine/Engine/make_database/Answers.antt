@@ -1,4 +1,5 @@
-use Rattle.std.proofs.Common.{◌≡◌, ◌∙◌, ◌+◌, ◌≤◌, ◌∷◌, [], List, ℕ, false, Option, Some, None, Err, sym, ap, subst, arith, rules}
+use Rattle.std.proofs.Common.{◌≡◌, ◌∙◌, ◌+◌, ◌≤◌, List, ℕ, false, Option, Some, None, Err, sym, ap, subst, arith, rules}
+use Rattle.mdv_engine_law.specs.Line.{ToDo}
 use Rattle.mdv_engine.specs.Below.{Rose, Local, IoFault, OutOfMemory, OnDrive, Ends, Moments, Tale, place_of, PlaceAt, IsPlaceOf, Geometry, IsCreated, Log, IsThis, is_firm, Site, Newest, Anything, GoesOnTo, IsOpened, ShowsNothing, Created, IsQuiet, IsSafe, first_newest, Answer, IsReady, identity_of, Memory, IsCreation, kept_at, CarriedTo, CarryMoment, Knows}
 use Rattle.mdv_database.specs.Database as database
 use Rattle.mdv_store_law.specs.Standing.{ShowsReplica}
@@ -20,7 +21,7 @@ abbrev Creates : Type 0 → Answer → Memory → Option Tale → Option Tale �
 Creates failed answer next a b x = Ends (λ t u. Knows x.host x.state t → IsCreation failed x.host (kept_at x.state t) answer (kept_at next u)) a b
 
 abbrev Carries : Answer → Memory → Option Tale → Option Tale → Engine → Type 0
-Carries answer next a b x = Ends (CarriedTo x.host (Created ∷ []) x.state answer next) a b
+Carries answer next a b x = Ends (CarriedTo x.host (ToDo Created) x.state answer next) a b
 
 -- `e` is what the engine's fields are, `v` the engine
 module _ (sizes : List ℕ) (e v : Engine) (is : e ≡ v) (readied : IsReady v.host sizes) (at : PlaceAt) (at_is : at ≡ place_of e.host.home) (roomy : 8208 ≤ v.host.home.blocks) (closed : v.state.opened ≡ None) (awake : v.state.down ≡ false) (a b : Option Tale)
@@ -55,8 +56,8 @@ module _ (sizes : List ℕ) (e v : Engine) (is : e ≡ v) (readied : IsReady v.h
       (lost_creation e.host sizes ready at at_is e.state room none up a b quiet failed so (on_ours (λ drives. Ends (λ _ u. ShowsReplica (site drives) (identity_of e.host e.state.begun) u) a b) shows))
 
   module _ (stays : OnEach (λ drives. Moments (Goes (λ s. Anything) drives) a b)) where
-    moments : Moments (CarryMoment v.host (Created ∷ []) v.state) a b
-    moments = subst (λ (x : Engine). Moments (CarryMoment x.host (Created ∷ []) x.state) a b) is
+    moments : Moments (CarryMoment v.host (ToDo Created) v.state) a b
+    moments = subst (λ (x : Engine). Moments (CarryMoment x.host (ToDo Created) x.state) a b) is
         (making_moments e.host sizes ready at at_is e.state room none up a b quiet (on_ours (λ drives. Moments (Goes (λ s. Anything) drives) a b) stays))
 
     lost : (next : Memory) → Carries outcome.Panic next a b v
@@ -111,7 +112,7 @@ pub returns-in-Err-Lost-clause-moments : goal.returns-in-Err-Lost-clause-moments
 returns-in-Err-Lost-clause-moments g c = moments _ _ _ c.self.view_is c.requires.ready c.place_at.result c.place_at.ensures c.requires.room c.requires.none c.requires.up _ _ (create_quiet _ _ _ _ _ _ c.create.ensures.moments) (create_goes _ _ _ _ _ _ c.create.ensures.moments)
 
 pub returns-in-Err-Memory-clause-moments : goal.returns-in-Err-Memory-clause-moments
-returns-in-Err-Memory-clause-moments g c = moments_still c.args.self.now.host (Created ∷ []) c.args.self.now.state _ _ (ap g.S.Shelf.tale (rw (c.in-Err-Memory.is ∙ ap Err c.in-Err-Memory.field-0-is) at c.create.ensures.counted))
+returns-in-Err-Memory-clause-moments g c = moments_still c.args.self.now.host (ToDo Created) c.args.self.now.state _ _ (ap g.S.Shelf.tale (rw (c.in-Err-Memory.is ∙ ap Err c.in-Err-Memory.field-0-is) at c.create.ensures.counted))
 
 pub returns-in-Ok-clause-end : goal.returns-in-Ok-clause-end
 returns-in-Ok-clause-end g c =

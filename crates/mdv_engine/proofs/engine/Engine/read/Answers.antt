@@ -1,15 +1,16 @@
-use Rattle.std.proofs.Common.{◌∷◌, [], ◌∙◌, inl, inr, ap, refl, arith}
+use Rattle.std.proofs.Common.{◌∙◌, inl, inr, ap, refl, arith}
+use Rattle.mdv_engine_law.specs.Line.{ToSee}
 use Rattle.mdv_words.specs.declared.command.Command.TheVariants as command
-use Rattle.mdv_engine.specs.Below.{Rose, OnDrive, Saw, values_reply}
+use Rattle.mdv_engine.specs.Below.{Rose, OnDrive, values_reply}
 use Rattle.mdv_engine_law.specs.declared.answer.Answer.TheVariants as outcome
 use Rattle.mdv_engine_law.proofs.Transfer.{saw}
 use Rattle.mdv_engine.proofs.Blocks.{moments_still, unread_plain}
-use Rattle.mdv_engine.proofs.Ending.{command_ends, no_creation, refused_answer}
+use Rattle.mdv_engine.proofs.Ending.{command_ends, refused_answer}
 use Rattle.mdv_engine.proofs.Places.{awake_blocks}
 use Rattle.mdv_engine.proofs.engine.Engine.read.Goals as goal
 
 pub returns-in-Ok-clause-moments : goal.returns-in-Ok-clause-moments
-returns-in-Ok-clause-moments g c = moments_still c.args.self.now.host (Saw c.args.volume c.args.at c.args.count ∷ []) c.args.self.now.state _ _ c.values.ensures.same
+returns-in-Ok-clause-moments g c = moments_still c.args.self.now.host (ToSee c.args.volume c.args.at c.args.count) c.args.self.now.state _ _ c.values.ensures.same
 
 pub returns-in-Ok-clause-end : goal.returns-in-Ok-clause-end
 returns-in-Ok-clause-end g c =
@@ -17,21 +18,21 @@ returns-in-Ok-clause-end g c =
     let least = c.requires.count.least in
     command_ends _ c.args.self.now (command.Read c.args.volume c.args.at c.args.count) (outcome.Values c.in-Ok.text) c.args.self.now _ _
     (λ t start. (t, c.values.ensures.same ∙ start, λ known. inr (read.block, read.there, (record { memory = refl; content = λ block. refl }, inl (c.in-Ok.text, refl, read.as_told ∙ ap (values_reply c.args.at) (read.as_there t start))))))
-    (λ t start. (t, c.values.ensures.same ∙ start, saw c.args.self.now.host (g.S.Shelf.sizes c.args.shelf.now) c.requires.ready c.args.self.now.state c.args.volume c.args.at c.args.count read.block (omega arith) read.there t c.in-Ok.text))
+    (λ t start. (t, c.values.ensures.same ∙ start, saw c.args.self.now.host (g.S.Shelf.sizes c.args.shelf.now) c.requires.ready c.args.self.now.state c.args.volume c.args.at c.args.count read.block (omega arith) read.there t c.in-Ok.text (read.as_told ∙ ap (values_reply c.args.at) (read.as_there t start))))
 
 pub returns-in-Ok-clause-answer : goal.returns-in-Ok-clause-answer
 returns-in-Ok-clause-answer g c = record {
   plain = record { at = c.args.at; blocks = c.in-Ok.ensures.ok.blocks; is = c.in-Ok.ensures.ok.as_told };
   cause = tt;
   awake = λ on. awake_blocks c.args.self.now.host c.args.self.now.state c.args.volume c.args.at c.args.count c.requires.well.sound (c.in-Ok.ensures.ok.block, c.in-Ok.ensures.ok.there);
-  free = λ on has. absurd (no_creation (Saw c.args.volume c.args.at c.args.count) (λ is. absurd (cc (is))) has);
+  free = λ on has. absurd (omega (arith, has.1));
   host = refl;
   well = c.requires.well;
   begun = omega arith;
 }
 
 pub returns-in-Err-clause-moments : goal.returns-in-Err-clause-moments
-returns-in-Err-clause-moments g c = moments_still c.args.self.now.host (Saw c.args.volume c.args.at c.args.count ∷ []) c.args.self.now.state _ _ c.values.ensures.same
+returns-in-Err-clause-moments g c = moments_still c.args.self.now.host (ToSee c.args.volume c.args.at c.args.count) c.args.self.now.state _ _ c.values.ensures.same
 
 pub returns-in-Err-clause-answer : goal.returns-in-Err-clause-answer
 returns-in-Err-clause-answer g c =

@@ -10,10 +10,10 @@ use Rattle.mdv_engine_law.proofs.Turning.{refusal_told}
 use Rattle.mdv_engine.proofs.engine.Engine.refuse.Goals as goal
 
 pub returns-clause-moments : goal.returns-clause-moments
-returns-clause-moments g c = λ asked.
+returns-clause-moments g c = λ ask.
     let host = c.args.self.now.host in
     let memory = c.args.self.now.state in record {
-      each = moments_weaker (TellMoment (text_of (outcome.Refused c.args.refusal.now))) (TurnMoment host asked memory) _ _ (refusal_told host memory asked c.args.refusal.now c.requires) c.tell.ensures.fronts;
+      each = moments_weaker (TellMoment (text_of (outcome.Refused c.args.refusal.now))) (TurnMoment host ask memory) _ _ (refusal_told host memory ask c.args.refusal.now c.requires) c.tell.ensures.fronts;
       fronts = fronts_alone g.B.Shelf g.met.B.Shelf.telling _ _ host memory (outcome.Refused c.args.refusal.now) c.tell.ensures.kept.goes c.tell.ensures.fronts;
     }
 

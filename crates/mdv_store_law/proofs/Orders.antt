@@ -1,0 +1,117 @@
+-- In which order the changes of a log's tables were written, and told.
+use Rattle.std.proofs.Common.{◌≡◌, ◌⊎◌, inl, inr, true, false, List, [], ◌∷◌, ◌++◌, reverse, refl, sym, ◌∙◌, ap, subst, append_assoc, Option, Some, None, Contains, arith}
+use Rattle.std.proofs.lemmas.List.{append-nil, reverse-append}
+use Rattle.mdv_store_law.specs.Below.{Geometry, Identity, Mark, Change, Table}
+use Rattle.mdv_store_law.specs.Log.{Version, Log, Event, Issued, Writing, Written, Told, with_asked, answered, log_after, log_after_all, is_firm, IsFirst, IsNext, Extends, IsUntold, IsTellable, IsCourse, told_by, written_by, IsLog}
+use Rattle.mdv_store_law.specs.Part.{IsPart}
+use Rattle.mdv_store_law.proofs.Families.{contains_first, contains_behind, contains_cases, written_firm}
+use Rattle.mdv_store_law.proofs.Logs.{is_log_after, newest_told}
+use Rattle.mdv_store_law.proofs.Parts.{part_before, part_itself, part_more, part_of_part}
+
+-- the changes among what is told
+abbrev pub changes_of : List (Option Change) → List Change
+changes_of [] = []
+changes_of (None ∷ told) = changes_of told
+changes_of (Some change ∷ told) = change ∷ changes_of told
+
+-- the oldest first, one change more stands at the end
+behind_all : (changes : List Change) (change : Change) → reverse (change ∷ changes) ≡ reverse changes ++ change ∷ []
+behind_all changes change = reverse-append (change ∷ []) changes
+
+pub oldest_extended : (longer shorter part : List Change) → Extends longer shorter → IsPart part (reverse shorter) → IsPart part (reverse longer)
+oldest_extended longer shorter part extends is =
+    let same : reverse longer ≡ reverse shorter ++ reverse extends.more = ap reverse extends.is ∙ reverse-append extends.more shorter in
+    let ends : IsPart (part ++ []) (reverse shorter ++ reverse extends.more) = part_more part (reverse shorter) [] (reverse extends.more) is tt in
+    subst (λ (l : List Change). IsPart part l) (sym same) (subst (λ (l : List Change). IsPart l (reverse shorter ++ reverse extends.more)) (append-nil part) ends)
+
+-- the changes of each table were written in their order, each once
+abbrev pub AreWritten : List Version → List Change → Type 0
+AreWritten family written = (v : Version) → Contains family v → IsPart (reverse v.changes) written
+
+written_behind : (family : List Version) (written more : List Change) → AreWritten family written → AreWritten family (written ++ more)
+written_behind family written more are v has =
+    subst (λ (l : List Change). IsPart l (written ++ more)) (append-nil (reverse v.changes)) (part_more (reverse v.changes) written [] more (are v has) tt)
+
+written_answered : (family : List Version) (written : List Change) → AreWritten family written → AreWritten (answered family) written
+written_answered [] written are v has = are v has
+written_answered (v ∷ older) written are w has = elim (contains_cases (record v { is_written = true }) w older has) [
+  | inl same ↦ subst (λ (x : Version). IsPart (reverse x.changes) written) same (are v (contains_first v older))
+  | inr behind ↦ are w (contains_behind v w older behind)
+]
+
+module _ (g : Geometry) where
+  -- those of the table that another comes from
+  before_written : (family : List Version) (written : List Change) (asked : Option Change) (before : List Change) (table : Table) → AreWritten family written → IsFirst family asked before table ⊎ IsNext g family asked before table → IsPart (reverse before) written
+  before_written family written asked before table are (inl first) = subst (λ (l : List Change). IsPart (reverse l) written) (sym first.unchanged) tt
+  before_written family written asked before table are (inr next) = subst (λ (l : List Change). IsPart (reverse l) written) next.changes (are next.parent next.one_of)
+
+  asked_written : (written : List Change) (asked : Option Change) (before : List Change) → IsPart (reverse before) written → IsPart (reverse (with_asked asked before)) (written ++ with_asked asked [])
+  asked_written written None before is = subst (λ (l : List Change). IsPart (reverse before) l) (sym (append-nil written)) is
+  asked_written written (Some change) before is =
+      subst (λ (l : List Change). IsPart l (written ++ change ∷ [])) (sym (behind_all before change)) (part_more (reverse before) written (change ∷ []) (change ∷ []) is (part_itself (change ∷ [])))
+
+  next_written : (family : List Version) (written : List Change) (mark : Mark) (asked : Option Change) (before : List Change) (table : Table) → AreWritten family written → IsFirst family asked before table ⊎ IsNext g family asked before table
+      → AreWritten (record { mark = mark; table = table; changes = with_asked asked before; is_written = false } ∷ family) (written ++ with_asked asked [])
+  next_written family written mark asked before table are may v has = elim (contains_cases (record { mark = mark; table = table; changes = with_asked asked before; is_written = false }) v family has) [
+    | inl same ↦ subst (λ (x : Version). IsPart (reverse x.changes) (written ++ with_asked asked [])) same (asked_written written asked before (before_written family written asked before table are may))
+    | inr behind ↦ written_behind family written (with_asked asked []) are v behind
+  ]
+
+  asked_first : (asked : Option Change) (more : List Change) → with_asked asked [] ++ more ≡ with_asked asked more
+  asked_first None more = refl
+  asked_first (Some change) more = refl
+
+  -- so were those of each table of a log that went on by these events
+  pub all_written : (lg : Log) (es : List Event) (written : List Change) → AreWritten lg.family written → IsCourse g lg es → AreWritten (log_after_all lg es).family (written ++ written_by es)
+  all_written lg [] written are course = subst (AreWritten lg.family) (sym (append-nil written)) are
+  all_written lg (Issued identity ∷ es) written are course = all_written (log_after lg (Issued identity)) es written (λ v none. absurd (omega (arith, none.1))) course.1
+  all_written lg (Writing mark asked before table ∷ es) written are course =
+      let here = next_written lg.family written mark asked before table are course.0.1 in
+      let there = all_written (log_after lg (Writing mark asked before table)) es (written ++ with_asked asked []) here course.1 in
+      let same : (written ++ with_asked asked []) ++ written_by es ≡ written ++ with_asked asked (written_by es) = append_assoc written (with_asked asked []) (written_by es) ∙ ap (λ (l : List Change). written ++ l) (asked_first asked (written_by es)) in
+      subst (AreWritten (log_after_all (log_after lg (Writing mark asked before table)) es).family) same there
+  all_written lg (Written ∷ es) written are course = all_written (log_after lg Written) es written (written_answered lg.family written are) course.1
+  all_written lg (Told asked ∷ es) written are course = all_written (log_after lg (Told asked)) es written are course.1
+
+  -- What was told is a part of the acknowledged table's changes, in their order.
+  abbrev pub IsToldPart : Option (List Change) → List Change → Type 0
+  IsToldPart None told = told ≡ []
+  IsToldPart (Some changes) told = IsPart told (reverse changes)
+
+  -- nothing is acknowledged before a table is firm
+  none_firm : (lg : Log) (told : List Change) → IsLog g lg → is_firm lg ≡ false → (acknowledged : Option (List Change)) → lg.acknowledged ≡ acknowledged → IsToldPart acknowledged told → told ≡ []
+  none_firm lg told is loose None same part = part
+  none_firm lg told is loose (Some changes) same part =
+      let held = is.held changes same in
+      let firm = written_firm lg.family held.by held.one_of held.written in
+      absurd (cc (loose, firm))
+
+  untold_part : (acknowledged : Option (List Change)) (told before : List Change) → IsUntold acknowledged before → IsToldPart acknowledged told → IsPart told (reverse before)
+  untold_part None told before untold part = subst (λ (l : List Change). IsPart l (reverse before)) (sym part) tt
+  untold_part (Some changes) told before untold part = oldest_extended before changes told untold part
+
+  told_next : (lg : Log) (told : List Change) (asked : Option Change) (can : IsTellable lg asked) → IsToldPart lg.acknowledged told → IsPart (told ++ changes_of (asked ∷ [])) (reverse can.newest.changes)
+  told_next lg told None can part =
+      let here = untold_part lg.acknowledged told can.before can.untold part in
+      subst (λ (l : List Change). IsPart l (reverse can.newest.changes)) (sym (append-nil told)) (subst (λ (l : List Change). IsPart told (reverse l)) (sym can.changes) here)
+  told_next lg told (Some change) can part =
+      let here = untold_part lg.acknowledged told can.before can.untold part in
+      let same : reverse can.newest.changes ≡ reverse can.before ++ change ∷ [] = ap reverse can.changes ∙ behind_all can.before change in
+      subst (λ (l : List Change). IsPart (told ++ change ∷ []) l) (sym same) (part_more told (reverse can.before) (change ∷ []) (change ∷ []) here (part_itself (change ∷ [])))
+
+  told_all : (asked : Option Change) (told : List (Option Change)) → changes_of (asked ∷ []) ++ changes_of told ≡ changes_of (asked ∷ told)
+  told_all None told = refl
+  told_all (Some change) told = refl
+
+  pub all_told : (lg : Log) (es : List Event) (told : List Change) → IsLog g lg → IsToldPart lg.acknowledged told → IsCourse g lg es → IsToldPart (log_after_all lg es).acknowledged (told ++ changes_of (told_by es))
+  all_told lg [] told is part course = subst (IsToldPart lg.acknowledged) (sym (append-nil told)) part
+  all_told lg (Issued identity ∷ es) told is part course = all_told (log_after lg (Issued identity)) es told (is_log_after g lg (Issued identity) is course.0) (none_firm lg told is course.0 lg.acknowledged refl part) course.1
+  all_told lg (Writing mark asked before table ∷ es) told is part course = all_told (log_after lg (Writing mark asked before table)) es told (is_log_after g lg (Writing mark asked before table) is course.0) part course.1
+  all_told lg (Written ∷ es) told is part course = all_told (log_after lg Written) es told (is_log_after g lg Written is course.0) part course.1
+  all_told lg (Told asked ∷ es) told is part course =
+      let can : IsTellable lg asked = course.0 in
+      let newest : (log_after lg (Told asked)).acknowledged ≡ Some can.newest.changes = newest_told lg asked can in
+      let here : IsToldPart (log_after lg (Told asked)).acknowledged (told ++ changes_of (asked ∷ [])) = subst (λ (a : Option (List Change)). IsToldPart a (told ++ changes_of (asked ∷ []))) (sym newest) (told_next lg told asked can part) in
+      let there = all_told (log_after lg (Told asked)) es (told ++ changes_of (asked ∷ [])) (is_log_after g lg (Told asked) is can) here course.1 in
+      let same : (told ++ changes_of (asked ∷ [])) ++ changes_of (told_by es) ≡ told ++ changes_of (asked ∷ told_by es) = append_assoc told (changes_of (asked ∷ [])) (changes_of (told_by es)) ∙ ap (λ (l : List Change). told ++ l) (told_all asked (told_by es)) in
+      subst (IsToldPart (log_after_all (log_after lg (Told asked)) es).acknowledged) same there
