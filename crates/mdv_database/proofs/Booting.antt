@@ -71,11 +71,11 @@ module _ (at : PlaceAt) (sizes : List ℕ) (found : Found) (fits : greatest foun
 -- where the number to draw is none, nothing is done
 pub adopt_still : (at : PlaceAt) (sizes : List ℕ) (found : Found) (told : Option Tale) → Moments (AdoptMoment at sizes found) told told
 adopt_still at sizes found told = moments_none (AdoptMoment at sizes found) told told refl
-    (λ t. record { quiet = quiet_same at t; goes = λ drives key was log covers known. ([], tt, record { tells = refl; issues = tt; writes = tt }, covers, tt) })
+    (λ t. record { quiet = quiet_same at t; goes = λ drives key was log covers known. record { es = []; course = tt; come = record { tells = refl; issues = tt; begins = tt }; stands = covers; after = tt } })
 
 pub adopt_spent : (at : PlaceAt) (sizes : List ℕ) (found : Found) (told : Option Tale) → Ends (AdoptEnds at sizes found Spent) told told
 adopt_spent at sizes found told t is =
-    (t, is, record { synced = tt; adopted = λ drives key was. tt; goes = λ drives key was log covers known. ([], tt, record { tells = refl; issues = tt; writes = tt }, covers, tt); refuses = λ so. refl })
+    (t, is, record { synced = tt; adopted = λ drives key was. tt; goes = λ drives key was log covers known. record { es = []; course = tt; come = record { tells = refl; issues = tt; begins = tt }; stands = covers; after = tt }; refuses = λ so. refl })
 
 -- what a look leaves: the drive is synced, and no block was written
 pub record HasLooked (site : Site) (found : Option Found) (t u : Tale) : Type 0 where
@@ -183,7 +183,7 @@ module _ (site : Site) (old new : Option Tale) (looked : Moments IsUnwritten old
   empty_goes_on : (t u : Tale) → HasLooked site None t u → GoesOnTo site NoCreation (IsBootedTo Empty) t u
   empty_goes_on t u was log covers known =
       let after = kept_covers site log t u was.unwritten.kept covers in
-      ([], tt, record { tells = refl; issues = tt; writes = tt }, after, not_firm site log u after (nothing_found t u was))
+      record { es = []; course = tt; come = record { tells = refl; issues = tt; begins = tt }; stands = after; after = not_firm site log u after (nothing_found t u was) }
 
   pub empty_ends : (failed : Type 0) → Ends (LookEnds site (Ok None)) old new → Ends (BootEnds failed site Empty) old new
   empty_ends failed ends t is =

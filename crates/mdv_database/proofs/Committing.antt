@@ -45,7 +45,7 @@ module _ (at : PlaceAt) (newest : Newest) (next : Table) (sized : PlaceAt) (slot
         → GoesFrom (site drives key) (IsWithNewest (site drives key) newest) NoCreation (with_asked asked []) (IsCommitted newest asked next) t u
     committed drives key asked t u may leaves log covers known =
         let went = commits_go.ends (site drives key) newest asked next t u (commits drives key asked t may) (at_next (λ p s k. Leaves (Takes p s k next) t u) leaves) log covers known in
-        (went.0, went.1, went.2, went.3, record { is_newest = went.4.0; tellable = went.4.1 })
+        record { es = went.es; course = went.course; come = went.come; stands = went.stands; after = record { is_newest = went.after.0; tellable = went.after.1 } }
 
     pub commit_done : (old new : Option Tale) → Ends (WriteEnds sized slot mark next) old new → Ends (CommitDone at sizes newest next) old new
     commit_done old new ends t is =

@@ -87,7 +87,7 @@ module _ (host : Host) (sizes : List ℕ) (ready : IsReady host sizes) (at : Pla
   commits_to : (t m : Tale) → Goes (IsCommitted newest (Some change) next) t m → Commits host newest change (IsCommittedTo newest change next) t m
   commits_to t m goes now log covers known =
       let went = commits (IsCommitted newest (Some change) next) t m goes now log covers known in
-      (went.0, went.1, went.2, went.3, (went.4.is_newest, λ other same. went.4.tellable other same))
+      record { es = went.es; course = went.course; come = went.come; stands = went.stands; after = (went.after.is_newest, λ other same. went.after.tellable other same) }
 
   module _ (a b : Option Tale) (quiet : Moments (IsQuiet at) a b) where
     pub changing_moments : Moments (Goes Anything) a b → Moments (CarryMoment host (ToDo (Changed change)) memory) a b

@@ -40,7 +40,7 @@ module _ (host : Host) (memory : Memory) (u v : Tale) (kept : KeptOutside nowher
       record {
         es = e ∷ [];
         course = (may, tt);
-        does = record { tells = told; issues = (issue, tt); begins = begins };
+        come = record { tells = told; issues = (issue, tt); begins = begins };
         stands = standing;
         after = known_on host memory h (history_after h e) v standing same (known_kept host u v kept memory h known);
       }

@@ -26,7 +26,7 @@ module _ (host : Host) (asks : List Deed) (Then : List Event → History → Typ
       record {
         es = went.es;
         course = went.course;
-        does = went.does;
+        come = went.come;
         stands = went.stands;
         after = then went.es (history_after_all h went.es) went.stands went.after;
       }
@@ -42,7 +42,7 @@ module _ (host : Host) (asks : List Deed) (Then : List Event → History → Typ
       record {
         es = woke ∷ [];
         course = ((λ block out. stands.stands.values block out (last u 0 block) (last_may_be_left u 0 block)), tt);
-        does = record { tells = refl; issues = (tt, tt); begins = tt };
+        come = record { tells = refl; issues = (tt, tt); begins = tt };
         stands = now;
         after = then (woke ∷ []) (history_after h woke) now tt refl;
       }

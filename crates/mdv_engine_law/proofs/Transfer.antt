@@ -139,7 +139,7 @@ module _ (host : Host) (sizes : List ℕ) (ready : IsReady host sizes) (memory :
       record {
         es = Issues written blocks ∷ [];
         course = (has, tt);
-        does = record { tells = refl; issues = (tt, tt); begins = part_itself (wrote ∷ []) };
+        come = record { tells = refl; issues = (tt, tt); begins = part_itself (wrote ∷ []) };
         stands = stands;
         after = then h has (record { stands = stands; newest = known.newest; knows = knows_written known.knows });
       }

@@ -14,7 +14,7 @@ pub use Rattle.mdv_base.specs.declared.refusal.Refusal.TheVariants.{WrongKind, W
 pub use Rattle.mdv_base.specs.declared.state_word.StateWord.{StateWord}
 pub use Rattle.mdv_base.specs.declared.state_word.StateWord.TheVariants.{Down}
 pub use Rattle.mdv_history.specs.History.{Acknowledges, Adds, AreAllowed, Changed, Created, Deed, Event, Extent, HasExtent, HasWoken, History}
-pub use Rattle.mdv_history.specs.History.{IsCourse, IsIssue, Issues, IssuesOnly, LiesOn, MayHappen, OfDatabase, Saw, Shows, Woke, Wrote}
+pub use Rattle.mdv_history.specs.History.{IsCourse, IsIssue, Issues, LiesOn, MayHappen, OfDatabase, Saw, Shows, Woke, Wrote}
 pub use Rattle.mdv_history.specs.History.{history_after, history_after_all, told_by}
 pub use Rattle.mdv_history.specs.Laws.{CanTell}
 pub use Rattle.mdv_history.specs.Standing.{Stands}

@@ -1,6 +1,7 @@
 -- How the drive stands with its history at each moment of a line.
 use Rattle.std.specs.Prelude.{◌≡◌, ◌≢◌, ◌⊎◌, ℕ, ◌≤◌, false, List, [], ◌∷◌, ◌++◌, take, None, IfSome, Contains}
-use Rattle.mdv_engine_law.specs.Below.{Identity, KeptOutside, nowhere, Tale, told, Line, area_of, ShowsNothing, IsOpened, IsNewestIn, History, Deed, Created, Event, history_after_all, IsCourse, Adds, HasWoken, CanTell}
+use Rattle.mdv_engine_law.specs.Below.{Identity, KeptOutside, nowhere, Tale, told, Line, area_of, ShowsNothing, IsOpened, IsNewestIn, History, Deed, Created, Event, history_after, MayHappen, Adds, HasWoken, CanTell}
+use Rattle.mdv_store_law.specs.Machine as machine
 use Rattle.mdv_shelf.specs.Calls.{OnDrive}
 use Rattle.mdv_shelf.specs.Story.{FailedBy, Moment}
 use Rattle.mdv_history.specs.Standing as history
@@ -32,12 +33,8 @@ Does host asks done es = Adds (IsMadeHere host asks) asks done es
 
 -- From a history by some events, which tell these deeds and begin only deeds that are asked, to one that the drive stands with, of
 -- which more is known.
-pub record Goes (host : Host) (asks done : List Deed) (After : List Event → History → Type 0) (m : Tale) (h : History) : Type 0 where
-  pub es : List Event
-  pub course : IsCourse (site_of host) h es
-  pub does : Does host asks done es
-  pub stands : StandsAt host (history_after_all h es) m
-  pub after : After es (history_after_all h es)
+abbrev pub Goes : Host → List Deed → List Deed → (List Event → History → Type 0) → Tale → History → Type 0
+Goes host asks done After m h = machine.Goes history_after (MayHappen (site_of host)) (Does host asks done) (λ g. StandsAt host g m) After h
 
 abbrev pub Reached : List Event → History → Type 0
 Reached es h = Unit {0}

@@ -33,36 +33,36 @@ wrote_stands site history extent blocks t m kept fixed stands =
     }
 
 pub tells_go : TellsGo
-tells_go site Created t m kept history stands can = (
-  OfDatabase (log.Told None) ∷ [],
-  (can, tt),
-  record { tells = refl; issues = (tt, tt); begins = tt },
-  told_stands site history None m (stays_standing site history t m kept stands) can,
-  tt,
-)
-tells_go site (Changed change) t m kept history stands can = (
-  OfDatabase (log.Told (Some change)) ∷ [],
-  (can, tt),
-  record { tells = refl; issues = (tt, tt); begins = tt },
-  told_stands site history (Some change) m (stays_standing site history t m kept stands) can,
-  tt,
-)
+tells_go site Created t m kept history stands can = record {
+  es = OfDatabase (log.Told None) ∷ [];
+  course = (can, tt);
+  come = record { tells = refl; issues = (tt, tt); begins = tt };
+  stands = told_stands site history None m (stays_standing site history t m kept stands) can;
+  after = tt;
+}
+tells_go site (Changed change) t m kept history stands can = record {
+  es = OfDatabase (log.Told (Some change)) ∷ [];
+  course = (can, tt);
+  come = record { tells = refl; issues = (tt, tt); begins = tt };
+  stands = told_stands site history (Some change) m (stays_standing site history t m kept stands) can;
+  after = tt;
+}
 tells_go site (Wrote volume at blocks) t m kept history stands can =
-    let extent : Extent = record { volume = volume; at = at; block = can.0 } in (
-      Acknowledges extent blocks ∷ [],
-      ((can.1, can.2), tt),
-      record { tells = refl; issues = (tt, tt); begins = tt },
-      wrote_stands site history extent blocks t m kept can.3 stands,
-      tt,
-    )
+    let extent : Extent = record { volume = volume; at = at; block = can.0 } in record {
+      es = Acknowledges extent blocks ∷ [];
+      course = ((can.1, can.2), tt);
+      come = record { tells = refl; issues = (tt, tt); begins = tt };
+      stands = wrote_stands site history extent blocks t m kept can.3 stands;
+      after = tt;
+    }
 tells_go site (Saw volume at blocks) t m kept history stands can =
-    let extent : Extent = record { volume = volume; at = at; block = can.0 } in (
-      Shows extent blocks ∷ [],
-      ((can.1, can.2), tt),
-      record { tells = refl; issues = (tt, tt); begins = tt },
-      stays_standing site history t m kept stands,
-      tt,
-    )
+    let extent : Extent = record { volume = volume; at = at; block = can.0 } in record {
+      es = Shows extent blocks ∷ [];
+      course = ((can.1, can.2), tt);
+      come = record { tells = refl; issues = (tt, tt); begins = tt };
+      stands = stays_standing site history t m kept stands;
+      after = tt;
+    }
 
 module _ (site : Site) (extent : Extent) (blocks : List (List ℕ)) (t m : Tale) (settling : Settling site.at.drive.0 extent.block blocks t m) where
   issued_stands : (history : History) → Stands site history t → HasExtent site history extent (length blocks) → Stands site (history_after history (Issues extent blocks)) m
@@ -77,13 +77,13 @@ module _ (site : Site) (extent : Extent) (blocks : List (List ℕ)) (t m : Tale)
   goes_issued : (After : List Event → History → Type 0)
       → ((history : History) → HasExtent site history extent (length blocks) → After (Issues extent blocks ∷ []) (history_after history (Issues extent blocks)))
       → Goes site (λ history. HasExtent site history extent (length blocks)) NoCreation (Wrote extent.volume extent.at blocks ∷ []) [] After t m
-  goes_issued After then history stands has = (
-    Issues extent blocks ∷ [],
-    (has, tt),
-    record { tells = refl; issues = (tt, tt); begins = part_itself (Wrote extent.volume extent.at blocks ∷ []) },
-    issued_stands history stands has,
-    then history has,
-  )
+  goes_issued After then history stands has = record {
+    es = Issues extent blocks ∷ [];
+    course = (has, tt);
+    come = record { tells = refl; issues = (tt, tt); begins = part_itself (Wrote extent.volume extent.at blocks ∷ []) };
+    stands = issued_stands history stands has;
+    after = then history has;
+  }
 
 -- the blocks are a volume's as before
 still_has : (site : Site) (history : History) (extent : Extent) (blocks : List (List ℕ)) → HasExtent site history extent (length blocks) → HasExtent site (history_after history (Issues extent blocks)) extent (length blocks)
@@ -107,10 +107,10 @@ writes_go = record {
 }
 
 pub wakes : Wakes
-wakes site t synced history stands known = (
-  Woke (λ block. last t site.at.drive.0 block) ∷ [],
-  ((λ block out. stands.values block out (last t site.at.drive.0 block) (last_may_be_left t site.at.drive.0 block)), tt),
-  record { tells = refl; issues = (tt, tt); begins = tt },
-  record { database = stands.database; values = λ block out x left. inl (synced block x left) },
-  (tt, refl),
-)
+wakes site t synced history stands known = record {
+  es = Woke (λ block. last t site.at.drive.0 block) ∷ [];
+  course = ((λ block out. stands.values block out (last t site.at.drive.0 block) (last_may_be_left t site.at.drive.0 block)), tt);
+  come = record { tells = refl; issues = (tt, tt); begins = tt };
+  stands = record { database = stands.database; values = λ block out x left. inl (synced block x left) };
+  after = (tt, refl);
+}

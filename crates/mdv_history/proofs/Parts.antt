@@ -6,7 +6,8 @@ use Rattle.mdv_store_law.specs.Log as log
 use Rattle.mdv_store_law.specs.Part.{IsPart}
 use Rattle.mdv_store_law.proofs.Orders.{changes_of}
 use Rattle.mdv_store_law.proofs.Parts.{part_before, part_itself, part_more}
-use Rattle.mdv_history.specs.History.{History, Deed, Created, Changed, Wrote, Saw, Event, OfDatabase, Issues, Acknowledges, Shows, Woke, history_after, history_after_all, IsCourse, told_by, issued_by, changes_in, IssuesOnly}
+use Rattle.mdv_history.specs.History.{History, Deed, Created, Changed, Wrote, Saw, Event, OfDatabase, Issues, Acknowledges, Shows, Woke, history_after, history_after_all, IsCourse, told_by, issued_by, changes_in, IsIssue}
+use Rattle.mdv_store_law.specs.Machine.{AreAll}
 
 abbrev pub of_database : List Event → List log.Event
 of_database [] = []
@@ -131,7 +132,7 @@ database_written (Shows extent blocks ∷ es) = database_written es
 database_written (Woke content ∷ es) = database_written es
 
 -- what each creation that is issued has, the history's has
-pub issued_has : (P Which : Identity → Type 0) → ((identity : Identity) → Which identity → P identity) → (history : History) (es : List Event) → IssuesOnly Which es → IfSome history.database.issued P
+pub issued_has : (P Which : Identity → Type 0) → ((identity : Identity) → Which identity → P identity) → (history : History) (es : List Event) → AreAll (IsIssue Which) es → IfSome history.database.issued P
     → IfSome (history_after_all history es).database.issued P
 issued_has P Which each history [] is has = has
 issued_has P Which each history (OfDatabase (log.Issued identity) ∷ es) is has = issued_has P Which each (history_after history (OfDatabase (log.Issued identity))) es is.1 (each identity is.0)

@@ -1,8 +1,9 @@
 -- What a drive has lived through: the log of its database, and the values that its other blocks may have.
-use Rattle.std.specs.Prelude.{◌≡◌, ℕ, ◌+◌, ◌-◌, ◌<◌, ◌≤◌, true, false, List, [], ◌∷◌, length, slice_index_or, if◌then◌else◌, Some, None}
+use Rattle.std.specs.Prelude.{◌≡◌, ℕ, ◌+◌, ◌-◌, ◌<◌, ◌≤◌, true, false, List, [], ◌∷◌, length, slice_index_or, if◌then◌else◌, Some, None, map, Option}
 use Rattle.mdv_history.specs.Below.{SliceName, Identity, VolId, SliceAt, HasSlice, AreApart, range, Among, covers, Change, Table, Slice, Component, Volume, Stripe, HasVolume, Version, Log, Site, area_of}
 use Rattle.mdv_store_law.specs.Log as log
-use Rattle.mdv_store_law.specs.Part.{IsPart}
+use Rattle.mdv_store_law.specs.Machine.{after_all, all_of}
+use Rattle.mdv_store_law.specs.Machine as machine
 
 -- blocks of a volume from block `at` of it on, and where they lie: from block `block` of the drive on
 pub record Extent : Type 0 where
@@ -59,7 +60,7 @@ pub data Event : Type 0 where
   Issues : Extent → List (List ℕ) → Event
   -- the newline of that write's `ok` was told
   Acknowledges : Extent → List (List ℕ) → Event
-  -- the newline of a read's `ok` was told, and behind its lines these values
+  -- the newline of a read's `ok` was told, and in the lines before it these values
   Shows : Extent → List (List ℕ) → Event
   -- a boot has read the drive, and each block has one value since
   Woke : (ℕ → List ℕ) → Event
@@ -79,8 +80,7 @@ history_after history (Shows extent blocks) = history
 history_after history (Woke content) = record history { allowed = λ block. content block ∷ [] }
 
 abbrev pub history_after_all : History → List Event → History
-history_after_all history [] = history
-history_after_all history (e ∷ es) = history_after_all (history_after history e) es
+history_after_all = after_all history_after
 
 -- the newest table of the database was written, and has the volume there
 pub record HasExtent (site : Site) (history : History) (extent : Extent) (count : ℕ) : Type 0 where
@@ -108,24 +108,23 @@ MayHappen site history (Woke content) = (block : ℕ) → area_of site site.at.d
 
 -- each of the events may happen where it happens
 abbrev pub IsCourse : Site → History → List Event → Type 0
-IsCourse site history [] = Unit {0}
-IsCourse site history (e ∷ es) = MayHappen site history e × IsCourse site (history_after history e) es
+IsCourse site = machine.IsCourse history_after (MayHappen site)
 
-abbrev pub told_of : log.Event → List Deed → List Deed
-told_of (log.Issued identity) behind = behind
-told_of (log.Writing mark asked before table) behind = behind
-told_of log.Written behind = behind
-told_of (log.Told None) behind = Created ∷ behind
-told_of (log.Told (Some change)) behind = Changed change ∷ behind
+-- what an event of the database tells, and what it begins
+abbrev pub told_of : Option Change → Deed
+told_of None = Created
+told_of (Some change) = Changed change
 
--- what these events tell, in order
+-- what an event tells
+abbrev pub tells : Event → List Deed
+tells (OfDatabase event) = map told_of (log.tells event)
+tells (Issues extent blocks) = []
+tells (Acknowledges extent blocks) = Wrote extent.volume extent.at blocks ∷ []
+tells (Shows extent blocks) = Saw extent.volume extent.at blocks ∷ []
+tells (Woke content) = []
+
 abbrev pub told_by : List Event → List Deed
-told_by [] = []
-told_by (OfDatabase event ∷ es) = told_of event (told_by es)
-told_by (Issues extent blocks ∷ es) = told_by es
-told_by (Acknowledges extent blocks ∷ es) = Wrote extent.volume extent.at blocks ∷ told_by es
-told_by (Shows extent blocks ∷ es) = Saw extent.volume extent.at blocks ∷ told_by es
-told_by (Woke content ∷ es) = told_by es
+told_by = all_of tells
 
 -- the changes among these deeds, in order
 abbrev pub changes_in : List Deed → List Change
@@ -135,42 +134,28 @@ changes_in (Changed change ∷ deeds) = change ∷ changes_in deeds
 changes_in (Wrote volume at blocks ∷ deeds) = changes_in deeds
 changes_in (Saw volume at blocks ∷ deeds) = changes_in deeds
 
-abbrev pub issued_of : log.Event → List Deed → List Deed
-issued_of (log.Issued identity) behind = behind
-issued_of (log.Writing mark None before table) behind = behind
-issued_of (log.Writing mark (Some change) before table) behind = Changed change ∷ behind
-issued_of log.Written behind = behind
-issued_of (log.Told asked) behind = behind
+-- the change, or the write of blocks, that an event begins
+abbrev pub begins : Event → List Deed
+begins (OfDatabase event) = map Changed (log.begins event)
+begins (Issues extent blocks) = Wrote extent.volume extent.at blocks ∷ []
+begins (Acknowledges extent blocks) = []
+begins (Shows extent blocks) = []
+begins (Woke content) = []
 
--- the changes and the writes of blocks that these events begin, in order
 abbrev pub issued_by : List Event → List Deed
-issued_by [] = []
-issued_by (OfDatabase event ∷ es) = issued_of event (issued_by es)
-issued_by (Issues extent blocks ∷ es) = Wrote extent.volume extent.at blocks ∷ issued_by es
-issued_by (Acknowledges extent blocks ∷ es) = issued_by es
-issued_by (Shows extent blocks ∷ es) = issued_by es
-issued_by (Woke content ∷ es) = issued_by es
+issued_by = all_of begins
 
--- an event issues only such a creation
+-- a creation that an event issues is such a one
 abbrev pub IsIssue : (Identity → Type 0) → Event → Type 0
-IsIssue Which (OfDatabase (log.Issued identity)) = Which identity
-IsIssue Which (OfDatabase (log.Writing mark asked before table)) = Unit {0}
-IsIssue Which (OfDatabase log.Written) = Unit {0}
-IsIssue Which (OfDatabase (log.Told asked)) = Unit {0}
+IsIssue Which (OfDatabase event) = log.IsIssue Which event
 IsIssue Which (Issues extent blocks) = Unit {0}
 IsIssue Which (Acknowledges extent blocks) = Unit {0}
 IsIssue Which (Shows extent blocks) = Unit {0}
 IsIssue Which (Woke content) = Unit {0}
 
-abbrev pub IssuesOnly : (Identity → Type 0) → List Event → Type 0
-IssuesOnly Which [] = Unit {0}
-IssuesOnly Which (e ∷ es) = IsIssue Which e × IssuesOnly Which es
-
 -- The events tell these deeds; they issue only such creations, and begin only deeds that are asked, in their order and each once.
-pub record Adds (Which : Identity → Type 0) (asks told : List Deed) (es : List Event) : Type 0 where
-  pub tells : told_by es ≡ told
-  pub issues : IssuesOnly Which es
-  pub begins : IsPart (issued_by es) asks
+abbrev pub Adds : (Identity → Type 0) → List Deed → List Deed → List Event → Type 0
+Adds Which = machine.Adds tells begins (IsIssue Which)
 
 -- one of them is a boot that has read the drive
 abbrev pub HasWoken : List Event → Type 0

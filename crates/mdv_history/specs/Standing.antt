@@ -2,7 +2,8 @@
 use Rattle.std.specs.Prelude.{◌≡◌, ℕ, false, List}
 use Rattle.mdv_history.specs.Below.{Identity, Tale, Among, MayLeave, Site, area_of}
 use Rattle.mdv_store_law.specs.Standing as database
-use Rattle.mdv_history.specs.History.{History, Deed, Event, history_after_all, IsCourse, Adds}
+use Rattle.mdv_history.specs.History.{History, Deed, Event, history_after, MayHappen, Adds}
+use Rattle.mdv_store_law.specs.Machine as machine
 
 -- whatever a crash leaves in a block outside the database's place is one of its values
 abbrev pub ValuesHold : Site → (ℕ → List (List ℕ)) → Tale → Type 0
@@ -20,8 +21,7 @@ Anything history = Unit {0}
 -- issue only such creations and deeds that are asked, to one that it stands with, of which more is known.
 abbrev pub Goes : Site → (History → Type 0) → (Identity → Type 0) → List Deed → List Deed → (List Event → History → Type 0) → Tale → Tale → Type 0
 Goes site Known Which asks told After t m =
-    (history : History) → Stands site history t → Known history
-    → (es : List Event) × IsCourse site history es × Adds Which asks told es × Stands site (history_after_all history es) m × After es (history_after_all history es)
+    (history : History) → Stands site history t → Known history → machine.Goes history_after (MayHappen site) (Adds Which asks told) (λ next. Stands site next m) After history
 
 -- of which nothing more is known
 abbrev pub Reached : List Event → History → Type 0

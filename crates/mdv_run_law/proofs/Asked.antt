@@ -3,7 +3,8 @@ use Rattle.std.proofs.Common.{◌≡◌, inl, inr, ℕ, Bool, List, [], ◌∷�
 use Rattle.mdv_run_law.specs.Below.{Geometry, Script, at_end, spent, too_long, line, replies_in, Deed, Event, Host, deeds, issuable, issued_by, told_by}
 use Rattle.mdv_store_law.specs.Part.{IsPart}
 use Rattle.mdv_store_law.proofs.Parts.{part_more}
-use Rattle.mdv_history.proofs.Histories.{issued_more, told_more}
+use Rattle.mdv_history.specs.History as history
+use Rattle.mdv_store_law.proofs.Machine.{all_more}
 use Rattle.mdv_run_law.specs.Standing.{AreBegun, AreIdle, AreTold, ComeOf, InWork}
 use Rattle.mdv_run_law.specs.Lives.{Ran, AreAsked, AreOfRuns, AreSaid, host_of}
 
@@ -22,10 +23,10 @@ answers_both : (Asked Said : List Deed → Type 0) (es first rest : List Event) 
 answers_both Asked Said es first rest asked more said others is are_asked are_said begins begin tells tell = record {
   asked = asked ++ more;
   are_asked = are_asked;
-  begins = subst (λ (l : List Deed). IsPart l (asked ++ more)) (sym (ap issued_by is ∙ issued_more first rest)) (part_more (issued_by first) asked (issued_by rest) more begins begin);
+  begins = subst (λ (l : List Deed). IsPart l (asked ++ more)) (sym (ap issued_by is ∙ all_more history.begins first rest)) (part_more (issued_by first) asked (issued_by rest) more begins begin);
   said = said ++ others;
   are_said = are_said;
-  tells = ap told_by is ∙ told_more first rest ∙ ap (λ (l : List Deed). l ++ told_by rest) tells ∙ ap (λ (l : List Deed). said ++ l) tell;
+  tells = ap told_by is ∙ all_more history.tells first rest ∙ ap (λ (l : List Deed). l ++ told_by rest) tells ∙ ap (λ (l : List Deed). said ++ l) tell;
 }
 
 idle_answers : (host : Host) (Asked Said : List Deed → Type 0) (es : List Event) → Asked [] → Said [] → AreIdle host es → Answers Asked Said es

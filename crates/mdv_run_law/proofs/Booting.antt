@@ -2,9 +2,11 @@
 use Rattle.std.proofs.Common.{◌≡◌, inl, inr, ℕ, true, List, [], ◌++◌, Contains, refl, sym, ◌∙◌, ap, subst, arith}
 use Rattle.std.proofs.lemmas.List.{append-nil}
 use Rattle.mdv_run_law.specs.Below.{Script, line, Tale, told, replies_in, Boot, IsLine, History, Deed, Created, Event, history_after_all, HasWoken, Host, site_of, Nothing, Memory, issuable, issuable_of, StandsAt, IsKnown, IsAwake, BootMoment, BootedTo, TurnMoment, Turned}
-use Rattle.mdv_history.proofs.Histories.{history_after_more, course_more, woken_first}
+use Rattle.mdv_history.proofs.Histories.{woken_first}
+use Rattle.mdv_store_law.proofs.Machine.{after_more, course_more}
+use Rattle.mdv_run_law.specs.Below.{MayHappen, history_after}
 use Rattle.mdv_engine_law.proofs.Plain.{nothing_answers, nothing_acked, nothing_issuable}
-use Rattle.mdv_engine_law.proofs.Going.{does_more}
+use Rattle.mdv_engine_law.proofs.Going.{goes_more}
 use Rattle.mdv_store_law.proofs.Parts.{part_itself}
 use Rattle.mdv_engine_law.proofs.Staying.{stays_in_replica, stays_more}
 use Rattle.mdv_engine_law.specs.Standing as turn
@@ -15,16 +17,12 @@ use Rattle.mdv_run_law.proofs.Turning.{none_acked, reply_come, reply_told}
 module _ (host : Host) where
   -- the events of a boot, and those of a turn
   booted_goes : (asks done : List Deed) (Between After : List Event → History → Type 0) (u m : Tale) (h : History) (first : turn.Goes host [] [] Between u h)
-      → (second : turn.Goes host asks done After m (history_after_all h first.es)) → turn.Goes host asks done (λ es after. (fs : List Event) × (gs : List Event) × (es ≡ fs ++ gs) × Between fs (history_after_all h fs) × After gs after) m h
+      → ((g : History) → StandsAt host g u → (fs : List Event) → Between fs g → turn.Goes host asks done After m g)
+      → turn.Goes host asks done (λ es after. (fs : List Event) × (gs : List Event) × (es ≡ fs ++ gs) × ((g : History) × Between fs g) × After gs after) m h
   booted_goes asks done Between After u m h first second =
-      let same : history_after_all (history_after_all h first.es) second.es ≡ history_after_all h (first.es ++ second.es) = sym (history_after_more h first.es second.es) in
-      record {
-        es = first.es ++ second.es;
-        course = course_more (site_of host) h first.es second.es first.course second.course;
-        does = does_more host [] asks asks [] done first.es second.es (part_itself asks) first.does second.does;
-        stands = subst (λ (x : History). StandsAt host x m) same second.stands;
-        after = (first.es, second.es, refl, first.after, subst (λ (x : History). After second.es x) same second.after);
-      }
+      goes_more host [] asks asks [] done (λ es g. StandsAt host g u × Between es g) (λ es after. (fs : List Event) × (gs : List Event) × (es ≡ fs ++ gs) × ((g : History) × Between fs g) × After gs after) u m h (part_itself asks)
+      (record { es = first.es; course = first.course; come = first.come; stands = first.stands; after = (first.stands, first.after) })
+      (λ fs g stands between. (let then_goes = second g stands fs between.1 in record { es = then_goes.es; course = then_goes.course; come = then_goes.come; stands = then_goes.stands; after = (fs, then_goes.es, refl, (g, between.1), then_goes.after) }))
 
   never : (done : List Deed) → done ≡ [] → Contains done Created → ⊥
   never done none has = absurd (let in_none : Contains [] Created = subst (λ (l : List Deed). Contains l Created) none has in omega (arith, in_none.1))
@@ -62,8 +60,8 @@ module _ (host : Host) where
           free = λ has. absurd (never moment.done none has);
           goes = λ h known.
               let before = booted.goes h known.stands in
-              let both = booted_goes (issuable_of Nothing moment.bytes) moment.done (λ es after. IsKnown host new after u × (IsAwake new → HasWoken es)) turn.Reached u m h before (moment.goes (history_after_all h before.es) before.after.0) in
-              record { es = both.es; course = both.course; does = both.does; stands = both.stands; after = tt };
+              let both = booted_goes (issuable_of Nothing moment.bytes) moment.done (λ es after. IsKnown host new after u × (IsAwake new → HasWoken es)) turn.Reached u m h before (λ g stands fs known. moment.goes g known.0) in
+              record { es = both.es; course = both.course; come = both.come; stands = both.stands; after = tt };
         }
 
     -- and once it is
@@ -79,12 +77,12 @@ module _ (host : Host) where
           made = λ known told. absurd (never turned.done turned.acks (reply_told host text Nothing asks more turned.bytes turned.reply turned.done turned.acks told));
           goes = λ h known.
               let before = booted.goes h known.stands in
-              let both = booted_goes (issuable Nothing turned.bytes) turned.done (λ es after. IsKnown host new after u × (IsAwake new → HasWoken es)) (λ es after. IsKnown host new after v) u v h before (turned.goes (history_after_all h before.es) before.after.0) in
-              let woken : IsAwake new → HasWoken both.es = λ up. subst HasWoken (sym both.after.2) (woken_first both.after.0 both.after.1 (both.after.3.1 up)) in
+              let both = booted_goes (issuable Nothing turned.bytes) turned.done (λ es after. IsKnown host new after u × (IsAwake new → HasWoken es)) (λ es after. IsKnown host new after v) u v h before (λ g stands fs known. turned.goes g known.0) in
+              let woken : IsAwake new → HasWoken both.es = λ up. subst HasWoken (sym both.after.2) (woken_first both.after.0 both.after.1 (both.after.3.1.1 up)) in
               record {
                 es = both.es;
                 course = both.course;
-                come = reply_come host text Nothing asks more old new turned.bytes turned.reply turned.done turned.acks (λ some. absurd (some turned.acks)) both.es both.does (λ up. inl (is, woken up));
+                come = reply_come host text Nothing asks more old new turned.bytes turned.reply turned.done turned.acks (λ some. absurd (some turned.acks)) both.es both.come (λ up. inl (is, woken up));
                 stands = both.stands;
                 after = both.after.4;
               };
@@ -109,7 +107,7 @@ module _ (host : Host) where
       made = λ is. absurd (nothing_told Created is);
       stands = λ h stands.
           let went = moment.goes h stands in
-          record { es = went.es; course = went.course; come = only_booted went.es went.does; stands = went.stands; after = tt };
+          record { es = went.es; course = went.course; come = only_booted went.es went.come; stands = went.stands; after = tt };
     }
 
     -- the lines behind it
@@ -121,11 +119,11 @@ module _ (host : Host) where
       stands = λ h stands.
           let before = booted.goes h stands in
           let after = lines.goes (history_after_all h before.es) before.after.0 in
-          let same : history_after_all (history_after_all h before.es) after.es ≡ history_after_all h (before.es ++ after.es) = sym (history_after_more h before.es after.es) in
+          let same : history_after_all (history_after_all h before.es) after.es ≡ history_after_all h (before.es ++ after.es) = sym (after_more history_after h before.es after.es) in
           record {
             es = before.es ++ after.es;
-            course = course_more (site_of host) h before.es after.es before.course after.course;
-            come = record { boot = before.es; lines = after.es; both = refl; idle = before.does; down = memory.down; woken = before.after.1; come = after.come };
+            course = course_more history_after (MayHappen (site_of host)) h before.es after.es before.course after.course;
+            come = record { boot = before.es; lines = after.es; both = refl; idle = before.come; down = memory.down; woken = before.after.1; come = after.come };
             stands = subst (λ (x : History). StandsAt host x m) same after.stands;
             after = tt;
           };

@@ -6,7 +6,8 @@ use Rattle.mdv_run_law.specs.Below.{Script, at_end, spent, too_long, line, Deed,
 use Rattle.mdv_history.specs.History.{Wrote}
 use Rattle.mdv_history.proofs.Parts.{first_or_behind}
 use Rattle.mdv_words.proofs.Lines.{one_line}
-use Rattle.mdv_history.proofs.Histories.{told_more}
+use Rattle.mdv_history.specs.History.{tells}
+use Rattle.mdv_store_law.proofs.Machine.{all_more}
 use Rattle.mdv_run_law.specs.Standing.{Asks, AreIdle, AreOfLine, ComeOf, InWork, NothingLeft, IsTold, behind}
 
 -- a line asks one thing
@@ -118,14 +119,14 @@ module _ (host : Host) where
     come_told down at_end (reply ∷ replies) es deed done come is = absurd is
     come_told down (spent lines bytes) (reply ∷ replies) es deed done come is = absurd is
     come_told down (too_long more) (reply ∷ replies) es deed done come is =
-        subst (λ (l : List Deed). Contains l deed) (sym (ap told_by come.2 ∙ told_more come.0 come.1)) (Contains-append_right (told_by come.0) (told_by come.1) deed (come_told down more replies come.1 deed done come.4 is))
+        subst (λ (l : List Deed). Contains l deed) (sym (ap told_by come.2 ∙ all_more tells come.0 come.1)) (Contains-append_right (told_by come.0) (told_by come.1) deed (come_told down more replies come.1 deed done come.4 is))
     come_told down (line text more) (reply ∷ replies) es deed done come (inl here) =
         let same = one_asked text here.0 come.4.ask here.1 come.4.asks in
         let acks : AcksBy come.4.ask reply here.2 = subst (λ (ask : Ask). AcksBy ask reply here.2) same here.3 in
         let told : Contains (told_by come.0) deed = subst (λ (l : List Deed). Contains l deed) (sym come.4.does.tells) (acked_once come.4.ask reply here.2 come.4.done deed done acks come.4.acks here.4) in
-        subst (λ (l : List Deed). Contains l deed) (sym (ap told_by come.2 ∙ told_more come.0 come.1)) (Contains-append_left (told_by come.0) (told_by come.1) deed told)
+        subst (λ (l : List Deed). Contains l deed) (sym (ap told_by come.2 ∙ all_more tells come.0 come.1)) (Contains-append_left (told_by come.0) (told_by come.1) deed told)
     come_told down (line text more) (reply ∷ replies) es deed done come (inr is) =
-        subst (λ (l : List Deed). Contains l deed) (sym (ap told_by come.2 ∙ told_more come.0 come.1)) (Contains-append_right (told_by come.0) (told_by come.1) deed (come_told come.3 more replies come.1 deed done come.5 is))
+        subst (λ (l : List Deed). Contains l deed) (sym (ap told_by come.2 ∙ all_more tells come.0 come.1)) (Contains-append_right (told_by come.0) (told_by come.1) deed (come_told come.3 more replies come.1 deed done come.5 is))
 
   -- those of one line, told by its one reply
   pub come_line : (Left : Bool → Script → List Event → Type 0) (down then : Bool) (text : List ℕ) (more : Script) (reply : List ℕ) (es : List Event) → AreOfLine host text down reply es then → Left then more [] → ComeOf host Left down (line text more) (reply ∷ []) es

@@ -2,26 +2,12 @@
 use Rattle.std.proofs.Common.{◌≡◌, ◌⊎◌, inl, inr, ⊎_elim, ℕ, Bool, List, [], ◌++◌, refl, sym, ◌∙◌, ap, subst, append_assoc}
 use Rattle.std.proofs.lemmas.List.{append-nil}
 use Rattle.mdv_run_law.specs.Below.{Script, Tale, told, replies_in, History, Deed, Created, Event, history_after_all, Host, site_of, Memory, StandsAt, Reached, IsKnown}
-use Rattle.mdv_history.proofs.Histories.{history_after_more, course_more}
+use Rattle.mdv_store_law.proofs.Machine.{goes_more}
+use Rattle.mdv_run_law.specs.Below.{MayHappen, history_after}
 use Rattle.mdv_engine_law.proofs.Plain.{nothing_answers}
 use Rattle.mdv_run_law.specs.Standing.{ComeOf, InWork, NothingLeft, IsTold, Goes, behind, AreReplies, LinesMoment, RanTo}
 use Rattle.mdv_run_law.proofs.Coming.{behind_none, behind_more, told_none, told_either, in_work_none, come_more}
 use Rattle.mdv_run_law.proofs.Made.{ours_stays, shows_made}
-
--- one stretch of events and another
-module _ (host : Host) (Come Then Both : List Event → Type 0) (Between After Last : List Event → History → Type 0) (u m : Tale) (h : History) where
-  pub goes_both : (first : Goes host Come Between u h) (second : Goes host Then After m (history_after_all h first.es))
-      → Both (first.es ++ second.es) → (After second.es (history_after_all (history_after_all h first.es) second.es) → Last (first.es ++ second.es) (history_after_all (history_after_all h first.es) second.es))
-      → Goes host Both Last m h
-  goes_both first second both last =
-      let same : history_after_all (history_after_all h first.es) second.es ≡ history_after_all h (first.es ++ second.es) = sym (history_after_more h first.es second.es) in
-      record {
-        es = first.es ++ second.es;
-        course = course_more (site_of host) h first.es second.es first.course second.course;
-        come = both;
-        stands = subst (λ (x : History). StandsAt host x m) same second.stands;
-        after = subst (λ (x : History). Last (first.es ++ second.es) x) same (last second.after);
-      }
 
 -- nothing happened
 goes_nothing : (host : Host) (Come : List Event → Type 0) (After : List Event → History → Type 0) (m : Tale) (h : History) → Come [] → StandsAt host h m → After [] h → Goes host Come After m h
@@ -79,6 +65,14 @@ module _ (host : Host) (script : Script) (first : Memory) (t : Tale) where
     is_told_both : (m : Tale) (bytes : List ℕ) → told m ≡ told u ++ bytes → told m ≡ told t ++ (ran.bytes ++ bytes)
     is_told_both m bytes more = more ∙ ap (λ (l : List ℕ). l ++ bytes) ran.is_told ∙ append_assoc (told t) ran.bytes bytes
 
+    -- the events of this stretch, and those of one behind it
+    lines_goes : (Left : Bool → Script → List Event → Type 0) (m : Tale) (bytes : List ℕ) (After : History → Type 0) (h : History) → Goes host (ComeOf host (NothingLeft now.down) first.down script (replies_in ran.bytes)) (λ es after. IsKnown host now after u) u h
+        → ((g : History) → IsKnown host now g u → Goes host (ComeOf host Left now.down left (replies_in bytes)) (λ es after. After after) m g) → Goes host (ComeOf host Left first.down script (replies_in (ran.bytes ++ bytes))) (λ es after. After after) m h
+    lines_goes Left m bytes After h before behind_goes =
+        goes_more history_after (MayHappen (site_of host)) (ComeOf host (NothingLeft now.down) first.down script (replies_in ran.bytes)) (ComeOf host Left now.down left (replies_in bytes)) (ComeOf host Left first.down script (replies_in (ran.bytes ++ bytes)))
+        (λ g. StandsAt host g u) (λ g. StandsAt host g m) (λ es after. IsKnown host now after u) (λ es after. After after) h
+        (λ es fs one other. come_behind script left ran.bytes bytes ran.replies ran.left_is host Left now.down first.down es fs one other) before (λ es g stands known. behind_goes g known)
+
     -- one stretch more, at each of its moments and once it is over
     pub lines_more_moment : (m : Tale) → LinesMoment host left now u m → LinesMoment host script first t m
     lines_more_moment m lines = record {
@@ -91,12 +85,7 @@ module _ (host : Host) (script : Script) (first : Memory) (t : Tale) where
           shows_made host has.number (history_after_all has.history after.es) m (ours_stays host has.number has.history after.es after.course (record { issued = has.issued; firm = has.firm })) after.stands)
           (λ here. lines.made (ran.knows knows) here)
           (told_behind script left ran.bytes lines.bytes ran.replies ran.left_is Created is);
-      goes = λ h known.
-          let before = ran.goes h known in
-          let after = lines.goes (history_after_all h before.es) before.after in
-          goes_both host (ComeOf host (NothingLeft now.down) first.down script (replies_in ran.bytes)) (ComeOf host (InWork host) now.down left (replies_in lines.bytes)) (ComeOf host (InWork host) first.down script (replies_in (ran.bytes ++ lines.bytes)))
-          (λ es after. IsKnown host now after u) Reached Reached u m h before after (come_behind script left ran.bytes lines.bytes ran.replies ran.left_is host (InWork host) now.down first.down before.es after.es before.come after.come)
-          (λ two. two);
+      goes = λ h known. lines_goes (InWork host) m lines.bytes (λ g. Unit {0}) h (ran.goes h known) (λ g after. lines.goes g after);
     }
 
     pub ran_more : (new : Memory) (rest : Script) (v : Tale) → RanTo host left now new rest u v → RanTo host script first new rest t v
@@ -114,11 +103,5 @@ module _ (host : Host) (script : Script) (first : Memory) (t : Tale) where
           record { history = history_after_all has.history after.es; known = after.after; number = has.number; issued = ours.issued; firm = ours.firm })
           (λ here. more.made (ran.knows knows) here)
           (told_behind script left ran.bytes more.bytes ran.replies ran.left_is Created is);
-      goes = λ h known.
-          let before = ran.goes h known in
-          let after = more.goes (history_after_all h before.es) before.after in
-          goes_both host (ComeOf host (NothingLeft now.down) first.down script (replies_in ran.bytes)) (ComeOf host (NothingLeft new.down) now.down left (replies_in more.bytes))
-          (ComeOf host (NothingLeft new.down) first.down script (replies_in (ran.bytes ++ more.bytes))) (λ es after. IsKnown host now after u) (λ es after. IsKnown host new after v) (λ es after. IsKnown host new after v)
-          u v h before after (come_behind script left ran.bytes more.bytes ran.replies ran.left_is host (NothingLeft new.down) now.down first.down before.es after.es before.come after.come)
-          (λ two. two);
+      goes = λ h known. lines_goes (NothingLeft new.down) v more.bytes (λ after. IsKnown host new after v) h (ran.goes h known) (λ g after. more.goes g after);
     }

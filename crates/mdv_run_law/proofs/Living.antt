@@ -11,7 +11,9 @@ use Rattle.mdv_store_law.specs.Part.{IsPart}
 use Rattle.mdv_store_law.proofs.Orders.{IsToldPart, all_told, all_written, changes_of, oldest_extended}
 use Rattle.mdv_store_law.proofs.Parts.{part_of_part}
 use Rattle.mdv_home.proofs.Homes.{one_home}
-use Rattle.mdv_history.proofs.Histories.{history_after_more, course_more, told_more}
+use Rattle.mdv_history.specs.History.{tells}
+use Rattle.mdv_store_law.proofs.Machine.{after_more, all_more, course_more}
+use Rattle.mdv_run_law.specs.Below.{MayHappen, history_after}
 use Rattle.mdv_history.proofs.Lawful.{crashes_stand, new_drives_stand, reads_hold}
 use Rattle.mdv_history.proofs.Parts.{of_database, database_after, database_course, told_of_database, database_changes, database_told, database_written, part_changes, part_contains, told_change, told_created}
 use Rattle.mdv_run_law.specs.Standing.{InWork}
@@ -41,10 +43,10 @@ module _ (drives : Geometry) (home : Home) where
       let of_run = are.4 in
       let here = come_told (host_of drives run.home run.fresh) (InWork (host_of drives run.home run.fresh)) of_run.down run.script (replies_in run.bytes) of_run.lines deed done of_run.come is in
       let behind = Contains-append_right (told_by of_run.boot) (told_by of_run.lines) deed here in
-      let rest : Contains (told_by are.1) deed = subst (λ (l : List Deed). Contains l deed) (sym (ap told_by of_run.both ∙ told_more of_run.boot of_run.lines)) behind in
-      subst (λ (l : List Deed). Contains l deed) (sym (ap told_by are.2 ∙ told_more are.0 are.1)) (Contains-append_right (told_by are.0) (told_by are.1) deed rest)
+      let rest : Contains (told_by are.1) deed = subst (λ (l : List Deed). Contains l deed) (sym (ap told_by of_run.both ∙ all_more tells of_run.boot of_run.lines)) behind in
+      subst (λ (l : List Deed). Contains l deed) (sym (ap told_by are.2 ∙ all_more tells are.0 are.1)) (Contains-append_right (told_by are.0) (told_by are.1) deed rest)
   said_told (run ∷ before) es deed done are (inr said) =
-      subst (λ (l : List Deed). Contains l deed) (sym (ap told_by are.2 ∙ told_more are.0 are.1)) (Contains-append_left (told_by are.0) (told_by are.1) deed (said_told before are.0 deed done are.3 said))
+      subst (λ (l : List Deed). Contains l deed) (sym (ap told_by are.2 ∙ all_more tells are.0 are.1)) (Contains-append_left (told_by are.0) (told_by are.1) deed (said_told before are.0 deed done are.3 said))
 
   -- a host that tells its databases by another word stands as well
   stands_fresh : (fresh other : ℕ) (h : History) (m : Tale) → StandsAt (host_of drives home fresh) h m → StandsAt (host_of drives home other) h m
@@ -72,9 +74,9 @@ module _ (drives : Geometry) (home : Home) where
         let there = history_after_all (history_after_all start old.es) more.es in
         record {
           es = old.es ++ more.es;
-          course = course_more site start old.es more.es old.course (subst (λ (h : Home). IsCourse (site_of (host_of drives h fresh)) (history_after_all start old.es) more.es) (sym same) more.course);
+          course = course_more history_after (MayHappen site) start old.es more.es old.course (subst (λ (h : Home). IsCourse (site_of (host_of drives h fresh)) (history_after_all start old.es) more.es) (sym same) more.course);
           come = (old.es, more.es, refl, old.come, more.come);
-          stands = subst (λ (h : History). StandsAt (host_of drives home 0) h next) (sym (history_after_more start old.es more.es))
+          stands = subst (λ (h : History). StandsAt (host_of drives home 0) h next) (sym (after_more history_after start old.es more.es))
               (still_stands there m next found (stands_fresh fresh 0 there m (subst (λ (h : Home). StandsAt (host_of drives h fresh) there m) (sym same) more.stands)));
         }
 
@@ -119,7 +121,7 @@ module _ (drives : Geometry) (home : Home) where
           let written = all_written drives empty_log events [] (λ w none. absurd (omega (arith, none.1))) its_course in
           subst (λ (l : List Change). IsPart (reverse v.changes) l) (database_written is.es) (written v (subst (λ (lg : Log). Contains lg.family v) its_log has))
 
-      has_changes : (head : Head) (slot : Slot) (mark : Mark) (newest : Table) → IsSound drives → IsReplica site (last t 0) head → IsNewest head slot → HasTable site (last t 0) head slot mark newest → HasToldChanges drives ran newest
+      has_changes : (head : Head) (slot : Slot) (mark : Mark) (newest : Table) → IsSound drives → IsReplica site (last t 0) head → IsNewest head slot → HasTable site (last t 0) head slot mark newest → HasToldChanges drives home made ran t newest
       has_changes head slot mark newest sound its_replica is_newest has =
           let stands = is.stands.stands.database in
           let found = finds_hold site database (last t 0) head slot mark newest sound stands.is_log (stands.covers (last t) (last_image t)) its_replica is_newest has in
@@ -127,8 +129,11 @@ module _ (drives : Geometry) (home : Home) where
           let answers = runs_answer drives ran is.es is.come in
           let in_order = told_part changes found.told in
           record {
-            changes = changes;
-            made = found.made;
+            history = is;
+            version = found.version;
+            one_of = found.one_of;
+            is_table = found.table;
+            by = found.made;
             told = λ change said. among_reversed changes change (part_contains (changes_in (told_by is.es)) (reverse changes) change in_order (told_change (told_by is.es) change (its_told (Changed change) tt said)));
             said = answers.said;
             are_said = answers.are_said;

@@ -23,7 +23,7 @@ module _ (host : Host) (script : Script) (ask : Ask) (old : Memory) (t : Tale) w
         history_after_all (began host t) went.es,
         went.stands,
         (went.es, went.after),
-        made_ours host may done t m went.es went.course went.does has went.stands,
+        made_ours host may done t m went.es went.course went.come has went.stands,
       )
 
   pub turn_lines : (m : Tale) (moment : TurnMoment host ask old t m) → ((es : List Event) → Does host (issuable_of ask moment.bytes) moment.done es → ComeOf host (InWork host) old.down script (replies_in moment.bytes) es)
@@ -36,7 +36,7 @@ module _ (host : Host) (script : Script) (ask : Ask) (old : Memory) (t : Tale) w
         shows_made host made.3.0 made.0 m made.3.1 made.1;
     goes = λ h known.
         let went = moment.goes h known in
-        record { es = went.es; course = went.course; come = come went.es went.does; stands = went.stands; after = tt };
+        record { es = went.es; course = went.course; come = come went.es went.come; stands = went.stands; after = tt };
   }
 
   pub turn_ran : (new : Memory) (left : Script) (u : Tale) (turned : Turned host ask old new t u)
@@ -53,7 +53,7 @@ module _ (host : Host) (script : Script) (ask : Ask) (old : Memory) (t : Tale) w
         record { history = made.0; known = made.2.1; number = made.3.0; issued = made.3.1.issued; firm = made.3.1.firm };
     goes = λ h known.
         let went = turned.goes h known in
-        record { es = went.es; course = went.course; come = come went.es went.does; stands = went.stands; after = went.after };
+        record { es = went.es; course = went.course; come = come went.es went.come; stands = went.stands; after = went.after };
   }
 
 -- a front of a reply to a line, and a whole one

@@ -24,7 +24,8 @@ pub use Rattle.mdv_engine_law.specs.Standing.{StandsAt, TurnMoment, Turned}
 pub use Rattle.mdv_engine_law.specs.declared.answer.Answer.{Answer}
 pub use Rattle.mdv_engine_law.specs.declared.answer.Reply.{Reply}
 pub use Rattle.mdv_engine_law.specs.declared.host.Host.{Host}
-pub use Rattle.mdv_history.specs.History.{Changed, Created, Deed, Event, HasWoken, History, IsCourse, LiesOn, Saw, changes_in, history_after_all, issued_by, told_by}
+pub use Rattle.mdv_history.specs.History.{Changed, Created, Deed, Event, HasWoken, History, IsCourse, LiesOn, MayHappen, Saw, changes_in, history_after, history_after_all}
+pub use Rattle.mdv_history.specs.History.{issued_by, told_by}
 pub use Rattle.mdv_history.specs.Laws.{new_history}
 pub use Rattle.mdv_history.specs.Standing.{ValuesHold}
 pub use Rattle.mdv_home.specs.Home.{IsHome, line_of}

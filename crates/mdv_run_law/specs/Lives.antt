@@ -1,6 +1,6 @@
 -- Lives: any number of runs on the same drives, each but the first begun on what the one before left, or a crash in it.
 use Rattle.std.specs.Prelude.{◌≡◌, ◌⊎◌, ℕ, false, List, [], ◌∷◌, ◌++◌, reverse, None, Contains}
-use Rattle.mdv_run_law.specs.Below.{IsHome, Home, Geometry, Script, Head, Slot, IsNewest, Mark, Image, Tale, Among, last, IsImage, Change, Table, IsSound, restarted, AreMade, HasTable, IsFound, IsReplica, area_of, Deed, Created, Changed, changes_in, Event, history_after_all, IsCourse, new_history, Host, site_of, drive_content, StandsAt, replies_in}
+use Rattle.mdv_run_law.specs.Below.{IsHome, Home, Geometry, Script, Head, Slot, IsNewest, Mark, Image, Tale, Among, last, IsImage, Change, Table, Version, IsSound, restarted, AreMade, HasTable, IsFound, IsReplica, area_of, Deed, Created, Changed, changes_in, Event, history_after_all, IsCourse, new_history, Host, site_of, drive_content, StandsAt, replies_in}
 use Rattle.mdv_run_law.specs.Run.{HasHome}
 use Rattle.mdv_store_law.specs.Part.{IsPart}
 use Rattle.mdv_run_law.specs.Standing.{RunMoment, AreBegun, AreOfRun, AreTold, IsTold}
@@ -29,7 +29,7 @@ pub data Life (drives : Geometry) (made : Image) : List Ran → Tale → Type 0 
   run_on : (ran : List Ran) (home : Home) (fresh : ℕ) (t m next : Tale) (script : Script) → Life drives made ran t → IsHome drives home → (moment : RunMoment (host_of drives home fresh) script t m) → MayBeFound m next
       → Life drives made (record { home = home; fresh = fresh; script = script; bytes = moment.bytes } ∷ ran) next
 
--- What else the laws need of these runs: nothing today. That words differ from run to run, and that a drive comes back only as it may, will stand here.
+-- what else the laws need of these runs: nothing today
 abbrev pub IsFair : Geometry → List Ran → Type 0
 IsFair drives ran = Unit {0}
 
@@ -73,25 +73,29 @@ LivesStand = (drives : Geometry) (home : Home) (made : Image) (ran : List Ran) (
 abbrev pub RunsHaveHome : Type 0
 RunsHaveHome = (drives : Geometry) (home : Home) (made : Image) (ran : List Ran) (t : Tale) (fresh : ℕ) → IsHome drives home → IsLife drives made ran t → HasHome (host_of drives home fresh) (drive_content t)
 
--- A table of volumes that changes made, the newest first. Lines of these runs asked them, in their order and each once, and weren't refused for another
--- cause than a call that failed; and all that were told ok are among them, in the order in which they were told.
-pub record HasToldChanges (drives : Geometry) (ran : List Ran) (table : Table) : Type 0 where
-  pub changes : List Change
-  pub made : AreMade drives changes table
-  pub told : (change : Change) → IsSaid ran (Changed change) → Contains changes change
+-- A table of volumes that is one of a history of these runs, made by the changes that the history has for it, the newest first. Lines of these runs asked them,
+-- in their order and each once, and weren't refused for another cause than a call that failed; and all that were told ok are among them, in the order in
+-- which they were told.
+pub record HasToldChanges (drives : Geometry) (home : Home) (made : Image) (ran : List Ran) (t : Tale) (table : Table) : Type 0 where
+  pub history : IsHistoryOf drives home made ran t
+  pub version : Version
+  pub one_of : Contains (history_after_all (new_history (site_of (host_of drives home 0)) made) history.es).database.family version
+  pub is_table : version.table ≡ table
+  pub by : AreMade drives version.changes table
+  pub told : (change : Change) → IsSaid ran (Changed change) → Contains version.changes change
   pub said : List Deed
   pub are_said : AreSaid ran said
-  pub all_said : IsPart (changes_in said) (reverse changes)
+  pub all_said : IsPart (changes_in said) (reverse version.changes)
   pub asked : List Deed
   pub are_asked : AreAsked ran asked
-  pub all_asked : IsPart (reverse changes) (changes_in asked)
+  pub all_asked : IsPart (reverse version.changes) (changes_in asked)
 
 -- Once a creation was told ok, every boot that can read its drive finds the database, whatever was run and crashed since; and
 -- the table that it finds has every change that was told ok.
 pub record DatabaseIsFound : Type 0 where
   pub found : (drives : Geometry) (home : Home) (made : Image) (ran : List Ran) (t : Tale) → IsHome drives home → IsLife drives made ran t → IsSaid ran Created → IsFound (site_of (host_of drives home 0)) (last t 0) None → ⊥
   pub table : (drives : Geometry) (home : Home) (made : Image) (ran : List Ran) (t : Tale) (head : Head) (slot : Slot) (mark : Mark) (newest : Table) → IsHome drives home → IsLife drives made ran t
-      → IsReplica (site_of (host_of drives home 0)) (last t 0) head → IsNewest head slot → HasTable (site_of (host_of drives home 0)) (last t 0) head slot mark newest → HasToldChanges drives ran newest
+      → IsReplica (site_of (host_of drives home 0)) (last t 0) head → IsNewest head slot → HasTable (site_of (host_of drives home 0)) (last t 0) head slot mark newest → HasToldChanges drives home made ran t newest
 
 -- Each block outside the replica reads as one of the values that a history of these runs allows it: that of its last acknowledged
 -- write, the one that a boot found since, or the one that the drive was made with, or one that was issued later.

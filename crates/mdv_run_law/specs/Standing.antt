@@ -1,6 +1,7 @@
 -- How the drive stands with its history at each moment of a run.
 use Rattle.std.specs.Prelude.{◌≡◌, ◌≢◌, ◌⊎◌, ℕ, Bool, true, false, List, [], ◌∷◌, ◌++◌, Some, Contains}
-use Rattle.mdv_run_law.specs.Below.{Script, at_end, spent, too_long, line, Head, shows, Tale, told, IsImage, replies_in, Line, Boot, IsLine, is_firm, IsReplica, History, Deed, Created, Event, HasWoken, IsCourse, history_after_all, Host, site_of, identity_of, Ask, Nothing, Memory, asked_by_line, AcksBy, deeds, issuable, StandsAt, Does, Reached, Knows, IsKnown}
+use Rattle.mdv_run_law.specs.Below.{Script, at_end, spent, too_long, line, Head, shows, Tale, told, IsImage, replies_in, Line, Boot, IsLine, is_firm, IsReplica, History, Deed, Created, Event, HasWoken, history_after, MayHappen, Host, site_of, identity_of, Ask, Nothing, Memory, asked_by_line, AcksBy, deeds, issuable, StandsAt, Does, Reached, Knows, IsKnown}
+use Rattle.mdv_store_law.specs.Machine as machine
 use Rattle.mdv_run_law.specs.Run.{IsNoCommand}
 
 -- what a line asks: nothing, where the grammar doesn't have the line
@@ -85,12 +86,8 @@ pub record AreOfRun (host : Host) (script : Script) (bytes : List ℕ) (es : Lis
   pub come : ComeOf host (InWork host) down script (replies_in bytes) lines
 
 -- from a history by some events of such a kind to one that the drive stands with, of which more is known
-pub record Goes (host : Host) (Come : List Event → Type 0) (After : List Event → History → Type 0) (m : Tale) (h : History) : Type 0 where
-  pub es : List Event
-  pub course : IsCourse (site_of host) h es
-  pub come : Come es
-  pub stands : StandsAt host (history_after_all h es) m
-  pub after : After es (history_after_all h es)
+abbrev pub Goes : Host → (List Event → Type 0) → (List Event → History → Type 0) → Tale → History → Type 0
+Goes host Come After m h = machine.Goes history_after (MayHappen (site_of host)) Come (λ g. StandsAt host g m) After h
 
 -- whatever a crash leaves is a replica, with a table, of the database that a creation of this run made
 pub record ShowsMade (host : Host) (t : Tale) : Type 0 where

@@ -114,31 +114,31 @@ module _ (site : Site) (head : Head) (spare : Slot) (table : Table) (t : Tale) (
 
   goes : (m : Tale) → Rewrites (sized site head) spare mark table t m → GoesOn site NoCreation t m
   goes m rewrites log covers known = ⊎_elim
-      (λ claim. ([], tt, record { tells = refl; issues = tt; writes = tt }, in_claim log covers m claim, tt))
-      (λ writing. (
-        Writing mark None (kept log covers).version.changes table ∷ [],
-        ((above log covers, inr (next log covers)), tt),
-        record { tells = refl; issues = tt; writes = tt },
-        in_table log covers m writing,
-        tt,
-      ))
+      (λ claim. record { es = []; course = tt; come = record { tells = refl; issues = tt; begins = tt }; stands = in_claim log covers m claim; after = tt })
+      (λ writing. record {
+        es = Writing mark None (kept log covers).version.changes table ∷ [];
+        course = ((above log covers, inr (next log covers)), tt);
+        come = record { tells = refl; issues = (tt, tt); begins = tt };
+        stands = in_table log covers m writing;
+        after = tt;
+      })
       rewrites
 
   ends : (u : Tale) → Leaves (Rewritten (sized site head) spare mark table) t u → GoesOnTo site NoCreation (IsNewestIn (adopted_newest head spare table)) t u
-  ends u leaves log covers known = (
-    Writing mark None (kept log covers).version.changes table ∷ Written ∷ [],
-    ((above log covers, inr (next log covers)), (tt, tt)),
-    record { tells = refl; issues = tt; writes = tt },
-    in_end log covers u leaves,
-    record {
+  ends u leaves log covers known = record {
+    es = Writing mark None (kept log covers).version.changes table ∷ Written ∷ [];
+    course = ((above log covers, inr (next log covers)), (tt, tt));
+    come = record { tells = refl; issues = (tt, (tt, tt)); begins = tt };
+    stands = in_end log covers u leaves;
+    after = record {
       version = record { mark = mark; table = table; changes = (kept log covers).version.changes; is_written = true };
       older = log.family;
       family = refl;
       mark = refl;
       table = refl;
       written = refl;
-    },
-  )
+    };
+  }
 
 pub adoptions_go : AdoptionsGo
 adoptions_go = record {

@@ -1,5 +1,5 @@
 -- What a commit leaves of a log.
-use Rattle.std.proofs.Common.{◌≡◌, inr, ⊎_elim, ℕ, ◌≤◌, ◌<◌, ◌^◌, true, false, List, [], ◌∷◌, length, refl, sym, ◌∙◌, ap, subst, Option, Some, None, All, arith}
+use Rattle.std.proofs.Common.{◌≡◌, inr, ⊎_elim, ℕ, ◌≤◌, ◌<◌, ◌^◌, true, false, List, [], ◌∷◌, length, refl, sym, ◌∙◌, ap, subst, Option, Some, All, arith, ◌++◌}
 use Rattle.std.proofs.lemmas.List.Elements.{All-cons, All-weaker}
 use Rattle.std.specs.Prelude.{Contains}
 use Rattle.mdv_store_law.specs.Below.{IsBelow, Mark, record_text, Gate, Closed, Open, Head, Slot, First, Second, shows, IsNewest, IsNewestGate, IsSpare, IsSpareSlot, gate_of, other_slot, with_slot, IsMark, Image, Leaves, with_blocks, Tale, IsImage, last, Change, Table}
@@ -8,6 +8,8 @@ use Rattle.mdv_store_law.specs.Log.{Version, Log, Writing, Written, IsAbove, IsM
 use Rattle.mdv_store_law.specs.Site.{Site, sized, IsTableAt, Newest, IsNewestOf}
 use Rattle.mdv_store_law.specs.Standing.{Agrees, Covers, IsNewestIn, Anything, GoesFrom}
 use Rattle.mdv_store_law.specs.Steps.{MayTake, Takes, next_newest}
+use Rattle.mdv_store_law.specs.Part.{IsPart}
+use Rattle.std.proofs.lemmas.List.{append-nil}
 use Rattle.mdv_store_law.proofs.Parts.{part_itself}
 use Rattle.mdv_store_law.proofs.Families.{contains_first}
 use Rattle.mdv_store_law.proofs.Kept.{text_taken}
@@ -144,23 +146,27 @@ module _ (site : Site) (newest : Newest) (asked : Option Change) (table : Table)
     may_tell change is =
         subst (λ (a : Option Change). IsTellable (next_log log mark a parent.changes table true) a) (sym is) (tellable site.drives log newest with_newest.is_newest mark change table with_newest.is_log)
 
+  -- no change is begun but the one that is asked
+  only_asked : IsPart (with_asked asked [] ++ []) (with_asked asked [])
+  only_asked = subst (λ (l : List Change). IsPart l (with_asked asked [])) (sym (append-nil (with_asked asked []))) (part_itself (with_asked asked []))
+
   goes : (m : Tale) → Leaves (MayTake (with_blocks site.at newest.blocks) slot mark table) t m → GoesFrom site (IsWithNewest site newest) NoCreation (with_asked asked []) Anything t m
-  goes m leaves log covers known = (
-    Writing mark asked (parent log covers known).changes table ∷ [],
-    ((above log covers known, inr (next log covers known)), tt),
-    record { tells = refl; issues = tt; writes = part_itself (with_asked asked []) },
-    in_table log covers known m leaves,
-    tt,
-  )
+  goes m leaves log covers known = record {
+    es = Writing mark asked (parent log covers known).changes table ∷ [];
+    course = ((above log covers known, inr (next log covers known)), tt);
+    come = record { tells = refl; issues = (tt, tt); begins = only_asked };
+    stands = in_table log covers known m leaves;
+    after = tt;
+  }
 
   ends : (u : Tale) → Leaves (Takes (with_blocks site.at newest.blocks) slot mark table) t u
       → GoesFrom site (IsWithNewest site newest) NoCreation (with_asked asked []) (λ log. IsNewestIn (next_newest newest table) log × ((change : Change) → asked ≡ Some change → IsTellable log asked)) t u
-  ends u leaves log covers known = (
-    Writing mark asked (parent log covers known).changes table ∷ Written ∷ [],
-    ((above log covers known, inr (next log covers known)), (tt, tt)),
-    record { tells = refl; issues = tt; writes = part_itself (with_asked asked []) },
-    in_end log covers known u leaves,
-    (
+  ends u leaves log covers known = record {
+    es = Writing mark asked (parent log covers known).changes table ∷ Written ∷ [];
+    course = ((above log covers known, inr (next log covers known)), (tt, tt));
+    come = record { tells = refl; issues = (tt, (tt, tt)); begins = only_asked };
+    stands = in_end log covers known u leaves;
+    after = (
       record {
         version = record { mark = mark; table = table; changes = with_asked asked (parent log covers known).changes; is_written = true };
         older = log.family;
@@ -170,8 +176,8 @@ module _ (site : Site) (newest : Newest) (asked : Option Change) (table : Table)
         written = refl;
       },
       may_tell log covers known,
-    ),
-  )
+    );
+  }
 
 pub commits_go : CommitsGo
 commits_go = record {

@@ -37,12 +37,18 @@ module _ (site : Site) where
 
     format_goes_on : (t m : Tale) → ShowsNothing site t → Formatting site.at master 1 t m → GoesOn site (IsThis identity) t m
     format_goes_on t m none formatting log covers known =
-        ([], tt, record { tells = refl; issues = tt; writes = tt }, nothing_covers site log m (not_firm site log t covers none) (format_nothing t m none formatting), tt)
+        record { es = []; course = tt; come = record { tells = refl; issues = tt; begins = tt }; stands = nothing_covers site log m (not_firm site log t covers none) (format_nothing t m none formatting); after = tt }
 
     -- a format that failed began a creation of which nothing is left
     format_ends_on : (t m : Tale) → ShowsNothing site t → Formatting site.at master 1 t m → GoesOnTo site (IsThis identity) (λ log. is_firm log ≡ false) t m
     format_ends_on t m none formatting log covers known =
-        (Issued identity ∷ [], (not_firm site log t covers none, tt), record { tells = refl; issues = (refl, tt); writes = tt }, nothing_covers site (log_after log (Issued identity)) m refl (format_nothing t m none formatting), refl)
+        record {
+          es = Issued identity ∷ [];
+          course = (not_firm site log t covers none, tt);
+          come = record { tells = refl; issues = (refl, tt); begins = tt };
+          stands = nothing_covers site (log_after log (Issued identity)) m refl (format_nothing t m none formatting);
+          after = refl;
+        }
 
     -- once the place is formatted
     module _ (table : Table) (creates : Creates site identity table) (u : Tale) (is_formatted : IsFormatted site.at master 1 u) where
@@ -120,21 +126,21 @@ module _ (site : Site) where
       is_first = record { none = refl; unasked = refl; unchanged = refl; empty = creates.empty }
 
       table_goes_on : (t m : Tale) → ShowsNothing site t → Leaves (MayTake site.at First first_mark table) u m → GoesOn site (IsThis identity) t m
-      table_goes_on t m none leaves log covers known = (
-        Issued identity ∷ Writing first_mark None [] table ∷ [],
-        (not_firm site log t covers none, ((All-nil (λ v. IsBelow v.mark first_mark), inl is_first), tt)),
-        record { tells = refl; issues = (refl, tt); writes = tt },
-        (λ image is. (let from = leaves image is in in_table from.0 image from.1 from.2)),
-        tt,
-      )
+      table_goes_on t m none leaves log covers known = record {
+        es = Issued identity ∷ Writing first_mark None [] table ∷ [];
+        course = (not_firm site log t covers none, ((All-nil (λ v. IsBelow v.mark first_mark), inl is_first), tt));
+        come = record { tells = refl; issues = (refl, (tt, tt)); begins = tt };
+        stands = λ image is. (let from = leaves image is in in_table from.0 image from.1 from.2);
+        after = tt;
+      }
 
       table_ends_on : (t v : Tale) → ShowsNothing site t → Leaves (Takes site.at First first_mark table) u v → GoesOnTo site (IsThis identity) (IsCreated site identity table) t v
-      table_ends_on t v none leaves log covers known = (
-        Issued identity ∷ Writing first_mark None [] table ∷ Written ∷ [],
-        (not_firm site log t covers none, ((All-nil (λ v. IsBelow v.mark first_mark), inl is_first), (tt, tt))),
-        record { tells = refl; issues = (refl, tt); writes = tt },
-        (λ image is. (let from = leaves image is in replica made_head (made_agrees true from.0 image from.1 from.2))),
-        record {
+      table_ends_on t v none leaves log covers known = record {
+        es = Issued identity ∷ Writing first_mark None [] table ∷ Written ∷ [];
+        course = (not_firm site log t covers none, ((All-nil (λ v. IsBelow v.mark first_mark), inl is_first), (tt, tt)));
+        come = record { tells = refl; issues = (refl, (tt, (tt, tt))); begins = tt };
+        stands = λ image is. (let from = leaves image is in replica made_head (made_agrees true from.0 image from.1 from.2));
+        after = record {
           is = refl;
           newest = record { version = created_version table; older = []; family = refl; mark = refl; table = refl; written = refl };
           tellable = record {
@@ -147,8 +153,8 @@ module _ (site : Site) where
             creation = λ asked. (refl, refl);
             untold = tt;
           };
-        },
-      )
+        };
+      }
 
 pub creations_go : CreationsGo
 creations_go = record {

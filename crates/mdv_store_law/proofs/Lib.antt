@@ -8,6 +8,7 @@ pub mod Frame
 pub mod Kept
 pub mod Lawful
 pub mod Logs
+pub mod Machine
 pub mod Orders
 pub mod Parts
 pub mod Replicas

@@ -1,29 +1,12 @@
 -- How logs go on, event by event.
-use Rattle.std.proofs.Common.{◌≡◌, ◌⊎◌, inl, inr, true, false, List, [], ◌∷◌, ◌++◌, slice_index_or, refl, sym, ◌∙◌, ap, subst, Option, Some, None, All, Contains}
+use Rattle.std.proofs.Common.{◌≡◌, ◌⊎◌, inl, inr, true, false, List, [], ◌∷◌, slice_index_or, refl, sym, ap, subst, Option, Some, None, All, Contains}
 use Rattle.std.proofs.lemmas.List.Elements.{All-nil, All-cons, All-same, All-contains, Contains-get_or}
-use Rattle.mdv_store_law.specs.Below.{Identity, Mark, Geometry, Tale, Change, Table}
-use Rattle.mdv_store_law.specs.Log.{Version, Log, Event, Issued, Writing, Written, Told, with_asked, newest_changes, log_after, log_after_all, is_firm, IsFirst, IsNext, Extends, IsUntold, IsTellable, MayHappen, IsCourse, told_by, written_by, IssuesOnly, Adds, AreMade, IsDescended, IsHeld, IsLog}
+use Rattle.mdv_store_law.specs.Below.{Mark, Geometry, Tale, Change, Table}
+use Rattle.mdv_store_law.specs.Log.{Version, Log, Event, Issued, Writing, Written, Told, with_asked, newest_changes, log_after, log_after_all, is_firm, IsFirst, IsNext, Extends, IsUntold, IsTellable, MayHappen, IsCourse, told_by, AreMade, IsDescended, IsHeld, IsLog}
 use Rattle.mdv_store_law.specs.Laws.{CoursesAreLogs}
 use Rattle.mdv_store_law.specs.Site.{Site, Newest}
 use Rattle.mdv_store_law.specs.Standing.{nothing, replica, Covers, IsNewestIn}
-use Rattle.mdv_store_law.specs.Part.{IsPart}
-use Rattle.mdv_store_law.proofs.Parts.{part_more, part_of_part}
 use Rattle.mdv_store_law.proofs.Families.{extends_itself, extends_more, extends_asked, made_next, contains_first, contains_behind, extends_written, newest_extends, written_firm, answered_rising, answered_descended, answered_made, answered_held}
-
-pub log_after_more : (log : Log) (es fs : List Event) → log_after_all log (es ++ fs) ≡ log_after_all (log_after_all log es) fs
-log_after_more log [] fs = refl
-log_after_more log (e ∷ es) fs = log_after_more (log_after log e) es fs
-
-pub course_more : (g : Geometry) (log : Log) (es fs : List Event) → IsCourse g log es → IsCourse g (log_after_all log es) fs → IsCourse g log (es ++ fs)
-course_more g log [] fs first second = second
-course_more g log (e ∷ es) fs first second = (first.0, course_more g (log_after log e) es fs first.1 second)
-
-pub told_more : (es fs : List Event) → told_by (es ++ fs) ≡ told_by es ++ told_by fs
-told_more [] fs = refl
-told_more (Issued identity ∷ es) fs = told_more es fs
-told_more (Writing mark asked before table ∷ es) fs = told_more es fs
-told_more (Written ∷ es) fs = told_more es fs
-told_more (Told asked ∷ es) fs = ap (λ (l : List (Option Change)). asked ∷ l) (told_more es fs)
 
 -- a table that begins to be written
 module _ (g : Geometry) (log : Log) (is : IsLog g log) (mark : Mark) (asked : Option Change) (before : List Change) (table : Table) where
@@ -171,43 +154,4 @@ tellable g log newest known mark change table is = record {
   changes = refl;
   creation = λ none. absurd (cc (none));
   untold = untold_newest g log newest known is log.acknowledged refl;
-}
-
-pub written_more : (es fs : List Event) → written_by (es ++ fs) ≡ written_by es ++ written_by fs
-written_more [] fs = refl
-written_more (Issued identity ∷ es) fs = written_more es fs
-written_more (Writing mark None before table ∷ es) fs = written_more es fs
-written_more (Writing mark (Some change) before table ∷ es) fs = ap (λ (l : List Change). change ∷ l) (written_more es fs)
-written_more (Written ∷ es) fs = written_more es fs
-written_more (Told asked ∷ es) fs = written_more es fs
-
-issues_more : (Which : Identity → Type 0) (es fs : List Event) → IssuesOnly Which es → IssuesOnly Which fs → IssuesOnly Which (es ++ fs)
-issues_more Which [] fs one other = other
-issues_more Which (Issued identity ∷ es) fs one other = (one.0, issues_more Which es fs one.1 other)
-issues_more Which (Writing mark asked before table ∷ es) fs one other = issues_more Which es fs one other
-issues_more Which (Written ∷ es) fs one other = issues_more Which es fs one other
-issues_more Which (Told asked ∷ es) fs one other = issues_more Which es fs one other
-
-module _ (Which Any : Identity → Type 0) (wider : (identity : Identity) → Which identity → Any identity) where
-  issues_weaker : (es : List Event) → IssuesOnly Which es → IssuesOnly Any es
-  issues_weaker [] is = tt
-  issues_weaker (Issued identity ∷ es) is = (wider identity is.0, issues_weaker es is.1)
-  issues_weaker (Writing mark asked before table ∷ es) is = issues_weaker es is
-  issues_weaker (Written ∷ es) is = issues_weaker es is
-  issues_weaker (Told asked ∷ es) is = issues_weaker es is
-
--- one stretch and another: the changes of both are written, one behind the other
-pub adds_more : (Which : Identity → Type 0) (asks others : List Change) (a b c : List (Option Change)) (es fs : List Event) → a ++ b ≡ c → Adds Which asks a es → Adds Which others b fs → Adds Which (asks ++ others) c (es ++ fs)
-adds_more Which asks others a b c es fs both one other = record {
-  tells = told_more es fs ∙ ap (λ (l : List (Option Change)). l ++ told_by fs) one.tells ∙ ap (λ (l : List (Option Change)). a ++ l) other.tells ∙ both;
-  issues = issues_more Which es fs one.issues other.issues;
-  writes = subst (λ (l : List Change). IsPart l (asks ++ others)) (sym (written_more es fs)) (part_more (written_by es) asks (written_by fs) others one.writes other.writes);
-}
-
-pub adds_weaker : (Which Any : Identity → Type 0) (asks others : List Change) (a b : List (Option Change)) (es : List Event)
-    → ((identity : Identity) → Which identity → Any identity) → IsPart asks others → a ≡ b → Adds Which asks a es → Adds Any others b es
-adds_weaker Which Any asks others a b es wider more same adds = record {
-  tells = adds.tells ∙ same;
-  issues = issues_weaker Which Any wider es adds.issues;
-  writes = part_of_part (written_by es) asks others adds.writes more;
 }

@@ -1,12 +1,12 @@
 -- In which order the changes of a log's tables were written, and told.
 use Rattle.std.proofs.Common.{◌≡◌, ◌⊎◌, inl, inr, true, false, List, [], ◌∷◌, ◌++◌, reverse, refl, sym, ◌∙◌, ap, subst, append_assoc, Option, Some, None, Contains, arith}
 use Rattle.std.proofs.lemmas.List.{append-nil, reverse-append}
-use Rattle.mdv_store_law.specs.Below.{Geometry, Identity, Mark, Change, Table}
+use Rattle.mdv_store_law.specs.Below.{Geometry, Mark, Change, Table}
 use Rattle.mdv_store_law.specs.Log.{Version, Log, Event, Issued, Writing, Written, Told, with_asked, answered, log_after, log_after_all, is_firm, IsFirst, IsNext, Extends, IsUntold, IsTellable, IsCourse, told_by, written_by, IsLog}
 use Rattle.mdv_store_law.specs.Part.{IsPart}
 use Rattle.mdv_store_law.proofs.Families.{contains_first, contains_behind, contains_cases, written_firm}
 use Rattle.mdv_store_law.proofs.Logs.{is_log_after, newest_told}
-use Rattle.mdv_store_law.proofs.Parts.{part_before, part_itself, part_more, part_of_part}
+use Rattle.mdv_store_law.proofs.Parts.{part_itself, part_more}
 
 -- the changes among what is told
 abbrev pub changes_of : List (Option Change) → List Change
@@ -57,10 +57,6 @@ module _ (g : Geometry) where
     | inr behind ↦ written_behind family written (with_asked asked []) are v behind
   ]
 
-  asked_first : (asked : Option Change) (more : List Change) → with_asked asked [] ++ more ≡ with_asked asked more
-  asked_first None more = refl
-  asked_first (Some change) more = refl
-
   -- so were those of each table of a log that went on by these events
   pub all_written : (lg : Log) (es : List Event) (written : List Change) → AreWritten lg.family written → IsCourse g lg es → AreWritten (log_after_all lg es).family (written ++ written_by es)
   all_written lg [] written are course = subst (AreWritten lg.family) (sym (append-nil written)) are
@@ -68,7 +64,7 @@ module _ (g : Geometry) where
   all_written lg (Writing mark asked before table ∷ es) written are course =
       let here = next_written lg.family written mark asked before table are course.0.1 in
       let there = all_written (log_after lg (Writing mark asked before table)) es (written ++ with_asked asked []) here course.1 in
-      let same : (written ++ with_asked asked []) ++ written_by es ≡ written ++ with_asked asked (written_by es) = append_assoc written (with_asked asked []) (written_by es) ∙ ap (λ (l : List Change). written ++ l) (asked_first asked (written_by es)) in
+      let same : (written ++ with_asked asked []) ++ written_by es ≡ written ++ (with_asked asked [] ++ written_by es) = append_assoc written (with_asked asked []) (written_by es) in
       subst (AreWritten (log_after_all (log_after lg (Writing mark asked before table)) es).family) same there
   all_written lg (Written ∷ es) written are course = all_written (log_after lg Written) es written (written_answered lg.family written are) course.1
   all_written lg (Told asked ∷ es) written are course = all_written (log_after lg (Told asked)) es written are course.1

@@ -1,5 +1,5 @@
 -- Laws of lists with some of their items left out.
-use Rattle.std.proofs.Common.{◌≡◌, ◌⊎◌, inl, inr, List, [], ◌∷◌, ◌++◌, map, refl, sym, ◌∙◌, ap, subst, Contains}
+use Rattle.std.proofs.Common.{inl, inr, List, [], ◌∷◌, ◌++◌, map, refl, ◌∙◌, ap}
 use Rattle.mdv_store_law.specs.Part.{IsPart}
 
 pub part_itself : {A : Type 0} (whole : List A) → IsPart whole whole

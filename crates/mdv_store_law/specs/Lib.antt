@@ -2,6 +2,7 @@ pub mod Below
 pub use Rattle.mdv_base.specs.Causes
 pub mod Site
 pub mod Part
+pub mod Machine
 pub mod Log
 pub mod Standing
 pub mod Steps

@@ -2,7 +2,8 @@
 use Rattle.std.specs.Prelude.{◌≡◌, ◌⊎◌, Bool, true, false, List, [], ◌∷◌, ◌++◌, Option, Some, None, All, Contains}
 use Rattle.std.specs.List.{list_any}
 use Rattle.mdv_store_law.specs.Below.{IsBelow, Identity, Mark, Geometry, IsAfter, Change, Table}
-use Rattle.mdv_store_law.specs.Part.{IsPart}
+use Rattle.mdv_store_law.specs.Machine.{after_all, all_of}
+use Rattle.mdv_store_law.specs.Machine as machine
 
 -- A table that was written to a slot, or began to be: its mark, the changes that made it from the table without volumes,
 -- the newest first, and whether its write was answered.
@@ -52,8 +53,7 @@ log_after log Written = record log { family = answered log.family }
 log_after log (Told asked) = record log { acknowledged = newest_changes log.family }
 
 abbrev pub log_after_all : Log → List Event → Log
-log_after_all log [] = log
-log_after_all log (e ∷ es) = log_after_all (log_after log e) es
+log_after_all = after_all log_after
 
 -- a write of a table was answered: the greatest of these tables is firm
 abbrev pub is_firm : Log → Bool
@@ -120,38 +120,38 @@ MayHappen g log (Told asked) = IsTellable log asked
 
 -- each of the events may happen where it happens
 abbrev pub IsCourse : Geometry → Log → List Event → Type 0
-IsCourse g log [] = Unit {0}
-IsCourse g log (e ∷ es) = MayHappen g log e × IsCourse g (log_after log e) es
+IsCourse g = machine.IsCourse log_after (MayHappen g)
 
--- what these events tell: creations, and changes
+-- what an event tells: a creation, or a change
+abbrev pub tells : Event → List (Option Change)
+tells (Issued identity) = []
+tells (Writing mark asked before table) = []
+tells Written = []
+tells (Told asked) = asked ∷ []
+
 abbrev pub told_by : List Event → List (Option Change)
-told_by [] = []
-told_by (Issued identity ∷ es) = told_by es
-told_by (Writing mark asked before table ∷ es) = told_by es
-told_by (Written ∷ es) = told_by es
-told_by (Told asked ∷ es) = asked ∷ told_by es
+told_by = all_of tells
 
--- the changes that these events begin to write, in order
+-- the change that an event begins to write
+abbrev pub begins : Event → List Change
+begins (Issued identity) = []
+begins (Writing mark asked before table) = with_asked asked []
+begins Written = []
+begins (Told asked) = []
+
 abbrev pub written_by : List Event → List Change
-written_by [] = []
-written_by (Issued identity ∷ es) = written_by es
-written_by (Writing mark asked before table ∷ es) = with_asked asked (written_by es)
-written_by (Written ∷ es) = written_by es
-written_by (Told asked ∷ es) = written_by es
+written_by = all_of begins
 
--- each creation that these events issue is such a one
-abbrev pub IssuesOnly : (Identity → Type 0) → List Event → Type 0
-IssuesOnly Which [] = Unit {0}
-IssuesOnly Which (Issued identity ∷ es) = Which identity × IssuesOnly Which es
-IssuesOnly Which (Writing mark asked before table ∷ es) = IssuesOnly Which es
-IssuesOnly Which (Written ∷ es) = IssuesOnly Which es
-IssuesOnly Which (Told asked ∷ es) = IssuesOnly Which es
+-- a creation that an event issues is such a one
+abbrev pub IsIssue : (Identity → Type 0) → Event → Type 0
+IsIssue Which (Issued identity) = Which identity
+IsIssue Which (Writing mark asked before table) = Unit {0}
+IsIssue Which Written = Unit {0}
+IsIssue Which (Told asked) = Unit {0}
 
 -- The events tell these; they issue only such creations, and begin to write only changes that are asked, in their order and each once.
-pub record Adds (Which : Identity → Type 0) (asks : List Change) (told : List (Option Change)) (es : List Event) : Type 0 where
-  pub tells : told_by es ≡ told
-  pub issues : IssuesOnly Which es
-  pub writes : IsPart (written_by es) asks
+abbrev pub Adds : (Identity → Type 0) → List Change → List (Option Change) → List Event → Type 0
+Adds Which = machine.Adds tells begins (IsIssue Which)
 
 abbrev pub NoCreation : Identity → Type 0
 NoCreation identity = ⊥

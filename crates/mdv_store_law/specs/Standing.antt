@@ -1,7 +1,8 @@
 -- What a crash may leave of a database with one place, told by its log.
 use Rattle.std.specs.Prelude.{◌≡◌, ◌⊎◌, ℕ, ◌≤◌, true, false, List, [], ◌∷◌, Some, None, All, Contains}
 use Rattle.mdv_store_law.specs.Below.{IsBelow, Identity, Mark, record_text, Gate, Closed, Open, Head, Slot, First, Second, greatest, shows, text_of, Image, Tale, IsImage, Change}
-use Rattle.mdv_store_law.specs.Log.{Version, Log, Event, log_after_all, is_firm, IsCourse, Adds, IsLog}
+use Rattle.mdv_store_law.specs.Log.{Version, Log, Adds, IsLog, MayHappen, is_firm, log_after}
+use Rattle.mdv_store_law.specs.Machine as machine
 use Rattle.mdv_store_law.specs.Site.{Site, sized, IsTableAt, IsReplica, IsFound, Newest, IsNewestOf}
 
 -- the version under the mark of an open gate, with the table whose record the slot has
@@ -85,8 +86,7 @@ Anything log = Unit {0}
 -- and these changes issued, to one that they stand with, of which more is known.
 abbrev pub GoesFrom : Site → (Log → Type 0) → (Identity → Type 0) → List Change → (Log → Type 0) → Tale → Tale → Type 0
 GoesFrom site Known Which asks After t m =
-    (log : Log) → Covers site log t → Known log
-    → (es : List Event) × IsCourse site.drives log es × Adds Which asks [] es × Covers site (log_after_all log es) m × After (log_after_all log es)
+    (log : Log) → Covers site log t → Known log → machine.Goes log_after (MayHappen site.drives) (Adds Which asks []) (λ next. Covers site next m) (λ es next. After next) log
 
 -- the same of a log of which nothing is known, where no change is asked
 abbrev pub GoesOnTo : Site → (Identity → Type 0) → (Log → Type 0) → Tale → Tale → Type 0
