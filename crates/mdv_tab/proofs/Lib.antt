@@ -1,8 +1,11 @@
 pub mod Columns
 pub mod Extents
 pub mod Gathering
+pub mod Graphs
+pub mod Indexes
 pub mod LineEnds
 pub mod Makings
+pub mod Needs
 pub mod ReadingText
 pub mod OneOrder
 pub mod OneTab

@@ -1,6 +1,9 @@
 pub mod Form
 pub mod Gather
+pub mod Graph
+pub mod Index
 pub mod Making
+pub mod Need
 pub mod Options
 pub mod Order
 pub mod Stripe

@@ -3,10 +3,14 @@
 
 mod entry;
 mod form;
+mod graph;
 mod group;
+mod index;
+mod key;
 mod law;
 mod lines;
 mod making;
+mod need;
 mod options;
 mod queue;
 mod read;
@@ -19,4 +23,5 @@ pub use form::read_entry;
 pub use group::{MAX_TEXT, set_of};
 pub use law::{has_one_order, reads_as_one_tab};
 pub use lines::is_ascii_line;
+pub use need::order_of_need;
 pub use read::{MAX_ENTRIES, TabFault, read_tab};

@@ -175,3 +175,31 @@ fn keeps_the_limits(rt: HostRuntime) -> Result<(), Fail> {
     assert_eq!(rt; count(&rt, long.as_slice()), Err(TabFault::TooMany));
     Ok(())
 }
+
+#[test]
+fn puts_entries_in_order(rt: HostRuntime) -> Result<(), Fail> {
+    let texts: [(&[u8], &[u32]); 9] = [
+        (
+            b"d0 -m d10 d20 1\nd10 1 1 c0t0d0s0\nd20 1 1 c0t1d0s0\n",
+            &[1, 2, 0],
+        ),
+        (
+            b"d4 1 1 d3\nd3 -p d2 1g\nd2 -r d1 c0t0d0s0\nd1 1 1 c0t1d0s0\n",
+            &[3, 2, 1, 0],
+        ),
+        (b"d1 1 1 c0t0d0s0 -h hsp001\nhsp001\n", &[1, 0]),
+        (b"d1 1 1 d2\nd2 1 1 d1\nd3 1 1 c0t0d0s0\n", &[2, 0, 1]),
+        (b"d3 1 1 d1\nd1 1 1 d2\nd2 1 1 d1\n", &[0, 1, 2]),
+        (b"d1 1 1 d2\nblue/d2 1 1 c0t0d0s0\n", &[0, 1]),
+        (b"d1 1 1 d1\nd2 1 1 c0t0d0s0\n", &[0, 1]),
+        (b"d1 1 1 d2\nd2 1 1 d2\nd2 1 1 c0t0d0s0\n", &[2, 1, 0]),
+        (b"mddb01 c0t0d0s7\nd1 1 1 d2\nd2 1 1 c0t0d0s0\n", &[0, 2, 1]),
+    ];
+    for (text, want) in texts {
+        let entries = read_tab(rt.alloc(), text)?;
+        let order = order_of_need(rt.alloc(), entries.as_slice())?;
+        assert_eq!(rt; order.as_slice(), want, "{text:?}");
+    }
+    has_one_order();
+    Ok(())
+}

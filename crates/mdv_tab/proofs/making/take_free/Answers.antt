@@ -1,37 +1,47 @@
-use Rattle.std.proofs.Common.{ℕ, ◌≤◌, ◌≡◌, true, false, inl, inr, ap, refl, subst, sym, map, arith, Some}
+use Rattle.std.proofs.Common.{ℕ, ◌≤◌, ◌≡◌, inl, inr, sym, subst, arith}
 use Rattle.std.proofs.lemmas.List.Elements.{All-contains}
 use Rattle.std.proofs.lemmas.List.Sorted.{length_permutation}
-use Rattle.mdv_tab.specs.Making.{IsFree}
+use Rattle.mdv_tab.specs.Making.{IsLeft, IsBound}
 use Rattle.mdv_tab.proofs.Makings.{popped_cases, popped_from, popped_first}
 use Rattle.mdv_tab.proofs.making.take_free.Goals as goal
 
 pub is_free-requires-clause-within : goal.is_free-requires-clause-within
-is_free-requires-clause-within c = c.requires.within _ (c.loop-place.invariant.0 _ (popped_first _ _ _ c.in-Some.ensures.taken))
-
-pub returns-then-is_free-clause-first : goal.returns-then-is_free-clause-first
-returns-then-is_free-clause-first c = (
-  c.if-is_free.ensures.0 refl,
-  λ i has free. elim (popped_cases _ _ _ c.in-Some.ensures.taken i (c.loop-place.invariant.1 i has free)) [
-    | inl rest ↦ All-contains (λ y. c.in-Some.place ≤ y) _ i c.in-Some.ensures.least rest
-    | inr is ↦ omega arith
-  ],
-)
-
-pub returns-then-is_free-clause-keeps : goal.returns-then-is_free-clause-keeps
-returns-then-is_free-clause-keeps c = λ i has free. elim (popped_cases _ _ _ c.in-Some.ensures.taken i (c.loop-place.invariant.1 i has free)) [ inl rest ↦ inl rest | inr is ↦ inr (ap Some is) ]
-
-pub returns-then-is_free-clause-less : goal.returns-then-is_free-clause-less
-returns-then-is_free-clause-less c = λ i has. c.loop-place.invariant.0 i (popped_from _ _ _ c.in-Some.ensures.taken i has)
+is_free-requires-clause-within c = c.loop-place.invariant.0.within _ (popped_first _ _ _ c.in-Some.ensures.taken)
 
 pub loop-place-smaller : goal.loop-place-smaller
 loop-place-smaller c = let fewer = length_permutation _ _ c.in-Some.ensures.taken in omega (arith, fewer)
 
+pub returns-then-is_free-clause-taken : goal.returns-then-is_free-clause-taken
+returns-then-is_free-clause-taken c = (
+  c.if-is_free.ensures.free,
+  λ i lt left. elim (c.loop-place.invariant.0.each i left) [
+    | inl has ↦ elim (popped_cases _ _ _ c.in-Some.ensures.taken i has) [
+      | inl rest ↦ let le = All-contains (λ y. c.in-Some.place ≤ y) _ i c.in-Some.ensures.least rest in absurd (omega (arith, le, lt))
+      | inr is ↦ absurd (omega (arith, is, lt))
+    ]
+    | inr bound ↦ bound
+  ],
+)
+
+pub returns-then-is_free-clause-rest : goal.returns-then-is_free-clause-rest
+returns-then-is_free-clause-rest c = record {
+  within = λ i has. c.loop-place.invariant.0.within i (popped_from _ _ _ c.in-Some.ensures.taken i has);
+  each = λ i left. elim (c.loop-place.invariant.0.each i left) [
+    | inl has ↦ elim (popped_cases _ _ _ c.in-Some.ensures.taken i has) [ inl rest ↦ inl rest | inr is ↦ inr (inl is) ]
+    | inr bound ↦ inr (inr bound)
+  ];
+}
+
 pub loop-place-preserved : goal.loop-place-preserved
 loop-place-preserved c =
-    let F : ℕ → Type 0 = λ n. IsFree (map (λ v. v.items) c.args.graph.now.below.items) c.args.made.now n in (
-      λ i has. c.loop-place.invariant.0 i (popped_from _ _ _ c.in-Some.ensures.taken i has),
-      λ i has free. elim (popped_cases _ _ _ c.in-Some.ensures.taken i (c.loop-place.invariant.1 i has free)) [
-        | inl rest ↦ rest
-        | inr is ↦ let no : false ≡ true = c.if-is_free.ensures.1 (subst F (sym is) free) in cc
-      ],
+    let F : ℕ → Type 0 = λ i. IsLeft c.args.made.now i in
+    let G : ℕ → Type 0 = λ i. IsBound c.args.graph.now c.args.made.now i in (
+      record {
+        within = λ i has. c.loop-place.invariant.0.within i (popped_from _ _ _ c.in-Some.ensures.taken i has);
+        each = λ i left. elim (c.loop-place.invariant.0.each i left) [
+          | inl has ↦ elim (popped_cases _ _ _ c.in-Some.ensures.taken i has) [ inl rest ↦ inl rest | inr is ↦ inr (subst G is (c.if-is_free.ensures.free (subst F (sym is) left))) ]
+          | inr bound ↦ inr bound
+        ];
+      },
+      c.if-is_free.ensures.seen,
     )
