@@ -1,11 +1,11 @@
 -- Names that have numbers.
-use Rattle.std.proofs.Common.{◌≡◌, ◌<◌, ◌≤◌, ◌+◌, ◌++◌, ◌⊎◌, ℕ, Bool, true, false, cond, Option, None, Some, List, [], ◌∷◌, length, take, drop, get_or, replicate, refl, sym, ◌∙◌, ap, subst, inl, inr, nat_cmp, arith}
+use Rattle.std.proofs.Common.{◌≡◌, ◌<◌, ◌≤◌, ◌+◌, ◌++◌, ◌⊎◌, ℕ, Bool, true, false, cond, Option, None, Some, List, length, take, drop, get_or, replicate, refl, sym, ◌∙◌, ap, subst, inl, inr, arith}
 use Rattle.std.specs.Prelude.{Contains, IsSome, option_map}
 use Rattle.std.specs.declared.cmp.Ordering.{Ordering}
 use Rattle.std.specs.declared.cmp.Ordering.TheVariants.{Less, Equal, Greater}
 use Rattle.std.specs.Ordering.{bool_cmp, ordering_then}
 use Rattle.std.specs.Option.{option_cmp}
-use Rattle.std.specs.BTreeMap.{BTreeMap, get, is_at, btree_map_len}
+use Rattle.std.specs.BTreeMap.{is_at}
 use Rattle.std.proofs.lemmas.Map.Lookups.{CmpEqualImpliesEq, exact_unsigned, exact_bytes}
 use Rattle.std.proofs.lemmas.Map.Views.{tells_apart}
 use Rattle.std.proofs.Math.Seq.{take-append_seam}
@@ -17,7 +17,7 @@ use Rattle.mdv_tab.specs.declared.index.Index.{Index}
 use Rattle.mdv_tab.specs.declared.key.Key.{Key}
 use Rattle.mdv_tab.specs.declared.key.SetKey.{SetKey}
 use Rattle.mdv_tab.specs.contracts.key.SetKeyOrd.TheImpl as set_order
-use Rattle.mdv_tab.specs.Index.{key_cmp, key_of, set_key, number_at, number_of, index_len, IsNumbering, AddsKey, HasMade, IsIndexOf}
+use Rattle.mdv_tab.specs.Index.{key_cmp, key_of, set_key, number_at, index_len, IsNumbering, AddsKey, HasMade, IsIndexOf}
 
 then_equal : (r s : Ordering) → ordering_then r s ≡ Equal → (r ≡ Equal) × (s ≡ Equal)
 then_equal Less s e = cc

@@ -1,8 +1,8 @@
 -- Places that are made one after the other.
-use Rattle.std.proofs.Common.{IsPermutation, ◌↔◌, ◌⊎◌, map, cond, eqb, length-append, replicate, ◌≡◌, ◌≢◌, ◌<◌, ◌≤◌, ◌+◌, ◌-◌, ℕ, zero, suc, Vec, Global, Bool, true, false, Option, Result, Ok, Err, List, [], ◌∷◌, ◌++◌, None, Some, length, take, get_or, refl, sym, ◌∙◌, ap, subst, inl, inr, arith}
+use Rattle.std.proofs.Common.{IsPermutation, ◌⊎◌, map, cond, length-append, replicate, ◌≡◌, ◌≢◌, ◌<◌, ◌≤◌, ◌+◌, ◌-◌, ℕ, zero, suc, Vec, Global, Bool, true, false, Option, Result, Ok, Err, List, [], ◌∷◌, ◌++◌, None, Some, length, take, get_or, refl, sym, ◌∙◌, ap, subst, inl, inr, arith}
 use Rattle.std.specs.Prelude.{Contains, OnOk, sum_by}
 use Rattle.std.proofs.Math.ListN.{set}
-use Rattle.std.proofs.lemmas.Bool.{cases_lt, cases_eq}
+use Rattle.std.proofs.lemmas.Bool.{cases_lt}
 use Rattle.std.proofs.lemmas.Bool.Decides.{nat_tests}
 use Rattle.std.proofs.lemmas.List.{get_or-map, get_or-set_same, get_or-set_other, length-map, length-set, take-append-le, take_all, length-replicate, get_or-replicate}
 use Rattle.std.proofs.lemmas.Grind.{common_steps}

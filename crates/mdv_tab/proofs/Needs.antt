@@ -1,5 +1,5 @@
 -- Entries need each other as the places do that they are by number.
-use Rattle.std.proofs.Common.{◌≡◌, ◌<◌, ◌≤◌, ◌+◌, ◌++◌, ◌⊎◌, ℕ, zero, suc, Option, None, Some, List, [], ◌∷◌, length, map, take, get_or, refl, sym, ◌∙◌, ap, subst, inl, inr, arith}
+use Rattle.std.proofs.Common.{◌≡◌, ◌<◌, ◌+◌, ◌++◌, ◌⊎◌, ℕ, zero, suc, Option, None, Some, List, [], ◌∷◌, length, map, take, get_or, refl, sym, ◌∙◌, ap, subst, inl, inr, arith}
 use Rattle.std.specs.Prelude.{Contains, IsSome, slice_get}
 use Rattle.std.specs.List.{filter_map, cons_option}
 use Rattle.std.proofs.lemmas.Bool.{cases_lt}
@@ -14,7 +14,7 @@ use Rattle.mdv_tab.specs.Graph.{AreUsers}
 use Rattle.mdv_tab.specs.Index.{number_of, index_len, IsIndexOf}
 use Rattle.mdv_tab.specs.Making.{made_at, makes_of, stands_at, count_of, name_count, NeedsIn, IsGraph}
 use Rattle.mdv_tab.specs.Need.{made_number, IsPlaceOf, ArePlacesOf}
-use Rattle.mdv_tab.specs.Order.{entry_set, makes, stands_on, Needs, Remains, Waits, IsNext, IsOrder}
+use Rattle.mdv_tab.specs.Order.{entry_set, makes, stands_on, Needs, Waits, IsNext, IsOrder}
 use Rattle.mdv_tab.proofs.Graphs.{nothing_in, within_lists}
 use Rattle.mdv_tab.proofs.Indexes.{same_name}
 use Rattle.mdv_tab.proofs.Makings.{in_cons, part_at, same_at, made_here, stands_here}

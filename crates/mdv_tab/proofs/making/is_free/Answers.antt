@@ -1,4 +1,4 @@
-use Rattle.std.proofs.Common.{◌≡◌, ◌∙◌, ◌≤◌, ℕ, Bool, true, false, List, eqb, length, get_or, refl, sym, ap, subst, arith, MatchBool}
+use Rattle.std.proofs.Common.{◌≡◌, ◌∙◌, ℕ, Bool, true, false, List, eqb, length, refl, sym, ap, subst, arith, MatchBool}
 use Rattle.std.proofs.lemmas.Bool.{eqb-true, eqb-false}
 use Rattle.std.specs.Prelude.{Contains}
 use Rattle.mdv_tab.specs.declared.graph.Place.{Place}

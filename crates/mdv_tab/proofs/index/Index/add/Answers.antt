@@ -1,4 +1,4 @@
-use Rattle.std.proofs.Common.{Bor, ◌≡◌, ◌∙◌, ◌+◌, ℕ, Bool, not, true, Option, None, Some, sym, refl, ap, arith, if◌then◌else◌}
+use Rattle.std.proofs.Common.{Bor, ◌≡◌, ◌∙◌, ◌+◌, ℕ, Bool, not, true, Option, None, Some, sym, refl, ap, if◌then◌else◌}
 use Rattle.std.specs.Prelude.{is_some, option_copied}
 use Rattle.std.specs.BTreeMap.{btree_map_len}
 use Rattle.mdv_tab.proofs.Indexes.{adds_key}
