@@ -1,8 +1,8 @@
 -- Of each name the places that stand on it.
-use Rattle.std.proofs.Common.{◌≡◌, ◌≢◌, ◌<◌, ◌+◌, ◌⊎◌, ℕ, zero, suc, List, [], ◌∷◌, ◌++◌, length, take, get_or, replicate, refl, sym, ◌∙◌, ap, subst, inl, inr, arith}
+use Rattle.std.proofs.Common.{◌≡◌, ◌≢◌, ◌<◌, ◌+◌, ◌⊎◌, ℕ, List, [], ◌∷◌, ◌++◌, length, take, get_or, sym, ◌∙◌, subst, inl, inr, arith}
 use Rattle.std.specs.Prelude.{Contains}
 use Rattle.std.proofs.Math.ListN.{set}
-use Rattle.std.proofs.lemmas.List.{get_or-set_same, get_or-set_other, length-set, length-replicate, length-take-le, get_or-take, take_more, get_or_past}
+use Rattle.std.proofs.lemmas.List.{get_or-set_same, get_or-set_other, length-set, length-take-le, get_or-take, take_more, get_or_past}
 use Rattle.std.proofs.lemmas.Bool.{cases_lt}
 use Rattle.std.proofs.lemmas.List.Elements.{Contains-push, Contains-push_cases, Contains-append_left}
 use Rattle.mdv_tab.specs.Graph.{AddsUser, AreUsers, list_at}
@@ -65,29 +65,6 @@ adds_more old mid place x names k inside is within so_far = record {
       ];
   keeps = λ y i has. grown_keeps mid x place within y i (so_far.keeps y i has);
   none_else = λ y i has. elim (grown_else mid x place within y i has) [ inl before ↦ so_far.none_else y i before | inr e ↦ inr e ];
-}
-
-pub adds_none : (old : List (List ℕ)) (place : ℕ) (names : List ℕ) → AddsUser old old place (take 0 names)
-adds_none old place names = record {
-  same = refl;
-  adds = λ y has. absurd (nothing_in y has);
-  keeps = λ y i has. has;
-  none_else = λ y i has. inl has;
-}
-
-nothing_at : (n i : ℕ) → let none : List ℕ = [] in get_or (replicate n none) i none ≡ none
-nothing_at zero i = refl
-nothing_at (suc n) zero = refl
-nothing_at (suc n) (suc i) = nothing_at n i
-
-pub users_none : (names : ℕ) (stands users : List (List ℕ)) → users ≡ replicate names [] → AreUsers names (take 0 stands) users
-users_none names stands users are = record {
-  same = ap length are ∙ length-replicate names [];
-  each = λ i x has. absurd (nothing_in x has);
-  within = λ i x has.
-      let F : List (List ℕ) → Type 0 = λ l. Contains (list_at l x) i in
-      let G : List ℕ → Type 0 = λ l. Contains l i in
-      absurd (nothing_in i (subst G (nothing_at names x) (subst F are has)));
 }
 
 pub users_more :

@@ -94,9 +94,6 @@ stands_within es ps index names places n len i x has =
     ]
 
 module _ (es : List Entry) (g : Graph) (index : Index) (names : IsIndexOf es index) (places : ArePlacesOf index es g.places.items) where
-  place_count : count_of g ≡ length es
-  place_count = places.same
-
   entry_at : (i : ℕ) → i < count_of g → (e : Entry) × (slice_get es i ≡ Some e)
   entry_at i within = elim (slice_get_cases es i).1 [ inl there ↦ (there.0, there.2) | inr past ↦ absurd (omega (arith, past.0, within, places.same)) ]
 

@@ -7,7 +7,8 @@ pub(crate) struct SetKey {
     pub(crate) len: u8,
 }
 
-// A volume or a pool of a set or of none. Numbers are compared first, since few of them are the same.
+// A volume or a pool of a set or of none. Numbers are compared first, since they mostly tell two
+// names apart.
 #[derive(Clone, Copy, PartialEq, Eq, PartialOrd, Ord)]
 pub(crate) struct Key {
     pub(crate) number: u16,

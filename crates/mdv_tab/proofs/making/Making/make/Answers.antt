@@ -19,26 +19,8 @@ pass-requires-clause-some c =
     let F : List ℕ → Type 0 = λ l. 0 < get_or l c.in-Some.name 0 in
     subst F (sym c.as_mut_slice.ensures.value) (some_left g made i here c.args.self.now.left.items c.in-Some.name c.requires.far.counted (c.requires.graph.makes i c.in-Some.name is) is)
 
-pub returns-in-Some-clause-far : goal.returns-in-Some-clause-far
-returns-in-Some-clause-far c =
-    let g = c.args.graph.now in
-    let made = c.args.self.now.made.items in
-    let i = c.args.place in
-    let y = c.in-Some.name in
-    let here : IsLeft made i = left_of _ _ made _ c.requires.far.order i c.requires.next.remains in
-    let is : made_at g i ≡ Some y = made_here g i c.index.result.now c.requires.next.remains.0 c.index.ensures ∙ c.in-Some.is in
-    let F : List ℕ → Type 0 = λ l. IsCounted g (set made i true) l in
-    let G : List ℕ → Type 0 = λ l. IsCounted g (set made i true) (set l y (get_or l y 0 - 1)) in
-    let H : List ℕ → Type 0 = λ l. IsPartOrder (NeedsIn g) (count_of g) (set made i true) l in
-    let counted = subst G (sym c.as_mut_slice.ensures.value) (counted_some g made i here c.args.self.now.left.items y c.requires.far.counted (c.requires.graph.makes i y is) is) in
-    on_ok_weaker c.pass.result (λ left. record {
-      order = subst H (sym c.in_ok-push.ensures.items) (made_next _ _ made _ i c.requires.far.order c.requires.next);
-      counted = subst F (sym (with_items_is c.args.self.now.left c.pass.new.left (ap (λ (l : List ℕ). length l) left ∙ length-set _ y _ ∙ ap (λ (l : List ℕ). length l) c.as_mut_slice.ensures.value ∙ sym c.args.self.now.left.ok.0))) (subst F (sym left) counted);
-      seen = seen_next g made i here _ c.requires.far.seen;
-    }) c.pass.ensures.left
-
-pub returns-in-Some-clause-queued : goal.returns-in-Some-clause-queued
-returns-in-Some-clause-queued c =
+pub returns-in-Some : goal.returns-in-Some
+returns-in-Some c =
     let g = c.args.graph.now in
     let made = c.args.self.now.made.items in
     let i = c.args.place in
@@ -48,11 +30,17 @@ returns-in-Some-clause-queued c =
     let small : y < name_count g = c.requires.graph.makes i y is in
     let F : List ℕ → Type 0 = λ l. IsCounted g (set made i true) l in
     let G : List ℕ → Type 0 = λ l. IsCounted g (set made i true) (set l y (get_or l y 0 - 1)) in
+    let H : List ℕ → Type 0 = λ l. IsPartOrder (NeedsIn g) (count_of g) (set made i true) l in
     let counted = subst G (sym c.as_mut_slice.ensures.value) (counted_some g made i here c.args.self.now.left.items y c.requires.far.counted small is) in
-    on_ok_both c.pass.result (λ left queue. queued_some g made i here c.args.self.now.queue c.pass.new.queue c.pass.new.left y c.requires.graph c.requires.queued (subst F (sym left) counted) small is queue) c.pass.ensures.left c.pass.ensures.queue
-
-pub returns-in-Some-clause-one : goal.returns-in-Some-clause-one
-returns-in-Some-clause-one c = on_ok_any c.pass.result (makes_one c.args.self.now.made.items c.args.place (left_of _ _ _ _ c.requires.far.order c.args.place c.requires.next.remains))
+    record {
+      far = on_ok_weaker c.pass.result (λ left. record {
+        order = subst H (sym c.in_ok-push.ensures.items) (made_next _ _ made _ i c.requires.far.order c.requires.next);
+        counted = subst F (sym (with_items_is c.args.self.now.left c.pass.new.left (ap (λ (l : List ℕ). length l) left ∙ length-set _ y _ ∙ ap (λ (l : List ℕ). length l) c.as_mut_slice.ensures.value ∙ sym c.args.self.now.left.ok.0))) (subst F (sym left) counted);
+        seen = seen_next g made i here _ c.requires.far.seen;
+      }) c.pass.ensures.left;
+      queued = on_ok_both c.pass.result (λ left queue. queued_some g made i here c.args.self.now.queue c.pass.new.queue c.pass.new.left y c.requires.graph c.requires.queued (subst F (sym left) counted) small is queue) c.pass.ensures.left c.pass.ensures.queue;
+      one = on_ok_any c.pass.result (makes_one made i here);
+    }
 
 pub returns-in-None-clause-far : goal.returns-in-None-clause-far
 returns-in-None-clause-far c =
