@@ -1,7 +1,7 @@
 -- A reply that was told whole has some byte.
 use Rattle.std.proofs.Common.{◌≡◌, ℕ, ◌<◌, List, [], ◌∷◌, ◌++◌, length, Option, sym, ◌∙◌, ap, subst, arith}
 use Rattle.std.proofs.lemmas.List.{length-append}
-use Rattle.mdv_engine_law.specs.Below.{Ends, Tale, told}
+use Rattle.mdv_engine_law.specs.Below.{Ends, Said, Tale, told}
 use Rattle.mdv_engine_law.specs.declared.answer.Answer.{Answer}
 use Rattle.mdv_engine_law.specs.declared.answer.Answer.TheVariants as outcome
 use Rattle.mdv_engine_law.specs.declared.answer.Reply.{Reply}
@@ -11,7 +11,7 @@ use Rattle.mdv_engine_law.specs.Standing.{OnlyReplied, Replied}
 use Rattle.mdv_engine_law.proofs.Plain.{nothing_answers, ok_reply, values_are_reply, refusal_reply}
 
 reply_some : (bytes : List ℕ) → IsReply bytes → 0 < length bytes
-reply_some [] whole = absurd (let none = sym nothing_answers ∙ whole.alone in cc (none))
+reply_some [] whole = absurd (let none = sym nothing_answers ∙ ap (λ (s : Said). s.replies) whole.alone in cc (none))
 reply_some (b ∷ bytes) whole = omega arith
 
 told_more : (t u : Tale) (bytes : List ℕ) → told u ≡ told t ++ bytes → IsReply bytes → length (told t) < length (told u)

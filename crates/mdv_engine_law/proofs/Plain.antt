@@ -3,7 +3,7 @@ use Rattle.std.proofs.Common.{◌≡◌, ◌⊎◌, ⊎_elim, inl, inr, ℕ, zer
 use Rattle.std.proofs.lemmas.List.{append-nil, append_cancel_right, take_all, take-append-le}
 use Rattle.std.proofs.lemmas.List.Folds.{list_all-append}
 use Rattle.std.specs.Fmt.{digits, decimal}
-use Rattle.mdv_engine_law.specs.Below.{refusal_text, SliceName, VolId, Refusal, BadLine, NoDatabase, NeedForce, NoSuchVolume, NameTaken, NoSuchSlice, SliceInUse, TooSmall, WrongKind, WrongState, ReplicaFull, OutOfRange, IoFault, OutOfMemory, LineTooLong, Down, lacks, refused, replies_in, block_text, Deed, MakeStripe}
+use Rattle.mdv_engine_law.specs.Below.{refusal_text, SliceName, VolId, Refusal, BadLine, NoDatabase, NeedForce, NoSuchVolume, NameTaken, NoSuchSlice, SliceInUse, TooSmall, WrongKind, WrongState, ReplicaFull, OutOfRange, IoFault, OutOfMemory, LineTooLong, Down, Said, lacks, one_reply, refused, replies_in, said_in, unsaid, with_reply, block_text, Deed, MakeStripe}
 use Rattle.mdv_status.proofs.Lines.{is_value_line}
 use Rattle.mdv_status.proofs.Pieces.{lacks_append, lacks_one, lacks_take}
 use Rattle.mdv_status.proofs.Replies.{values_are_one_reply, refusals_are_one_reply}
@@ -11,7 +11,7 @@ use Rattle.mdv_engine_law.specs.declared.answer.Answer.{Answer}
 use Rattle.mdv_engine_law.specs.declared.answer.Answer.TheVariants as outcome
 use Rattle.mdv_engine_law.specs.declared.host.Host.{Host}
 use Rattle.mdv_engine_law.specs.Line.{Ask, Nothing, ToDo, ToSee, deeds, Memory, IsCreateRefused, IsChangeRefused, AreBlocksRefused}
-use Rattle.mdv_engine_law.specs.Replies.{Acks, AcksAnswer, AcksBy, AcksIn, IsPlain, IsPlainAnswer, AreValues, IsReply, IsFront, IsAccepted, issuable, issuable_in, issuable_of, issued_by, text_of, refusal_line, ok_line}
+use Rattle.mdv_engine_law.specs.Replies.{Acks, AcksAnswer, AcksBy, AcksFront, AcksIn, IsRefusalFront, IsPlain, IsPlainAnswer, AreValues, IsReply, IsFront, IsAccepted, issuable, issuable_in, issuable_of, issued_by, text_of, refusal_line, ok_line}
 use Rattle.mdv_store_law.specs.Part.{IsPart}
 use Rattle.mdv_store_law.proofs.Parts.{part_itself}
 
@@ -85,52 +85,55 @@ module _ (host : Host) (memory : Memory) where
 
 -- the text is one reply, once its last byte is told
 pub record Answers (text : List ℕ) : Type 0 where
-  pub behind : (rest : List ℕ) → replies_in (text ++ rest) ≡ text ∷ replies_in rest
-  pub before : (count : ℕ) → count < length text → replies_in (take count text) ≡ []
+  pub behind : (rest : List ℕ) → said_in (text ++ rest) ≡ with_reply text (said_in rest)
+  pub before : (count : ℕ) → count < length text → said_in (take count text) ≡ unsaid (take count text)
 
 values_answer : (text : List ℕ) → AreValues text → Answers text
 values_answer text are = subst Answers (sym are.is) (record { behind = values_are_one_reply.more are.at are.blocks; before = values_are_one_reply.front are.at are.blocks })
 
-pub nothing_answers : replies_in [] ≡ []
-nothing_answers = refusals_are_one_reply.front [] refl
+pub nothing_said : said_in [] ≡ unsaid []
+nothing_said = refusals_are_one_reply.front [] refl
 
-alone : (text : List ℕ) → Answers text → replies_in text ≡ text ∷ []
-alone text answers = ap replies_in (sym (append-nil text)) ∙ answers.behind [] ∙ ap (λ (replies : List (List ℕ)). text ∷ replies) nothing_answers
+pub nothing_answers : replies_in [] ≡ []
+nothing_answers = ap (λ (s : Said). s.replies) nothing_said
+
+alone : (text : List ℕ) → Answers text → said_in text ≡ one_reply text
+alone text answers = ap said_in (sym (append-nil text)) ∙ answers.behind [] ∙ ap (with_reply text) nothing_said
 
 le_or_gt : (a b : ℕ) → (a < b) ⊎ (b ≤ a)
 le_or_gt a b = grind arith
 
 -- a front of it is none yet, or all of it
-front_ways : (text : List ℕ) → Answers text → (count : ℕ) → (replies_in (take count text) ≡ []) ⊎ ((take count text ≡ text) × (replies_in (take count text) ≡ text ∷ []))
+front_ways : (text : List ℕ) → Answers text → (count : ℕ) → (said_in (take count text) ≡ unsaid (take count text)) ⊎ ((take count text ≡ text) × (said_in (take count text) ≡ one_reply text))
 front_ways text answers count = ⊎_elim
     (λ (short : count < length text). inl (answers.before count short))
-    (λ (long : length text ≤ count). (let whole = take_all count text long in inr (whole, ap replies_in whole ∙ alone text answers)))
+    (λ (long : length text ≤ count). (let whole = take_all count text long in inr (whole, ap said_in whole ∙ alone text answers)))
     (le_or_gt count (length text))
 
 take_none : (count : ℕ) → take {A = ℕ} count [] ≡ []
 take_none zero = refl
 take_none (suc count) = refl
 
-none_ways : (count : ℕ) → replies_in (take count []) ≡ []
-none_ways count = ap replies_in (take_none count) ∙ nothing_answers
+none_ways : (count : ℕ) → said_in (take count []) ≡ unsaid (take count [])
+none_ways count = subst (λ (l : List ℕ). said_in l ≡ unsaid l) (sym (take_none count)) nothing_said
 
 ok_answers : Answers ok_line
 ok_answers = values_answer ok_line (record { at = 0; blocks = []; is = refl })
 
 refusal_answers : (r : Refusal) → IsPlain r → Answers (refusal_line r)
 refusal_answers r plain = record {
-  behind = λ rest. ap replies_in (append_assoc (refusal_text r) (10 ∷ []) rest) ∙ refusals_are_one_reply.more (refusal_text r) rest plain.one_line plain.begins;
+  behind = λ rest. ap said_in (append_assoc (refusal_text r) (10 ∷ []) rest) ∙ refusals_are_one_reply.more (refusal_text r) rest plain.one_line plain.begins;
   before = λ count short.
       let text = refusal_text r in
       let size = length-append text (10 ∷ []) in
       let within : count ≤ length text = omega arith in
-      ap replies_in (take-append-le count text (10 ∷ []) within) ∙ refusals_are_one_reply.front (take count text) (lacks_take count text plain.one_line);
+      subst (λ (l : List ℕ). said_in l ≡ unsaid l) (sym (take-append-le count text (10 ∷ []) within)) (refusals_are_one_reply.front (take count text) (lacks_take count text plain.one_line));
 }
 
 front_is : (text : List ℕ) → Answers text → (count : ℕ) → IsFront (take count text)
 front_is text answers count = ⊎_elim
-    (λ (none : replies_in (take count text) ≡ []). inl none)
-    (λ (one : (take count text ≡ text) × (replies_in (take count text) ≡ text ∷ [])). inr (one.1 ∙ ap (λ (l : List ℕ). l ∷ []) (sym one.0)))
+    (λ (none : said_in (take count text) ≡ unsaid (take count text)). inl none)
+    (λ (one : (take count text ≡ text) × (said_in (take count text) ≡ one_reply text)). inr (one.1 ∙ ap one_reply (sym one.0)))
     (front_ways text answers count)
 
 -- what was told of an answer is a front of one reply
@@ -157,20 +160,32 @@ refusal_reply r plain = reply_is (refusal_line r) (refusal_answers r plain)
 
 -- what the bytes acknowledge to a line that asks this, and what they let it begin
 module _ (ask : Ask) where
-  acks_none : (bytes : List ℕ) → replies_in bytes ≡ [] → Acks ask bytes []
-  acks_none bytes none = subst (λ (replies : List (List ℕ)). AcksIn ask replies []) (sym none) refl
+  -- a front of a refusal acknowledges nothing
+  refusal_front : (bytes : List ℕ) → IsRefusalFront bytes → AcksFront ask bytes []
+  refusal_front bytes is = by ask where
+    by : (a : Ask) → AcksFront a bytes []
+    by Nothing = refl
+    by (ToDo deed) = refl
+    by (ToSee volume at count) = inl (is, refl)
+
+  -- nor does nothing
+  no_front : (bytes : List ℕ) → bytes ≡ [] → AcksFront ask bytes []
+  no_front bytes none = refusal_front bytes (BadLine, 0, none)
+
+  acks_unsaid : (bytes : List ℕ) (done : List Deed) → said_in bytes ≡ unsaid bytes → AcksFront ask bytes done → Acks ask bytes done
+  acks_unsaid bytes done none acks = subst (λ (s : Said). AcksIn ask s.replies s.left done) (sym none) acks
 
   pub nothing_acked : Acks ask [] []
-  nothing_acked = acks_none [] nothing_answers
+  nothing_acked = acks_unsaid [] [] nothing_said (no_front [] refl)
 
-  pub acks_one : (bytes reply : List ℕ) (done : List Deed) → replies_in bytes ≡ reply ∷ [] → AcksBy ask reply done → Acks ask bytes done
-  acks_one bytes reply done one acks = subst (λ (replies : List (List ℕ)). AcksIn ask replies done) (sym one) acks
+  acks_one : (bytes reply : List ℕ) (done : List Deed) → said_in bytes ≡ one_reply reply → AcksBy ask reply done → Acks ask bytes done
+  acks_one bytes reply done one acks = subst (λ (s : Said). AcksIn ask s.replies s.left done) (sym one) acks
 
-  issuable_none : (bytes : List ℕ) → replies_in bytes ≡ [] → issuable_of ask bytes ≡ deeds ask
-  issuable_none bytes none = ap (issuable_in ask) none
+  issuable_unsaid : (bytes : List ℕ) → said_in bytes ≡ unsaid bytes → issuable_of ask bytes ≡ deeds ask
+  issuable_unsaid bytes none = ap (λ (s : Said). issuable_in ask s.replies) none
 
   pub nothing_issuable : issuable_of ask [] ≡ deeds ask
-  nothing_issuable = issuable_none [] nothing_answers
+  nothing_issuable = issuable_unsaid [] nothing_said
 
   -- a refusal acknowledges nothing
   pub refusal_acks : (r : Refusal) → AcksBy ask (refusal_line r) []
@@ -222,32 +237,51 @@ module _ (ask : Ask) where
     pub lets : IsPart (issued_by ask answer) (issuable_of ask bytes)
     pub all : TellsAll answer done told
 
-  none_way : (answer : Answer) (done : List Deed) (bytes : List ℕ) → replies_in bytes ≡ [] → Way answer done bytes
-  none_way answer done bytes none = record {
-    told = [];
-    acks = acks_none bytes none;
-    lets = subst (λ (may : List Deed). IsPart (issued_by ask answer) may) (sym (issuable_none bytes none)) (issued_asked answer);
-    all = inl refl;
+  unsaid_way : (answer : Answer) (done : List Deed) (bytes : List ℕ) (told : List Deed) → said_in bytes ≡ unsaid bytes → AcksFront ask bytes told → TellsAll answer done told → Way answer done bytes
+  unsaid_way answer done bytes told none acks all = record {
+    told = told;
+    acks = acks_unsaid bytes told none acks;
+    lets = subst (λ (may : List Deed). IsPart (issued_by ask answer) may) (sym (issuable_unsaid bytes none)) (issued_asked answer);
+    all = all;
   }
 
-  whole_way : (answer : Answer) (done : List Deed) (bytes reply : List ℕ) (told : List Deed) → replies_in bytes ≡ reply ∷ [] → ReplyWay answer done reply told → Way answer done bytes
+  -- of a reply that is accepted, a front that isn't whole acknowledges the values of a read
+  accepted_front : (answer : Answer) → IsAccepted answer → (done : List Deed) (reply : List ℕ) → AcksBy ask reply done → (bytes : List ℕ) (size : ℕ) → bytes ≡ take size reply → (told : List Deed) × AcksFront ask bytes told × TellsAll answer done told
+  accepted_front answer on done reply acks [] size is = ([], no_front [] refl, inl refl)
+  accepted_front answer on done reply acks (b ∷ bytes) size is = by ask acks where
+    by : (a : Ask) → AcksBy a reply done → (told : List Deed) × AcksFront a (b ∷ bytes) told × TellsAll answer done told
+    by Nothing acks = ([], refl, inl refl)
+    by (ToDo deed) acks = ([], refl, inl refl)
+    by (ToSee volume at count) (inl (refusal, none)) = ([], inl ((refusal.0, size, is ∙ ap (take size) refusal.1), refl), inl refl)
+    by (ToSee volume at count) (inr tells) = (done, inr (record { some = λ empty. absurd (cc (empty)); reply = reply; size = size; front = is; tells = tells }), inr (on, refl))
+
+  whole_way : (answer : Answer) (done : List Deed) (bytes reply : List ℕ) (told : List Deed) → said_in bytes ≡ one_reply reply → ReplyWay answer done reply told → Way answer done bytes
   whole_way answer done bytes reply told one way = record {
     told = told;
     acks = acks_one bytes reply told one way.acks;
-    lets = subst (λ (may : List Deed). IsPart (issued_by ask answer) may) (sym (ap (issuable_in ask) one)) way.lets;
+    lets = subst (λ (may : List Deed). IsPart (issued_by ask answer) may) (sym (ap (λ (s : Said). issuable_in ask s.replies) one)) way.lets;
     all = way.all;
   }
 
-  front_way : (answer : Answer) (done : List Deed) (text : List ℕ) (told : List Deed) → Answers text → ReplyWay answer done text told → (count : ℕ) → Way answer done (take count text)
-  front_way answer done text told answers way count = ⊎_elim
-      (λ (none : replies_in (take count text) ≡ []). none_way answer done (take count text) none)
-      (λ (one : (take count text ≡ text) × (replies_in (take count text) ≡ text ∷ [])). whole_way answer done (take count text) text told one.1 way)
+  accepted_way : (answer : Answer) → IsAccepted answer → (done : List Deed) (text : List ℕ) → Answers text → ReplyWay answer done text done → (count : ℕ) → Way answer done (take count text)
+  accepted_way answer on done text answers way count = ⊎_elim
+      (λ (none : said_in (take count text) ≡ unsaid (take count text)). (let front = accepted_front answer on done text way.acks (take count text) count refl in unsaid_way answer done (take count text) front.0 none front.1 front.2))
+      (λ (one : (take count text ≡ text) × (said_in (take count text) ≡ one_reply text)). whole_way answer done (take count text) text done one.1 way)
       (front_ways text answers count)
 
+  refused_way : (r : Refusal) (done : List Deed) → IsPlain r → (count : ℕ) → Way (outcome.Refused r) done (take count (refusal_line r))
+  refused_way r done plain count = ⊎_elim
+      (λ (none : said_in (take count (refusal_line r)) ≡ unsaid (take count (refusal_line r))). unsaid_way (outcome.Refused r) done (take count (refusal_line r)) [] none (refusal_front (take count (refusal_line r)) (r, count, refl)) (inl refl))
+      (λ (one : (take count (refusal_line r) ≡ refusal_line r) × (said_in (take count (refusal_line r)) ≡ one_reply (refusal_line r))). whole_way (outcome.Refused r) done (take count (refusal_line r)) (refusal_line r) [] one.1 (refusal_way r done))
+      (front_ways (refusal_line r) (refusal_answers r plain) count)
+
+  untold_way : (answer : Answer) (done : List Deed) (count : ℕ) → Way answer done (take count [])
+  untold_way answer done count = unsaid_way answer done (take count []) [] (none_ways count) (no_front (take count []) (take_none count)) (inl refl)
+
   pub ways : (answer : Answer) → IsPlainAnswer answer → (done : List Deed) → AcksAnswer ask answer done → (count : ℕ) → Way answer done (take count (text_of answer))
-  ways outcome.Ok plain done acks count = front_way outcome.Ok done ok_line done ok_answers (ok_way done acks) count
-  ways (outcome.Values text) plain done acks count = front_way (outcome.Values text) done text done (values_answer text plain) (values_way text done acks) count
-  ways (outcome.Refused r) plain done acks count = front_way (outcome.Refused r) done (refusal_line r) [] (refusal_answers r plain) (refusal_way r done) count
-  ways outcome.Panic plain done acks count = none_way outcome.Panic done (take count []) (none_ways count)
-  ways outcome.Spent plain done acks count = none_way outcome.Spent done (take count []) (none_ways count)
-  ways outcome.NoMemory plain done acks count = none_way outcome.NoMemory done (take count []) (none_ways count)
+  ways outcome.Ok plain done acks count = accepted_way outcome.Ok tt done ok_line ok_answers (ok_way done acks) count
+  ways (outcome.Values text) plain done acks count = accepted_way (outcome.Values text) tt done text (values_answer text plain) (values_way text done acks) count
+  ways (outcome.Refused r) plain done acks count = refused_way r done plain count
+  ways outcome.Panic plain done acks count = untold_way outcome.Panic done count
+  ways outcome.Spent plain done acks count = untold_way outcome.Spent done count
+  ways outcome.NoMemory plain done acks count = untold_way outcome.NoMemory done count

@@ -20,7 +20,7 @@ use Rattle.mdv_engine_law.proofs.Going.{goes_none, goes_more, goes_weaker}
 use Rattle.mdv_engine_law.proofs.Knowing.{knows_kept, known_kept}
 use Rattle.mdv_engine_law.proofs.Deeds.{told_all}
 use Rattle.mdv_engine_law.proofs.Staying.{stays_more, stays_same, stays_still}
-use Rattle.mdv_engine_law.proofs.Plain.{front_of, nothing_answers, nothing_acked, nothing_issuable, TellsAll, ReplyWay, ok_way, values_way, refusal_way, ways, ok_reply, values_are_reply, refusal_reply}
+use Rattle.mdv_engine_law.proofs.Plain.{front_of, nothing_said, nothing_acked, nothing_issuable, TellsAll, ReplyWay, ok_way, values_way, refusal_way, ways, ok_reply, values_are_reply, refusal_reply}
 
 -- nothing is among no deeds
 pub never_among : (deeds : List Deed) (deed : Deed) → deeds ≡ [] → Contains deeds deed → ⊥
@@ -55,7 +55,7 @@ module _ (host : Host) (ask : Ask) (old : Memory) where
     home = carry.home;
     bytes = [];
     is_told = carry.quiet ∙ sym (append-nil (told t));
-    front = inl nothing_answers;
+    front = inl nothing_said;
     done = [];
     acks = nothing_acked ask;
     awake = λ some. absurd (some refl);

@@ -36,7 +36,7 @@ pub use Rattle.mdv_shelf.specs.Calls.{OnReplies, and_then}
 pub use Rattle.mdv_shelf.specs.Moments.{Ends, Grew, Moments}
 pub use Rattle.mdv_shelf.specs.Settle.{IsSettled, IsSynced, Settling}
 pub use Rattle.mdv_shelf.specs.Tale.{Among, Gave, IsImage, Tale, Then, covers, last, told}
-pub use Rattle.mdv_status.specs.Telling.{lacks, refused, replies_in}
+pub use Rattle.mdv_status.specs.Telling.{Said, lacks, left_in, one_reply, refused, replies_in, said_in, unsaid, with_reply}
 pub use Rattle.mdv_status.specs.Values.{block_text, values_reply}
 pub use Rattle.mdv_store_law.specs.Going.{IsCreated, IsWithNewest, created_head, created_newest}
 pub use Rattle.mdv_store_law.specs.Log.{IsMade, IsTellable, IsThis, Log, NoCreation, Version, is_firm}

@@ -1,10 +1,10 @@
 -- The bytes of replies, how they are told, and what they acknowledge.
-use Rattle.std.specs.Prelude.{◌≡◌, ◌⊎◌, ℕ, true, ◌||◌, List, [], ◌∷◌, ◌++◌, length, take, codes, if◌then◌else◌}
+use Rattle.std.specs.Prelude.{◌≡◌, ◌≢◌, ◌⊎◌, ℕ, true, ◌||◌, List, [], ◌∷◌, ◌++◌, length, take, codes, if◌then◌else◌}
 use Rattle.std.specs.Str.{bytes_eq}
 use Rattle.mdv_shelf.specs.Shelves.{MadeCalls, MadeCallsAtMost}
 use Rattle.mdv_shelf.specs.Story.{NoFewer}
 use Rattle.mdv_shelf.specs.declared.shelf.Shelf.{Ghosts}
-use Rattle.mdv_engine_law.specs.Below.{refusal_text, VolId, Refusal, IoFault, Deed, Saw, lacks, refused, replies_in, values_reply}
+use Rattle.mdv_engine_law.specs.Below.{refusal_text, VolId, Refusal, IoFault, Deed, Saw, lacks, left_in, one_reply, refused, replies_in, said_in, unsaid, with_reply, values_reply}
 use Rattle.mdv_engine_law.specs.declared.answer.Answer.{Answer}
 use Rattle.mdv_engine_law.specs.declared.answer.Answer.TheVariants as outcome
 use Rattle.mdv_engine_law.specs.declared.answer.Reply.{Reply}
@@ -47,12 +47,12 @@ IsPlainAnswer outcome.NoMemory = Unit {0}
 
 -- a whole reply: it is one, whatever comes behind it
 pub record IsReply (bytes : List ℕ) : Type 0 where
-  pub alone : replies_in bytes ≡ bytes ∷ []
-  pub behind : (rest : List ℕ) → replies_in (bytes ++ rest) ≡ bytes ∷ replies_in rest
+  pub alone : said_in bytes ≡ one_reply bytes
+  pub behind : (rest : List ℕ) → said_in (bytes ++ rest) ≡ with_reply bytes (said_in rest)
 
 -- a front of a reply: it is none yet, or the whole one
 abbrev pub IsFront : List ℕ → Type 0
-IsFront bytes = (replies_in bytes ≡ []) ⊎ (replies_in bytes ≡ bytes ∷ [])
+IsFront bytes = (said_in bytes ≡ unsaid bytes) ⊎ (said_in bytes ≡ one_reply bytes)
 
 -- the reply tells a refusal
 abbrev pub IsRefusal : List ℕ → Type 0
@@ -71,13 +71,31 @@ AcksBy Nothing reply done = done ≡ []
 AcksBy (ToDo deed) reply done = done ≡ (if bytes_eq reply ok_line then deed ∷ [] else [])
 AcksBy (ToSee volume at count) reply done = (IsRefusal reply × (done ≡ [])) ⊎ TellsValues volume at count reply done
 
--- what the bytes told of it acknowledge: nothing, while they are no reply yet
-abbrev pub AcksIn : Ask → List (List ℕ) → List Deed → Type 0
-AcksIn ask [] done = done ≡ []
-AcksIn ask (reply ∷ more) done = AcksBy ask reply done
+-- some bytes are a front of a reply that tells values, and all of these were seen
+pub record TellsFront (volume : VolId) (at count : ℕ) (bytes : List ℕ) (done : List Deed) : Type 0 where
+  pub some : bytes ≢ []
+  pub reply : List ℕ
+  pub size : ℕ
+  pub front : bytes ≡ take size reply
+  pub tells : TellsValues volume at count reply done
+
+-- a front of a reply that tells a refusal
+abbrev pub IsRefusalFront : List ℕ → Type 0
+IsRefusalFront bytes = (refusal : Refusal) × (count : ℕ) × (bytes ≡ take count (refusal_line refusal))
+
+-- what a front of a reply acknowledges that isn't whole: of a read the values of the reply, from its first byte on, and else nothing
+abbrev pub AcksFront : Ask → List ℕ → List Deed → Type 0
+AcksFront Nothing bytes done = done ≡ []
+AcksFront (ToDo deed) bytes done = done ≡ []
+AcksFront (ToSee volume at count) bytes done = (IsRefusalFront bytes × (done ≡ [])) ⊎ TellsFront volume at count bytes done
+
+-- what the bytes told of a reply acknowledge
+abbrev pub AcksIn : Ask → List (List ℕ) → List ℕ → List Deed → Type 0
+AcksIn ask [] left done = AcksFront ask left done
+AcksIn ask (reply ∷ more) left done = AcksBy ask reply done
 
 abbrev pub Acks : Ask → List ℕ → List Deed → Type 0
-Acks ask bytes done = AcksIn ask (replies_in bytes) done
+Acks ask bytes done = AcksIn ask (replies_in bytes) (left_in bytes) done
 
 -- what an answer acknowledges, once it is told
 abbrev pub AcksAnswer : Ask → Answer → List Deed → Type 0

@@ -1,7 +1,7 @@
 -- One line, answered.
 use Rattle.mdv_engine_law.specs.Line.{Nothing, Ask}
-use Rattle.std.proofs.Common.{inl, inr, ℕ, List, [], ◌++◌, refl, sym, ◌∙◌, ap}
-use Rattle.mdv_run.specs.Below.{Script, line, Tale, replies_in, Command, Create, MakeStripe, Read, Write, Spelled, Boot, IsCommand, IsLine, Reply, IsReplied, IsTurnedDown, Host, Memory, IsExecuted, Executed, Knows, IsAwake, Turned, Asks, RanTo, behind, kept_at}
+use Rattle.std.proofs.Common.{inl, inr, ℕ, List, [], refl, ◌∙◌, ap}
+use Rattle.mdv_run.specs.Below.{Script, line, Tale, Command, Create, MakeStripe, Read, Write, Spelled, Boot, IsCommand, IsLine, Reply, IsReplied, IsTurnedDown, Host, Memory, IsExecuted, Executed, Knows, IsAwake, Turned, Asks, RanTo, behind, kept_at}
 use Rattle.mdv_run.specs.Turns.{LineAnswered}
 use Rattle.mdv_shelf.proofs.Blocks.{both_ways}
 use Rattle.mdv_words.specs.declared.command.Line.TheVariants as words
@@ -14,7 +14,7 @@ use Rattle.mdv_engine_law.specs.Standing.{OnlyReplied}
 use Rattle.mdv_history.specs.History.{Created}
 use Rattle.mdv_base.specs.declared.refusal.Refusal.{Refusal}
 use Rattle.mdv_run_law.proofs.Coming.{behind_none}
-use Rattle.mdv_run_law.proofs.Turning.{line_ran}
+use Rattle.mdv_run_law.proofs.Turning.{line_ran, only_reply, reply_replies}
 
 -- a command of a line is one that an engine executes
 pub executed_line : (text : List ℕ) (command : Command) → IsCommand text command → IsExecuted command
@@ -34,8 +34,8 @@ module _ (host : Host) (text : List ℕ) (more : Script) (ask : Ask) (asks : Ask
   unknown_ran never = record {
     bytes = turned.bytes;
     is_told = turned.is_told;
-    replies = λ rest. turned.reply.behind rest ∙ ap (λ (l : List (List ℕ)). l ++ replies_in rest) (sym turned.reply.alone);
-    left_is = ap (behind (line text more)) turned.reply.alone ∙ behind_none more;
+    replies = reply_replies turned.bytes turned.reply;
+    left_is = ap (behind (line text more)) (only_reply turned.bytes turned.reply) ∙ behind_none more;
     knows = turned.knows;
     made = λ knows told. absurd (never knows);
     goes = λ h known. absurd (never known.knows);

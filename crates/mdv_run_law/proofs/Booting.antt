@@ -1,18 +1,18 @@
 -- A boot, as a line of the script and as the start of a run.
 use Rattle.std.proofs.Common.{◌≡◌, inl, inr, ℕ, true, List, [], ◌++◌, Contains, refl, sym, ◌∙◌, ap, subst, arith}
 use Rattle.std.proofs.lemmas.List.{append-nil}
-use Rattle.mdv_run_law.specs.Below.{Script, line, Tale, told, replies_in, Boot, IsLine, History, Deed, Created, Event, history_after_all, HasWoken, Host, site_of, Nothing, Memory, issuable, issuable_of, StandsAt, IsKnown, IsAwake, BootMoment, BootedTo, TurnMoment, Turned}
+use Rattle.mdv_run_law.specs.Below.{Script, line, Tale, told, Said, left_in, replies_in, Boot, IsLine, History, Deed, Created, Event, history_after_all, HasWoken, Host, site_of, Nothing, Memory, issuable, issuable_of, StandsAt, IsKnown, IsAwake, BootMoment, BootedTo, TurnMoment, Turned}
 use Rattle.mdv_history.proofs.Histories.{woken_first}
 use Rattle.mdv_store_law.proofs.Machine.{after_more, course_more}
 use Rattle.mdv_run_law.specs.Below.{MayHappen, history_after}
-use Rattle.mdv_engine_law.proofs.Plain.{nothing_answers, nothing_acked, nothing_issuable}
+use Rattle.mdv_engine_law.proofs.Plain.{nothing_answers, nothing_said, nothing_acked, nothing_issuable}
 use Rattle.mdv_engine_law.proofs.Going.{goes_more}
 use Rattle.mdv_store_law.proofs.Parts.{part_itself}
 use Rattle.mdv_engine_law.proofs.Staying.{stays_in_replica, stays_more}
 use Rattle.mdv_engine_law.specs.Standing as turn
 use Rattle.mdv_run_law.specs.Standing.{Asks, AreIdle, AreOfRun, ComeOf, InWork, IsTold, behind, LinesMoment, RanTo, RunMoment}
 use Rattle.mdv_run_law.proofs.Coming.{behind_none, told_none, in_work_none, idle_none}
-use Rattle.mdv_run_law.proofs.Turning.{none_acked, reply_come, reply_told}
+use Rattle.mdv_run_law.proofs.Turning.{none_acked, only_reply, reply_come, reply_replies, reply_told}
 
 module _ (host : Host) where
   -- the events of a boot, and those of a turn
@@ -33,7 +33,7 @@ module _ (host : Host) where
     home = stays_in_replica host t m moment.kept;
     bytes = [];
     is_told = moment.quiet ∙ sym (append-nil (told t));
-    front = inl nothing_answers;
+    front = inl nothing_said;
     done = [];
     acks = nothing_acked Nothing;
     awake = λ some. absurd (some refl);
@@ -71,8 +71,8 @@ module _ (host : Host) where
         record {
           bytes = turned.bytes;
           is_told = told_both v turned.bytes turned.is_told;
-          replies = λ rest. turned.reply.behind rest ∙ ap (λ (l : List (List ℕ)). l ++ replies_in rest) (sym turned.reply.alone);
-          left_is = ap (behind (line text more)) turned.reply.alone ∙ behind_none more;
+          replies = reply_replies turned.bytes turned.reply;
+          left_is = ap (behind (line text more)) (only_reply turned.bytes turned.reply) ∙ behind_none more;
           knows = λ known. turned.knows booted.knows;
           made = λ known told. absurd (never turned.done turned.acks (reply_told host text Nothing asks more turned.bytes turned.reply turned.done turned.acks told));
           goes = λ h known.
@@ -90,8 +90,8 @@ module _ (host : Host) where
 
   -- the boot at a run's start
   module _ (script : Script) where
-    nothing_come : ComeOf host (InWork host) true script (replies_in []) []
-    nothing_come = subst (λ (l : List (List ℕ)). ComeOf host (InWork host) true script l []) (sym nothing_answers) (in_work_none host true script)
+    nothing_come : ComeOf host (InWork host (left_in [])) true script (replies_in []) []
+    nothing_come = subst (λ (s : Said). ComeOf host (InWork host s.left) true script s.replies []) (sym nothing_said) (in_work_none host true script)
 
     -- events of a boot that didn't read the drive, or not yet
     only_booted : (es : List Event) → AreIdle host es → AreOfRun host script [] es

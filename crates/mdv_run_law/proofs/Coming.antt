@@ -72,11 +72,11 @@ module _ (host : Host) where
   pub idle_none : AreIdle host []
   idle_none = record { tells = refl; issues = tt; begins = tt }
 
-  pub in_work_none : (down : Bool) (script : Script) → InWork host down script []
+  pub in_work_none : (down : Bool) (script : Script) → InWork host [] down script []
   in_work_none down at_end = idle_none
   in_work_none down (spent lines bytes) = idle_none
   in_work_none down (too_long more) = idle_none
-  in_work_none down (line text more) = inl refl
+  in_work_none down (line text more) = inl (refl, refl)
 
   module _ (Left : Bool → Script → List Event → Type 0) where
     at_end_left : (down : Bool) (replies : List (List ℕ)) (es : List Event) → ComeOf host Left down at_end replies es → Left down at_end es

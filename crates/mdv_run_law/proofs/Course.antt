@@ -1,7 +1,7 @@
 -- Where nothing failed and memory was never wanting, a run has one course.
 use Rattle.std.proofs.Common.{◌≡◌, inl, inr, ℕ, Bool, false, List, [], ◌∷◌, ◌++◌, length, ◌+◌, Contains, refl, sym, ◌∙◌, ap, subst, append_assoc, arith}
 use Rattle.std.proofs.lemmas.List.Elements.{Contains-append_right}
-use Rattle.mdv_run_law.specs.Below.{Refusal, BadLine, OutOfMemory, Script, at_end, spent, too_long, line, replies_in, Command, Create, MakeStripe, Read, Write, Boot, Line, Answer, Host, site_of, Kept, IsCarriedOut, ComesTo, IsRebooted, adopted, empty, down, lost, wanting, IsPlain, IsPlainAnswer, IsReply, refusal_line}
+use Rattle.mdv_run_law.specs.Below.{Refusal, BadLine, OutOfMemory, Script, at_end, spent, too_long, line, Said, replies_in, Command, Create, MakeStripe, Read, Write, Boot, Line, Answer, Host, site_of, Kept, IsCarriedOut, ComesTo, IsRebooted, adopted, empty, down, lost, wanting, IsPlain, IsPlainAnswer, IsReply, refusal_line}
 use Rattle.mdv_words.specs.declared.command.Line.TheVariants as words
 use Rattle.mdv_engine_law.specs.declared.answer.Answer.TheVariants as outcome
 use Rattle.mdv_engine_law.specs.Line as boot
@@ -65,11 +65,11 @@ answered_more failed more host kept next text answer cause (inr (spelled, is, do
 
 -- want of memory is told as such
 told_wanting : (rest : List ℕ) → Contains (replies_in (refusal_line OutOfMemory ++ rest)) (refusal_line OutOfMemory)
-told_wanting rest = subst (λ (l : List (List ℕ)). Contains l (refusal_line OutOfMemory)) (sym ((refusal_reply OutOfMemory memory_plain).behind rest)) (0, omega arith, refl)
+told_wanting rest = subst (λ (l : List (List ℕ)). Contains l (refusal_line OutOfMemory)) (sym (ap (λ (s : Said). s.replies) ((refusal_reply OutOfMemory memory_plain).behind rest))) (0, omega arith, refl)
 
 rest_sated : (reply rest : List ℕ) (status : RunStatus) → IsReply reply → IsSated (reply ++ rest) status → IsSated rest status
 rest_sated reply rest status is sated = record {
-  replies = λ has. sated.replies (subst (λ (l : List (List ℕ)). Contains l (refusal_line OutOfMemory)) (sym (is.behind rest)) (Contains-append_right (reply ∷ []) (replies_in rest) (refusal_line OutOfMemory) has));
+  replies = λ has. sated.replies (subst (λ (l : List (List ℕ)). Contains l (refusal_line OutOfMemory)) (sym (ap (λ (s : Said). s.replies) (is.behind rest))) (Contains-append_right (reply ∷ []) (replies_in rest) (refusal_line OutOfMemory) has));
   end = sated.end;
 }
 

@@ -1,10 +1,10 @@
 -- How the moments of the lines add up.
 use Rattle.std.proofs.Common.{◌≡◌, ◌⊎◌, inl, inr, ⊎_elim, ℕ, Bool, List, [], ◌++◌, refl, sym, ◌∙◌, ap, subst, append_assoc}
 use Rattle.std.proofs.lemmas.List.{append-nil}
-use Rattle.mdv_run_law.specs.Below.{Script, Tale, told, replies_in, History, Deed, Created, Event, history_after_all, Host, site_of, Memory, StandsAt, Reached, IsKnown}
+use Rattle.mdv_run_law.specs.Below.{Script, Tale, told, Said, left_in, replies_in, History, Deed, Created, Event, history_after_all, Host, site_of, Memory, StandsAt, Reached, IsKnown}
 use Rattle.mdv_store_law.proofs.Machine.{goes_more}
 use Rattle.mdv_run_law.specs.Below.{MayHappen, history_after}
-use Rattle.mdv_engine_law.proofs.Plain.{nothing_answers}
+use Rattle.mdv_engine_law.proofs.Plain.{nothing_answers, nothing_said}
 use Rattle.mdv_run_law.specs.Standing.{ComeOf, InWork, NothingLeft, IsTold, Goes, behind, AreReplies, LinesMoment, RanTo}
 use Rattle.mdv_run_law.proofs.Coming.{behind_none, behind_more, told_none, told_either, in_work_none, come_more}
 use Rattle.mdv_run_law.proofs.Made.{ours_stays, shows_made}
@@ -17,24 +17,27 @@ goes_nothing host Come After m h come stands after = record { es = []; course = 
 module _ (script left : Script) (a b : List ℕ) (replies : AreReplies a) (left_is : behind script (replies_in a) ≡ left) where
   pub told_behind : (deed : Deed) → IsTold script (replies_in (a ++ b)) deed → IsTold script (replies_in a) deed ⊎ IsTold left (replies_in b) deed
   told_behind deed is = ⊎_elim (λ first. inl first) (λ second. inr (subst (λ (s : Script). IsTold s (replies_in b) deed) left_is second))
-      (told_either script (replies_in a) (replies_in b) deed (subst (λ (l : List (List ℕ)). IsTold script l deed) (replies b) is))
+      (told_either script (replies_in a) (replies_in b) deed (subst (λ (l : List (List ℕ)). IsTold script l deed) (replies.replies b) is))
 
   pub come_behind : (host : Host) (Left : Bool → Script → List Event → Type 0) (now down : Bool) (es fs : List Event) → ComeOf host (NothingLeft now) down script (replies_in a) es → ComeOf host Left now left (replies_in b) fs
       → ComeOf host Left down script (replies_in (a ++ b)) (es ++ fs)
   come_behind host Left now down es fs first second =
-      subst (λ (l : List (List ℕ)). ComeOf host Left down script l (es ++ fs)) (sym (replies b))
+      subst (λ (l : List (List ℕ)). ComeOf host Left down script l (es ++ fs)) (sym (replies.replies b))
       (come_more host Left now down script (replies_in a) (replies_in b) es fs first (subst (λ (s : Script). ComeOf host Left now s (replies_in b) fs) (sym left_is) second))
 
   pub replies_more : AreReplies b → AreReplies (a ++ b)
-  replies_more other rest =
-      ap replies_in (append_assoc a b rest) ∙ replies (b ++ rest) ∙ ap (λ (l : List (List ℕ)). replies_in a ++ l) (other rest)
-      ∙ sym (append_assoc (replies_in a) (replies_in b) (replies_in rest)) ∙ ap (λ (l : List (List ℕ)). l ++ replies_in rest) (sym (replies b))
+  replies_more other = record {
+    replies = λ rest.
+        ap replies_in (append_assoc a b rest) ∙ replies.replies (b ++ rest) ∙ ap (λ (l : List (List ℕ)). replies_in a ++ l) (other.replies rest)
+        ∙ sym (append_assoc (replies_in a) (replies_in b) (replies_in rest)) ∙ ap (λ (l : List (List ℕ)). l ++ replies_in rest) (sym (replies.replies b));
+    left = λ rest. ap left_in (append_assoc a b rest) ∙ replies.left (b ++ rest) ∙ other.left rest;
+  }
 
   pub behind_both : (rest : Script) → behind left (replies_in b) ≡ rest → behind script (replies_in (a ++ b)) ≡ rest
-  behind_both rest is = ap (behind script) (replies b) ∙ behind_more script (replies_in a) (replies_in b) ∙ ap (λ (s : Script). behind s (replies_in b)) left_is ∙ is
+  behind_both rest is = ap (behind script) (replies.replies b) ∙ behind_more script (replies_in a) (replies_in b) ∙ ap (λ (s : Script). behind s (replies_in b)) left_is ∙ is
 
 replies_none : AreReplies []
-replies_none rest = ap (λ (l : List (List ℕ)). l ++ replies_in rest) (sym nothing_answers)
+replies_none = record { replies = λ rest. ap (λ (l : List (List ℕ)). l ++ replies_in rest) (sym nothing_answers); left = λ rest. refl }
 
 module _ (host : Host) (script : Script) (first : Memory) (t : Tale) where
   nothing_told : (deed : Deed) → IsTold script (replies_in []) deed → ⊥
@@ -45,8 +48,8 @@ module _ (host : Host) (script : Script) (first : Memory) (t : Tale) where
     bytes = [];
     is_told = sym (append-nil (told t));
     made = λ knows is. absurd (nothing_told Created is);
-    goes = λ h known. goes_nothing host (ComeOf host (InWork host) first.down script (replies_in [])) Reached t h
-        (subst (λ (l : List (List ℕ)). ComeOf host (InWork host) first.down script l []) (sym nothing_answers) (in_work_none host first.down script)) known.stands tt;
+    goes = λ h known. goes_nothing host (ComeOf host (InWork host (left_in [])) first.down script (replies_in [])) Reached t h
+        (subst (λ (s : Said). ComeOf host (InWork host s.left) first.down script s.replies []) (sym nothing_said) (in_work_none host first.down script)) known.stands tt;
   }
 
   pub ran_start : RanTo host script first first script t t
@@ -85,7 +88,8 @@ module _ (host : Host) (script : Script) (first : Memory) (t : Tale) where
           shows_made host has.number (history_after_all has.history after.es) m (ours_stays host has.number has.history after.es after.course (record { issued = has.issued; firm = has.firm })) after.stands)
           (λ here. lines.made (ran.knows knows) here)
           (told_behind script left ran.bytes lines.bytes ran.replies ran.left_is Created is);
-      goes = λ h known. lines_goes (InWork host) m lines.bytes (λ g. Unit {0}) h (ran.goes h known) (λ g after. lines.goes g after);
+      goes = λ h known. subst (λ (l : List ℕ). Goes host (ComeOf host (InWork host l) first.down script (replies_in (ran.bytes ++ lines.bytes))) Reached m h) (sym (ran.replies.left lines.bytes))
+          (lines_goes (InWork host (left_in lines.bytes)) m lines.bytes (λ g. Unit {0}) h (ran.goes h known) (λ g after. lines.goes g after));
     }
 
     pub ran_more : (new : Memory) (rest : Script) (v : Tale) → RanTo host left now new rest u v → RanTo host script first new rest t v

@@ -2,15 +2,26 @@
 use Rattle.std.proofs.Common.{◌≡◌, ◌≢◌, ◌⊎◌, inl, inr, ℕ, Bool, true, false, ◌||◌, cond, List, [], ◌∷◌, ◌++◌, None, Contains, refl, sym, ◌∙◌, ap, subst, arith}
 use Rattle.std.specs.Str.{bytes_eq}
 use Rattle.mdv_base.specs.declared.refusal.Refusal.TheVariants.{IoFault}
-use Rattle.mdv_run_law.specs.Below.{Script, too_long, line, Tale, replies_in, Boot, IsLine, History, Deed, Created, Event, history_after_all, HasWoken, Host, Ask, Nothing, Memory, IsFront, IsReply, Acks, AcksBy, AcksIn, deeds, issuable, issuable_in, issuable_of, ok_line, refusal_line, StandsAt, Does, Knows, IsKnown, IsAwake, TurnMoment, Turned}
+use Rattle.mdv_run_law.specs.Below.{Script, too_long, line, Tale, Said, left_in, replies_in, Boot, IsLine, History, Deed, Created, Event, history_after_all, HasWoken, Host, Ask, Nothing, Memory, IsFront, IsReply, Acks, AcksBy, AcksFront, AcksIn, deeds, issuable, issuable_in, issuable_of, ok_line, refusal_line, StandsAt, Does, Knows, IsKnown, IsAwake, TurnMoment, Turned}
 use Rattle.mdv_engine_law.specs.Standing as turn
-use Rattle.mdv_run_law.specs.Standing.{Asks, AreIdle, AreOfLine, ComeOf, InWork, NothingLeft, IsTold, behind, LinesMoment, RanTo}
+use Rattle.mdv_run_law.specs.Standing.{Asks, AreIdle, AreOfLine, ComeOf, InWork, NothingLeft, IsTold, AreReplies, behind, LinesMoment, RanTo}
 use Rattle.mdv_run_law.proofs.Coming.{one_asked, acked_once, behind_none, told_none, in_work_none, come_line, come_long}
 use Rattle.mdv_run_law.proofs.Made.{IsOurs, began, began_known, made_ours, shows_made}
 
 -- the first deed in a list is none of nothing
 some_acked : (deeds : List Deed) → Contains deeds Created → deeds ≢ []
 some_acked deeds has none = absurd (let in_none : Contains [] Created = subst (λ (l : List Deed). Contains l Created) none has in omega (arith, in_none.1))
+
+-- a whole reply is whole replies
+pub reply_replies : (bytes : List ℕ) → IsReply bytes → AreReplies bytes
+reply_replies bytes is = record {
+  replies = λ rest. ap (λ (s : Said). s.replies) (is.behind rest) ∙ ap (λ (l : List (List ℕ)). l ++ replies_in rest) (sym (ap (λ (s : Said). s.replies) is.alone));
+  left = λ rest. ap (λ (s : Said). s.left) (is.behind rest);
+}
+
+-- which is the one among its bytes
+pub only_reply : (bytes : List ℕ) → IsReply bytes → replies_in bytes ≡ bytes ∷ []
+only_reply bytes is = ap (λ (s : Said). s.replies) is.alone
 
 -- one turn, told by the script before it
 module _ (host : Host) (script : Script) (ask : Ask) (old : Memory) (t : Tale) where
@@ -26,7 +37,7 @@ module _ (host : Host) (script : Script) (ask : Ask) (old : Memory) (t : Tale) w
         made_ours host may done t m went.es went.course went.come has went.stands,
       )
 
-  pub turn_lines : (m : Tale) (moment : TurnMoment host ask old t m) → ((es : List Event) → Does host (issuable_of ask moment.bytes) moment.done es → ComeOf host (InWork host) old.down script (replies_in moment.bytes) es)
+  pub turn_lines : (m : Tale) (moment : TurnMoment host ask old t m) → ((es : List Event) → Does host (issuable_of ask moment.bytes) moment.done es → ComeOf host (InWork host (left_in moment.bytes)) old.down script (replies_in moment.bytes) es)
       → (IsTold script (replies_in moment.bytes) Created → Contains moment.done Created) → LinesMoment host script old t m
   turn_lines m moment come is_acked = record {
     bytes = moment.bytes;
@@ -45,7 +56,7 @@ module _ (host : Host) (script : Script) (ask : Ask) (old : Memory) (t : Tale) w
   turn_ran new left u turned come is_acked left_is = record {
     bytes = turned.bytes;
     is_told = turned.is_told;
-    replies = λ rest. turned.reply.behind rest ∙ ap (λ (l : List (List ℕ)). l ++ replies_in rest) (sym turned.reply.alone);
+    replies = reply_replies turned.bytes turned.reply;
     left_is = left_is;
     knows = turned.knows;
     made = λ knows told.
@@ -63,15 +74,15 @@ module _ (host : Host) (text : List ℕ) (ask : Ask) (asks : Asks text ask) (mor
   of_line old then reply done acks awake es does up = record { ask = ask; asks = asks; done = done; acks = acks; does = does; awake = awake; up = up }
 
   pub front_come : (old : Memory) (bytes : List ℕ) → IsFront bytes → (done : List Deed) → Acks ask bytes done → (done ≢ [] → IsAwake old) → (es : List Event) → Does host (issuable_of ask bytes) done es
-      → ComeOf host (InWork host) old.down (line text more) (replies_in bytes) es
+      → ComeOf host (InWork host (left_in bytes)) old.down (line text more) (replies_in bytes) es
   front_come old bytes (inl none) done acks awake es does =
-      let empty : done ≡ [] = subst (λ (replies : List (List ℕ)). AcksIn ask replies done) none acks in
-      let quiet : Does host (deeds ask) [] es = subst (λ (l : List Deed). Does host (deeds ask) l es) empty (subst (λ (replies : List (List ℕ)). Does host (issuable_in ask replies) done es) none does) in
-      subst (λ (l : List (List ℕ)). ComeOf host (InWork host) old.down (line text more) l es) (sym none) (inr (ask, asks, quiet))
+      let front : AcksFront ask bytes done = subst (λ (s : Said). AcksIn ask s.replies s.left done) none acks in
+      let does_so : Does host (deeds ask) done es = subst (λ (s : Said). Does host (issuable_in ask s.replies) done es) none does in
+      subst (λ (s : Said). ComeOf host (InWork host s.left) old.down (line text more) s.replies es) (sym none) (inr (record { ask = ask; asks = asks; done = done; acks = front; does = does_so; awake = awake }))
   front_come old bytes (inr one) done acks awake es does =
-      let by : AcksBy ask bytes done = subst (λ (replies : List (List ℕ)). AcksIn ask replies done) one acks in
-      let here = of_line old true bytes done by awake es (subst (λ (replies : List (List ℕ)). Does host (issuable_in ask replies) done es) one does) (λ is. absurd (cc (is))) in
-      subst (λ (l : List (List ℕ)). ComeOf host (InWork host) old.down (line text more) l es) (sym one) (come_line host (InWork host) old.down true text more bytes es here (in_work_none host true more))
+      let by : AcksBy ask bytes done = subst (λ (s : Said). AcksIn ask s.replies s.left done) one acks in
+      let here = of_line old true bytes done by awake es (subst (λ (s : Said). Does host (issuable_in ask s.replies) done es) one does) (λ is. absurd (cc (is))) in
+      subst (λ (s : Said). ComeOf host (InWork host s.left) old.down (line text more) s.replies es) (sym one) (come_line host (InWork host []) old.down true text more bytes es here (in_work_none host true more))
 
   -- a creation that the reply tells is among what it acknowledges
   one_told : (reply : List ℕ) (done : List Deed) → AcksBy ask reply done → IsTold (line text more) (reply ∷ []) Created → Contains done Created
@@ -81,12 +92,12 @@ module _ (host : Host) (text : List ℕ) (ask : Ask) (asks : Asks text ask) (mor
   one_told reply done acks (inr is) = absurd (told_none more Created is)
 
   pub front_told : (bytes : List ℕ) → IsFront bytes → (done : List Deed) → Acks ask bytes done → IsTold (line text more) (replies_in bytes) Created → Contains done Created
-  front_told bytes (inl none) done acks is = absurd (told_none (line text more) Created (subst (λ (l : List (List ℕ)). IsTold (line text more) l Created) none is))
+  front_told bytes (inl none) done acks is = absurd (told_none (line text more) Created (subst (λ (s : Said). IsTold (line text more) s.replies Created) none is))
   front_told bytes (inr one) done acks is =
-      one_told bytes done (subst (λ (replies : List (List ℕ)). AcksIn ask replies done) one acks) (subst (λ (l : List (List ℕ)). IsTold (line text more) l Created) one is)
+      one_told bytes done (subst (λ (s : Said). AcksIn ask s.replies s.left done) one acks) (subst (λ (s : Said). IsTold (line text more) s.replies Created) one is)
 
   pub reply_told : (bytes : List ℕ) → IsReply bytes → (done : List Deed) → AcksBy ask bytes done → IsTold (line text more) (replies_in bytes) Created → Contains done Created
-  reply_told bytes is done acks told = one_told bytes done acks (subst (λ (l : List (List ℕ)). IsTold (line text more) l Created) is.alone told)
+  reply_told bytes is done acks told = one_told bytes done acks (subst (λ (s : Said). IsTold (line text more) s.replies Created) is.alone told)
 
   -- a turn of a line, and one whose reply was told whole
   pub line_moment : (old : Memory) (t m : Tale) → TurnMoment host ask old t m → LinesMoment host (line text more) old t m
@@ -96,18 +107,18 @@ module _ (host : Host) (text : List ℕ) (ask : Ask) (asks : Asks text ask) (mor
       → (IsAwake new → (IsLine text Boot × HasWoken es) ⊎ (IsAwake old × (IsLine text Boot → ⊥))) → ComeOf host (NothingLeft new.down) old.down (line text more) (replies_in bytes) es
   reply_come old new bytes is done acks awake es does up =
       let here = of_line old new.down bytes done acks awake es does up in
-      subst (λ (l : List (List ℕ)). ComeOf host (NothingLeft new.down) old.down (line text more) l es) (sym is.alone) (come_line host (NothingLeft new.down) old.down new.down text more bytes es here (refl, refl))
+      subst (λ (l : List (List ℕ)). ComeOf host (NothingLeft new.down) old.down (line text more) l es) (sym (only_reply bytes is)) (come_line host (NothingLeft new.down) old.down new.down text more bytes es here (refl, refl))
 
   -- a line that is no boot
   pub line_ran : (old new : Memory) (t u : Tale) → Turned host ask old new t u → (IsAwake new → IsAwake old) → (IsLine text Boot → ⊥) → RanTo host (line text more) old new more t u
   line_ran old new t u turned awake other =
       turn_ran host (line text more) ask old t new more u turned (λ es does. reply_come old new turned.bytes turned.reply turned.done turned.acks turned.awake es does (λ up. inr (awake up, other)))
-      (reply_told turned.bytes turned.reply turned.done turned.acks) (ap (behind (line text more)) turned.reply.alone ∙ behind_none more)
+      (reply_told turned.bytes turned.reply turned.done turned.acks) (ap (behind (line text more)) (only_reply turned.bytes turned.reply) ∙ behind_none more)
 
 -- where nothing is asked nothing is acknowledged
 pub none_acked : (bytes : List ℕ) (done : List Deed) → Acks Nothing bytes done → done ≡ []
 none_acked bytes done acks = by (replies_in bytes) acks where
-  by : (replies : List (List ℕ)) → AcksIn Nothing replies done → done ≡ []
+  by : (replies : List (List ℕ)) → AcksIn Nothing replies (left_in bytes) done → done ≡ []
   by [] is = is
   by (reply ∷ replies) is = is
 
@@ -130,15 +141,15 @@ module _ (host : Host) (more : Script) (old : Memory) where
   idle : (may done : List Deed) → may ≡ [] → done ≡ [] → (es : List Event) → Does host may done es → AreIdle host es
   idle may done nothing none es does = subst (λ (l : List Deed). Does host [] l es) none (subst (λ (l : List Deed). Does host l done es) nothing does)
 
-  long_come : (bytes : List ℕ) → IsFront bytes → (done : List Deed) → Acks Nothing bytes done → (es : List Event) → Does host (issuable_of Nothing bytes) done es → ComeOf host (InWork host) old.down (too_long more) (replies_in bytes) es
+  long_come : (bytes : List ℕ) → IsFront bytes → (done : List Deed) → Acks Nothing bytes done → (es : List Event) → Does host (issuable_of Nothing bytes) done es → ComeOf host (InWork host (left_in bytes)) old.down (too_long more) (replies_in bytes) es
   long_come bytes front done acks es does = by front (idle (issuable_of Nothing bytes) done (none_issuable bytes) (none_acked bytes done acks) es does) where
-    by : IsFront bytes → AreIdle host es → ComeOf host (InWork host) old.down (too_long more) (replies_in bytes) es
-    by (inl none) quiet = subst (λ (l : List (List ℕ)). ComeOf host (InWork host) old.down (too_long more) l es) (sym none) quiet
-    by (inr one) quiet = subst (λ (l : List (List ℕ)). ComeOf host (InWork host) old.down (too_long more) l es) (sym one) (come_long host (InWork host) old.down more bytes es quiet (in_work_none host old.down more))
+    by : IsFront bytes → AreIdle host es → ComeOf host (InWork host (left_in bytes)) old.down (too_long more) (replies_in bytes) es
+    by (inl none) quiet = subst (λ (s : Said). ComeOf host (InWork host s.left) old.down (too_long more) s.replies es) (sym none) quiet
+    by (inr one) quiet = subst (λ (s : Said). ComeOf host (InWork host s.left) old.down (too_long more) s.replies es) (sym one) (come_long host (InWork host []) old.down more bytes es quiet (in_work_none host old.down more))
 
   long_told : (bytes : List ℕ) (deed : Deed) → IsFront bytes → IsTold (too_long more) (replies_in bytes) deed → ⊥
-  long_told bytes deed (inl none) is = told_none (too_long more) deed (subst (λ (l : List (List ℕ)). IsTold (too_long more) l deed) none is)
-  long_told bytes deed (inr one) is = told_none more deed (subst (λ (l : List (List ℕ)). IsTold (too_long more) l deed) one is)
+  long_told bytes deed (inl none) is = told_none (too_long more) deed (subst (λ (s : Said). IsTold (too_long more) s.replies deed) none is)
+  long_told bytes deed (inr one) is = told_none more deed (subst (λ (s : Said). IsTold (too_long more) s.replies deed) one is)
 
   pub long_moment : (t m : Tale) → TurnMoment host Nothing old t m → LinesMoment host (too_long more) old t m
   long_moment t m moment = turn_lines host (too_long more) Nothing old t m moment (long_come moment.bytes moment.front moment.done moment.acks) (λ told. absurd (long_told moment.bytes Created moment.front told))
@@ -146,7 +157,7 @@ module _ (host : Host) (more : Script) (old : Memory) where
   pub long_ran : (t u : Tale) → Turned host Nothing old old t u → RanTo host (too_long more) old old more t u
   long_ran t u turned =
       turn_ran host (too_long more) Nothing old t old more u turned
-      (λ es does. subst (λ (l : List (List ℕ)). ComeOf host (NothingLeft old.down) old.down (too_long more) l es) (sym turned.reply.alone)
+      (λ es does. subst (λ (l : List (List ℕ)). ComeOf host (NothingLeft old.down) old.down (too_long more) l es) (sym (only_reply turned.bytes turned.reply))
       (come_long host (NothingLeft old.down) old.down more turned.bytes es (idle (issuable Nothing turned.bytes) turned.done (none_issuable_by turned.bytes) turned.acks es does) (refl, refl)))
       (λ told. absurd (long_told turned.bytes Created (inr turned.reply.alone) told))
-      (ap (behind (too_long more)) turned.reply.alone ∙ behind_none more)
+      (ap (behind (too_long more)) (only_reply turned.bytes turned.reply) ∙ behind_none more)

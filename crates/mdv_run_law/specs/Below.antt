@@ -17,7 +17,7 @@ pub use Rattle.mdv_engine_law.specs.Line.{IsRead, IsRebooted, IsRewritten, IsSam
 pub use Rattle.mdv_engine_law.specs.Line.{Ask, ComesTo, Memory, Nothing, Stays, ToDo, ToSee, adopted, asked_by, asked_by_line, blocks_of, deeds, down, drive_content}
 pub use Rattle.mdv_engine_law.specs.Line.{empty, kept_at, lost, record_room}
 pub use Rattle.mdv_engine_law.specs.Line.{unbooted, wanting}
-pub use Rattle.mdv_engine_law.specs.Replies.{Acks, AcksBy, AcksIn, IsFront, IsPlain, IsPlainAnswer, IsReplied, IsReply, IsTold, issuable, issuable_in, issuable_of}
+pub use Rattle.mdv_engine_law.specs.Replies.{Acks, AcksBy, AcksFront, AcksIn, IsFront, IsPlain, IsPlainAnswer, IsReplied, IsReply, IsTold, issuable, issuable_in, issuable_of}
 pub use Rattle.mdv_engine_law.specs.Replies.{ok_line, refusal_line}
 pub use Rattle.mdv_engine_law.specs.Standing.{BootMoment, BootedTo, Does, Executed, IsAwake, IsKnown, IsMadeHere, IsOfRun, Knows, Reached}
 pub use Rattle.mdv_engine_law.specs.Standing.{StandsAt, TurnMoment, Turned}
@@ -46,7 +46,7 @@ pub use Rattle.mdv_replica.specs.declared.replica.Slot.TheVariants.{First, Secon
 pub use Rattle.mdv_shelf.specs.Calls.{OnDrive, OnReplies, Part}
 pub use Rattle.mdv_replica.specs.Images.{Image}
 pub use Rattle.mdv_shelf.specs.Tale.{Among, IsImage, MayLeave, Tale, covers, last, told, values}
-pub use Rattle.mdv_status.specs.Telling.{replies_in}
+pub use Rattle.mdv_status.specs.Telling.{Said, left_in, one_reply, replies_in, said_in, unsaid}
 pub use Rattle.mdv_status.specs.Values.{values_reply}
 pub use Rattle.mdv_store_law.specs.Laws.{restarted}
 pub use Rattle.mdv_store_law.specs.Log.{AreMade, Extends, IsLog, IsTellable, Log, Version, answered, empty_log, is_firm, with_asked}

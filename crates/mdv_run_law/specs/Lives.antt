@@ -1,6 +1,6 @@
 -- Lives: any number of runs on the same drives, each but the first begun on what the one before left, or a crash in it.
 use Rattle.std.specs.Prelude.{◌≡◌, ◌⊎◌, ℕ, false, List, [], ◌∷◌, ◌++◌, reverse, None, Contains}
-use Rattle.mdv_run_law.specs.Below.{IsHome, Home, Geometry, Script, Head, Slot, IsNewest, Mark, Image, Tale, Among, last, IsImage, Change, Table, Version, IsSound, restarted, AreMade, HasTable, IsFound, IsReplica, area_of, Deed, Created, Changed, changes_in, Event, history_after_all, IsCourse, new_history, Host, site_of, drive_content, StandsAt, replies_in}
+use Rattle.mdv_run_law.specs.Below.{IsHome, Home, Geometry, Script, Head, Slot, IsNewest, Mark, Image, Tale, Among, last, IsImage, Change, Table, Version, IsSound, restarted, AreMade, HasTable, IsFound, IsReplica, area_of, Deed, Created, Changed, changes_in, Event, history_after_all, IsCourse, new_history, Host, site_of, drive_content, StandsAt, left_in, replies_in}
 use Rattle.mdv_run_law.specs.Run.{HasHome}
 use Rattle.mdv_store_law.specs.Part.{IsPart}
 use Rattle.mdv_run_law.specs.Standing.{RunMoment, AreBegun, AreOfRun, AreTold, IsTold}
@@ -52,7 +52,7 @@ IsSaid (ran ∷ before) deed = IsTold ran.script (replies_in ran.bytes) deed ⊎
 -- all that they told, and what their lines may have begun, in order
 abbrev pub AreSaid : List Ran → List Deed → Type 0
 AreSaid [] said = said ≡ []
-AreSaid (ran ∷ before) said = (first : List Deed) × AreSaid before first × (rest : List Deed) × AreTold ran.script (replies_in ran.bytes) rest × (said ≡ first ++ rest)
+AreSaid (ran ∷ before) said = (first : List Deed) × AreSaid before first × (rest : List Deed) × AreTold ran.script (replies_in ran.bytes) (left_in ran.bytes) rest × (said ≡ first ++ rest)
 
 abbrev pub AreAsked : List Ran → List Deed → Type 0
 AreAsked [] asked = asked ≡ []

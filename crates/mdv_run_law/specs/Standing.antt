@@ -1,6 +1,6 @@
 -- How the drive stands with its history at each moment of a run.
 use Rattle.std.specs.Prelude.{◌≡◌, ◌≢◌, ◌⊎◌, ℕ, Bool, true, false, List, [], ◌∷◌, ◌++◌, Some, Contains}
-use Rattle.mdv_run_law.specs.Below.{Script, at_end, spent, too_long, line, Head, shows, Tale, told, IsImage, replies_in, Line, Boot, IsLine, is_firm, IsReplica, History, Deed, Created, Event, HasWoken, history_after, MayHappen, Host, site_of, identity_of, Ask, Nothing, Memory, asked_by_line, AcksBy, deeds, issuable, StandsAt, Does, Reached, Knows, IsKnown}
+use Rattle.mdv_run_law.specs.Below.{Script, at_end, spent, too_long, line, Head, shows, Tale, told, IsImage, left_in, replies_in, Line, Boot, IsLine, is_firm, IsReplica, History, Deed, Created, Event, HasWoken, history_after, MayHappen, Host, site_of, identity_of, Ask, Nothing, Memory, asked_by_line, AcksBy, AcksFront, deeds, issuable, StandsAt, Does, Reached, Knows, IsKnown}
 use Rattle.mdv_store_law.specs.Machine as machine
 use Rattle.mdv_run_law.specs.Run.{IsNoCommand}
 
@@ -25,6 +25,15 @@ pub record AreOfLine (host : Host) (text : List ℕ) (down : Bool) (reply : List
   pub awake : done ≢ [] → down ≡ false
   pub up : then ≡ false → (IsLine text Boot × HasWoken es) ⊎ ((down ≡ false) × (IsLine text Boot → ⊥))
 
+-- events of the line in work
+pub record LineInWork (host : Host) (front : List ℕ) (down : Bool) (text : List ℕ) (es : List Event) : Type 0 where
+  pub ask : Ask
+  pub asks : Asks text ask
+  pub done : List Deed
+  pub acks : AcksFront ask front done
+  pub does : Does host (deeds ask) done es
+  pub awake : done ≢ [] → down ≡ false
+
 -- Events that come, in order, of the lines of the script that these replies answer, one for each, where the last boot
 -- before them has read the drive, or was down; behind them come events of what is left of the script.
 abbrev pub ComeOf : Host → (Bool → Script → List Event → Type 0) → Bool → Script → List (List ℕ) → List Event → Type 0
@@ -36,12 +45,13 @@ ComeOf host Left down (too_long more) (reply ∷ replies) es =
 ComeOf host Left down (line text more) (reply ∷ replies) es =
     (first : List Event) × (rest : List Event) × (es ≡ first ++ rest) × (then : Bool) × AreOfLine host text down reply first then × ComeOf host Left then more replies rest
 
--- of the line in work, which nothing was told of: none came yet, or they issue only what it asks
-abbrev pub InWork : Host → Bool → Script → List Event → Type 0
-InWork host down at_end es = AreIdle host es
-InWork host down (spent lines bytes) es = AreIdle host es
-InWork host down (too_long more) es = AreIdle host es
-InWork host down (line text more) es = (es ≡ []) ⊎ ((ask : Ask) × Asks text ask × Does host (deeds ask) [] es)
+-- Of the line in work, of which these bytes were told, that are no reply yet: nothing came and nothing was told; or they begin only what it asks, and
+-- tell what this front of its reply acknowledges, which of a read is its values from the first byte on.
+abbrev pub InWork : Host → List ℕ → Bool → Script → List Event → Type 0
+InWork host front down at_end es = AreIdle host es
+InWork host front down (spent lines bytes) es = AreIdle host es
+InWork host front down (too_long more) es = AreIdle host es
+InWork host front down (line text more) es = ((front ≡ []) × (es ≡ [])) ⊎ LineInWork host front down text es
 
 -- none, and the last boot has read the drive, or not
 abbrev pub NothingLeft : Bool → Bool → Script → List Event → Type 0
@@ -56,14 +66,14 @@ IsTold (too_long more) (reply ∷ replies) deed = IsTold more replies deed
 IsTold (line text more) [] deed = ⊥
 IsTold (line text more) (reply ∷ replies) deed = ((ask : Ask) × Asks text ask × (done : List Deed) × AcksBy ask reply done × Contains done deed) ⊎ IsTold more replies deed
 
--- all that was told so, in the order of the lines
-abbrev pub AreTold : Script → List (List ℕ) → List Deed → Type 0
-AreTold at_end replies told = told ≡ []
-AreTold (spent lines bytes) replies told = told ≡ []
-AreTold (too_long more) [] told = told ≡ []
-AreTold (too_long more) (reply ∷ replies) told = AreTold more replies told
-AreTold (line text more) [] told = told ≡ []
-AreTold (line text more) (reply ∷ replies) told = (ask : Ask) × Asks text ask × (done : List Deed) × AcksBy ask reply done × (rest : List Deed) × AreTold more replies rest × (told ≡ done ++ rest)
+-- all that was told so, in the order of the lines, and of the next line by this front of its reply
+abbrev pub AreTold : Script → List (List ℕ) → List ℕ → List Deed → Type 0
+AreTold at_end replies front told = told ≡ []
+AreTold (spent lines bytes) replies front told = told ≡ []
+AreTold (too_long more) [] front told = told ≡ []
+AreTold (too_long more) (reply ∷ replies) front told = AreTold more replies front told
+AreTold (line text more) [] front told = (told ≡ []) ⊎ ((ask : Ask) × Asks text ask × AcksFront ask front told)
+AreTold (line text more) (reply ∷ replies) front told = (ask : Ask) × Asks text ask × (done : List Deed) × AcksBy ask reply done × (rest : List Deed) × AreTold more replies front rest × (told ≡ done ++ rest)
 
 -- What the lines may have begun, in their order: each what it asks, where its reply is `ok` or tells that a call failed, or where it is
 -- the next one, of which none was told yet.
@@ -83,7 +93,7 @@ pub record AreOfRun (host : Host) (script : Script) (bytes : List ℕ) (es : Lis
   pub idle : AreIdle host boot
   pub down : Bool
   pub woken : down ≡ false → HasWoken boot
-  pub come : ComeOf host (InWork host) down script (replies_in bytes) lines
+  pub come : ComeOf host (InWork host (left_in bytes)) down script (replies_in bytes) lines
 
 -- from a history by some events of such a kind to one that the drive stands with, of which more is known
 abbrev pub Goes : Host → (List Event → Type 0) → (List Event → History → Type 0) → Tale → History → Type 0
@@ -115,15 +125,16 @@ behind (line text more) [] = line text more
 behind (line text more) (reply ∷ replies) = behind more replies
 
 -- bytes that are whole replies
-abbrev pub AreReplies : List ℕ → Type 0
-AreReplies bytes = (rest : List ℕ) → replies_in (bytes ++ rest) ≡ replies_in bytes ++ replies_in rest
+pub record AreReplies (bytes : List ℕ) : Type 0 where
+  pub replies : (rest : List ℕ) → replies_in (bytes ++ rest) ≡ replies_in bytes ++ replies_in rest
+  pub left : (rest : List ℕ) → left_in (bytes ++ rest) ≡ left_in rest
 
 -- a moment of a stretch of lines that began with that memory
 pub record LinesMoment (host : Host) (script : Script) (first : Memory) (t m : Tale) : Type 0 where
   pub bytes : List ℕ
   pub is_told : told m ≡ told t ++ bytes
   pub made : Knows host first t → IsTold script (replies_in bytes) Created → ShowsMade host m
-  pub goes : (h : History) → IsKnown host first h t → Goes host (ComeOf host (InWork host) first.down script (replies_in bytes)) Reached m h
+  pub goes : (h : History) → IsKnown host first h t → Goes host (ComeOf host (InWork host (left_in bytes)) first.down script (replies_in bytes)) Reached m h
 
 -- a history that has the database that a creation of this run made
 pub record HasMade (host : Host) (memory : Memory) (t : Tale) : Type 0 where

@@ -4,11 +4,11 @@ use Rattle.std.specs.Char.{is_ascii_digit}
 use Rattle.std.specs.Str.{bytes_eq}
 use Rattle.std.specs.Cmp.Lexicographic.{same_text}
 use Rattle.std.proofs.lemmas.Bool.Decides.{nat_tests}
-use Rattle.std.proofs.lemmas.List.{take-append-le, length-take}
+use Rattle.std.proofs.lemmas.List.{append-nil, take-append-le, length-take}
 use Rattle.std.proofs.Math.Seq.{take-append-add}
 use Rattle.mdv_port.specs.Script.{pieces}
 use Rattle.mdv_status.specs.Values.{value_line, values_text, values_reply, ok_line}
-use Rattle.mdv_status.specs.Telling.{lacks, begins_with_digit, refused, ends_reply, gathered, replies_in, value_lines, IsValueLine, ValuesAreLines, ValuesAreOneReply, RefusalsAreOneReply}
+use Rattle.mdv_status.specs.Telling.{lacks, begins_with_digit, refused, ends_reply, gathered, said_in, unsaid, with_reply, value_lines, IsValueLine, ValuesAreLines, ValuesAreOneReply, RefusalsAreOneReply}
 use Rattle.mdv_status.proofs.Pieces.{lacks_take, has_newline, pieces_none, pieces_line, pieces_front}
 use Rattle.mdv_status.proofs.Lines.{is_value_line, are_value_lines, reply_cut, line_cut}
 
@@ -53,75 +53,79 @@ refusal_ends text begins =
     or_true false = refl
 
 -- a piece that ends a reply, and one that doesn't
-ending : (before piece : List ℕ) (more : List (List ℕ)) → ends_reply piece ≡ true → gathered before (piece ∷ more) ≡ (before ++ piece) ∷ gathered [] more
-ending before piece more is = ap (λ (x : Bool). cond x ((before ++ piece) ∷ gathered [] more) (gathered (before ++ piece) more)) is
+ending : (before piece : List ℕ) (more : List (List ℕ)) → ends_reply piece ≡ true → gathered before (piece ∷ more) ≡ with_reply (before ++ piece) (gathered [] more)
+ending before piece more is = ap (λ (x : Bool). cond x (with_reply (before ++ piece) (gathered [] more)) (gathered (before ++ piece) more)) is
 
 on : (before piece : List ℕ) (more : List (List ℕ)) → ends_reply piece ≡ false → gathered before (piece ∷ more) ≡ gathered (before ++ piece) more
-on before piece more is = ap (λ (x : Bool). cond x ((before ++ piece) ∷ gathered [] more) (gathered (before ++ piece) more)) is
+on before piece more is = ap (λ (x : Bool). cond x (with_reply (before ++ piece) (gathered [] more)) (gathered (before ++ piece) more)) is
 
 reply_of : (at : ℕ) (block : List ℕ) (blocks : List (List ℕ)) → values_reply at (block ∷ blocks) ≡ value_line at block ++ values_reply (at + 1) blocks
 reply_of at block blocks = append_assoc (value_line at block) (values_text (at + 1) blocks) ok_line
 
-values_gathered : (before : List ℕ) (at : ℕ) (blocks : List (List ℕ)) (more : List (List ℕ)) → gathered before (value_lines at blocks ++ ok_line ∷ more) ≡ (before ++ values_reply at blocks) ∷ gathered [] more
+values_gathered : (before : List ℕ) (at : ℕ) (blocks : List (List ℕ)) (more : List (List ℕ)) → gathered before (value_lines at blocks ++ ok_line ∷ more) ≡ with_reply (before ++ values_reply at blocks) (gathered [] more)
 values_gathered before at [] more = refl
 values_gathered before at (block ∷ blocks) more =
     let line : List ℕ = value_line at block in
     on before line (value_lines (at + 1) blocks ++ ok_line ∷ more) (value_ends_not line (is_value_line at block))
     ∙ values_gathered (before ++ line) (at + 1) blocks more
-    ∙ ap (λ (l : List ℕ). l ∷ gathered [] more) (append_assoc before line (values_reply (at + 1) blocks) ∙ ap (λ (l : List ℕ). before ++ l) (sym (reply_of at block blocks)))
+    ∙ ap (λ (l : List ℕ). with_reply l (gathered [] more)) (append_assoc before line (values_reply (at + 1) blocks) ∙ ap (λ (l : List ℕ). before ++ l) (sym (reply_of at block blocks)))
 
-values_more : (at : ℕ) (blocks : List (List ℕ)) (rest : List ℕ) → replies_in (values_reply at blocks ++ rest) ≡ values_reply at blocks ∷ replies_in rest
-unfolding replies_in
+values_more : (at : ℕ) (blocks : List (List ℕ)) (rest : List ℕ) → said_in (values_reply at blocks ++ rest) ≡ with_reply (values_reply at blocks) (said_in rest)
+unfolding said_in
 values_more at blocks rest = ap (gathered []) (reply_cut at blocks rest) ∙ values_gathered [] at blocks (pieces rest)
 
-refusal_more : (text rest : List ℕ) → lacks 10 text ≡ true → take 9 text ≡ refused → replies_in (text ++ 10 ∷ rest) ≡ (text ++ 10 ∷ []) ∷ replies_in rest
-unfolding replies_in
+refusal_more : (text rest : List ℕ) → lacks 10 text ≡ true → take 9 text ≡ refused → said_in (text ++ 10 ∷ rest) ≡ with_reply (text ++ 10 ∷ []) (said_in rest)
+unfolding said_in
 refusal_more text rest is begins = ap (gathered []) (pieces_line text rest is) ∙ ending [] (text ++ 10 ∷ []) (pieces rest) (refusal_ends text begins)
 
 -- bytes without a newline are no reply, whatever came before
-open_gathered : (before text : List ℕ) → lacks 10 text ≡ true → gathered before (pieces text) ≡ []
-open_gathered before [] is = ap (gathered before) pieces_none
+open_gathered : (before text : List ℕ) → lacks 10 text ≡ true → gathered before (pieces text) ≡ unsaid (before ++ text)
+open_gathered before [] is = ap (gathered before) pieces_none ∙ ap unsaid (sym (append-nil before))
 open_gathered before (b ∷ bs) is = ap (gathered before) (pieces_front b bs is) ∙ on before (b ∷ bs) [] (open_ends_not (b ∷ bs) is)
 
-open_front : (text : List ℕ) → lacks 10 text ≡ true → replies_in text ≡ []
-unfolding replies_in
+open_front : (text : List ℕ) → lacks 10 text ≡ true → said_in text ≡ unsaid text
+unfolding said_in
 open_front text is = open_gathered [] text is
 
 le_or_gt : (a b : ℕ) → (a ≤ b) ⊎ (b < a)
 le_or_gt a b = grind arith
 
+-- bytes that come behind others are no reply with them
+abbrev IsUnsaid : List ℕ → List ℕ → Type 0
+IsUnsaid before bytes = gathered before (pieces bytes) ≡ unsaid (before ++ bytes)
+
 -- a front of a line that lacks the newline
-short_front : (before text : List ℕ) (count : ℕ) → count ≤ length text → (rest : List ℕ) → lacks 10 text ≡ true → gathered before (pieces (take count (text ++ rest))) ≡ []
-short_front before text count short rest is =
-    ap (λ (l : List ℕ). gathered before (pieces l)) (take-append-le count text rest short) ∙ open_gathered before (take count text) (lacks_take count text is)
+short_front : (before text : List ℕ) (count : ℕ) → count ≤ length text → (rest : List ℕ) → lacks 10 text ≡ true → IsUnsaid before (take count (text ++ rest))
+short_front before text count short rest is = subst (IsUnsaid before) (sym (take-append-le count text rest short)) (open_gathered before (take count text) (lacks_take count text is))
 
 -- a front of a line of values and of what is told behind it
 line_front : (before bytes rest : List ℕ) (count : ℕ) → IsValueLine bytes → count < length (bytes ++ rest)
-    → ((left : ℕ) → left < length rest → gathered (before ++ bytes) (pieces (take left rest)) ≡ []) → gathered before (pieces (take count (bytes ++ rest))) ≡ []
+    → ((left : ℕ) → left < length rest → IsUnsaid (before ++ bytes) (take left rest)) → IsUnsaid before (take count (bytes ++ rest))
 line_front before bytes rest count is below behind = ⊎_elim
     (λ (short : count ≤ length is.text). (
-    ap (λ (l : List ℕ). gathered before (pieces (take count (l ++ rest)))) is.line ∙ ap (λ (l : List ℕ). gathered before (pieces (take count l))) (append_assoc is.text (10 ∷ []) rest)
-    ∙ short_front before is.text count short (10 ∷ rest) is.whole))
+    let same : bytes ++ rest ≡ is.text ++ 10 ∷ rest = ap (λ (l : List ℕ). l ++ rest) is.line ∙ append_assoc is.text (10 ∷ []) rest in
+    subst (λ (l : List ℕ). IsUnsaid before (take count l)) (sym same) (short_front before is.text count short (10 ∷ rest) is.whole)))
     (λ (long : length is.text < count). (
     let size : length bytes ≡ length is.text + 1 = ap length is.line ∙ length-append is.text (10 ∷ []) in
     let split : count ≡ length bytes + (count - length bytes) = omega arith in
     let left : List ℕ = take (count - length bytes) rest in
-    ap (λ (n : ℕ). gathered before (pieces (take n (bytes ++ rest)))) split ∙ ap (λ (l : List ℕ). gathered before (pieces l)) (take-append-add bytes rest (count - length bytes))
-    ∙ ap (gathered before) (line_cut bytes left is) ∙ on before bytes (pieces left) (value_ends_not bytes is)
-    ∙ behind (count - length bytes) (let all = length-append bytes rest in omega arith)))
+    let same : take count (bytes ++ rest) ≡ bytes ++ left = ap (λ (n : ℕ). take n (bytes ++ rest)) split ∙ take-append-add bytes rest (count - length bytes) in
+    subst (IsUnsaid before) (sym same) (
+    ap (gathered before) (line_cut bytes left is) ∙ on before bytes (pieces left) (value_ends_not bytes is)
+    ∙ behind (count - length bytes) (let all = length-append bytes rest in omega arith) ∙ ap unsaid (append_assoc before bytes left))))
     (le_or_gt count (length is.text))
 
-values_front : (before : List ℕ) (at : ℕ) (blocks : List (List ℕ)) (count : ℕ) → count < length (values_reply at blocks) → gathered before (pieces (take count (values_reply at blocks))) ≡ []
+values_front : (before : List ℕ) (at : ℕ) (blocks : List (List ℕ)) (count : ℕ) → count < length (values_reply at blocks) → IsUnsaid before (take count (values_reply at blocks))
 values_front before at [] count below = short_front before (codes "ok") count (omega arith) (10 ∷ []) refl
 values_front before at (block ∷ blocks) count below =
     let line : List ℕ = value_line at block in
     let more : List ℕ = values_reply (at + 1) blocks in
     let same : values_reply at (block ∷ blocks) ≡ line ++ more = reply_of at block blocks in
-    ap (λ (l : List ℕ). gathered before (pieces (take count l))) same
-    ∙ line_front before line more count (is_value_line at block) (let size = ap length same in omega arith) (values_front (before ++ line) (at + 1) blocks)
+    subst (λ (l : List ℕ). IsUnsaid before (take count l)) (sym same)
+    (line_front before line more count (is_value_line at block) (let size = ap length same in omega arith) (values_front (before ++ line) (at + 1) blocks))
 
-front_is_none : (at : ℕ) (blocks : List (List ℕ)) (count : ℕ) → count < length (values_reply at blocks) → replies_in (take count (values_reply at blocks)) ≡ []
-unfolding replies_in
+front_is_none : (at : ℕ) (blocks : List (List ℕ)) (count : ℕ) → count < length (values_reply at blocks) → said_in (take count (values_reply at blocks)) ≡ unsaid (take count (values_reply at blocks))
+unfolding said_in
 front_is_none at blocks count below = values_front [] at blocks count below
 
 pub values_are_lines : ValuesAreLines

@@ -1,10 +1,10 @@
 -- How replies lie among the bytes that are told: a reply to a read is its lines of values and the line `ok`.
-use Rattle.std.specs.Prelude.{◌≡◌, ℕ, Bool, true, false, not, ◌&&◌, ◌||◌, ◌==◌, ◌+◌, ◌<◌, List, [], ◌∷◌, ◌++◌, length, take, codes, if◌then◌else◌}
+use Rattle.std.specs.Prelude.{◌≡◌, ℕ, Bool, true, false, not, ◌&&◌, ◌||◌, ◌==◌, ◌+◌, ◌<◌, List, [], ◌∷◌, ◌++◌, length, map, take, All, codes, if◌then◌else◌}
 use Rattle.std.specs.Char.{is_ascii_digit}
 use Rattle.std.specs.List.{list_all}
 use Rattle.std.specs.Str.{bytes_eq}
 use Rattle.mdv_port.specs.Script.{pieces}
-use Rattle.mdv_status.specs.Values.{value_line, values_reply, ok_line}
+use Rattle.mdv_status.specs.Values.{significant, value_line, values_reply, ok_line}
 
 -- the byte isn't in the text
 abbrev pub lacks : ℕ → List ℕ → Bool
@@ -38,14 +38,35 @@ refused = codes "refused E"
 abbrev pub ends_reply : List ℕ → Bool
 ends_reply piece = bytes_eq piece ok_line || not (lacks 10 piece) && bytes_eq (take 9 piece) refused
 
--- pieces put together up to each one that ends a reply, behind these bytes; those behind the last such one are no reply yet
-abbrev pub gathered : List ℕ → List (List ℕ) → List (List ℕ)
-gathered before [] = []
-gathered before (piece ∷ more) = if ends_reply piece then (before ++ piece) ∷ gathered [] more else gathered (before ++ piece) more
+-- what bytes come to: the replies among them, each with all its lines, and what is told behind the last one, which is no reply yet
+pub record Said : Type 0 where
+  pub replies : List (List ℕ)
+  pub left : List ℕ
 
--- the replies among bytes that are told, each with all its lines
-unfoldable pub replies_in : List ℕ → List (List ℕ)
-replies_in bytes = gathered [] (pieces bytes)
+abbrev pub with_reply : List ℕ → Said → Said
+with_reply reply said = record { replies = reply ∷ said.replies; left = said.left }
+
+-- no reply yet, and one
+abbrev pub unsaid : List ℕ → Said
+unsaid bytes = record { replies = []; left = bytes }
+
+abbrev pub one_reply : List ℕ → Said
+one_reply reply = record { replies = reply ∷ []; left = [] }
+
+-- pieces put together up to each one that ends a reply, behind these bytes
+abbrev pub gathered : List ℕ → List (List ℕ) → Said
+gathered before [] = unsaid before
+gathered before (piece ∷ more) = if ends_reply piece then with_reply (before ++ piece) (gathered [] more) else gathered (before ++ piece) more
+
+-- what is said among bytes that are told
+unfoldable pub said_in : List ℕ → Said
+said_in bytes = gathered [] (pieces bytes)
+
+abbrev pub replies_in : List ℕ → List (List ℕ)
+replies_in bytes = (said_in bytes).replies
+
+abbrev pub left_in : List ℕ → List ℕ
+left_in bytes = (said_in bytes).left
 
 -- the lines of values are lines, and a reply is cut into them and the line `ok`, whatever is told behind it
 pub record ValuesAreLines : Type 0 where
@@ -54,10 +75,16 @@ pub record ValuesAreLines : Type 0 where
 
 -- A reply to a read is one, whatever is told behind it, as soon as it is whole; of no block it is the line `ok`.
 pub record ValuesAreOneReply : Type 0 where
-  pub more : (at : ℕ) (blocks : List (List ℕ)) (rest : List ℕ) → replies_in (values_reply at blocks ++ rest) ≡ values_reply at blocks ∷ replies_in rest
-  pub front : (at : ℕ) (blocks : List (List ℕ)) (count : ℕ) → count < length (values_reply at blocks) → replies_in (take count (values_reply at blocks)) ≡ []
+  pub more : (at : ℕ) (blocks : List (List ℕ)) (rest : List ℕ) → said_in (values_reply at blocks ++ rest) ≡ with_reply (values_reply at blocks) (said_in rest)
+  pub front : (at : ℕ) (blocks : List (List ℕ)) (count : ℕ) → count < length (values_reply at blocks) → said_in (take count (values_reply at blocks)) ≡ unsaid (take count (values_reply at blocks))
 
 -- So is a line that tells a refusal; and bytes without a newline are no reply.
 pub record RefusalsAreOneReply : Type 0 where
-  pub more : (text rest : List ℕ) → lacks 10 text ≡ true → take 9 text ≡ refused → replies_in (text ++ 10 ∷ rest) ≡ (text ++ 10 ∷ []) ∷ replies_in rest
-  pub front : (text : List ℕ) → lacks 10 text ≡ true → replies_in text ≡ []
+  pub more : (text rest : List ℕ) → lacks 10 text ≡ true → take 9 text ≡ refused → said_in (text ++ 10 ∷ rest) ≡ with_reply (text ++ 10 ∷ []) (said_in rest)
+  pub front : (text : List ℕ) → lacks 10 text ≡ true → said_in text ≡ unsaid text
+
+-- A reply to a read tells its values: two lists of blocks with one reply have the same bytes before the zeros at the end of each block, so blocks of
+-- one length are the same.
+pub record ValuesAreTold : Type 0 where
+  pub significant : (at : ℕ) (a b : List (List ℕ)) → values_reply at a ≡ values_reply at b → map significant a ≡ map significant b
+  pub same : (at size : ℕ) (a b : List (List ℕ)) → All (λ block. length block ≡ size) a → All (λ block. length block ≡ size) b → values_reply at a ≡ values_reply at b → a ≡ b

@@ -4,5 +4,5 @@
 mod law;
 mod values;
 
-pub use law::{refusals_are_one_reply, values_are_lines, values_are_one_reply};
+pub use law::{refusals_are_one_reply, values_are_lines, values_are_one_reply, values_are_told};
 pub use values::ValueText;
