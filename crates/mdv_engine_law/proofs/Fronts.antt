@@ -1,14 +1,15 @@
 -- Which front of a reply was told by each moment of a line.
-use Rattle.std.proofs.Common.{◌≡◌, inl, inr, ℕ, List, ◌++◌, take, Option, refl, ◌∙◌, ap, arith}
+use Rattle.std.proofs.Common.{◌≡◌, inl, inr, ℕ, List, ◌++◌, take, Option, refl, ◌∙◌, ap, subst, arith}
 use Rattle.std.specs.Option.{option_map}
 use Rattle.mdv_shelf.specs.Calls.{OnDrive}
 use Rattle.mdv_shelf.specs.Shelves.{AtEachMoment, AtEachTale, AtEnd, DriveFailed, GoesOn}
 use Rattle.mdv_shelf.specs.Story.{OfTales, Story, tale_of}
 use Rattle.mdv_shelf.specs.declared.shelf.Shelf.{Ghosts}
 use Rattle.mdv_shelf.proofs.Noted.{moment_weaker, moments_of_tales}
+use Rattle.mdv_shelf.proofs.Moments.{some_is}
 use Rattle.mdv_shelf.proofs.Telling.{each_joined}
-use Rattle.mdv_engine_law.specs.Below.{told}
-use Rattle.mdv_engine_law.specs.Line.{Kept, Memory, kept_at}
+use Rattle.mdv_engine_law.specs.Below.{Tale, told}
+use Rattle.mdv_engine_law.specs.Line.{IsSame, Kept, Memory, drive_content, kept_at}
 use Rattle.mdv_engine_law.specs.Replies.{text_of}
 use Rattle.mdv_engine_law.specs.Standing.{Knows, TellMoment, TellsFront}
 use Rattle.mdv_engine_law.specs.declared.answer.Answer.{Answer}
@@ -31,6 +32,7 @@ module _ {S : Type 0} (shelf : Ghosts S) (telling : (s : S) → shelf.tale s ≡
         came = widen (DriveFailed shelf a b 0) _ (λ rose. rose_within _ _ _ _ (omega arith) (within.counts.0 (OnDrive 0)) rose) (kept_at old (tale_of s)) (kept_at new end.0) (end.2 knows);
         count = here.count;
         is_told = here.is_told ∙ ap (λ (l : List ℕ). l ++ take here.count (text_of answer)) turn;
+        shows = subst (λ (x : Tale). IsSame (drive_content x) (drive_content m.tale)) (some_is (shelf.tale b) (tale_of u) end.0 (telling b ∙ ap (λ (o : Option Story). option_map tale_of o) mid) end.1) (λ block. (here.kept 0 block refl).last);
       })) (moments_of_tales shelf telling a b (λ t m. told m ≡ told t) on quiet) (moments_of_tales shelf telling b c (TellMoment (text_of answer)) more tells)
 
   -- the telling of an answer alone
@@ -38,5 +40,5 @@ module _ {S : Type 0} (shelf : Ghosts S) (telling : (s : S) → shelf.tale s ≡
       → AtEachMoment shelf (λ t m. Knows host old t.tale → TellsFront (λ failed kept given next. (given ≡ answer) × (next ≡ kept)) old t m) a b
   fronts_alone a b host old answer on tells =
       moment_weaker shelf (OfTales (TellMoment (text_of answer))) (λ t m. Knows host old t.tale → TellsFront (λ failed kept given next. (given ≡ answer) × (next ≡ kept)) old t m) a b
-      (λ t m up down here knows. inr (record { answer = answer; next = kept_at old t.tale; came = (refl, refl); count = here.count; is_told = here.is_told }))
+      (λ t m up down here knows. inr (record { answer = answer; next = kept_at old t.tale; came = (refl, refl); count = here.count; is_told = here.is_told; shows = λ block. (here.kept 0 block refl).last }))
       (moments_of_tales shelf telling a b (TellMoment (text_of answer)) on tells)

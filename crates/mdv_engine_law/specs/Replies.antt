@@ -1,6 +1,7 @@
 -- The bytes of replies, how they are told, and what they acknowledge.
 use Rattle.std.specs.Prelude.{◌≡◌, ◌≢◌, ◌⊎◌, ℕ, true, ◌||◌, List, [], ◌∷◌, ◌++◌, length, take, codes, if◌then◌else◌}
 use Rattle.std.specs.Str.{bytes_eq}
+use Rattle.mdv_shelf.specs.Calls.{OnDrive}
 use Rattle.mdv_shelf.specs.Shelves.{MadeCalls, MadeCallsAtMost}
 use Rattle.mdv_shelf.specs.Story.{NoFewer}
 use Rattle.mdv_shelf.specs.declared.shelf.Shelf.{Ghosts}
@@ -192,8 +193,9 @@ HasAnswerCause drive outcome.Panic = drive
 HasAnswerCause drive outcome.Spent = Unit {0}
 HasAnswerCause drive outcome.NoMemory = Unit {0}
 
--- The calls of a telling: one at most, and one where the reply was told whole, by which no count rose.
+-- The calls of a telling: one at most, by which no drive's count rose, and one where the reply was told whole, by which none rose at all.
 pub record IsTellingCounted {S : Type 0} (shelf : Ghosts S) (old new : S) (given : Reply) : Type 0 where
   pub most : MadeCallsAtMost shelf old new 1 0
   pub once : IsReplied given → MadeCalls shelf old new 1 0
   pub calm : IsReplied given → NoFewer (shelf.faults new) (shelf.faults old)
+  pub drives : (drive : ℕ) → shelf.faults new (OnDrive drive) ≡ shelf.faults old (OnDrive drive)

@@ -10,7 +10,7 @@ use Rattle.mdv_engine_law.specs.declared.answer.Answer.TheVariants as outcome
 use Rattle.mdv_engine_law.specs.declared.answer.Reply.{Reply}
 use Rattle.mdv_engine_law.specs.declared.host.Host.{Host}
 use Rattle.mdv_engine_law.specs.Home.{StaysHome, site_of}
-use Rattle.mdv_engine_law.specs.Line.{Ask, Kept, Memory, ComesTo, deeds, kept_at}
+use Rattle.mdv_engine_law.specs.Line.{Ask, Kept, Memory, ComesTo, IsSame, deeds, drive_content, kept_at}
 use Rattle.mdv_engine_law.specs.Replies.{Acks, AcksAnswer, AcksBy, IsReply, IsFront, IsTold, issuable, issuable_of, issued_by, text_of}
 
 -- the drive stands with the history, in which a database was made only where there is room for it
@@ -134,13 +134,15 @@ pub record TellMoment (text : List ℕ) (t m : Tale) : Type 0 where
   pub count : ℕ
   pub is_told : told m ≡ told t ++ take count text
 
--- By this moment of a line a front of the reply was told to what it came to, as calls on the drive had failed by then.
+-- By this moment of a line a front of the reply was told to what it came to, as calls on the drive had failed by then, and the drive's blocks
+-- read as the line left them.
 pub record FrontTold (Comes : Type 0 → Kept → Answer → Kept → Type 0) (old : Memory) (t m : Moment) : Type 0 where
   pub answer : Answer
   pub next : Kept
   pub came : Comes (FailedBy t m (OnDrive 0)) (kept_at old t.tale) answer next
   pub count : ℕ
   pub is_told : told m.tale ≡ told t.tale ++ take count (text_of answer)
+  pub shows : IsSame next.content (drive_content m.tale)
 
 -- nothing of a reply, or a front of the one to what the line came to
 abbrev pub TellsFront : (Type 0 → Kept → Answer → Kept → Type 0) → Memory → Moment → Moment → Type 0

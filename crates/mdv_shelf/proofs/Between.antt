@@ -1,5 +1,5 @@
 -- How counts that are told from both sides add up.
-use Rattle.std.proofs.Common.{◌≡◌, ℕ, ◌+◌, ◌-◌, ◌^◌, ◌≤◌, min, Option, Some, refl, ap, ◌∙◌, arith}
+use Rattle.std.proofs.Common.{◌≡◌, ℕ, ◌+◌, ◌-◌, ◌^◌, ◌≤◌, min, Option, refl, ap, ◌∙◌, arith}
 use Rattle.mdv_shelf.specs.Calls.{RoseBy, RoseByAtMost, Took, TookAtMost, IsCounted}
 use Rattle.mdv_shelf.specs.Between.{RoseByAtLeast, TookBetween}
 use Rattle.mdv_shelf.proofs.Counts.{took_one, took_at_most, at_most_then}

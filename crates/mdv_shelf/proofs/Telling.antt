@@ -1,12 +1,12 @@
 -- What was told by each moment of a story, and which counts were shown by then.
-use Rattle.std.proofs.Common.{◌≡◌, ℕ, ◌+◌, ◌≤◌, ◌<◌, List, [], ◌∷◌, ◌++◌, length, take, Option, Some, Ok, refl, sym, ◌∙◌, ap, subst, arith}
+use Rattle.std.proofs.Common.{◌≡◌, ℕ, ◌+◌, ◌≤◌, ◌<◌, List, [], ◌∷◌, length, Option, Some, Ok, sym, ◌∙◌, ap, subst, arith}
 use Rattle.std.proofs.lemmas.List.{length-append, length-take}
 use Rattle.std.specs.Option.{option_map}
-use Rattle.mdv_shelf.specs.Tale.{Tale, Begun, Then, Call, Wrote, Tore, Synced, Gave, told, tells}
+use Rattle.mdv_shelf.specs.Tale.{Tale, Then, Call, Wrote, Tore, Synced, Gave, last, told, tells}
 use Rattle.mdv_shelf.specs.Calls.{Part, OnDrive, OnReplies, HasGivingCause}
 use Rattle.mdv_shelf.specs.Moments.{During}
 use Rattle.mdv_shelf.specs.Story.{Story, tale_of, Mark, marked, Moment, AtMarks, NoFewer, Passed, AtEach, OfTales}
-use Rattle.mdv_shelf.specs.Shelves.{AtEachMoment, AtEachTale, AtEnd, EndsTold, GoesOn}
+use Rattle.mdv_shelf.specs.Shelves.{AtEachMoment, AtEachTale, AtEnd, EndsTold, GoesOn, IsAtRest, RestsOnceTold}
 use Rattle.mdv_shelf.specs.declared.shelf.Shelf.{Ghosts}
 use Rattle.mdv_shelf.proofs.Moments.{moments_end, some_is}
 use Rattle.mdv_shelf.proofs.Noted.{moments_of_tales}
@@ -105,25 +105,44 @@ module _ {S : Type 0} (shelf : Ghosts S) where
   pub told_once : (a b : S) → GoesOn shelf a b → AtEnd shelf (λ t u. length (told t) < length (told u)) a b → NoFewer (shelf.faults b) (shelf.faults a) → EndsTold shelf a b
   told_once a b on grew same = record {
     grew = grew;
-    still = λ end is. each_within (λ _ _. Unit {0}) (λ t m. length (told end) ≤ length (told m.tale) → NoFewer (shelf.faults b) m.faults) _ _ _ _ (λ s u first last m there here within whole part. omega (arith, same part, within.counts.0 part)) on;
+    still = each_within (λ _ _. Unit {0}) (λ t m. length (told t.tale) < length (told m.tale) → NoFewer (shelf.faults b) m.faults) _ _ _ _ (λ s u first last m there here within some part. omega (arith, same part, within.counts.0 part)) on;
   }
 
-  -- and one behind a stretch in which nothing was
-  pub told_behind : ((s : S) → shelf.tale s ≡ option_map tale_of (shelf.story s)) → (a b c : S) → GoesOn shelf a b → AtEachTale shelf (λ t m. told m ≡ told t) a b → EndsTold shelf b c → EndsTold shelf a c
-  told_behind telling a b c on quiet then = record {
-    grew = grew;
-    still = λ end is. each_joined (OfTales (λ t m. told m ≡ told t)) (λ t m. length (told end) ≤ length (told m.tale) → NoFewer (shelf.faults c) m.faults) (λ t m. length (told end) ≤ length (told m.tale) → NoFewer (shelf.faults c) m.faults) _ _ _ _ _ _
-        (λ s u v first mid last turn ahead rise m here within whole. absurd (
-        let up = grew (tale_of s) (telling a ∙ ap (λ (o : Option Story). option_map tale_of o) first) in
-        never (length (told (tale_of s))) (length (told up.0)) (length (told end)) (length (told m.tale)) up.2 (ap (λ (x : Tale). length (told x)) (some_is (shelf.tale c) up.0 end up.1 is)) whole (ap length here)
-        ))
-        (λ s u v first mid last turn m here within ahead. here) (moments_of_tales shelf telling a b (λ t m. told m ≡ told t) on quiet) (then.still end is);
-  } where
-    grew : AtEnd shelf (λ t u. length (told t) < length (told u)) a c
-    grew t is =
-        let still = moments_end (λ t m. told m ≡ told t) (shelf.tale a) (shelf.tale b) quiet t is in
-        let more = then.grew still.0 still.1 in
-        (more.0, more.1, subst (λ (l : List ℕ). length l < length (told more.0)) still.2 more.2)
+  module _ (telling : (s : S) → shelf.tale s ≡ option_map tale_of (shelf.story s)) where
+    -- what holds once a byte was told, of a stretch behind one in which none was
+    told_later : (P : Moment → Type 0) (a b c : S) → GoesOn shelf a b → AtEachTale shelf (λ t m. told m ≡ told t) a b
+        → AtEachMoment shelf (λ t m. length (told t.tale) < length (told m.tale) → P m) b c → AtEachMoment shelf (λ t m. length (told t.tale) < length (told m.tale) → P m) a c
+    told_later P a b c on quiet then =
+        each_joined (OfTales (λ t m. told m ≡ told t)) (λ t m. length (told t.tale) < length (told m.tale) → P m) (λ t m. length (told t.tale) < length (told m.tale) → P m) _ _ _ _ _ _
+        (λ s u v first mid last turn ahead rise m here within some. absurd (let still : length (told m.tale) ≡ length (told (tale_of s)) = ap length here in omega (arith, some, still)))
+        (λ s u v first mid last turn m here within ahead some. here (let still : length (told (tale_of u)) ≡ length (told (tale_of s)) = ap length turn in omega (arith, some, still)))
+        (moments_of_tales shelf telling a b (λ t m. told m ≡ told t) on quiet) then
 
-    never : (start end whole now : ℕ) → start < end → end ≡ whole → whole ≤ now → now ≡ start → ⊥
-    never start end whole now more ends le still = omega (arith, more, ends, le, still)
+    -- and one behind a stretch in which nothing was
+    pub told_behind : (a b c : S) → GoesOn shelf a b → AtEachTale shelf (λ t m. told m ≡ told t) a b → EndsTold shelf b c → EndsTold shelf a c
+    told_behind a b c on quiet then = record { grew = grew; still = told_later (λ m. NoFewer (shelf.faults c) m.faults) a b c on quiet then.still } where
+      grew : AtEnd shelf (λ t u. length (told t) < length (told u)) a c
+      grew t is =
+          let still = moments_end (λ t m. told m ≡ told t) (shelf.tale a) (shelf.tale b) quiet t is in
+          let more = then.grew still.0 still.1 in
+          (more.0, more.1, subst (λ (l : List ℕ). length l < length (told more.0)) still.2 more.2)
+
+    pub rests_behind : (a b c : S) → GoesOn shelf a b → AtEachTale shelf (λ t m. told m ≡ told t) a b → RestsOnceTold shelf b c → RestsOnceTold shelf a c
+    rests_behind a b c on quiet then u is = told_later (IsAtRest (shelf.faults c) u) a b c on quiet (then u is)
+
+    -- a stretch in which no block was touched, and no drive failed
+    pub rests_alone : (a b : S) → GoesOn shelf a b → AtEachTale shelf (λ t m. (drive block : ℕ) → last m drive block ≡ last t drive block) a b → ((drive : ℕ) → shelf.faults b (OnDrive drive) ≡ shelf.faults a (OnDrive drive)) → RestsOnceTold shelf a b
+    rests_alone a b on same calm end is =
+        each_within (OfTales (λ t m. (drive block : ℕ) → last m drive block ≡ last t drive block)) (λ t m. length (told t.tale) < length (told m.tale) → IsAtRest (shelf.faults b) end m) _ _ _ _
+        (λ s u first ends m there here within some.
+        let last_is : tale_of u ≡ end = some_is (shelf.tale b) (tale_of u) end (telling b ∙ ap (λ (o : Option Story). option_map tale_of o) ends) is in record {
+          reads = λ drive block. here drive block ∙ sym (there drive block) ∙ ap (λ (t : Tale). last t drive block) last_is;
+          drives = λ drive. omega (arith, calm drive, within.counts.0 (OnDrive drive));
+        }) (moments_of_tales shelf telling a b (λ t m. (drive block : ℕ) → last m drive block ≡ last t drive block) on same)
+
+    -- and one in which nothing was told
+    pub rests_quiet : (a b : S) → GoesOn shelf a b → AtEachTale shelf (λ t m. told m ≡ told t) a b → RestsOnceTold shelf a b
+    rests_quiet a b on quiet end is =
+        each_within (OfTales (λ t m. told m ≡ told t)) (λ t m. length (told t.tale) < length (told m.tale) → IsAtRest (shelf.faults b) end m) _ _ _ _
+        (λ s u first ends m there here within some. absurd (let still : length (told m.tale) ≡ length (told (tale_of s)) = ap length here in omega (arith, some, still)))
+        (moments_of_tales shelf telling a b (λ t m. told m ≡ told t) on quiet)

@@ -1,8 +1,8 @@
 -- Words over a whole shelf: the ghosts of its bound are passed as one, as `S.Shelf`.
 use Rattle.std.specs.Prelude.{◌≡◌, ◌≤◌, ◌<◌, ℕ, length, Some}
 use Rattle.mdv_base.specs.Causes.{Rose}
-use Rattle.mdv_shelf.specs.Tale.{Tale, told}
-use Rattle.mdv_shelf.specs.Calls.{OnDrive, OnReplies, Took, TookAtMost, Keeps as KeepsOf}
+use Rattle.mdv_shelf.specs.Tale.{Tale, last, told}
+use Rattle.mdv_shelf.specs.Calls.{Part, OnDrive, OnReplies, Took, TookAtMost, Keeps as KeepsOf}
 use Rattle.mdv_shelf.specs.Moments.{Moments, Ends}
 use Rattle.mdv_shelf.specs.Story.{Moment, AtEach, NoFewer}
 use Rattle.mdv_shelf.specs.declared.shelf.Shelf.{Ghosts}
@@ -48,8 +48,17 @@ MadeCalls shelf old new calls blocks = Took shelf.calls shelf.written old new ca
 abbrev pub MadeCallsAtMost : {S : Type 0} → Ghosts S → S → S → ℕ → ℕ → Type 0
 MadeCallsAtMost shelf old new calls blocks = TookAtMost shelf.calls shelf.written old new calls blocks
 
--- Some byte was told, and no call failed behind the last: by each moment by which all was told, each part had failed as often as it had
+-- Some byte was told, and no call failed behind the first: by each moment by which one was told, each part had failed as often as it had
 -- in the end.
 pub record EndsTold {S : Type 0} (shelf : Ghosts S) (old new : S) : Type 0 where
   pub grew : AtEnd shelf (λ t u. length (told t) < length (told u)) old new
-  pub still : (u : Tale) → shelf.tale new ≡ Some u → AtEachMoment shelf (λ t m. length (told u) ≤ length (told m.tale) → NoFewer (shelf.faults new) m.faults) old new
+  pub still : AtEachMoment shelf (λ t m. length (told t.tale) < length (told m.tale) → NoFewer (shelf.faults new) m.faults) old new
+
+-- each block reads as in the end, and each drive had failed as often
+pub record IsAtRest (faults : Part → ℕ) (u : Tale) (m : Moment) : Type 0 where
+  pub reads : (drive block : ℕ) → last m.tale drive block ≡ last u drive block
+  pub drives : (drive : ℕ) → faults (OnDrive drive) ≤ m.faults (OnDrive drive)
+
+-- From the first byte told on the drives are at rest.
+abbrev pub RestsOnceTold : {S : Type 0} → Ghosts S → S → S → Type 0
+RestsOnceTold shelf old new = (u : Tale) → shelf.tale new ≡ Some u → AtEachMoment shelf (λ t m. length (told t.tale) < length (told m.tale) → IsAtRest (shelf.faults new) u m) old new

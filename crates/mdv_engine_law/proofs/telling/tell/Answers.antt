@@ -19,6 +19,7 @@ whole shelf old new given cause counted = record {
   most = at_most_one shelf.calls shelf.written _ _ 0 counted;
   once = λ told. took_one shelf.calls shelf.written _ _ 0 counted;
   calm = λ told. told_calm (shelf.faults old) (shelf.faults new) cause;
+  drives = cause.drives;
 }
 
 -- `ok`
@@ -125,19 +126,19 @@ pub returns-in-Ok-give-clause-counted : goal.returns-in-Ok-give-clause-counted
 returns-in-Ok-give-clause-counted g c = whole g.B.Shelf _ _ _ c.in-Ok-give.ensures.cause c.give.ensures.counted
 
 pub returns-in-Err-clause-counted : goal.returns-in-Err-clause-counted
-returns-in-Err-clause-counted g c = record { most = at_most_one g.B.Shelf.calls g.B.Shelf.written _ _ 0 c.give.ensures.counted; once = λ on. absurd on; calm = λ on. absurd on }
+returns-in-Err-clause-counted g c = record { most = at_most_one g.B.Shelf.calls g.B.Shelf.written _ _ 0 c.give.ensures.counted; once = λ on. absurd on; calm = λ on. absurd on; drives = c.in-Err.ensures.cause.drives }
 
 pub returns-in-Ok-give-2-clause-counted : goal.returns-in-Ok-give-2-clause-counted
 returns-in-Ok-give-2-clause-counted g c = whole g.B.Shelf _ _ _ c.in-Ok-give-2.ensures.cause c.give-in-Values.ensures.counted
 
 pub returns-in-Err-give-clause-counted : goal.returns-in-Err-give-clause-counted
-returns-in-Err-give-clause-counted g c = record { most = at_most_one g.B.Shelf.calls g.B.Shelf.written _ _ 0 c.give-in-Values.ensures.counted; once = λ on. absurd on; calm = λ on. absurd on }
+returns-in-Err-give-clause-counted g c = record { most = at_most_one g.B.Shelf.calls g.B.Shelf.written _ _ 0 c.give-in-Values.ensures.counted; once = λ on. absurd on; calm = λ on. absurd on; drives = c.in-Err-give.ensures.cause.drives }
 
 pub returns-in-Ok-give-3-clause-counted : goal.returns-in-Ok-give-3-clause-counted
 returns-in-Ok-give-3-clause-counted g c = whole g.B.Shelf _ _ _ c.in-Ok-give-3.ensures.cause c.give-in-Refused.ensures.counted
 
 pub returns-in-Err-give-2-clause-counted : goal.returns-in-Err-give-2-clause-counted
-returns-in-Err-give-2-clause-counted g c = record { most = at_most_one g.B.Shelf.calls g.B.Shelf.written _ _ 0 c.give-in-Refused.ensures.counted; once = λ on. absurd on; calm = λ on. absurd on }
+returns-in-Err-give-2-clause-counted g c = record { most = at_most_one g.B.Shelf.calls g.B.Shelf.written _ _ 0 c.give-in-Refused.ensures.counted; once = λ on. absurd on; calm = λ on. absurd on; drives = c.in-Err-give-2.ensures.cause.drives }
 
 pub returns-in-Ok-give-clause-kept : goal.returns-in-Ok-give-clause-kept
 returns-in-Ok-give-clause-kept g c = kept_call g.B.Shelf _ _ c.give.ensures.noted c.give.ensures.keeps
