@@ -2,7 +2,7 @@
 use Rattle.mdv_engine_law.specs.Line.{Ask, ToDo, deeds}
 use Rattle.std.specs.Prelude.{◌≡◌, ◌≤◌, ◌+◌, ℕ, List, Some, None, Result, Ok, Err, IfOk, IfErr, OnOk, Contains, length}
 use Rattle.mdv_shelf.specs.Between.{TookBetween}
-use Rattle.mdv_shelf.specs.Shelves.{AtEachMoment, AtEachTale, AtEnd, DriveFailed, EndsTold, MadeCalls, MadeCallsAtMost}
+use Rattle.mdv_shelf.specs.Shelves.{AtEachMoment, AtEachTale, AtEnd, DriveFailed, EndsTold, MadeCalls, MadeCallsAtMost, RestsOnceTold}
 use Rattle.mdv_shelf.specs.declared.shelf.Shelf.{Ghosts}
 use Rattle.mdv_words.specs.declared.command.Command.{Command}
 use Rattle.mdv_words.specs.declared.command.Line.TheVariants as words
@@ -46,10 +46,11 @@ pub record HasAnswered (failed : Type 0) (ask : Ask) (old : Engine) (answer : An
   pub well : IsWell old.host new.state
   pub begun : new.state.begun ≤ old.state.begun + 1
 
--- Each moment of a line: how the drive stands, and what was told of its reply.
+-- Each moment of a line: how the drive stands, and what was told of its reply, while which the drives are at rest.
 pub record LineMoments {S : Type 0} (shelf : Ghosts S) (host : Host) (ask : Ask) (old : Memory) (Comes : Type 0 → Kept → Answer → Kept → Type 0) (from to : S) : Type 0 where
   pub each : AtEachTale shelf (TurnMoment host ask old) from to
   pub fronts : AtEachMoment shelf (λ t m. Knows host old t.tale → TellsFront Comes old t m) from to
+  pub rests : RestsOnceTold shelf from to
 
 -- what a command comes to
 abbrev pub CarriesOut : Host → Command → Type 0 → Kept → Answer → Kept → Type 0
@@ -80,7 +81,7 @@ pub record HasOnlyReplied (drive replies : Type 0) (old : Engine) (given : Reply
   pub same : new ≡ old
 
 -- The calls of a command and of its reply: as many as the command takes, and one. A refused command writes nothing, unless a call failed, and
--- makes no call on the drive, unless memory was wanting behind it. Where the reply was told whole, none failed behind its last byte.
+-- makes no call on the drive, unless memory was wanting behind it. Where the reply was told whole, none failed behind its first byte.
 pub record IsTurnCounted {S : Type 0} (shelf : Ghosts S) (old new : S) (command : Command) (given : Reply) : Type 0 where
   pub most : MadeCallsAtMost shelf old new (1 + calls_of command) (counts.blocks_of command)
   pub done : given ≡ reply.Ok → TookBetween shelf.calls shelf.written old new (1 + calls_of command) (1 + calls_of command) (counts.blocks_of command)

@@ -2,13 +2,13 @@
 use Rattle.std.proofs.Common.{◌≡◌, inl, inr, ℕ, List, ◌++◌, take, Option, refl, ◌∙◌, ap, subst, arith}
 use Rattle.std.specs.Option.{option_map}
 use Rattle.mdv_shelf.specs.Calls.{OnDrive}
-use Rattle.mdv_shelf.specs.Shelves.{AtEachMoment, AtEachTale, AtEnd, DriveFailed, GoesOn}
+use Rattle.mdv_shelf.specs.Shelves.{AtEachMoment, AtEachTale, AtEnd, DriveFailed, GoesOn, RestsOnceTold}
 use Rattle.mdv_shelf.specs.Story.{OfTales, Story, tale_of}
 use Rattle.mdv_shelf.specs.declared.shelf.Shelf.{Ghosts}
 use Rattle.mdv_shelf.proofs.Noted.{moment_weaker, moments_of_tales}
-use Rattle.mdv_shelf.proofs.Moments.{some_is}
-use Rattle.mdv_shelf.proofs.Telling.{each_joined}
-use Rattle.mdv_engine_law.specs.Below.{Tale, told}
+use Rattle.mdv_shelf.proofs.Moments.{moments_weaker, some_is}
+use Rattle.mdv_shelf.proofs.Telling.{each_joined, rests_alone}
+use Rattle.mdv_engine_law.specs.Below.{Tale, last, told}
 use Rattle.mdv_engine_law.specs.Line.{IsSame, Kept, Memory, drive_content, kept_at}
 use Rattle.mdv_engine_law.specs.Replies.{text_of}
 use Rattle.mdv_engine_law.specs.Standing.{Knows, TellMoment, TellsFront}
@@ -42,3 +42,8 @@ module _ {S : Type 0} (shelf : Ghosts S) (telling : (s : S) → shelf.tale s ≡
       moment_weaker shelf (OfTales (TellMoment (text_of answer))) (λ t m. Knows host old t.tale → TellsFront (λ failed kept given next. (given ≡ answer) × (next ≡ kept)) old t m) a b
       (λ t m up down here knows. inr (record { answer = answer; next = kept_at old t.tale; came = (refl, refl); count = here.count; is_told = here.is_told; shows = λ block. (here.kept 0 block refl).last }))
       (moments_of_tales shelf telling a b (TellMoment (text_of answer)) on tells)
+
+  -- by which the drives are at rest
+  pub telling_rests : (a b : S) (text : List ℕ) → GoesOn shelf a b → AtEachTale shelf (TellMoment text) a b → ((drive : ℕ) → shelf.faults b (OnDrive drive) ≡ shelf.faults a (OnDrive drive)) → RestsOnceTold shelf a b
+  telling_rests a b text on tells calm =
+      rests_alone shelf telling a b on (moments_weaker (TellMoment text) (λ t m. (drive block : ℕ) → last m drive block ≡ last t drive block) _ _ (λ t m here drive block. (here.kept drive block refl).last) tells) calm

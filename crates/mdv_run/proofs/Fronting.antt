@@ -56,7 +56,7 @@ module _ (host : Host) (start : Counts) (first : Memory) (script : Script) where
             parts = one.lines.parts;
             at = one.lines.at;
             lines = lines_shown host (between shelf a b) (between shelf a c) (length one.lines.so_far)
-                (λ bytes shown some le seen. shown_later shelf telling a b c on more bytes shown (tale_of s) (tale_of u) (tale_at a s is_s) (tale_at b u is_u) (omega (arith, until, parts, whole, le)) seen) 0 _ _ one.lines.so_far (omega arith) one.lines.lines;
+                (λ bytes piece shown some le seen. shown_later shelf telling a b c on more bytes piece shown (tale_of s) (tale_of u) some (tale_at a s is_s) (tale_at b u is_u) (omega (arith, until, parts, whole, le)) seen) 0 _ _ one.lines.so_far (omega arith) one.lines.lines;
             front = one.lines.front;
           };
         })
@@ -76,7 +76,7 @@ module _ (host : Host) (start : Counts) (first : Memory) (script : Script) where
             parts = refl;
             at = at here (kept_at now (tale_of u)) any left;
             lines = lines_shown host (between shelf a b) (between shelf a c) (length been.so_far)
-                (λ bytes shown some le seen. shown_later shelf telling a b c on more bytes shown (tale_of s) (tale_of u) (tale_at a s is_s) (tale_at b u is_u) (omega (arith, until, le)) seen) 0 _ _ been.so_far (omega arith) been.lines;
+                (λ bytes piece shown some le seen. shown_later shelf telling a b c on more bytes piece shown (tale_of s) (tale_of u) some (tale_at a s is_s) (tale_at b u is_u) (omega (arith, until, le)) seen) 0 _ _ been.so_far (omega arith) been.lines;
             front = next.front;
           };
         })
@@ -113,7 +113,7 @@ module _ {S : Type 0} (shelf : Ghosts S) (telling : (s : S) → shelf.tale s ≡
             rest = one.lines.rest;
             parts = one.lines.parts;
             at = one.lines.at;
-            lines = lines_shown host (between shelf b c) (between shelf a c) (length one.lines.so_far) (λ bytes shown some le seen. shown_earlier shelf telling a b c on quiet bytes shown some seen) 0 _ _ one.lines.so_far (omega arith) one.lines.lines;
+            lines = lines_shown host (between shelf b c) (between shelf a c) (length one.lines.so_far) (λ bytes piece shown some le seen. shown_earlier shelf telling a b c on quiet bytes piece shown some seen) 0 _ _ one.lines.so_far (omega arith) one.lines.lines;
             front = one.lines.front;
           };
         });

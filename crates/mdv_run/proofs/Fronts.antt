@@ -1,7 +1,7 @@
 -- Which front of a reply was told by each moment of a turn.
 use Rattle.std.proofs.Common.{◌≡◌, inl, inr, ℕ, Bool, List, [], ◌++◌, take, refl, sym, ◌∙◌, ap, subst, arith}
 use Rattle.std.proofs.lemmas.List.{append-nil}
-use Rattle.mdv_run.specs.Below.{Rose, Answer, Boot, Counts, Host, IsAnswered, IsLine, IsRebooted, IsTurnedDown, Kept, Knows, LineTooLong, Memory, OnDrive, RoseTo, Script, TellsFront, counts, kept_at, line, told, too_long}
+use Rattle.mdv_run.specs.Below.{Rose, Answer, Boot, Counts, Host, IsAnswered, IsLine, IsRebooted, IsSame, IsTurnedDown, Kept, Knows, LineTooLong, Memory, OnDrive, RoseTo, Script, TellsFront, counts, drive_content, kept_at, line, told, too_long}
 use Rattle.mdv_run.specs.Turns.{TurnFront, at}
 use Rattle.mdv_shelf.specs.Calls.{Part}
 use Rattle.mdv_shelf.specs.Shelves.{AtEachMoment}
@@ -28,7 +28,7 @@ ScriptFront host now old refused script t m = Knows host old t.tale → TurnFron
 pub front_of : (Comes More : Type 0 → Kept → Answer → Kept → Type 0) (old : Memory) (t m : Moment) → ((failed : Type 0) (kept : Kept) (answer : Answer) (next : Kept) → Comes failed kept answer next → More failed kept answer next)
     → TellsFront Comes old t m → TellsFront More old t m
 front_of Comes More old t m more (inl same) = inl same
-front_of Comes More old t m more (inr front) = inr (record { answer = front.answer; next = front.next; came = more _ _ _ _ front.came; count = front.count; is_told = front.is_told })
+front_of Comes More old t m more (inr front) = inr (record { answer = front.answer; next = front.next; came = more _ _ _ _ front.came; count = front.count; is_told = front.is_told; shows = front.shows })
 
 pub only_refused : (refusal : Refusal) (failed : Type 0) (kept : Kept) (answer : Answer) (next : Kept) → OnlyAnswers (outcome.Refused refusal) failed kept answer next → IsTurnedDown refusal kept answer next
 only_refused refusal failed kept answer next is = (is.0, subst (λ (k : Kept). Stays kept k) (sym is.1) (record { memory = refl; content = λ block. refl }))
@@ -44,6 +44,7 @@ boot_front host old new text boots t u m quiet rise rebooted (inr front) = inr (
   came = inr (Boot, boots, rebooted_more (FailedBy t u (OnDrive 0)) (FailedBy t m (OnDrive 0)) (λ rose. rose_within _ _ _ _ (omega arith) (rise (OnDrive 0)) rose) host (kept_at old t.tale) (kept_at new u.tale) outcome.Ok rebooted);
   count = front.count;
   is_told = front.is_told ∙ ap (λ (a : Answer). told u.tale ++ take front.count (text_of a)) front.came.0 ∙ ap (λ (l : List ℕ). l ++ take front.count (text_of outcome.Ok)) quiet;
+  shows = subst (λ (k : Kept). IsSame k.content (drive_content m.tale)) front.came.1 front.shows;
 })
 
 -- the counts by a moment in the middle of a turn
@@ -71,6 +72,7 @@ module _ (host : Host) (old : Memory) (now : Counts) (refused : Bool) (t m : Mom
       more = more;
       comes = (refl, rose, subst (λ (d : ℕ). IsAnswered (Rose d (m.faults (OnDrive 0))) host (kept_at old t.tale) text front.answer front.next) (sym drive) front.came);
       by_then = omega arith;
+      shows = front.shows;
       count = front.count;
       front = refl;
     });
@@ -89,6 +91,7 @@ module _ (host : Host) (old : Memory) (now : Counts) (refused : Bool) (t m : Mom
       more = more;
       comes = (refl, rose, only_refused LineTooLong (Rose now.drive (m.faults (OnDrive 0))) (kept_at old t.tale) front.answer front.next front.came);
       by_then = omega arith;
+      shows = front.shows;
       count = front.count;
       front = refl;
     });

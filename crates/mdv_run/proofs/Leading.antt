@@ -1,6 +1,6 @@
 -- How one turn of a run goes on from the script that is before it.
 use Rattle.std.proofs.Common.{◌≡◌, ℕ, Bool, true, List, [], Option, Some, refl, sym, ◌∙◌, ap, subst, arith}
-use Rattle.mdv_run.specs.Below.{Rose, LineTooLong, Reader, Script, at_end, spent, too_long, line, script_before, IsTurn, Line, TooLong, End, Spent, Tale, told, Answer, Reply, Host, Memory, IsTold, IsReplied, Kept, IsTurnedDown, kept_at, Replied, RunStatus, Panic, ReadFault, WriteFault, NoMemory, NumbersSpent, At, Counts, RoseTo, NextLine, IsAnswered, drive_failed, source_failed, replies_failed}
+use Rattle.mdv_run.specs.Below.{Rose, LineTooLong, Reader, Script, at_end, spent, too_long, line, script_before, IsTurn, Line, TooLong, End, Spent, Tale, told, Answer, Reply, Host, Memory, IsTold, IsReplied, Kept, IsTurnedDown, kept_at, Replied, RunStatus, Panic, ReadFault, WriteFault, NoMemory, NumbersSpent, At, Counts, RoseTo, NextLine, Stretch, IsAnswered, drive_failed, source_failed, replies_failed}
 use Rattle.mdv_run_law.specs.Run.{Over as IsOver, broken, ended, unread, EndsAs, EndsWith, IsSaid, refused_by}
 use Rattle.mdv_engine_law.specs.Replies.{HasReplyCause, IsLost, text_of}
 use Rattle.mdv_engine_law.specs.declared.answer.Answer.TheVariants as outcome
@@ -52,8 +52,8 @@ module _ (host : Host) (from : At) (then : Counts) (rose : RoseTo from.counts th
     line_on : (any : Bool) (piece : List ℕ) → IsSaid answer → piece ≡ text_of answer → any ≡ refused_by answer from.refused → Leads host from piece then next before (On any)
     line_on any piece said text is = (more, before_is, record { answer = answer; comes = comes then rose refl; said = said; as_text = text; as_refused = is })
 
-    over_by : (status : RunStatus) (piece : List ℕ) (last : Kept) → EndsWith (replies_failed from.counts then) answer next piece status last → IsOver host then from piece status last
-    over_by status piece last with = broken answer (carried_by from.counts then) next more (comes (carried_by from.counts then) (rose_carried from.counts then rose) refl) (rose_told from.counts then rose) with
+    over_by : (status : RunStatus) (piece : List ℕ) → EndsWith (replies_failed from.counts then) answer next piece status next → Leads host from piece then next before (Over status)
+    over_by status piece with = λ stretch bytes shown. broken answer (carried_by from.counts then) next more (comes (carried_by from.counts then) (rose_carried from.counts then rose) refl) shown (rose_told from.counts then rose) with
 
 -- what a reply leads to, by its answer
 leads : (host : Host) (from : At) (then : Counts) → RoseTo from.counts then → (next : Kept) (more : Script) (before : Option Script) → before ≡ Some more → (answer : Answer) (r : Reply) (piece : List ℕ)
@@ -65,15 +65,15 @@ leads host from then rose next more before is answer r piece comes told = by ans
   by (outcome.Values text) reply.Ok comes told = line_on host from then rose next more before is (outcome.Values text) comes from.refused piece tt told refl
   by (outcome.Refused refusal) (reply.Refused again) comes told = line_on host from then rose next more before is (outcome.Refused refusal) comes true piece tt told.1 refl
   by outcome.Ok reply.Told comes told =
-      over_by host from then rose next more before is outcome.Ok comes WriteFault piece next (record { cause = told.0; count = told.1.0; front = told.1.1; ended = refl; keeps = refl })
+      over_by host from then rose next more before is outcome.Ok comes WriteFault piece (record { cause = told.0; count = told.1.0; front = told.1.1; ended = refl; keeps = refl })
   by (outcome.Values text) reply.Told comes told =
-      over_by host from then rose next more before is (outcome.Values text) comes WriteFault piece next (record { cause = told.0; count = told.1.0; front = told.1.1; ended = refl; keeps = refl })
+      over_by host from then rose next more before is (outcome.Values text) comes WriteFault piece (record { cause = told.0; count = told.1.0; front = told.1.1; ended = refl; keeps = refl })
   by (outcome.Refused refusal) reply.Told comes told =
-      over_by host from then rose next more before is (outcome.Refused refusal) comes WriteFault piece next (record { cause = told.0; count = told.1.0; front = told.1.1; ended = refl; keeps = refl })
+      over_by host from then rose next more before is (outcome.Refused refusal) comes WriteFault piece (record { cause = told.0; count = told.1.0; front = told.1.1; ended = refl; keeps = refl })
   by outcome.Panic (reply.Panic active listed) comes told =
-      over_by host from then rose next more before is outcome.Panic comes (Panic active listed) piece next (record { silent = told.2; ended = λ i. Panic (told.0 i) (told.1 i); keeps = refl })
-  by outcome.Spent reply.Spent comes told = over_by host from then rose next more before is outcome.Spent comes NumbersSpent piece next (record { silent = told; ended = refl; keeps = refl })
-  by outcome.NoMemory reply.NoMemory comes told = over_by host from then rose next more before is outcome.NoMemory comes NoMemory piece next (record { silent = told; ended = refl; keeps = refl })
+      over_by host from then rose next more before is outcome.Panic comes (Panic active listed) piece (record { silent = told.2; ended = λ i. Panic (told.0 i) (told.1 i); keeps = refl })
+  by outcome.Spent reply.Spent comes told = over_by host from then rose next more before is outcome.Spent comes NumbersSpent piece (record { silent = told; ended = refl; keeps = refl })
+  by outcome.NoMemory reply.NoMemory comes told = over_by host from then rose next more before is outcome.NoMemory comes NoMemory piece (record { silent = told; ended = refl; keeps = refl })
   by outcome.Ok (reply.Refused again) comes told = absurd told
   by outcome.Ok (reply.Panic active listed) comes told = absurd told
   by outcome.Ok reply.Spent comes told = absurd told
@@ -138,17 +138,17 @@ on_replied r any turn is on = by r (subst IsOn is on) where
 
 -- a turn with which the run is over, and nothing is told
 over_turn : (host : Host) (now then : Counts) (memory : Memory) (any : Bool) (script : Script) (before : Option Script) (status : RunStatus) (t : Tale)
-    → IsOver host then (at now (kept_at memory t) any script) [] status (kept_at memory t) → Turns host now then memory memory any script before (Over status) t t
-over_turn host now then memory any script before status t over = record { piece = []; is_told = sym (append-nil (told t)); leads = over }
+    → ((stretch : Stretch) (bytes : ℕ) → IsOver host stretch bytes then (at now (kept_at memory t) any script) [] status (kept_at memory t)) → Turns host now then memory memory any script before (Over status) t t
+over_turn host now then memory any script before status t over = record { piece = []; is_told = sym (append-nil (told t)); leads = λ stretch bytes shown. over stretch bytes }
 
 -- the source failed
 pub unread_turn : (host : Host) (now then : Counts) → RoseTo now then → source_failed now then → (memory : Memory) (any : Bool) (script : Script) (before : Option Script) (t : Tale) → Turns host now then memory memory any script before (Over ReadFault) t t
-unread_turn host now then rose so memory any script before t = over_turn host now then memory any script before ReadFault t (unread so rose (record { silent = refl; ended = refl; keeps = refl }))
+unread_turn host now then rose so memory any script before t = over_turn host now then memory any script before ReadFault t (λ stretch bytes. unread so rose (record { silent = refl; ended = refl; keeps = refl }))
 
 -- the script is at its end, or past its limit
 pub ended_turn : (host : Host) (now then : Counts) → RoseTo now then → (memory : Memory) (any : Bool) (script : Script) (before : Option Script) (status : RunStatus) (t : Tale)
     → EndsAs any script status → Turns host now then memory memory any script before (Over status) t t
-ended_turn host now then rose memory any script before status t how = over_turn host now then memory any script before status t (ended how rose (record { silent = refl; ended = refl; keeps = refl }))
+ended_turn host now then rose memory any script before status t how = over_turn host now then memory any script before status t (λ stretch bytes. ended how rose (record { silent = refl; ended = refl; keeps = refl }))
 
 -- a turn is lost where its reply is
 pub lost_reply : (r : Reply) (any : Bool) → IsLost r → IsLostTurn (turn_of r any)

@@ -1,14 +1,15 @@
--- The counts that a run shows stay shown as it goes on.
-use Rattle.std.proofs.Common.{◌≡◌, ℕ, ◌+◌, ◌≤◌, ◌<◌, length, Option, Some, ◌∙◌, ap, subst, arith}
+-- What the moments of a run show of where it is stays shown as it goes on.
+use Rattle.std.proofs.Common.{◌≡◌, ℕ, Bool, List, ◌+◌, ◌≤◌, ◌<◌, length, Option, Some, ◌∙◌, ap, subst, arith}
 use Rattle.std.specs.Option.{option_map}
-use Rattle.mdv_run.specs.Below.{AreShown, Counts, Ends, IsShown, OnDrive, OnReplies, RoseTo, Tale, counts, told}
+use Rattle.mdv_run.specs.Below.{AreLast, AreShown, At, Counts, Ends, IsLastShown, IsShown, Memory, OnDrive, OnReplies, RoseTo, Script, Tale, counts, drive_content, kept_at, told}
 use Rattle.mdv_run.specs.Promise.{between}
+use Rattle.mdv_run.specs.Turns.{at}
 use Rattle.mdv_shelf.specs.Calls.{Part}
-use Rattle.mdv_shelf.specs.Shelves.{AtEachTale, EndsTold, GoesOn}
+use Rattle.mdv_shelf.specs.Shelves.{AtEachTale, EndsTold, GoesOn, IsAtRest, RestsOnceTold}
 use Rattle.mdv_shelf.specs.Story.{NoFewer, OfTales, Story, tale_of}
 use Rattle.mdv_shelf.specs.declared.shelf.Shelf.{Ghosts}
 use Rattle.mdv_shelf.proofs.Moments.{some_is}
-use Rattle.mdv_shelf.proofs.Noted.{moments_of_tales}
+use Rattle.mdv_shelf.proofs.Noted.{moment_both, moments_of_tales}
 use Rattle.mdv_shelf.proofs.Telling.{each_joined}
 
 -- counts from the same source
@@ -35,48 +36,93 @@ module _ {S : Type 0} (shelf : Ghosts S) (telling : (s : S) → shelf.tale s ≡
   told_at s x t story tale = ap (λ (y : Tale). length (told y)) (some_is (shelf.tale s) (tale_of x) t (telling s ∙ ap (λ (o : Option Story). option_map tale_of o) story) tale)
 
   -- what was shown before is shown later
-  pub shown_later : GoesOn shelf b c → (bytes : ℕ) (now : Counts) (t u : Tale) → shelf.tale a ≡ Some t → shelf.tale b ≡ Some u → length (told t) + bytes ≤ length (told u) → IsShown (between shelf a b) bytes now → IsShown (between shelf a c) bytes now
-  shown_later more bytes now t u is_t is_u le shown =
-      each_joined (AreShown bytes now) (λ _ _. Unit {0}) (AreShown bytes now) _ _ _ _ _ _ (λ s x v first mid last turn there ahead m here within. here)
+  pub shown_later : GoesOn shelf b c → (bytes piece : ℕ) (now : At) (t u : Tale) → 0 < piece → shelf.tale a ≡ Some t → shelf.tale b ≡ Some u → length (told t) + (bytes + piece) ≤ length (told u)
+      → IsShown (between shelf a b) bytes piece now → IsShown (between shelf a c) bytes piece now
+  shown_later more bytes piece now t u some is_t is_u le shown =
+      each_joined (AreShown bytes piece now) (λ _ _. Unit {0}) (AreShown bytes piece now) _ _ _ _ _ _ (λ s x v first mid last turn there ahead m here within. here)
       (λ s x v first mid last turn m here within ahead.
       let start = told_at a s t first is_t in
       let turned = told_at b x u mid is_u in
       let from = within.bytes.0 in record {
         before = λ short. absurd (omega (arith, short, le, start, turned, from));
-        behind = λ long. rise_on now _ m.faults (turn.behind (omega (arith, le, start, turned))) within.counts.0;
+        behind = λ long. rise_on now.counts _ m.faults (turn.behind (omega (arith, some, le, start, turned))) within.counts.0;
+        reads = λ long short. absurd (omega (arith, short, le, start, turned, from));
       }) shown more
 
-  -- and so are the counts at the end of a stretch by which something was told
-  pub shown_now : EndsTold shelf b c → (bytes source : ℕ) (t v : Tale) → shelf.tale a ≡ Some t → shelf.tale c ≡ Some v → length (told t) + bytes ≡ length (told v) → IsShown (between shelf a c) bytes (counts (shelf.faults c) source)
-  shown_now ends bytes source t v is_t is_v same =
-      each_joined (λ _ _. Unit {0}) (λ y m. length (told v) ≤ length (told m.tale) → NoFewer (shelf.faults c) m.faults) (AreShown bytes (counts (shelf.faults c) source)) _ _ _ _ _ _
+  -- and so is where a run is at the end of a stretch by which a reply was told
+  pub shown_now : EndsTold shelf b c → RestsOnceTold shelf b c → (bytes piece source : ℕ) (memory : Memory) (refused : Bool) (script : Script) (t u v : Tale) → shelf.tale a ≡ Some t → shelf.tale b ≡ Some u → shelf.tale c ≡ Some v
+      → length (told t) + bytes ≡ length (told u) → length (told u) + piece ≡ length (told v) → IsShown (between shelf a c) bytes piece (at (counts (shelf.faults c) source) (kept_at memory v) refused script)
+  shown_now ends rests bytes piece source memory refused script t u v is_t is_u is_v until same =
+      each_joined (λ _ _. Unit {0}) (λ y m. (length (told y.tale) < length (told m.tale) → NoFewer (shelf.faults c) m.faults) × (length (told y.tale) < length (told m.tale) → IsAtRest (shelf.faults c) v m))
+      (AreShown bytes piece (at (counts (shelf.faults c) source) (kept_at memory v) refused script)) _ _ _ _ _ _
       (λ s x w first mid last turn there ahead m here within.
       let start = told_at a s t first is_t in
-      let end = told_at c w v last is_v in
-      let whole = within.bytes.1 in
-      let grew = ends.grew (tale_of x) (telling b ∙ ap (λ (o : Option Story). option_map tale_of o) mid) in
-      let more : length (told grew.0) ≡ length (told v) = ap (λ (y : Tale). length (told y)) (some_is (shelf.tale c) grew.0 v grew.1 is_v) in record {
+      let turned = told_at b x u mid is_u in
+      let whole = within.bytes.1 in record {
         before = λ short. rise m.faults (shelf.faults c) source (no_fewer_then m.faults _ (shelf.faults c) within.counts.1 ahead);
-        behind = λ long. absurd (omega (arith, long, same, start, whole, more, grew.2));
+        behind = λ long. absurd (omega (arith, long, until, start, turned, whole));
+        reads = λ long short. absurd (omega (arith, long, until, start, turned, whole));
       })
       (λ s x w first mid last turn m here within ahead.
-      let start = told_at a s t first is_t in record {
+      let start = told_at a s t first is_t in
+      let turned = told_at b x u mid is_u in record {
         before = λ short. rise m.faults (shelf.faults c) source within.counts.1;
-        behind = λ long. rise (shelf.faults c) m.faults source (here (omega (arith, long, same, start)));
-      }) on (ends.still v is_v)
+        behind = λ long. rise (shelf.faults c) m.faults source (here.0 (omega (arith, long, until, start, turned)));
+        reads = λ long short block. (here.1 (omega (arith, long, until, start, turned))).reads 0 block;
+      }) on (moment_both shelf (λ y m. length (told y.tale) < length (told m.tale) → NoFewer (shelf.faults c) m.faults) (λ y m. length (told y.tale) < length (told m.tale) → IsAtRest (shelf.faults c) v m) b c ends.still (rests v is_v))
 
   -- what a stretch shows is shown from an earlier point on, where nothing was told in between
-  pub shown_earlier : AtEachTale shelf (λ t m. told m ≡ told t) a b → (bytes : ℕ) (now : Counts) → 0 < bytes → IsShown (between shelf b c) bytes now → IsShown (between shelf a c) bytes now
-  shown_earlier quiet bytes now some shown =
-      each_joined (OfTales (λ t m. told m ≡ told t)) (AreShown bytes now) (AreShown bytes now) _ _ _ _ _ _
-      (λ s x w first mid last turn there ahead m here within.
+  pub shown_earlier : AtEachTale shelf (λ t m. told m ≡ told t) a b → (bytes piece : ℕ) (now : At) → 0 < piece → IsShown (between shelf b c) bytes piece now → IsShown (between shelf a c) bytes piece now
+  shown_earlier quiet bytes piece now some shown =
+      each_joined (OfTales (λ t m. told m ≡ told t)) (AreShown bytes piece now) (AreShown bytes piece now) _ _ _ _ _ _
+      (λ s x v first mid last turn there ahead m here within.
       let still : length (told m.tale) ≡ length (told (tale_of s)) = ap length here in record {
-        before = λ short. fall_on now m.faults _ (there.before (omega (arith, some))) within.counts.1;
-        behind = λ long. absurd (omega (arith, long, still, some));
+        before = λ short. fall_on now.counts m.faults _ (there.before (omega (arith, some))) within.counts.1;
+        behind = λ long. absurd (omega (arith, long, still));
+        reads = λ long short. absurd (omega (arith, long, still));
       })
-      (λ s x w first mid last turn m here within ahead.
+      (λ s x v first mid last turn m here within ahead.
       let same : length (told (tale_of x)) ≡ length (told (tale_of s)) = ap length turn in record {
         before = λ short. here.before (omega (arith, short, same));
         behind = λ long. here.behind (omega (arith, long, same));
+        reads = λ long short. here.reads (omega (arith, long, same)) (omega (arith, short, same));
+      })
+      (moments_of_tales shelf telling a b (λ t m. told m ≡ told t) on quiet) shown
+
+  -- the line with which the run is over is shown
+  pub last_now : RestsOnceTold shelf b c → (bytes : ℕ) (t u v : Tale) → shelf.tale a ≡ Some t → shelf.tale b ≡ Some u → shelf.tale c ≡ Some v → length (told t) + bytes ≡ length (told u)
+      → IsLastShown (between shelf a c) bytes (shelf.faults c (OnDrive 0)) (drive_content v)
+  last_now rests bytes t u v is_t is_u is_v until =
+      each_joined (λ _ _. Unit {0}) (λ y m. length (told y.tale) < length (told m.tale) → IsAtRest (shelf.faults c) v m) (AreLast bytes (shelf.faults c (OnDrive 0)) (drive_content v)) _ _ _ _ _ _
+      (λ s x w first mid last turn there ahead m here within.
+      let start = told_at a s t first is_t in
+      let turned = told_at b x u mid is_u in
+      let whole = within.bytes.1 in record {
+        before = λ short. no_fewer_then m.faults _ (shelf.faults c) within.counts.1 ahead (OnDrive 0);
+        behind = λ long. absurd (omega (arith, long, until, start, turned, whole));
+        reads = λ long. absurd (omega (arith, long, until, start, turned, whole));
+      })
+      (λ s x w first mid last turn m here within ahead.
+      let start = told_at a s t first is_t in
+      let turned = told_at b x u mid is_u in record {
+        before = λ short. within.counts.1 (OnDrive 0);
+        behind = λ long. (here (omega (arith, long, until, start, turned))).drives 0;
+        reads = λ long block. (here (omega (arith, long, until, start, turned))).reads 0 block;
+      }) on (rests v is_v)
+
+  pub last_earlier : AtEachTale shelf (λ t m. told m ≡ told t) a b → (bytes drive : ℕ) (content : ℕ → List ℕ) → IsLastShown (between shelf b c) bytes drive content → IsLastShown (between shelf a c) bytes drive content
+  last_earlier quiet bytes drive content shown =
+      each_joined (OfTales (λ t m. told m ≡ told t)) (AreLast bytes drive content) (AreLast bytes drive content) _ _ _ _ _ _
+      (λ s x v first mid last turn there ahead m here within.
+      let still : length (told m.tale) ≡ length (told (tale_of s)) = ap length here in record {
+        before = λ short. (let le = within.counts.1 (OnDrive 0) in let start = there.before (omega arith) in omega (arith, le, start));
+        behind = λ long. absurd (omega (arith, long, still));
+        reads = λ long. absurd (omega (arith, long, still));
+      })
+      (λ s x v first mid last turn m here within ahead.
+      let same : length (told (tale_of x)) ≡ length (told (tale_of s)) = ap length turn in record {
+        before = λ short. here.before (omega (arith, short, same));
+        behind = λ long. here.behind (omega (arith, long, same));
+        reads = λ long. here.reads (omega (arith, long, same));
       })
       (moments_of_tales shelf telling a b (λ t m. told m ≡ told t) on quiet) shown

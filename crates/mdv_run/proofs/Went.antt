@@ -1,8 +1,8 @@
 -- How the turns of a run add up.
 use Rattle.std.proofs.Common.{◌≡◌, ℕ, ◌+◌, ◌≤◌, ◌<◌, Bool, false, List, [], ◌++◌, length, Option, Some, refl, sym, ◌∙◌, ap, subst, append_assoc, arith}
 use Rattle.std.proofs.lemmas.List.{append-nil, length-append}
-use Rattle.mdv_run.specs.Below.{Reader, Script, script_before, script_of, Tale, told, Moments, Ends, Host, Memory, kept_at, Knows, RunStatus, Done, SomeRefused, Usage, NoQuorum, Panic, ReadFault, WriteFault, NoMemory, TwoDatabases, ScriptTooLong, NumbersSpent, At, Counts, RoseTo, LineTold, LinesTold, Stretch, IsShown, HasStatusCause, LinesMoment, RanTo}
-use Rattle.mdv_run_law.specs.Run.{no_line, one_more}
+use Rattle.mdv_run.specs.Below.{Reader, Script, script_before, script_of, Tale, told, Moments, Ends, Host, Memory, kept_at, Knows, RunStatus, Done, SomeRefused, Usage, NoQuorum, Panic, ReadFault, WriteFault, NoMemory, TwoDatabases, ScriptTooLong, NumbersSpent, At, Counts, Kept, RoseTo, LineTold, LinesTold, Stretch, IsLastShown, IsShown, drive_content, HasStatusCause, LinesMoment, RanTo}
+use Rattle.mdv_run_law.specs.Run.{Over as IsOver, broken, ended, no_line, one_more, unread}
 use Rattle.mdv_shelf.proofs.Moments.{moments_none, moments_after, ends_more, some_is}
 use Rattle.mdv_engine_law.proofs.Executing.{rose_within}
 use Rattle.mdv_run.specs.declared.session.Turn.TheVariants.{On, Over}
@@ -12,24 +12,29 @@ use Rattle.mdv_run_law.proofs.Lining.{lines_start, ran_start, lines_more_moment,
 
 module _ (host : Host) (stretch : Stretch) where
   -- one line more
-  lines_then : (n : ℕ) (from mid to : At) (so_far piece : List ℕ) → LinesTold host stretch n from so_far mid → 0 < length piece → LineTold host mid piece to → IsShown stretch (n + length (so_far ++ piece)) to.counts → LinesTold host stretch n from (so_far ++ piece) to
+  lines_then : (n : ℕ) (from mid to : At) (so_far piece : List ℕ) → LinesTold host stretch n from so_far mid → 0 < length piece → LineTold host mid piece to → IsShown stretch (n + length so_far) (length piece) to → LinesTold host stretch n from (so_far ++ piece) to
   lines_then n from mid to so_far piece (no_line bytes now) some line shown =
-      subst (λ (l : List ℕ). LinesTold host stretch n from l to) (append-nil piece) (one_more n from to to piece [] some line shown (no_line (n + length piece) to))
-  lines_then n from mid to so_far piece (one_more bytes now mean last first rest few one seen lines) some line shown =
-      let at : n + length ((first ++ rest) ++ piece) ≡ (n + length first) + length (rest ++ piece) = add_up (length first) (length rest) (length piece) n (length (first ++ rest)) (length ((first ++ rest) ++ piece)) (length (rest ++ piece))
-      (length-append first rest) (length-append (first ++ rest) piece) (length-append rest piece) in
-      subst (λ (l : List ℕ). LinesTold host stretch n from l to) (sym (append_assoc first rest piece))
-      (one_more n from mean to first (rest ++ piece) few one seen (lines_then (n + length first) mean mid to rest piece lines some line (subst (λ (k : ℕ). IsShown stretch k to.counts) at shown)))
+      subst (λ (l : List ℕ). LinesTold host stretch n from l to) (append-nil piece) (one_more n from to to piece [] some line (subst (λ (k : ℕ). IsShown stretch k (length piece) to) none shown) (no_line (n + length piece) to))
     where
-      add_up : (x y z n xy xyz yz : ℕ) → xy ≡ x + y → xyz ≡ xy + z → yz ≡ y + z → n + xyz ≡ (n + x) + yz
-      add_up x y z n xy xyz yz one two three = omega (arith, one, two, three)
+      none : n + 0 ≡ n
+      none = omega arith
+  lines_then n from mid to so_far piece (one_more bytes now mean last first rest few one seen lines) some line shown =
+      let at : n + length (first ++ rest) ≡ (n + length first) + length rest = add_up (length first) (length rest) n (length (first ++ rest)) (length-append first rest) in
+      subst (λ (l : List ℕ). LinesTold host stretch n from l to) (sym (append_assoc first rest piece))
+      (one_more n from mean to first (rest ++ piece) few one seen (lines_then (n + length first) mean mid to rest piece lines some line (subst (λ (k : ℕ). IsShown stretch k (length piece) to) at shown)))
+    where
+      add_up : (x y n xy : ℕ) → xy ≡ x + y → n + xy ≡ (n + x) + y
+      add_up x y n xy one = omega (arith, one)
 
-  -- by another stretch, of which all these counts are shown too
-  pub lines_shown : (other : Stretch) (top : ℕ) → ((bytes : ℕ) (c : Counts) → 0 < bytes → bytes ≤ top → IsShown stretch bytes c → IsShown other bytes c) → (n : ℕ) (from to : At) (pieces : List ℕ) → n + length pieces ≤ top
-      → LinesTold host stretch n from pieces to → LinesTold host other n from pieces to
+  -- another stretch shows what this one does, of so many bytes
+  abbrev pub ShowsTo : Stretch → ℕ → Type 0
+  ShowsTo other top = (bytes piece : ℕ) (now : At) → 0 < piece → bytes + piece ≤ top → IsShown stretch bytes piece now → IsShown other bytes piece now
+
+  -- by which the lines are the same
+  pub lines_shown : (other : Stretch) (top : ℕ) → ShowsTo other top → (n : ℕ) (from to : At) (pieces : List ℕ) → n + length pieces ≤ top → LinesTold host stretch n from pieces to → LinesTold host other n from pieces to
   lines_shown other top shows n from to pieces le (no_line bytes now) = no_line n from
   lines_shown other top shows n from to pieces le (one_more bytes now mid last first rest some one seen lines) =
-      one_more n from mid to first rest some one (shows (n + length first) mid.counts (omega (arith, some)) (omega (arith, le, length-append first rest)) seen)
+      one_more n from mid to first rest some one (shows n (length first) mid some (omega (arith, le, length-append first rest)) seen)
       (lines_shown other top shows (n + length first) mid to rest (omega (arith, le, length-append first rest)) lines)
 
 -- the turns so far, and what they told
@@ -59,27 +64,32 @@ module _ (host : Host) (first : Memory) (input : List ℕ) (start : Counts) wher
   module _ (here end : Counts) (now new : Memory) (any : Bool) (before then : Option Script) (a b c : Option Tale) (stretch : Stretch) (so_far : SoFar host stretch start here first now any input before a b) where
     -- a longer stretch shows what the one before did
     abbrev pub ShowsStill : Stretch → Type 0
-    ShowsStill other = (t u : Tale) → a ≡ Some t → b ≡ Some u → (bytes : ℕ) (shown : Counts) → length (told t) + bytes ≤ length (told u) → IsShown stretch bytes shown → IsShown other bytes shown
+    ShowsStill other = (t u : Tale) → a ≡ Some t → b ≡ Some u → (bytes piece : ℕ) (at : At) → 0 < piece → length (told t) + (bytes + piece) ≤ length (told u) → IsShown stretch bytes piece at → IsShown other bytes piece at
 
-    -- and the counts at its end, by which more was told
+    -- and where the run is at its end, by which more was told
     pub record Shows (other : Stretch) : Type 0 where
       pub still : ShowsStill other
       pub grew : (u v : Tale) → b ≡ Some u → c ≡ Some v → length (told u) < length (told v)
-      pub last : (t v : Tale) → a ≡ Some t → c ≡ Some v → (bytes : ℕ) → length (told t) + bytes ≡ length (told v) → IsShown other bytes end
+      pub last : (t u v : Tale) → a ≡ Some t → b ≡ Some u → c ≡ Some v → (bytes piece : ℕ) → length (told t) + bytes ≡ length (told u) → length (told u) + piece ≡ length (told v)
+          → (r : Bool) (script : Script) → IsShown other bytes piece (at end (kept_at new v) r script)
+
+    -- or the line with which it is over
+    pub record ShowsOver (other : Stretch) : Type 0 where
+      pub still : ShowsStill other
+      pub last : (t u v : Tale) → a ≡ Some t → b ≡ Some u → c ≡ Some v → (bytes : ℕ) → length (told t) + bytes ≡ length (told u) → IsLastShown other bytes end.drive (drive_content v)
 
     went_more : (other : Stretch) → Shows other → (r : Bool) (left : Script) (t u v : Tale) → a ≡ Some t → b ≡ Some u → c ≡ Some v → then ≡ Some left → Went host stretch start here first now any (script_of input) so_far.left t u
         → Turns host here end now new any so_far.left then (On r) u v → Went host other start end first new r (script_of input) left t v
     went_more other shows r left t u v is_t is_u is_v comes went turns =
         let until : length (told u) ≡ length (told t) + length went.so_far = ap length went.is_told ∙ length-append (told t) went.so_far in
         let then_told : length (told v) ≡ length (told u) + length turns.piece = ap length turns.is_told ∙ length-append (told u) turns.piece in
-        let both : length (went.so_far ++ turns.piece) ≡ length went.so_far + length turns.piece = length-append went.so_far turns.piece in
         let same : turns.leads.0 ≡ left = some_script (sym turns.leads.1 ∙ comes) in
         record {
           so_far = went.so_far ++ turns.piece;
           is_told = turns.is_told ∙ ap (λ (l : List ℕ). l ++ turns.piece) went.is_told ∙ append_assoc (told t) went.so_far turns.piece;
           lines = lines_then host other 0 (at start (kept_at first t) false (script_of input)) (at here (kept_at now u) any so_far.left) (at end (kept_at new v) r left) went.so_far turns.piece
-              (lines_shown host stretch other (length went.so_far) (λ bytes c some le seen. shows.still t u is_t is_u bytes c (omega (arith, until, le)) seen) 0 _ _ went.so_far (omega arith) went.lines)
-              (let more = shows.grew u v is_u is_v in omega (arith, more, then_told)) (subst (λ (s : Script). LineTold host (at here (kept_at now u) any so_far.left) turns.piece (at end (kept_at new v) r s)) same turns.leads.2) (shows.last t v is_t is_v (0 + length (went.so_far ++ turns.piece)) (omega (arith, until, then_told, both)));
+              (lines_shown host stretch other (length went.so_far) (λ bytes piece c some le seen. shows.still t u is_t is_u bytes piece c some (omega (arith, until, le)) seen) 0 _ _ went.so_far (omega arith) went.lines)
+              (let more = shows.grew u v is_u is_v in omega (arith, more, then_told)) (subst (λ (s : Script). LineTold host (at here (kept_at now u) any so_far.left) turns.piece (at end (kept_at new v) r s)) same turns.leads.2) (shows.last t u v is_t is_u is_v (0 + length went.so_far) (length turns.piece) (omega (arith, until)) (omega (arith, then_told)) r left);
         } where
           some_script : {x y : Script} → Some x ≡ Some y → x ≡ y
           some_script is = cc
@@ -113,7 +123,7 @@ module _ (host : Host) (first : Memory) (input : List ℕ) (start : Counts) wher
         (λ t u m before more. lines_more_moment host (script_of input) first t now so_far.left u before m more) so_far.moments so_far.ran (moments so_far.left so_far.comes)
 
     -- the turn that ends the run
-    pub over_ends : (other : Stretch) (status : RunStatus) → ShowsStill other → ((lines : Script) → before ≡ Some lines → Ends (TurnEnd host here end now new any lines then (Over status)) b c) → Ends (λ t u. Knows host first t → LinesRun host other start end first false (script_of input) status t u) a c
+    pub over_ends : (other : Stretch) (status : RunStatus) → ShowsOver other → ((lines : Script) → before ≡ Some lines → Ends (TurnEnd host here end now new any lines then (Over status)) b c) → Ends (λ t u. Knows host first t → LinesRun host other start end first false (script_of input) status t u) a c
     over_ends other status shows turns t is =
         let one = so_far.went t is in
         let known = so_far.ran t is in
@@ -129,19 +139,29 @@ module _ (host : Host) (first : Memory) (input : List ℕ) (start : Counts) wher
                 is_told = turn.is_told ∙ ap (λ (l : List ℕ). l ++ turn.piece) went.is_told ∙ append_assoc (told t) went.so_far turn.piece;
                 last = kept_at new two.0;
                 left = record { content = λ block. refl; opened = λ not_lost. (two.2.knows not_lost (knows_so first_known)).opened };
-                runs = record { so_far = went.so_far; rest = turn.piece; parts = refl; at = at here (kept_at now one.0) any so_far.left; lines = still t one.0 is one.1 went; over = turn.leads };
+                runs = record { so_far = went.so_far; rest = turn.piece; parts = refl; at = at here (kept_at now one.0) any so_far.left; lines = still t one.0 is one.1 went; over = turn.leads other (length went.so_far) (shows.last t one.0 two.0 is one.1 two.1 (length went.so_far) (until t one.0 went)) };
               },
         )
       where
+        until : (t u : Tale) (went : Went host stretch start here first now any (script_of input) so_far.left t u) → length (told t) + length went.so_far ≡ length (told u)
+        until t u went = sym (ap length went.is_told ∙ length-append (told t) went.so_far)
+
         still : (t u : Tale) → a ≡ Some t → b ≡ Some u → (went : Went host stretch start here first now any (script_of input) so_far.left t u) → LinesTold host other 0 (at start (kept_at first t) false (script_of input)) went.so_far (at here (kept_at now u) any so_far.left)
         still t u is_t is_u went =
-            let until : length (told u) ≡ length (told t) + length went.so_far = ap length went.is_told ∙ length-append (told t) went.so_far in
-            lines_shown host stretch other (length went.so_far) (λ bytes c some le seen. shows t u is_t is_u bytes c (omega (arith, until, le)) seen) 0 _ _ went.so_far (omega arith) went.lines
+            lines_shown host stretch other (length went.so_far) (λ bytes piece c some le seen. shows.still t u is_t is_u bytes piece c some (omega (arith, until t u went, le)) seen) 0 _ _ went.so_far (omega arith) went.lines
+
+-- the same end of a run, by another stretch
+over_shown : (host : Host) (stretch other : Stretch) (bytes : ℕ) → ((drive : ℕ) (content : ℕ → List ℕ) → IsLastShown stretch bytes drive content → IsLastShown other bytes drive content) → (end : Counts) (now : At) (told : List ℕ) (status : RunStatus) (last : Kept)
+    → IsOver host stretch bytes end now told status last → IsOver host other bytes end now told status last
+over_shown host stretch other bytes shows end now told status last (unread so rose stops) = unread so rose stops
+over_shown host stretch other bytes shows end now told status last (ended how rose stops) = ended how rose stops
+over_shown host stretch other bytes shows end now told status last (broken answer later next more comes shown rose with) = broken answer later next more comes (shows later.drive next.content shown) rose with
 
 -- the same lines, by a stretch that begins earlier
-pub run_earlier : (host : Host) (stretch other : Stretch) → ((bytes : ℕ) (shown : Counts) → 0 < bytes → IsShown stretch bytes shown → IsShown other bytes shown) → (now end : Counts) (memory : Memory) (script : Script) (status : RunStatus) (t u : Tale)
+pub run_earlier : (host : Host) (stretch other : Stretch) → ((bytes piece : ℕ) (shown : At) → 0 < piece → IsShown stretch bytes piece shown → IsShown other bytes piece shown)
+    → ((bytes drive : ℕ) (content : ℕ → List ℕ) → IsLastShown stretch bytes drive content → IsLastShown other bytes drive content) → (now end : Counts) (memory : Memory) (script : Script) (status : RunStatus) (t u : Tale)
     → LinesRun host stretch now end memory false script status t u → LinesRun host other now end memory false script status t u
-run_earlier host stretch other shows now end memory script status t u run = record {
+run_earlier host stretch other shows last now end memory script status t u run = record {
   more = run.more;
   is_told = run.is_told;
   last = run.last;
@@ -151,8 +171,8 @@ run_earlier host stretch other shows now end memory script status t u run = reco
     rest = run.runs.rest;
     parts = run.runs.parts;
     at = run.runs.at;
-    lines = lines_shown host stretch other (length run.runs.so_far) (λ bytes shown some le seen. shows bytes shown some seen) 0 _ _ run.runs.so_far (omega arith) run.runs.lines;
-    over = run.runs.over;
+    lines = lines_shown host stretch other (length run.runs.so_far) (λ bytes piece shown some le seen. shows bytes piece shown some seen) 0 _ _ run.runs.so_far (omega arith) run.runs.lines;
+    over = over_shown host stretch other (length run.runs.so_far) (last (length run.runs.so_far)) end run.runs.at run.runs.rest status run.last run.runs.over;
   };
 }
 

@@ -4,7 +4,7 @@ pub use Rattle.mdv_base.specs.declared.refusal.Refusal.TheVariants.{LineTooLong}
 pub use Rattle.mdv_engine.specs.Engine.{HasBootCause, IsWell, boot_answer}
 pub use Rattle.mdv_engine.specs.declared.engine.Engine.{Engine}
 pub use Rattle.mdv_engine_law.specs.Home.{IsReady, StaysHome}
-pub use Rattle.mdv_engine_law.specs.Line.{IsExecuted, IsRebooted, IsTurnedDown, Kept, Memory, asked_by, kept_at, unbooted}
+pub use Rattle.mdv_engine_law.specs.Line.{IsExecuted, IsRebooted, IsSame, IsTurnedDown, Kept, Memory, asked_by, drive_content, kept_at, unbooted}
 pub use Rattle.mdv_engine_law.specs.Replies.{IsReplied, IsTold}
 pub use Rattle.mdv_engine_law.specs.Standing.{TellsFront, BootMoment, BootedTo, Executed, IsAwake, Knows, Replied, TurnMoment, Turned}
 pub use Rattle.mdv_engine_law.specs.declared.answer.Answer.{Answer}
@@ -18,7 +18,7 @@ pub use Rattle.mdv_name.specs.declared.geometry.Geometry.{Geometry}
 pub use Rattle.mdv_port.specs.Reader.{Reader}
 pub use Rattle.mdv_port.specs.Script.{IsTurn, Script, at_end, line, script_before, script_of, spent, too_long}
 pub use Rattle.mdv_port.specs.declared.reader.LineEnd.TheVariants.{End, Line, Spent, TooLong}
-pub use Rattle.mdv_run_law.specs.Run.{AreShown, At, Counts, IsNextFront, IsToldBy, LinesToldBy, NextFront, HasStatusCause, IsAnswered, IsLeft, IsShown, IsWholeRun, LineTold, LinesTold, NextLine, RoseTo, Runs, Stretch, counts}
+pub use Rattle.mdv_run_law.specs.Run.{AreLast, AreShown, At, Counts, IsLastShown, IsNextFront, IsToldBy, LinesToldBy, NextFront, HasStatusCause, IsAnswered, IsLeft, IsShown, IsWholeRun, LineTold, LinesTold, NextLine, RoseTo, Runs, Stretch, counts}
 pub use Rattle.mdv_run_law.specs.Run.{drive_failed, replies_failed, source_failed, status_of}
 pub use Rattle.mdv_run_law.specs.Standing.{Asks, LinesMoment, RanTo, RunMoment, behind}
 pub use Rattle.mdv_run_law.specs.Lives.{host_of}

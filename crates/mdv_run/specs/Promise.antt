@@ -1,7 +1,7 @@
 -- What a run promises, of the whole bench and the whole source.
 use Rattle.std.specs.Prelude.{◌≡◌, ◌≢◌, ◌⊎◌, ◌↔◌, ◌≤◌, ◌<◌, ◌+◌, ℕ, Bool, false, List, Option, Some}
 use Rattle.mdv_run.specs.Below.{Reader, Script, line, script_before, script_of, Tale, Reply, IsReplied, Host, Memory, Engine, Knows, IsWell, StaysHome, TellsFront, IsAnswered, IsToldBy, kept_at, RunStatus, NoMemory, Usage, Counts, Stretch, counts, HasStatusCause, IsWholeRun, RunMoment, LinesMoment, RanTo}
-use Rattle.mdv_shelf.specs.Shelves.{AtEachMoment, AtEachTale, AtEnd, DriveFailed, EndsTold, GivingFailed}
+use Rattle.mdv_shelf.specs.Shelves.{AtEachMoment, AtEachTale, AtEnd, DriveFailed, EndsTold, GivingFailed, RestsOnceTold}
 use Rattle.mdv_shelf.specs.Story.{OfTales}
 use Rattle.mdv_shelf.specs.declared.shelf.Shelf.{Ghosts as Shelf}
 use Rattle.mdv_port.specs.declared.source.Source.{Ghosts as Source}
@@ -95,11 +95,12 @@ abbrev pub LineTells : {B : Type 0} → Shelf B → Engine → List ℕ → B �
 LineTells shelf engine text bench on =
     AtEachMoment shelf (λ t m. Knows engine.host engine.state t.tale → TellsFront (λ failed kept answer next. IsAnswered failed engine.host kept text answer next) engine.state t m) bench on
 
--- A line, or a turn: outside the host's area nothing happens; where a reply was told whole, no call failed behind its last byte; and a front of it is
--- told by each moment.
+-- A line, or a turn: outside the host's area nothing happens; from the first byte of its reply on the drives are at rest, and where it was told whole no
+-- call failed; and a front of it is told by each moment.
 pub record LineStays {B : Type 0} (shelf : Shelf B) (host : Host) (replied Tells : Type 0) (old new : B) : Type 0 where
   pub home : AtEachTale shelf (StaysHome host) old new
   pub told : replied → EndsTold shelf old new
+  pub rests : RestsOnceTold shelf old new
   pub tells : Tells
 
 -- one line, in the end: its answer and its reply, what is left of the script, and what is known of the drive then

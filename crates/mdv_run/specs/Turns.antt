@@ -1,8 +1,8 @@
 -- How the lines of a run follow one another.
 use Rattle.std.specs.Prelude.{◌≡◌, ℕ, Bool, true, List, ◌++◌, Option, Some}
-use Rattle.mdv_run.specs.Below.{Script, Tale, told, Answer, BootRefusal, Reply, Host, Kept, Memory, kept_at, Replied, RunStatus, Panic, WriteFault, NoMemory, NumbersSpent, At, Counts, IsNextFront, LinesToldBy, OnDrive, LineTold, Runs, Stretch, IsAnswered, IsLeft, HasStatusCause}
+use Rattle.mdv_run.specs.Below.{Script, Tale, told, Answer, BootRefusal, Reply, Host, Kept, Memory, kept_at, Replied, RunStatus, Panic, WriteFault, NoMemory, NumbersSpent, At, Counts, IsNextFront, LinesToldBy, LineTold, Runs, Stretch, IsAnswered, IsLeft, HasStatusCause}
 use Rattle.mdv_shelf.specs.Story.{Moment}
-use Rattle.mdv_run_law.specs.Run.{IsLostStatus, Over as IsOver}
+use Rattle.mdv_run_law.specs.Run.{IsLastShown, IsLostStatus, Over as IsOver}
 use Rattle.mdv_engine_law.specs.declared.answer.BootRefusal.TheVariants as refusal
 use Rattle.mdv_engine_law.specs.declared.answer.Reply.TheVariants as reply
 use Rattle.mdv_run.specs.declared.session.Turn.{Turn}
@@ -38,10 +38,11 @@ IsLostTurn (Over status) = IsLostStatus status
 abbrev pub at : Counts → Kept → Bool → Script → At
 at now kept refused script = record { counts = now; kept = kept; refused = refused; script = script }
 
--- One turn told this piece: a line's reply, and the run goes on; or the run is over with it.
+-- One turn told this piece: a line's reply, and the run goes on; or the run is over with it, by each stretch that shows how often the drive
+-- failed, and what it has.
 abbrev pub Leads : Host → At → List ℕ → Counts → Kept → Option Script → Turn → Type 0
 Leads host from piece then kept before (On r) = (more : Script) × (before ≡ Some more) × LineTold host from piece (at then kept r more)
-Leads host from piece then kept before (Over status) = IsOver host then from piece status kept
+Leads host from piece then kept before (Over status) = (stretch : Stretch) (bytes : ℕ) → IsLastShown stretch bytes then.drive kept.content → IsOver host stretch bytes then from piece status kept
 
 -- a turn, from these counts to those, told by the script before it
 pub record Turns (host : Host) (now then : Counts) (old new : Memory) (refused : Bool) (script : Script) (before : Option Script) (turn : Turn) (t u : Tale) : Type 0 where
@@ -69,10 +70,10 @@ pub record LinesRun (host : Host) (stretch : Stretch) (now then : Counts) (old :
 pub record TurnFront (host : Host) (from : At) (t m : Moment) : Type 0 where
   pub bytes : List ℕ
   pub is_told : told m.tale ≡ told t.tale ++ bytes
-  pub front : IsNextFront host from bytes (m.faults (OnDrive 0))
+  pub front : IsNextFront host from bytes m
 
 -- and of the lines so far
 pub record LinesFront (host : Host) (stretch : Stretch) (first : At) (t m : Moment) : Type 0 where
   pub bytes : List ℕ
   pub is_told : told m.tale ≡ told t.tale ++ bytes
-  pub lines : LinesToldBy host stretch first bytes (m.faults (OnDrive 0))
+  pub lines : LinesToldBy host stretch first bytes m

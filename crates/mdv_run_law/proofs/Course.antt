@@ -106,10 +106,10 @@ module _ (host : Host) where
   next_rose now then kept next (too_long left) rest answer is = is.1
   next_rose now then kept next (line text left) rest answer is = is.1
 
-  over_rose : (end : Counts) (now : At) (told : List ℕ) (status : RunStatus) (last : Kept) → Over host end now told status last → RoseTo now.counts end
-  over_rose end now told status last (unread so rose stops) = rose
-  over_rose end now told status last (ended how rose stops) = rose
-  over_rose end now told status last (broken answer then next left is rose with) = rose_to_more now.counts then end (next_rose now.counts then now.kept next now.script left answer is) rose
+  over_rose : (w : Stretch) (n : ℕ) (end : Counts) (now : At) (told : List ℕ) (status : RunStatus) (last : Kept) → Over host w n end now told status last → RoseTo now.counts end
+  over_rose w n end now told status last (unread so rose stops) = rose
+  over_rose w n end now told status last (ended how rose stops) = rose
+  over_rose w n end now told status last (broken answer then next left is shown rose with) = rose_to_more now.counts then end (next_rose now.counts then now.kept next now.script left answer is) rose
 
   lines_rose : (w : Stretch) (n : ℕ) (now then : At) (told : List ℕ) → LinesTold host w n now told then → RoseTo now.counts then.counts
   lines_rose w n now then told (no_line bytes at) = rose_itself now.counts
@@ -222,19 +222,19 @@ module _ (host : Host) (content : ℕ → List ℕ) (has : HasHome host content)
     by outcome.Spent one two = one_stop host next mine NumbersSpent a b s r k j tt one two
     by outcome.NoMemory one two = one_stop host next mine NoMemory a b s r k j tt one two
 
-  module _ (e f : Counts) (s r : RunStatus) (k j : Kept) where
+  module _ (w v : Stretch) (c d : ℕ) (e f : Counts) (s r : RunStatus) (k j : Kept) where
     -- both are over before a line, or with its answer
-    one_over : (n m : At) (a b : List ℕ) → Beside n m → IsUndisturbed n.counts e → IsUndisturbed m.counts f → IsSated a s → IsSated b r → Over host e n a s k → Over host f m b r j → SameEnds host a b s r k j
+    one_over : (n m : At) (a b : List ℕ) → Beside n m → IsUndisturbed n.counts e → IsUndisturbed m.counts f → IsSated a s → IsSated b r → Over host w c e n a s k → Over host v d f m b r j → SameEnds host a b s r k j
     one_over n m a b beside calm calm_too sated sated_too (unread so rose stops) two = absurd (calm.source so)
     one_over n m a b beside calm calm_too sated sated_too one (unread so rose stops) = absurd (calm_too.source so)
     one_over n m a b beside calm calm_too sated sated_too (ended how rose stops) (ended how_too rose_too stops_too) =
         let same = one_end n.refused m.refused n.script m.script s r beside.refused beside.script how how_too in
         (stops.silent ∙ sym stops_too.silent, same, λ known. subst (λ (x : Kept). IsSameEnd host x j) (sym stops.keeps) (subst (λ (x : Kept). IsSameEnd host n.kept x) (sym stops_too.keeps) (beside.kept.memory, beside.kept.beside)))
-    one_over n m a b beside calm calm_too sated sated_too (ended how rose stops) (broken answer then next left is rose_too with) =
+    one_over n m a b beside calm calm_too sated sated_too (ended how rose stops) (broken answer then next left is shown rose_too with) =
         absurd (never_next n.refused n.script m.script s m.counts then m.kept next left answer beside.script how is)
-    one_over n m a b beside calm calm_too sated sated_too (broken answer then next left is rose with) (ended how rose_too stops) =
+    one_over n m a b beside calm calm_too sated sated_too (broken answer then next left is shown rose with) (ended how rose_too stops) =
         absurd (never_next m.refused m.script n.script r n.counts then n.kept next left answer (sym beside.script) how is)
-    one_over n m a b beside calm calm_too sated sated_too (broken answer then next left is rose with) (broken other to also behind is_too rose_too with_too) =
+    one_over n m a b beside calm calm_too sated sated_too (broken answer then next left is shown rose with) (broken other to also behind is_too shown_too rose_too with_too) =
         let here = calm_within n.counts n.counts then e (rose_itself n.counts) rose calm in
         let there = calm_within m.counts m.counts to f (rose_itself m.counts) rose_too calm_too in
         let last = calm_within n.counts then e e (next_rose host n.counts then n.kept next n.script left answer is) (rose_itself e) calm in
@@ -244,11 +244,11 @@ module _ (host : Host) (content : ℕ → List ℕ) (has : HasHome host content)
         one_with _ _ last.replies last_too.replies answer other both.same next also a b s r k j with with_too
 
     -- one is over where the other goes on
-    one_stays : (n m then : At) (a piece rest : List ℕ) → Beside n m → IsUndisturbed n.counts e → IsUndisturbed m.counts f → RoseTo then.counts f → IsSated a s → IsSated (piece ++ rest) r → Over host e n a s k → LineTold host m piece then → ⊥
+    one_stays : (n m then : At) (a piece rest : List ℕ) → Beside n m → IsUndisturbed n.counts e → IsUndisturbed m.counts f → RoseTo then.counts f → IsSated a s → IsSated (piece ++ rest) r → Over host w c e n a s k → LineTold host m piece then → ⊥
     one_stays n m then a piece rest beside calm calm_too rose_too sated sated_too (unread so rose stops) two = calm.source so
     one_stays n m then a piece rest beside calm calm_too rose_too sated sated_too (ended how rose stops) two =
         never_next n.refused n.script m.script s m.counts then.counts m.kept then.kept then.script two.answer beside.script how two.comes
-    one_stays n m then a piece rest beside calm calm_too rose_too sated sated_too (broken answer to next left is rose with) two =
+    one_stays n m then a piece rest beside calm calm_too rose_too sated sated_too (broken answer to next left is shown rose with) two =
         let here = calm_within n.counts n.counts to e (rose_itself n.counts) rose calm in
         let there = calm_within m.counts m.counts then.counts f (rose_itself m.counts) rose_too calm_too in
         let last = calm_within n.counts to e e (next_rose host n.counts to n.kept next n.script left answer is) (rose_itself e) calm in
@@ -267,16 +267,16 @@ module _ (host : Host) (content : ℕ → List ℕ) (has : HasHome host content)
   sated_apart piece rest x status sated = subst (λ (l : List ℕ). IsSated l status) (append_assoc piece rest x) sated
 
   module _ (e f : Counts) (s r : RunStatus) (k j : Kept) where
-    one_run : (w v : Stretch) (c d : ℕ) (n m p q : At) (a b x y : List ℕ) → Beside n m → IsUndisturbed n.counts e → IsUndisturbed m.counts f → IsSated (a ++ x) s → IsSated (b ++ y) r
-        → LinesTold host w c n a p → LinesTold host v d m b q → Over host e p x s k → Over host f q y r j → SameEnds host (a ++ x) (b ++ y) s r k j
-    one_run w v c d n m p q a b x y beside calm calm_too sated sated_too (no_line c_is at) (no_line d_is also) one two = one_over e f s r k j n m x y beside calm calm_too sated sated_too one two
-    one_run w v c d n m p q a b x y beside calm calm_too sated sated_too (no_line c_is at) (one_more d_is from mid to piece rest some said shown lines) one two =
-        absurd (one_stays e f s r k j n m mid x piece (rest ++ y) beside calm calm_too (rose_to_more mid.counts q.counts f (lines_rose host v (d + length piece) mid q rest lines) (over_rose host f q y r j two)) sated (sated_apart piece rest y r sated_too) one said)
-    one_run w v c d n m p q a b x y beside calm calm_too sated sated_too (one_more c_is from mid to piece rest some said shown lines) (no_line d_is at) one two =
-        absurd (one_stays f e r s j k m n mid y piece (rest ++ x) (beside_back n m beside) calm_too calm (rose_to_more mid.counts p.counts e (lines_rose host w (c + length piece) mid p rest lines) (over_rose host e p x s k one)) sated_too (sated_apart piece rest x s sated) two said)
-    one_run w v c d n m p q a b x y beside calm calm_too sated sated_too (one_more c_is from mid to piece rest some said shown lines) (one_more d_is start also last other behind some_too turn shown_too turns) one two =
-        let up = rose_to_more mid.counts p.counts e (lines_rose host w (c + length piece) mid p rest lines) (over_rose host e p x s k one) in
-        let up_too = rose_to_more also.counts q.counts f (lines_rose host v (d + length other) also q behind turns) (over_rose host f q y r j two) in
+    one_run : (w v : Stretch) (c d x_at y_at : ℕ) (n m p q : At) (a b x y : List ℕ) → Beside n m → IsUndisturbed n.counts e → IsUndisturbed m.counts f → IsSated (a ++ x) s → IsSated (b ++ y) r
+        → LinesTold host w c n a p → LinesTold host v d m b q → Over host w x_at e p x s k → Over host v y_at f q y r j → SameEnds host (a ++ x) (b ++ y) s r k j
+    one_run w v c d x_at y_at n m p q a b x y beside calm calm_too sated sated_too (no_line c_is at) (no_line d_is also) one two = one_over w v x_at y_at e f s r k j n m x y beside calm calm_too sated sated_too one two
+    one_run w v c d x_at y_at n m p q a b x y beside calm calm_too sated sated_too (no_line c_is at) (one_more d_is from mid to piece rest some said shown lines) one two =
+        absurd (one_stays w v x_at y_at e f s r k j n m mid x piece (rest ++ y) beside calm calm_too (rose_to_more mid.counts q.counts f (lines_rose host v (d + length piece) mid q rest lines) (over_rose host v y_at f q y r j two)) sated (sated_apart piece rest y r sated_too) one said)
+    one_run w v c d x_at y_at n m p q a b x y beside calm calm_too sated sated_too (one_more c_is from mid to piece rest some said shown lines) (no_line d_is at) one two =
+        absurd (one_stays v w y_at x_at f e r s j k m n mid y piece (rest ++ x) (beside_back n m beside) calm_too calm (rose_to_more mid.counts p.counts e (lines_rose host w (c + length piece) mid p rest lines) (over_rose host w x_at e p x s k one)) sated_too (sated_apart piece rest x s sated) two said)
+    one_run w v c d x_at y_at n m p q a b x y beside calm calm_too sated sated_too (one_more c_is from mid to piece rest some said shown lines) (one_more d_is start also last other behind some_too turn shown_too turns) one two =
+        let up = rose_to_more mid.counts p.counts e (lines_rose host w (c + length piece) mid p rest lines) (over_rose host w x_at e p x s k one) in
+        let up_too = rose_to_more also.counts q.counts f (lines_rose host v (d + length other) also q behind turns) (over_rose host v y_at f q y r j two) in
         let here = calm_within n.counts n.counts mid.counts e (rose_itself n.counts) up calm in
         let there = calm_within m.counts m.counts also.counts f (rose_itself m.counts) up_too calm_too in
         let left = calm_within n.counts mid.counts e e (next_rose host n.counts mid.counts n.kept mid.kept n.script mid.script said.answer said.comes) (rose_itself e) calm in
@@ -288,18 +288,18 @@ module _ (host : Host) (content : ℕ → List ℕ) (has : HasHome host content)
         said.comes (subst (λ (z : Script). NextLine host m.counts m.kept z turn.answer also.counts also.kept also.script) (sym beside.script) turn.comes) in
         let pieces : piece ≡ other = said.as_text ∙ sym (ap text_of both.same) ∙ sym turn.as_text in
         let whole : IsReply piece = subst IsReply (sym said.as_text) (said_reply said.answer both.plain said.said) in
-        let ends = one_run w v (c + length piece) (d + length other) mid also p q rest behind x y
+        let ends = one_run w v (c + length piece) (d + length other) x_at y_at mid also p q rest behind x y
         (record { script = sym both.script; refused = said.as_refused ∙ same_refused said.answer turn.answer n.refused m.refused both.same beside.refused ∙ sym turn.as_refused; kept = both.kept (said_heard said.answer said.said) })
         left left_too (rest_sated piece (rest ++ x) s whole all) (rest_sated other (behind ++ y) r (subst IsReply pieces whole) all_too) lines turns one two in
         (append_assoc piece rest x ∙ (λ i. pieces i ++ ends.0 i) ∙ sym (append_assoc other behind y), ends.1, ends.2)
 
     runs_rose : (w : Stretch) (n : At) (told : List ℕ) → Runs host w e n told s k → RoseTo n.counts e
-    runs_rose w n told runs = rose_to_more n.counts runs.at.counts e (lines_rose host w 0 n runs.at runs.so_far runs.lines) (over_rose host e runs.at runs.rest s k runs.over)
+    runs_rose w n told runs = rose_to_more n.counts runs.at.counts e (lines_rose host w 0 n runs.at runs.so_far runs.lines) (over_rose host w (length runs.so_far) e runs.at runs.rest s k runs.over)
 
     one_from : (w v : Stretch) (answer : Answer) (now from : Counts) (n m : Kept) → (IsHeard answer → Same host n m) → (script : Script) (a b : List ℕ) → IsUndisturbed now e → IsUndisturbed from f → IsSated a s → IsSated b r
         → RunsFrom host w e answer now n script a s k → RunsFrom host v f answer from m script b r j → SameEnds host a b s r k j
     one_from w v outcome.Ok now from n m same script a b calm calm_too sated sated_too one two =
-        let ends = one_run w v 0 0 (record { counts = now; kept = n; refused = false; script = script }) (record { counts = from; kept = m; refused = false; script = script }) one.at two.at one.so_far two.so_far one.rest two.rest
+        let ends = one_run w v 0 0 (length one.so_far) (length two.so_far) (record { counts = now; kept = n; refused = false; script = script }) (record { counts = from; kept = m; refused = false; script = script }) one.at two.at one.so_far two.so_far one.rest two.rest
         (record { script = refl; refused = refl; kept = same tt }) calm calm_too (subst (λ (l : List ℕ). IsSated l s) one.parts sated) (subst (λ (l : List ℕ). IsSated l r) two.parts sated_too) one.lines two.lines one.over two.over in
         (one.parts ∙ ends.0 ∙ sym two.parts, ends.1, ends.2)
     one_from w v (outcome.Values text) now from n m same script a b calm calm_too sated sated_too one two = absurd one

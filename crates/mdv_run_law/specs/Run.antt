@@ -97,11 +97,20 @@ pub record LineTold (host : Host) (now : At) (piece : List ℕ) (later : At) : T
   pub as_text : piece ≡ text_of answer
   pub as_refused : later.refused ≡ refused_by answer now.refused
 
--- The counts by which the run had told so many bytes, and no more of them: at no moment before was the drive's or the replies' greater, and at none from
--- there on is it less. So they are those at which the last of these bytes was told.
-pub record AreShown (bytes : ℕ) (now : Counts) (t m : Moment) : Type 0 where
-  pub before : length (told m.tale) < length (told t.tale) + bytes → RoseTo (counts m.faults now.source) now
-  pub behind : length (told t.tale) + bytes ≤ length (told m.tale) → RoseTo now (counts m.faults now.source)
+-- Where the run was behind a reply of so many bytes, with so many told before it. At no moment before the reply's last byte was told was the drive's
+-- or the replies' count greater, and at none from its first byte on is it less: the counts are those with which it was told. At each moment by which some of it was told,
+-- and not all, the drive's blocks read as they are kept.
+pub record AreShown (bytes piece : ℕ) (now : At) (t m : Moment) : Type 0 where
+  pub before : length (told m.tale) < length (told t.tale) + (bytes + piece) → RoseTo (counts m.faults now.counts.source) now.counts
+  pub behind : length (told t.tale) + bytes < length (told m.tale) → RoseTo now.counts (counts m.faults now.counts.source)
+  pub reads : length (told t.tale) + bytes < length (told m.tale) → length (told m.tale) < length (told t.tale) + (bytes + piece) → IsSame now.kept.content (drive_content m.tale)
+
+-- The line with which a run is over, with so many bytes told before its reply, by which the drive had failed so often and was left so. At no moment before the first
+-- byte of its reply was told had the drive failed more often; at none from there on less, and from there on its blocks read so.
+pub record AreLast (bytes drive : ℕ) (content : ℕ → List ℕ) (t m : Moment) : Type 0 where
+  pub before : length (told m.tale) ≤ length (told t.tale) + bytes → m.faults (OnDrive 0) ≤ drive
+  pub behind : length (told t.tale) + bytes < length (told m.tale) → drive ≤ m.faults (OnDrive 0)
+  pub reads : length (told t.tale) + bytes < length (told m.tale) → IsSame content (drive_content m.tale)
 
 -- what a bench told and counted, from one point to another
 pub record Stretch : Type 0 where
@@ -110,14 +119,18 @@ pub record Stretch : Type 0 where
   pub new : Option Story
   pub after : Part → ℕ
 
--- the counts are so shown by the moments between
-abbrev pub IsShown : Stretch → ℕ → Counts → Type 0
-IsShown stretch bytes now = AtEach (AreShown bytes now) stretch.old stretch.before stretch.new stretch.after
+-- the moments between show it so
+abbrev pub IsShown : Stretch → ℕ → ℕ → At → Type 0
+IsShown stretch bytes piece now = AtEach (AreShown bytes piece now) stretch.old stretch.before stretch.new stretch.after
 
--- Such lines, one behind the other, and what was told of them behind so many bytes, of each at least one. The counts between two lines are those that are shown by then.
+abbrev pub IsLastShown : Stretch → ℕ → ℕ → (ℕ → List ℕ) → Type 0
+IsLastShown stretch bytes drive content = AtEach (AreLast bytes drive content) stretch.old stretch.before stretch.new stretch.after
+
+-- Such lines, one behind the other, and what was told of them behind so many bytes, of each at least one. The counts between two lines, and what the drive's blocks read as there, are
+-- those that the moments show.
 pub data LinesTold (host : Host) (stretch : Stretch) : ℕ → At → List ℕ → At → Type 0 where
   no_line : (bytes : ℕ) (now : At) → LinesTold host stretch bytes now [] now
-  one_more : (bytes : ℕ) (now mid later : At) (piece rest : List ℕ) → 0 < length piece → LineTold host now piece mid → IsShown stretch (bytes + length piece) mid.counts → LinesTold host stretch (bytes + length piece) mid rest later
+  one_more : (bytes : ℕ) (now mid later : At) (piece rest : List ℕ) → 0 < length piece → LineTold host now piece mid → IsShown stretch bytes (length piece) mid → LinesTold host stretch (bytes + length piece) mid rest later
       → LinesTold host stretch bytes now (piece ++ rest) later
 
 -- how a script is over
@@ -144,23 +157,23 @@ EndsWith failed outcome.Panic next told status last = Stops next (Panic 0 1) tol
 EndsWith failed outcome.Spent next told status last = Stops next NumbersSpent told status last
 EndsWith failed outcome.NoMemory next told status last = Stops next NoMemory told status last
 
--- How a run is over, which has come so far, by these counts: the source failed; the script is at its end, or past its limit; or a line
--- was answered so that no line is run behind it, or its reply couldn't be told.
-pub data Over (host : Host) (end : Counts) (now : At) (told : List ℕ) (status : RunStatus) (last : Kept) : Type 0 where
-  unread : source_failed now.counts end → RoseTo now.counts end → Stops now.kept ReadFault told status last → Over host end now told status last
-  ended : EndsAs now.refused now.script status → RoseTo now.counts end → Stops now.kept status told status last → Over host end now told status last
-  broken : (answer : Answer) (later : Counts) (next : Kept) (more : Script) → NextLine host now.counts now.kept now.script answer later next more → RoseTo later end → EndsWith (replies_failed later end) answer next told status last
-      → Over host end now told status last
+-- How a run is over, which has come so far, with so many bytes told, by these counts: the source failed; the script is at its end, or past its limit; or a line
+-- was answered so that no line is run behind it, or its reply couldn't be told. What that line did the moments show.
+pub data Over (host : Host) (stretch : Stretch) (bytes : ℕ) (end : Counts) (now : At) (told : List ℕ) (status : RunStatus) (last : Kept) : Type 0 where
+  unread : source_failed now.counts end → RoseTo now.counts end → Stops now.kept ReadFault told status last → Over host stretch bytes end now told status last
+  ended : EndsAs now.refused now.script status → RoseTo now.counts end → Stops now.kept status told status last → Over host stretch bytes end now told status last
+  broken : (answer : Answer) (later : Counts) (next : Kept) (more : Script) → NextLine host now.counts now.kept now.script answer later next more → IsLastShown stretch bytes later.drive next.content → RoseTo later end
+      → EndsWith (replies_failed later end) answer next told status last → Over host stretch bytes end now told status last
 
--- The run of a script, from there on: line after line, until it is over. A line whose reply was told whole is excused by the calls alone that failed
--- until the last byte of it was told, and behind that of the reply before; the line with which the run is over, by those until its end.
+-- The run of a script, from there on: line after line, until it is over. A line is excused by the calls alone that failed until the first byte of its reply
+-- was told, and behind the last of the reply before; one of whose reply nothing was told, by those until the run's end.
 pub record Runs (host : Host) (stretch : Stretch) (end : Counts) (now : At) (told : List ℕ) (status : RunStatus) (last : Kept) : Type 0 where
   pub so_far : List ℕ
   pub rest : List ℕ
   pub parts : told ≡ so_far ++ rest
   pub at : At
   pub lines : LinesTold host stretch 0 now so_far at
-  pub over : Over host end at rest status last
+  pub over : Over host stretch (length so_far) end at rest status last
 
 -- what is there as a run begins
 abbrev pub started : (ℕ → List ℕ) → Kept
@@ -185,43 +198,45 @@ pub record IsRun (host : Host) (stretch : Stretch) (start end : Counts) (content
   pub boots : IsRebooted (drive_failed start booted) host (started content) answer kept
   pub runs : RunsFrom host stretch end answer booted kept script told status last
 
--- Of the next line's reply nothing was told, or a front: of the reply to what it came to, where the drive had failed so often.
-pub record NextFront (host : Host) (now : At) (told : List ℕ) (drive : ℕ) : Type 0 where
+-- Of the next line's reply nothing was told by that moment, or a front: of the reply to what it came to, where the drive had failed so often, and its blocks read as
+-- the line left them.
+pub record NextFront (host : Host) (now : At) (told : List ℕ) (m : Moment) : Type 0 where
   pub answer : Answer
   pub later : Counts
   pub next : Kept
   pub more : Script
   pub comes : NextLine host now.counts now.kept now.script answer later next more
-  pub by_then : later.drive ≤ drive
+  pub by_then : later.drive ≤ m.faults (OnDrive 0)
+  pub shows : IsSame next.content (drive_content m.tale)
   pub count : ℕ
   pub front : told ≡ take count (text_of answer)
 
-abbrev pub IsNextFront : Host → At → List ℕ → ℕ → Type 0
-IsNextFront host now told drive = (told ≡ []) ⊎ NextFront host now told drive
+abbrev pub IsNextFront : Host → At → List ℕ → Moment → Type 0
+IsNextFront host now told m = (told ≡ []) ⊎ NextFront host now told m
 
 -- what was told of lines by a moment of a run: whole replies, and a front of the next one
-pub record LinesToldBy (host : Host) (stretch : Stretch) (first : At) (told : List ℕ) (drive : ℕ) : Type 0 where
+pub record LinesToldBy (host : Host) (stretch : Stretch) (first : At) (told : List ℕ) (m : Moment) : Type 0 where
   pub so_far : List ℕ
   pub rest : List ℕ
   pub parts : told ≡ so_far ++ rest
   pub at : At
   pub lines : LinesTold host stretch 0 first so_far at
-  pub front : IsNextFront host at rest drive
+  pub front : IsNextFront host at rest m
 
 -- and of a run whose boot was answered
-pub record RunToldBy (host : Host) (stretch : Stretch) (start : Counts) (content : ℕ → List ℕ) (script : Script) (told : List ℕ) (drive : ℕ) : Type 0 where
+pub record RunToldBy (host : Host) (stretch : Stretch) (start : Counts) (content : ℕ → List ℕ) (script : Script) (told : List ℕ) (m : Moment) : Type 0 where
   pub booted : Counts
   pub rose : RoseTo start booted
   pub kept : Kept
   pub boots : IsRebooted (drive_failed start booted) host (started content) outcome.Ok kept
-  pub lines : LinesToldBy host stretch (record { counts = booted; kept = kept; refused = false; script = script }) told drive
+  pub lines : LinesToldBy host stretch (record { counts = booted; kept = kept; refused = false; script = script }) told m
 
 -- By a moment of a run that began at t nothing was told, or what the script asks for, as far as it had come: values that were told are those of
 -- blocks as the lines before left them, by the relation of lines alone. It says so too of a run that was stopped there.
 pub record IsToldBy (host : Host) (stretch : Stretch) (start : Counts) (script : Script) (t m : Moment) : Type 0 where
   pub bytes : List ℕ
   pub is_told : told m.tale ≡ told t.tale ++ bytes
-  pub tells : (bytes ≡ []) ⊎ RunToldBy host stretch start (drive_content t.tale) script bytes (m.faults (OnDrive 0))
+  pub tells : (bytes ≡ []) ⊎ RunToldBy host stretch start (drive_content t.tale) script bytes m
 
 -- Each block reads as it was kept. Where a database is open, and the run isn't over for want of places, numbers or memory, whatever a
 -- crash leaves has one replica of it, with the newest table that is in memory.

@@ -56,6 +56,7 @@ pub returns-in-Command-clause-stays : goal.returns-in-Command-clause-stays
 returns-in-Command-clause-stays g c = record {
   home = turn_stays c.args.engine.now.host (asked_by c.in-Command.command) c.args.engine.now.state _ _ c.exec.ensures.moments.each;
   told = c.exec.ensures.counted.told;
+  rests = c.exec.ensures.moments.rests;
   tells = moment_weaker g.B.Shelf (λ t m. Knows c.args.engine.now.host c.args.engine.now.state t.tale → TellsFront (CarriesOut c.args.engine.now.host c.in-Command.command) c.args.engine.now.state t m) (LineFront c.args.engine.now.host c.args.line.now c.args.engine.now.state) _ _
       (λ t m up down here known. front_of (CarriesOut c.args.engine.now.host c.in-Command.command) (λ failed kept answer next. IsAnswered failed c.args.engine.now.host kept c.args.line.now answer next) c.args.engine.now.state t m (λ failed kept answer next is. inr (words.Command c.in-Command.command, subst (IsLine c.args.line.now) c.in-Command.is c.in-Some.ensures.value, is)) (here known)) c.exec.ensures.moments.fronts;
 }
@@ -90,6 +91,7 @@ pub returns-in_default-clause-stays : goal.returns-in_default-clause-stays
 returns-in_default-clause-stays g c = record {
   home = turn_stays c.args.engine.now.host Nothing c.args.engine.now.state _ _ (c.refuse.ensures.moments Nothing).each;
   told = c.refuse.ensures.counted.told;
+  rests = (c.refuse.ensures.moments Nothing).rests;
   tells = moment_weaker g.B.Shelf (AnswerFront c.args.engine.now.host (outcome.Refused BadLine) c.args.engine.now.state) (LineFront c.args.engine.now.host c.args.line.now c.args.engine.now.state) _ _
       (λ t m up down here known. front_of (OnlyAnswers (outcome.Refused BadLine)) (λ failed kept answer next. IsAnswered failed c.args.engine.now.host kept c.args.line.now answer next) c.args.engine.now.state t m (λ failed kept answer next is. inl (c.in_default.ensures.none, only_refused BadLine failed kept answer next is)) (here known)) (c.refuse.ensures.moments Nothing).fronts;
 }

@@ -10,7 +10,7 @@ use Rattle.mdv_shelf.specs.Shelves.{AtEachMoment}
 use Rattle.mdv_shelf.specs.Story.{OfTales, Story, tale_of}
 use Rattle.mdv_shelf.proofs.Noted.{moment_weaker, moments_of_tales}
 use Rattle.mdv_shelf.proofs.Stories.{moment}
-use Rattle.mdv_shelf.proofs.Telling.{each_joined, told_behind}
+use Rattle.mdv_shelf.proofs.Telling.{each_joined, rests_behind, rests_quiet, told_behind}
 use Rattle.mdv_run.proofs.Fronts.{AnswerFront, LineFront, boot_front}
 use Rattle.mdv_shelf.proofs.Moments.{moments_after, moments_weaker, moments_end, some_is}
 use Rattle.mdv_engine_law.specs.declared.answer.Answer.TheVariants as outcome
@@ -63,6 +63,7 @@ returns-in-Ok-clause-stays g c = λ text boots.
       home = both_stay host _ _ _ (boot_stays host _ _ c.reboot.ensures.moments)
           (subst (λ (h : Host). Moments (StaysHome h) (g.B.Shelf.tale c.reboot.new.shelf) (g.B.Shelf.tale c.accept.new.bench)) c.in-Ok.ensures.answer.host (turn_stays c.reboot.new.self.host Nothing c.reboot.new.self.state _ _ c.accept.ensures.moments.each));
       told = λ on. told_behind g.B.Shelf g.met.B.Shelf.telling _ _ _ c.reboot.ensures.kept.goes quiet (c.accept.ensures.counted.told on);
+      rests = rests_behind g.B.Shelf g.met.B.Shelf.telling _ _ _ c.reboot.ensures.kept.goes quiet c.accept.ensures.moments.rests;
       tells = each_joined (OfTales (λ t m. told m ≡ told t)) (AnswerFront host outcome.Ok new) (LineFront host text old) _ _ _ _ _ _
           (λ s u v first mid last turn there ahead m here within knows. inl here)
           (λ s u v first mid last turn m here within ahead knows.
@@ -103,6 +104,7 @@ pub returns-in-Err-Lost-clause-stays : goal.returns-in-Err-Lost-clause-stays
 returns-in-Err-Lost-clause-stays g c = λ text boots. record {
   home = boot_stays c.args.engine.now.host _ _ c.reboot.ensures.moments;
   told = λ on. absurd on;
+  rests = rests_quiet g.B.Shelf g.met.B.Shelf.telling _ _ c.reboot.ensures.kept.goes (moments_weaker (BootMoment c.args.engine.now.host) (λ t m. told m ≡ told t) _ _ (λ t m moment. moment.quiet) c.reboot.ensures.moments);
   tells = moment_weaker g.B.Shelf (OfTales (λ t m. told m ≡ told t)) (LineFront c.args.engine.now.host text c.args.engine.now.state) _ _ (λ t m up below here known. inl here) (moments_of_tales g.B.Shelf g.met.B.Shelf.telling _ _ (λ t m. told m ≡ told t) c.reboot.ensures.kept.goes
       (moments_weaker (BootMoment c.args.engine.now.host) (λ t m. told m ≡ told t) _ _ (λ t m moment. moment.quiet) c.reboot.ensures.moments));
 }
@@ -135,6 +137,7 @@ pub returns-in-Err-Spent-clause-stays : goal.returns-in-Err-Spent-clause-stays
 returns-in-Err-Spent-clause-stays g c = λ text boots. record {
   home = boot_stays c.args.engine.now.host _ _ c.reboot.ensures.moments;
   told = λ on. absurd on;
+  rests = rests_quiet g.B.Shelf g.met.B.Shelf.telling _ _ c.reboot.ensures.kept.goes (moments_weaker (BootMoment c.args.engine.now.host) (λ t m. told m ≡ told t) _ _ (λ t m moment. moment.quiet) c.reboot.ensures.moments);
   tells = moment_weaker g.B.Shelf (OfTales (λ t m. told m ≡ told t)) (LineFront c.args.engine.now.host text c.args.engine.now.state) _ _ (λ t m up below here known. inl here) (moments_of_tales g.B.Shelf g.met.B.Shelf.telling _ _ (λ t m. told m ≡ told t) c.reboot.ensures.kept.goes
       (moments_weaker (BootMoment c.args.engine.now.host) (λ t m. told m ≡ told t) _ _ (λ t m moment. moment.quiet) c.reboot.ensures.moments));
 }
@@ -167,6 +170,7 @@ pub returns-in-Err-Memory-clause-stays : goal.returns-in-Err-Memory-clause-stays
 returns-in-Err-Memory-clause-stays g c = λ text boots. record {
   home = boot_stays c.args.engine.now.host _ _ c.reboot.ensures.moments;
   told = λ on. absurd on;
+  rests = rests_quiet g.B.Shelf g.met.B.Shelf.telling _ _ c.reboot.ensures.kept.goes (moments_weaker (BootMoment c.args.engine.now.host) (λ t m. told m ≡ told t) _ _ (λ t m moment. moment.quiet) c.reboot.ensures.moments);
   tells = moment_weaker g.B.Shelf (OfTales (λ t m. told m ≡ told t)) (LineFront c.args.engine.now.host text c.args.engine.now.state) _ _ (λ t m up below here known. inl here) (moments_of_tales g.B.Shelf g.met.B.Shelf.telling _ _ (λ t m. told m ≡ told t) c.reboot.ensures.kept.goes
       (moments_weaker (BootMoment c.args.engine.now.host) (λ t m. told m ≡ told t) _ _ (λ t m moment. moment.quiet) c.reboot.ensures.moments));
 }

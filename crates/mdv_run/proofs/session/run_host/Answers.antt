@@ -7,7 +7,7 @@ use Rattle.mdv_run.proofs.Whole.{whole_over, whole_lines, over_cause}
 use Rattle.mdv_run.specs.Promise.{between}
 use Rattle.mdv_shelf.specs.Shelves.{AtEachMoment}
 use Rattle.mdv_run.proofs.Fronting.{RunFront, fronts_quiet, fronts_whole}
-use Rattle.mdv_run.proofs.Shown.{shown_earlier}
+use Rattle.mdv_run.proofs.Shown.{last_earlier, shown_earlier}
 use Rattle.mdv_run.proofs.Went.{cause_within, run_earlier}
 use Rattle.mdv_engine_law.proofs.Staying.{both_stay, boot_stays}
 use Rattle.mdv_shelf.proofs.Noted.{kept_more, moments_of_tales}
@@ -24,10 +24,12 @@ returns-in-Ok-clause-has_run g c = record {
       let start = counts (g.B.Shelf.faults c.args.bench.now) (g.I.Source.faults c.args.script.now) in
       let mid = counts (g.B.Shelf.faults c.boot.new.shelf) (g.I.Source.faults c.args.script.now) in
       let end = counts (g.B.Shelf.faults c.run_lines.new.bench) (g.I.Source.faults c.run_lines.new.script) in
+      let silent = moments_weaker (BootMoment host) (λ t m. told m ≡ told t) _ _ (λ t m moment. moment.quiet) c.boot.ensures.moments in
       inr (whole_lines host (between g.B.Shelf c.args.bench.now c.run_lines.new.bench) start t (script_of input) _ mid end (record { drive = c.boot.ensures.kept.keeps.no_fewer_faults (OnDrive 0); source = omega arith; replies = c.boot.ensures.kept.keeps.no_fewer_faults OnReplies })
       done.0 lines.0 c.in-Ok.engine.state c.run_lines.result lines.1 (ap told (some_is _ done.0 quiet.0 done.1 quiet.1) ∙ quiet.2.quiet) done.2.rebooted
       (run_earlier host (between g.B.Shelf c.boot.new.shelf c.run_lines.new.bench) (between g.B.Shelf c.args.bench.now c.run_lines.new.bench)
-      (λ bytes shown some seen. shown_earlier g.B.Shelf g.met.B.Shelf.telling _ _ _ c.boot.ensures.kept.goes (moments_weaker (BootMoment host) (λ t m. told m ≡ told t) _ _ (λ t m moment. moment.quiet) c.boot.ensures.moments) bytes shown some seen)
+      (λ bytes piece shown some seen. shown_earlier g.B.Shelf g.met.B.Shelf.telling _ _ _ c.boot.ensures.kept.goes silent bytes piece shown some seen)
+      (λ bytes drive content seen. last_earlier g.B.Shelf g.met.B.Shelf.telling _ _ _ c.boot.ensures.kept.goes silent bytes drive content seen)
       mid end c.in-Ok.engine.state (script_of input) c.run_lines.result done.0 lines.0
       (subst (λ (h : Host). LinesRun h (between g.B.Shelf c.boot.new.shelf c.run_lines.new.bench) mid end c.in-Ok.engine.state false (script_of input) c.run_lines.result done.0 lines.0) c.in-Ok.ensures.answer.engine.0 (lines.2 knows))));
   stands = λ input left.

@@ -4,7 +4,7 @@ use Rattle.mdv_run.specs.Promise.{between}
 use Rattle.mdv_run.specs.Turns.{LinesRun}
 use Rattle.mdv_shelf.specs.Shelves.{AtEachMoment}
 use Rattle.mdv_run.proofs.Fronting.{RunFront, fronts_more, fronts_start}
-use Rattle.mdv_run.proofs.Shown.{grew_told, shown_later, shown_now}
+use Rattle.mdv_run.proofs.Shown.{grew_told, last_now, shown_later, shown_now}
 use Rattle.mdv_run.proofs.Went.{SoFar, so_far_start, so_far_more, moments_over, over_ends, cause_within, script_at_start}
 use Rattle.mdv_shelf.proofs.Noted.{kept_more}
 use Rattle.mdv_engine_law.proofs.Kept.{kept_itself}
@@ -48,9 +48,9 @@ loop-refused-preserved g c =
           subst (λ (h : Host). SoFar h (between g.B.Shelf c.args.bench.now c.take_turn.new.bench) (counts (g.B.Shelf.faults c.args.bench.now) (g.I.Source.faults c.args.script.now)) (counts (g.B.Shelf.faults c.take_turn.new.bench) (g.I.Source.faults c.take_turn.new.script)) c.args.engine.now.state c.take_turn.new.engine.state c.in-On.refused input (script_before c.take_turn.new.reader (g.I.Source.left c.take_turn.new.script)) (g.B.Shelf.tale c.args.bench.now) (g.B.Shelf.tale c.take_turn.new.bench)) (sym answer.same)
           (so_far_more c.loop-refused.engine.host c.args.engine.now.state input (counts (g.B.Shelf.faults c.args.bench.now) (g.I.Source.faults c.args.script.now)) (counts (g.B.Shelf.faults c.loop-refused.bench) (g.I.Source.faults c.loop-refused.script)) (counts (g.B.Shelf.faults c.take_turn.new.bench) (g.I.Source.faults c.take_turn.new.script)) c.loop-refused.engine.state c.take_turn.new.engine.state c.loop-refused.any_refused _ _ _ _ _ _ here
           (between g.B.Shelf c.args.bench.now c.take_turn.new.bench) c.in-On.refused (record {
-            still = λ t u is_t is_u bytes shown le seen. shown_later g.B.Shelf g.met.B.Shelf.telling _ _ _ before.kept.goes c.in-On.ensures.kept.goes bytes shown t u is_t is_u le seen;
+            still = λ t u is_t is_u bytes piece shown some le seen. shown_later g.B.Shelf g.met.B.Shelf.telling _ _ _ before.kept.goes c.in-On.ensures.kept.goes bytes piece shown t u some is_t is_u le seen;
             grew = λ u v is_u is_v. grew_told _ _ (c.in-On.ensures.stays.told tt).grew u v is_u is_v;
-            last = λ t v is_t is_v bytes same. shown_now g.B.Shelf g.met.B.Shelf.telling _ _ _ before.kept.goes (c.in-On.ensures.stays.told tt) bytes (g.I.Source.faults c.take_turn.new.script) t v is_t is_v same;
+            last = λ t u v is_t is_u is_v bytes piece until same r script. shown_now g.B.Shelf g.met.B.Shelf.telling _ _ _ before.kept.goes (c.in-On.ensures.stays.told tt) c.in-On.ensures.stays.rests bytes piece (g.I.Source.faults c.take_turn.new.script) c.take_turn.new.engine.state r script t u v is_t is_u is_v until same;
           }) (answer.goes_on tt) c.in-On.ensures.end c.in-On.ensures.moments);
     }
 
@@ -61,7 +61,10 @@ returns-in-Over-clause-lines g c =
           let here = before.so_far input left in
           subst (λ (h : Host). Ends (λ t u. Knows h c.args.engine.now.state t → LinesRun h (between g.B.Shelf c.args.bench.now c.take_turn.new.bench) (counts (g.B.Shelf.faults c.args.bench.now) (g.I.Source.faults c.args.script.now)) (counts (g.B.Shelf.faults c.take_turn.new.bench) (g.I.Source.faults c.take_turn.new.script)) c.args.engine.now.state false (script_of input) c.in-Over.status t u) (g.B.Shelf.tale c.args.bench.now) (g.B.Shelf.tale c.take_turn.new.bench)) before.host
           (over_ends c.loop-refused.engine.host c.args.engine.now.state input (counts (g.B.Shelf.faults c.args.bench.now) (g.I.Source.faults c.args.script.now)) (counts (g.B.Shelf.faults c.loop-refused.bench) (g.I.Source.faults c.loop-refused.script)) (counts (g.B.Shelf.faults c.take_turn.new.bench) (g.I.Source.faults c.take_turn.new.script)) c.loop-refused.engine.state c.take_turn.new.engine.state c.loop-refused.any_refused _ _ _ _ _ _ here
-          (between g.B.Shelf c.args.bench.now c.take_turn.new.bench) c.in-Over.status (λ t u is_t is_u bytes shown le seen. shown_later g.B.Shelf g.met.B.Shelf.telling _ _ _ before.kept.goes c.in-Over.ensures.kept.goes bytes shown t u is_t is_u le seen) c.in-Over.ensures.end);
+          (between g.B.Shelf c.args.bench.now c.take_turn.new.bench) c.in-Over.status (record {
+            still = λ t u is_t is_u bytes piece shown some le seen. shown_later g.B.Shelf g.met.B.Shelf.telling _ _ _ before.kept.goes c.in-Over.ensures.kept.goes bytes piece shown t u some is_t is_u le seen;
+            last = λ t u v is_t is_u is_v bytes until. last_now g.B.Shelf g.met.B.Shelf.telling _ _ _ before.kept.goes c.in-Over.ensures.stays.rests bytes t u v is_t is_u is_v until;
+          }) c.in-Over.ensures.end);
       tells = λ input left. subst (λ (h : Host). AtEachMoment g.B.Shelf (RunFront h (between g.B.Shelf c.args.bench.now c.take_turn.new.bench) (counts (g.B.Shelf.faults c.args.bench.now) (g.I.Source.faults c.args.script.now)) c.args.engine.now.state (script_of input)) c.args.bench.now c.take_turn.new.bench) before.host
           (let here = before.so_far input left in
           fronts_more c.loop-refused.engine.host (counts (g.B.Shelf.faults c.args.bench.now) (g.I.Source.faults c.args.script.now)) c.args.engine.now.state (script_of input) g.B.Shelf g.met.B.Shelf.telling _ _ _ (counts (g.B.Shelf.faults c.loop-refused.bench) (g.I.Source.faults c.loop-refused.script)) c.loop-refused.engine.state c.loop-refused.any_refused here.left before.kept.goes c.in-Over.ensures.kept.goes

@@ -1,9 +1,10 @@
-use Rattle.std.proofs.Common.{◌≤◌, refl, sym, ap, subst, arith}
+use Rattle.std.proofs.Common.{◌≡◌, ◌≤◌, refl, sym, ap, subst, arith}
 use Rattle.mdv_engine_law.specs.Line.{Nothing}
-use Rattle.mdv_run.specs.Below.{Script, Engine, line, too_long, script_before, IsTurn, Line, TooLong, End, Spent, Moments, TurnMoment, IsWell, OnDrive, OnReplies, ScriptTooLong, counts, LinesMoment, RanTo}
+use Rattle.mdv_run.specs.Below.{Script, Engine, line, too_long, script_before, IsTurn, Line, TooLong, End, Spent, Moments, TurnMoment, IsWell, OnDrive, OnReplies, ScriptTooLong, counts, told, LinesMoment, RanTo}
 use Rattle.mdv_run_law.specs.Run.{EndsAs}
 use Rattle.mdv_shelf.proofs.Stories.{moment}
-use Rattle.mdv_shelf.proofs.Telling.{each_within}
+use Rattle.mdv_shelf.proofs.Telling.{each_within, rests_quiet}
+use Rattle.mdv_engine_law.proofs.Kept.{kept_itself}
 use Rattle.mdv_run.proofs.Fronts.{AnswerFront, LineFront, ScriptFront, line_front, long_front, still_front}
 use Rattle.mdv_shelf.proofs.Moments.{moments_none, moments_weaker}
 use Rattle.mdv_engine_law.proofs.Plain.{too_long_plain}
@@ -72,6 +73,7 @@ pub returns-in-Ok-Line-clause-stays : goal.returns-in-Ok-Line-clause-stays
 returns-in-Ok-Line-clause-stays g c = record {
   home = c.answer.ensures.stays.home;
   told = λ on. c.answer.ensures.stays.told (on_replied c.answer.result c.args.any_refused _ c.turn_of.ensures on);
+  rests = c.answer.ensures.stays.rests;
   tells = λ lines before.
       let reads : IsTurn lines Line c.next.new.self (g.I.Source.left c.next.new.source) = rw c.in-Ok-Line.field-0-is at (c.in-Ok-Line.ensures.reads lines before) in
       let script = line_is lines c.line.result.now c.next.new.self (g.I.Source.left c.next.new.source) c.line.ensures.value reads in
@@ -132,6 +134,7 @@ pub returns-in-Ok-TooLong-clause-stays : goal.returns-in-Ok-TooLong-clause-stays
 returns-in-Ok-TooLong-clause-stays g c = record {
   home = turn_stays c.args.engine.now.host Nothing c.args.engine.now.state _ _ (c.refuse.ensures.moments Nothing).each;
   told = λ on. c.refuse.ensures.counted.told (on_replied c.refuse.result c.args.any_refused _ c.turn_of-in-Ok-TooLong.ensures on);
+  rests = (c.refuse.ensures.moments Nothing).rests;
   tells = λ lines before.
       let reads : IsTurn lines TooLong c.next.new.self (g.I.Source.left c.next.new.source) = rw c.in-Ok-TooLong.field-0-is at (c.in-Ok-TooLong.ensures.reads lines before) in
       let script = long_is lines c.next.new.self (g.I.Source.left c.next.new.source) reads in
@@ -196,6 +199,7 @@ pub returns-in-Ok-End-clause-stays : goal.returns-in-Ok-End-clause-stays
 returns-in-Ok-End-clause-stays g c = record {
   home = nothing_stays c.args.engine.now.host _ _ refl;
   told = λ on. absurd on;
+  rests = rests_quiet g.B.Shelf g.met.B.Shelf.telling _ _ (kept_itself g.B.Shelf c.args.bench.now).goes (moments_none (λ t m. told m ≡ told t) _ _ refl (λ t. refl));
   tells = λ lines before. still_front g.B.Shelf c.args.engine.now.host c.args.engine.now.state _ c.args.any_refused lines c.args.bench.now;
 }
 
@@ -203,6 +207,7 @@ pub returns-in-Ok-Spent-clause-stays : goal.returns-in-Ok-Spent-clause-stays
 returns-in-Ok-Spent-clause-stays g c = record {
   home = nothing_stays c.args.engine.now.host _ _ refl;
   told = λ on. absurd on;
+  rests = rests_quiet g.B.Shelf g.met.B.Shelf.telling _ _ (kept_itself g.B.Shelf c.args.bench.now).goes (moments_none (λ t m. told m ≡ told t) _ _ refl (λ t. refl));
   tells = λ lines before. still_front g.B.Shelf c.args.engine.now.host c.args.engine.now.state _ c.args.any_refused lines c.args.bench.now;
 }
 
@@ -210,5 +215,6 @@ pub returns-in-Err-clause-stays : goal.returns-in-Err-clause-stays
 returns-in-Err-clause-stays g c = record {
   home = nothing_stays c.args.engine.now.host _ _ refl;
   told = λ on. absurd on;
+  rests = rests_quiet g.B.Shelf g.met.B.Shelf.telling _ _ (kept_itself g.B.Shelf c.args.bench.now).goes (moments_none (λ t m. told m ≡ told t) _ _ refl (λ t. refl));
   tells = λ lines before. still_front g.B.Shelf c.args.engine.now.host c.args.engine.now.state _ c.args.any_refused lines c.args.bench.now;
 }

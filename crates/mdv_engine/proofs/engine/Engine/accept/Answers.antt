@@ -5,7 +5,7 @@ use Rattle.mdv_shelf.proofs.Telling.{told_once}
 use Rattle.mdv_engine.specs.Below.{text_of, TellMoment, TurnMoment}
 use Rattle.mdv_engine_law.specs.declared.answer.Answer.TheVariants as outcome
 use Rattle.mdv_engine_law.proofs.Executing.{told_cause}
-use Rattle.mdv_engine_law.proofs.Fronts.{fronts_alone}
+use Rattle.mdv_engine_law.proofs.Fronts.{fronts_alone, telling_rests}
 use Rattle.mdv_engine_law.proofs.Longer.{replied_more}
 use Rattle.mdv_engine_law.proofs.Turning.{ok_told}
 use Rattle.mdv_engine.proofs.engine.Engine.accept.Goals as goal
@@ -16,6 +16,7 @@ returns-clause-moments g c =
     let memory = c.args.self.now.state in record {
       each = moments_weaker (TellMoment (text_of outcome.Ok)) (TurnMoment host Nothing memory) _ _ (ok_told host memory) c.tell.ensures.fronts;
       fronts = fronts_alone g.B.Shelf g.met.B.Shelf.telling _ _ host memory outcome.Ok c.tell.ensures.kept.goes c.tell.ensures.fronts;
+      rests = telling_rests g.B.Shelf g.met.B.Shelf.telling _ _ (text_of outcome.Ok) c.tell.ensures.kept.goes c.tell.ensures.fronts c.tell.ensures.counted.drives;
     }
 
 pub returns-clause-answer : goal.returns-clause-answer

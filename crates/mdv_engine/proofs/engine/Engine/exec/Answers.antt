@@ -1,13 +1,13 @@
 use Rattle.std.proofs.Common.{◌≡◌, ◌∙◌, ap, subst, arith}
 use Rattle.mdv_engine.specs.Below.{told, KeptOutside, nowhere, OnDrive, OnReplies, Ends, Tale, asked_by, text_of, CarriedTo, CarryMoment, TellMoment, TurnMoment}
 use Rattle.mdv_shelf.proofs.Moments.{moments_after, moments_end, moments_weaker, some_is}
-use Rattle.mdv_shelf.proofs.Telling.{told_behind, told_once}
+use Rattle.mdv_shelf.proofs.Telling.{rests_behind, told_behind, told_once}
 use Rattle.mdv_shelf.proofs.Between.{between_of, between_then}
 use Rattle.mdv_shelf.proofs.Counts.{at_most_then}
 use Rattle.mdv_words.specs.declared.command.Line.TheVariants as words
 use Rattle.mdv_engine_law.proofs.Executing.{carried_more, executed, told_cause, rose_within}
 use Rattle.mdv_engine_law.proofs.Longer.{replied_more}
-use Rattle.mdv_engine_law.proofs.Fronts.{fronts_then}
+use Rattle.mdv_engine_law.proofs.Fronts.{fronts_then, telling_rests}
 use Rattle.mdv_engine_law.proofs.Turning.{Carried, carried_ends, turn_carry, turn_tell, turned, knows_after}
 use Rattle.mdv_engine.specs.Ends.{CarriesOut}
 use Rattle.mdv_engine.specs.Counts.{blocks_of, calls_of}
@@ -33,6 +33,9 @@ returns-clause-moments g c =
           c.carry_out-answer.ensures.kept.goes
           (moments_weaker (CarryMoment host asked old) (λ t m. told m ≡ told t) _ _ (λ t m moment. moment.quiet) c.carry_out-answer.ensures.moments)
           (λ t is. (let end = c.carry_out-answer.ensures.end t is in (end.0, end.1, end.2.answered))) c.tell.ensures.kept.goes c.tell.ensures.fronts;
+      rests = rests_behind g.B.Shelf g.met.B.Shelf.telling _ _ _ c.carry_out-answer.ensures.kept.goes
+          (moments_weaker (CarryMoment host asked old) (λ t m. told m ≡ told t) _ _ (λ t m moment. moment.quiet) c.carry_out-answer.ensures.moments)
+          (telling_rests g.B.Shelf g.met.B.Shelf.telling _ _ (text_of answer) c.tell.ensures.kept.goes c.tell.ensures.fronts c.tell.ensures.counted.drives);
     }
 
 pub returns-clause-end : goal.returns-clause-end
