@@ -1,136 +1,218 @@
-ghost use Rattle.std.specs.Prelude.{◌<◌, IfOk};
-ghost use Rattle.mdv_plan.specs.Slices.{IsSound};
+//! Changes that are made, or refused by the first of several causes.
 
-use mdv_base::{DriveName, DriveNo, Place, Places, Refusal, SliceName, VolId};
-use mdv_change::{ApplyFault, Change, apply};
-use mdv_components::{RaidAsked, RowAsked};
-use mdv_name::Geometry;
-use mdv_plan::{Base, Listed, Table, read_geometries_are_sound};
-use std::alloc::Global;
+use crate::drives::*;
+use crate::facts::Fact::*;
+use crate::steps::Line::{InUse, Is, OnSpare, Soft, Told};
+use crate::steps::Step::*;
+use crate::steps::{Line, first_wrong};
+use mdv_base::{PoolId, VolId};
+use mdv_plan::Base::{Slice, Volume};
+use mdv_plan::{Resync, SpareState, State};
 use std::test::Fail;
 
-const DRIVES: &[u8] = b"host hostA
-host hostB
-drive c0t0d0 40000 hostA d0.img
-slice c0t0d0s0 0 1000
-slice c0t0d0s1 1000 990
-slice c0t0d0s2 0 40000
-slice c0t0d0s3 2000 4000
-slice c0t0d0s7 12000 28000 db
-drive c0t1d0 40000 hostB d1.img
-slice c0t1d0s0 0 1000
-";
+const D0: VolId = VolId(0);
 
-pub(crate) fn drives(alloc: Global) -> Result<Geometry, Fail>
-    ensures { IfOk result IsSound }
-{
-    let geometry = Geometry::read(alloc, DRIVES)?;
-    read_geometries_are_sound();
-    Ok(geometry)
-}
+const D1: VolId = VolId(1);
 
-pub(crate) fn slice(target: u8, slice: u8) -> Base {
-    let drive = DriveName {
-        controller: 0,
-        target,
-        disk: 0,
-    };
-    Base::Slice(SliceName { drive, slice })
-}
+const D5: VolId = VolId(5);
 
-pub(crate) fn empty(alloc: Global) -> Table {
-    let drive = DriveName {
-        controller: 0,
-        target: 0,
-        disk: 0,
-    };
-    let mut places = Places::new();
-    places.push(Place {
-        slice: SliceName { drive, slice: 7 },
-        start: 16,
-        blocks: 8192,
-    });
-    Table::empty(alloc, places)
-}
+const D6: VolId = VolId(6);
 
-// The number of the refusal, or 0 where the volume was made; the drive of hostA is number 0.
-pub(crate) fn number_of(done: Result<(), ApplyFault>) -> u8 {
-    match done {
-        Ok(()) => 0,
-        Err(ApplyFault::Refused(refusal)) => refusal.number(),
-        Err(ApplyFault::Memory) => Refusal::OutOfMemory.number(),
-    }
-}
+const D9: VolId = VolId(9);
 
-// A stripe of these bases.
-fn stripe(
-    alloc: Global,
-    geometry: &Geometry,
-    table: &mut Table,
-    number: u16,
-    bases: [Base; 2],
-    interlace: u64,
-) -> Result<u8, Fail>
-    requires sound { IsSound geometry.now }
-    requires number { number < 8192 }
-{
-    let components = Listed::from_slice(alloc, &bases)?;
-    let interlace = Some(interlace);
-    let mut rows = Listed::new(alloc);
-    rows.push(RowAsked {
-        components,
-        interlace,
-    })?;
-    let change = Change::MakeStripe {
-        volume: VolId(number),
-        rows,
-        spares: None,
-    };
-    Ok(number_of(apply(alloc, geometry, &[DriveNo(0)], table, &change)))
-}
+const D10: VolId = VolId(10);
+
+const D20: VolId = VolId(20);
+
+const D30: VolId = VolId(30);
+
+const D40: VolId = VolId(40);
+
+const HSP1: PoolId = PoolId(1);
+
+const HSP2: PoolId = PoolId(2);
+
+const HSP9: PoolId = PoolId(9);
+
+const OKAY: Option<State> = Some(State::Okay);
+
+const WHOLE: Option<State> = Some(State::Resyncing(Resync::Whole));
 
 // No such volume is 4, name taken 5, no such slice 6, slice in use 7, a wrong interlace 25.
+const STRIPES: &[Line] = &[
+    Told(Stripe(1, &[Slice(S0), Slice(S1)], Some(15)), 25),
+    Told(Stripe(1, &[Slice(S0), Slice(OTHER)], Some(16)), 6),
+    Told(Stripe(1, &[Slice(S0), Slice(S0)], Some(16)), 7),
+    Told(Stripe(1, &[Slice(S0), Slice(S1)], Some(16)), 0),
+    Told(Stripe(1, &[Slice(S0), Slice(S7)], Some(16)), 5),
+    Told(Stripe(2, &[Slice(S0), Slice(S7)], Some(15)), 25),
+    Told(Stripe(2, &[Slice(S0), Slice(S7)], Some(16)), 7),
+    Told(Stripe(2, &[Volume(D9), Slice(S9)], Some(16)), 4),
+    Told(Stripe(2, &[Slice(S3), Slice(S7)], Some(16)), 0),
+    Is(Volumes(2, 2)),
+];
+
+// Fewer than three columns are 8.
+const RAIDS: &[Line] = &[
+    Told(Raid(5, &[Slice(S0), Slice(S1)], None), 8),
+    Told(Raid(5, &[Slice(S0), Slice(S1), Slice(S3)], None), 0),
+    Told(Raid(5, &[Slice(S0), Slice(S1), Slice(S3)], None), 5),
+];
+
+// No such volume is 4, a name taken 5, too few 8, a parent 11, another kind 12. The stripes have 1000, 990
+// and 4000 blocks.
+const MIRRORS: &[Line] = &[
+    Told(Stripe(10, &[Slice(S0)], None), 0),
+    Told(Stripe(20, &[Slice(S1)], None), 0),
+    Told(Stripe(30, &[Slice(S3)], None), 0),
+    Told(Stripe(40, &[Slice(S7)], None), 0),
+    Told(Mirror(0, &[D10, D9]), 4),
+    Told(Mirror(10, &[D10]), 5),
+    Told(Mirror(0, &[]), 8),
+    Told(Mirror(0, &[D10, D10]), 11),
+    Told(Mirror(0, &[D10, D20]), 0),
+    Told(Mirror(1, &[D0, D20]), 12),
+    Told(Mirror(1, &[D30, D20]), 11),
+    Is(Submirrors(D0, 2, 2, 990)),
+    Is(Component(D10, OKAY)),
+    Is(Component(D20, WHOLE)),
+];
+
+// A submirror that is too small is 10. The last stripe has 19792 blocks.
+const SUBMIRRORS: &[Line] = &[
+    Told(Stripe(10, &[Slice(S0)], None), 0),
+    Told(Stripe(20, &[Slice(S1)], None), 0),
+    Told(Stripe(30, &[Slice(S3)], None), 0),
+    Told(Stripe(40, &[Slice(S7)], None), 0),
+    Told(Mirror(0, &[D20]), 0),
+    Told(Mirror(1, &[D40]), 0),
+    Told(Attach(D0, D9), 4),
+    Is(Component(D9, None)),
+    Told(Attach(D9, D10), 4),
+    Is(Component(D10, OKAY)),
+    Told(Attach(D30, D10), 12),
+    Is(Component(D10, OKAY)),
+    Told(Attach(D0, D1), 12),
+    Is(Component(D1, None)),
+    Told(Attach(D1, D30), 10),
+    Is(Component(D30, OKAY)),
+    Told(Attach(D0, D30), 0),
+    Is(Component(D30, WHOLE)),
+    Told(Attach(D0, D30), 11),
+    Is(Component(D30, WHOLE)),
+    Told(Attach(D0, D10), 0),
+    Is(Component(D10, WHOLE)),
+    Is(Submirrors(D0, 3, 3, 990)),
+    Is(Submirrors(D1, 1, 1, 19792)),
+];
+
+// A name taken is 5, no such slice 6, a slice in use 7.
+const POOLS: &[Line] = &[
+    Told(NewPool(1, &[S0]), 0),
+    Told(NewPool(1, &[S1]), 5),
+    Told(NewPool(1, &[OTHER]), 6),
+    Told(Spares(1, &[S0]), 7),
+    Told(Spares(1, &[S2]), 7),
+    Told(Spares(1, &[S3, S3]), 7),
+    Told(Spares(2, &[S0, S1]), 0),
+    Told(Spares(2, &[S7]), 0),
+    Is(SpareStates(3, 3)),
+    Is(LastStart(HSP1, 0)),
+    Is(LastStart(HSP2, 8208)),
+];
+
+// A spare that is in use stays so in a further pool.
+const SPARE_IN_USE: &[Line] = &[
+    Told(NewPool(1, &[S3]), 0),
+    InUse(S3),
+    Told(NewPool(2, &[S3, S7]), 0),
+    Is(SpareStates(2, 1)),
+];
+
+// No such volume is 4, no such pool 26, and a use by what stays 11. Two pools have the spare.
+const CLEARED: &[Line] = &[
+    Told(NewPool(1, &[S7]), 0),
+    Told(NewPool(2, &[S7]), 0),
+    Told(Raid(5, &[Slice(S0), Slice(S1), Slice(S3)], Some(HSP1)), 0),
+    OnSpare(5, S7),
+    InUse(S7),
+    Soft(6, D5),
+    Told(Clear(&[D5, D9], &[HSP9]), 4),
+    Is(FirstSpare(Some(SpareState::InUse))),
+    Told(Clear(&[D5], &[HSP9]), 26),
+    Is(FirstSpare(Some(SpareState::InUse))),
+    Told(Clear(&[D5], &[]), 11),
+    Is(FirstSpare(Some(SpareState::InUse))),
+    Told(Clear(&[], &[HSP1]), 11),
+    Is(FirstSpare(Some(SpareState::InUse))),
+    Told(Clear(&[D6], &[HSP1]), 11),
+    Is(FirstSpare(Some(SpareState::InUse))),
+    Told(Clear(&[D5, D6], &[HSP1]), 0),
+    Is(FirstSpare(Some(SpareState::Available))),
+    Told(Clear(&[D5], &[]), 4),
+    Is(FirstSpare(Some(SpareState::Available))),
+    Told(Clear(&[], &[HSP2]), 0),
+    Is(FirstSpare(None)),
+    Is(Volumes(0, 0)),
+    Is(Pools(0)),
+];
+
+const ALL_CLEARED: &[Line] = &[
+    Told(NewPool(1, &[S7]), 0),
+    Told(NewPool(2, &[S7]), 0),
+    Told(Raid(5, &[Slice(S0), Slice(S1), Slice(S3)], Some(HSP1)), 0),
+    OnSpare(5, S7),
+    InUse(S7),
+    Told(ClearAll, 0),
+    Is(FirstSpare(None)),
+    Is(Volumes(0, 0)),
+    Is(Pools(0)),
+];
+
 #[test]
 fn stripes_are_refused_in_one_order(rt: HostRuntime) -> Result<(), Fail> {
-    let geometry = drives(rt.alloc())?;
-    let mut table = empty(rt.alloc());
-    for (number, bases, interlace, refusal) in [
-        (1, [slice(0, 0), slice(0, 1)], 15, 25),
-        (1, [slice(0, 0), slice(1, 0)], 16, 6),
-        (1, [slice(0, 0), slice(0, 0)], 16, 7),
-        (1, [slice(0, 0), slice(0, 1)], 16, 0),
-        (1, [slice(0, 0), slice(0, 7)], 16, 5),
-        (2, [slice(0, 0), slice(0, 7)], 15, 25),
-        (2, [slice(0, 0), slice(0, 7)], 16, 7),
-        (2, [Base::Volume(VolId(9)), slice(0, 9)], 16, 4),
-        (2, [slice(0, 3), slice(0, 7)], 16, 0),
-    ] {
-        let told = stripe(rt.alloc(), &geometry, &mut table, number, bases, interlace)?;
-        assert_eq!(rt; told, refusal, "d{number}");
-    }
-    assert_eq!(rt; table.plan.volumes.as_slice().len(), 2);
-    assert_eq!(rt; table.status.volumes.as_slice().len(), 2);
+    assert_eq!(rt; first_wrong(rt.alloc(), STRIPES)?, None);
     Ok(())
 }
 
-// Fewer than three columns are 8.
 #[test]
 fn raids_are_made(rt: HostRuntime) -> Result<(), Fail> {
-    let geometry = drives(rt.alloc())?;
-    let mut table = empty(rt.alloc());
-    let columns = [slice(0, 0), slice(0, 1), slice(0, 3)];
-    for (few, refusal) in [(2, 8), (3, 0), (3, 5)] {
-        let change = Change::MakeRaid {
-            volume: VolId(5),
-            raid: RaidAsked {
-                columns: Listed::from_slice(rt.alloc(), &columns[..few])?,
-                interlace: Some(16),
-                spares: None,
-                keep: false,
-            },
-        };
-        let told = number_of(apply(rt.alloc(), &geometry, &[DriveNo(0)], &mut table, &change));
-        assert_eq!(rt; told, refusal, "{few} columns");
-    }
+    assert_eq!(rt; first_wrong(rt.alloc(), RAIDS)?, None);
+    Ok(())
+}
+
+#[test]
+fn mirrors_are_made(rt: HostRuntime) -> Result<(), Fail> {
+    assert_eq!(rt; first_wrong(rt.alloc(), MIRRORS)?, None);
+    Ok(())
+}
+
+#[test]
+fn submirrors_are_attached(rt: HostRuntime) -> Result<(), Fail> {
+    assert_eq!(rt; first_wrong(rt.alloc(), SUBMIRRORS)?, None);
+    Ok(())
+}
+
+#[test]
+fn spares_come_into_pools(rt: HostRuntime) -> Result<(), Fail> {
+    assert_eq!(rt; first_wrong(rt.alloc(), POOLS)?, None);
+    Ok(())
+}
+
+#[test]
+fn a_spare_keeps_its_state(rt: HostRuntime) -> Result<(), Fail> {
+    assert_eq!(rt; first_wrong(rt.alloc(), SPARE_IN_USE)?, None);
+    Ok(())
+}
+
+#[test]
+fn volumes_and_pools_are_cleared(rt: HostRuntime) -> Result<(), Fail> {
+    assert_eq!(rt; first_wrong(rt.alloc(), CLEARED)?, None);
+    Ok(())
+}
+
+#[test]
+fn all_is_cleared(rt: HostRuntime) -> Result<(), Fail> {
+    assert_eq!(rt; first_wrong(rt.alloc(), ALL_CLEARED)?, None);
     Ok(())
 }

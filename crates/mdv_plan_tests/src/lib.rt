@@ -4,10 +4,10 @@
 #[cfg(test)]
 mod change_tests;
 #[cfg(test)]
-mod clear_tests;
+mod drives;
 #[cfg(test)]
-mod mirror_tests;
+mod facts;
 #[cfg(test)]
 mod plan_tests;
 #[cfg(test)]
-mod pool_tests;
+mod steps;

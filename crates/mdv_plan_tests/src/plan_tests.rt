@@ -1,41 +1,11 @@
-ghost use Rattle.std.specs.Prelude.{◌<◌, IfOk};
-ghost use Rattle.mdv_plan.specs.Slices.{IsSound};
+ghost use Rattle.std.specs.Prelude.{◌<◌};
 
-use mdv_base::{DriveName, Place, Places, PoolId, SliceName, VolId};
+use crate::drives::*;
+use mdv_base::{PoolId, VolId};
 use mdv_extent::Run;
-use mdv_name::Geometry;
 use mdv_plan::*;
 use std::alloc::Global;
 use std::test::Fail;
-
-// Slice 2 is the whole drive, slice 5 the last block of slice 3.
-const DRIVES: &[u8] = b"host hostA
-drive c0t0d0 40000 hostA d0.img
-slice c0t0d0s1 1000 990
-slice c0t0d0s2 0 40000
-slice c0t0d0s3 2000 4000
-slice c0t0d0s4 6000 900
-slice c0t0d0s5 5999 1
-slice c0t0d0s6 7000 900
-slice c0t0d0s7 12000 28000 db
-";
-
-fn drives(alloc: Global) -> Result<Geometry, Fail>
-    ensures { IfOk result IsSound }
-{
-    let geometry = Geometry::read(alloc, DRIVES)?;
-    read_geometries_are_sound();
-    Ok(geometry)
-}
-
-fn slice(slice: u8) -> SliceName {
-    let drive = DriveName {
-        controller: 0,
-        target: 0,
-        disk: 0,
-    };
-    SliceName { drive, slice }
-}
 
 fn part(on: Base) -> Component {
     Component {
@@ -43,16 +13,6 @@ fn part(on: Base) -> Component {
         start: 0,
         blocks: 900,
     }
-}
-
-fn empty(alloc: Global) -> Table {
-    let mut places = Places::new();
-    places.push(Place {
-        slice: slice(7),
-        start: 16,
-        blocks: 8192,
-    });
-    Table::empty(alloc, places)
 }
 
 fn add(table: &mut Table, number: u16, kind: VolumeKind) -> Result<(), Fail>
@@ -68,7 +28,7 @@ fn add(table: &mut Table, number: u16, kind: VolumeKind) -> Result<(), Fail>
 
 // A column on slice 1, and one on the soft partition d1.
 fn add_raid(alloc: Global, table: &mut Table) -> Result<(), Fail> {
-    let columns = [part(Base::Slice(slice(1))), part(Base::Volume(VolId(1)))];
+    let columns = [part(Base::Slice(S1)), part(Base::Volume(VolId(1)))];
     let columns = Listed::from_slice(alloc, &columns)?;
     let raid = Raid {
         columns,
@@ -88,7 +48,7 @@ fn add_soft(alloc: Global, table: &mut Table) -> Result<(), Fail> {
         },
     ];
     let soft = Soft {
-        base: Base::Slice(slice(3)),
+        base: Base::Slice(S3),
         start: 0,
         extents: Listed::from_slice(alloc, &extents)?,
     };
@@ -97,7 +57,7 @@ fn add_soft(alloc: Global, table: &mut Table) -> Result<(), Fail> {
 
 fn add_pool(alloc: Global, table: &mut Table) -> Result<(), Fail> {
     let spare = Spare {
-        slice: slice(6),
+        slice: S6,
         start: 0,
         blocks: 900,
     };
@@ -133,25 +93,25 @@ fn slices_are_in_use(rt: HostRuntime) -> Result<(), Fail> {
     add_pool(rt.alloc(), &mut table)?;
     let uses = table.plan.uses(rt.alloc())?;
     assert_eq!(rt; uses.as_slice().len(), 4);
-    for (asked, number, clash) in [
-        (Asked::OneComponent, 3, true),
-        (Asked::OneComponent, 2, true),
-        (Asked::OneComponent, 4, false),
-        (Asked::OneComponent, 7, false),
-        (Asked::OneSpare, 6, false),
-        (Asked::OneSpare, 3, true),
-        (Asked::Extents, 3, false),
-        (Asked::Extents, 5, true),
-        (Asked::ReplicasTo(32), 7, true),
-        (Asked::ReplicasTo(32), 4, false),
+    for (asked, slice, clash) in [
+        (Asked::OneComponent, S3, true),
+        (Asked::OneComponent, S2, true),
+        (Asked::OneComponent, S4, false),
+        (Asked::OneComponent, S7, false),
+        (Asked::OneSpare, S6, false),
+        (Asked::OneSpare, S3, true),
+        (Asked::Extents, S3, false),
+        (Asked::Extents, S5, true),
+        (Asked::ReplicasTo(32), S7, true),
+        (Asked::ReplicasTo(32), S4, false),
     ] {
         assert_eq!(rt;
-            uses.clash(&geometry, asked, slice(number)),
+            uses.clash(&geometry, asked, slice),
             clash,
-            "slice {number}"
+            "{asked:?} {slice:?}"
         );
     }
-    assert!(rt; meets_db(&geometry, slice(2)) && !meets_db(&geometry, slice(7)));
+    assert!(rt; meets_db(&geometry, S2) && !meets_db(&geometry, S7));
     Ok(())
 }
 

@@ -1,0 +1,201 @@
+//! What the lines of a test ask of a table, and what they are told.
+ghost use Rattle.std.specs.Prelude.{◌<◌, IfOk};
+ghost use Rattle.mdv_change.specs.Apply.{IsNumbered};
+
+use crate::drives::{drives, empty};
+use crate::facts::{Fact, holds};
+use mdv_base::{DriveNo, PoolId, Refusal, SliceName, VolId};
+use mdv_change::{ApplyFault, Change, apply};
+use mdv_components::{MAX_NAMES, RaidAsked, RowAsked};
+use mdv_extent::Run;
+use mdv_plan::*;
+use mdv_submirrors::MirrorAsked;
+use std::alloc::Global;
+use std::test::Fail;
+
+/// A change of volumes and pools by their numbers.
+pub(crate) enum Step {
+    /// One row, with this interlace.
+    Stripe(u8, &'static [Base], Option<u64>),
+    /// With the spares of the first pool.
+    Raid(u8, &'static [Base], Option<PoolId>),
+    Mirror(u8, &'static [VolId]),
+    Attach(VolId, VolId),
+    NewPool(u8, &'static [SliceName]),
+    Spares(u8, &'static [SliceName]),
+    Clear(&'static [VolId], &'static [PoolId]),
+    ClearAll,
+}
+
+pub(crate) enum Line {
+    /// The change is refused by this number, or made: 0.
+    Told(Step, u8),
+    Is(Fact),
+    /// From here on there is a soft partition on a volume.
+    Soft(u8, VolId),
+    /// From here on the spare is in use.
+    InUse(SliceName),
+    /// From here on the only column of a RAID-5 volume lies on the spare.
+    OnSpare(u8, SliceName),
+}
+
+/// The place of the first line that isn't so, where the first one finds an empty table.
+pub(crate) fn first_wrong(alloc: Global, lines: &[Line]) -> Result<Option<usize>, Fail> {
+    let mut table = empty(alloc);
+    for place in 0..lines.len() {
+        if !is_so(alloc, &mut table, &lines[place])? {
+            return Ok(Some(place));
+        }
+    }
+    Ok(None)
+}
+
+fn is_so(alloc: Global, table: &mut Table, line: &Line) -> Result<bool, Fail> {
+    match line {
+        Line::Told(step, refusal) => Ok(told(alloc, table, step)? == *refusal),
+        Line::Is(fact) => Ok(holds(table, fact)),
+        Line::Soft(number, base) => add_soft(alloc, table, *number, *base),
+        Line::InUse(spare) => use_spare(table, *spare),
+        Line::OnSpare(number, spare) => lay_on_spare(alloc, table, *number, *spare),
+    }
+}
+
+// The number of the refusal, or 0 where the change was made; the drive of hostA is number 0.
+fn told(alloc: Global, table: &mut Table, step: &Step) -> Result<u8, Fail> {
+    let geometry = drives(alloc)?;
+    let change = change_of(alloc, step)?;
+    Ok(
+        match apply(alloc, &geometry, &[DriveNo(0)], table, &change) {
+            Ok(()) => 0,
+            Err(ApplyFault::Refused(refusal)) => refusal.number(),
+            Err(ApplyFault::Memory) => Refusal::OutOfMemory.number(),
+        },
+    )
+}
+
+fn change_of(alloc: Global, step: &Step) -> Result<Change, Fail>
+    ensures { IfOk result IsNumbered }
+{
+    Ok(match *step {
+        Step::Stripe(number, bases, interlace) => Change::MakeStripe {
+            volume: volume(number),
+            rows: one_row(alloc, bases, interlace)?,
+            spares: None,
+        },
+        Step::Raid(number, bases, spares) => Change::MakeRaid {
+            volume: volume(number),
+            raid: raid(alloc, bases, spares)?,
+        },
+        Step::Mirror(number, subs) => Change::MakeMirror {
+            volume: volume(number),
+            mirror: mirror(alloc, subs)?,
+        },
+        Step::Attach(mirror, sub) => Change::Attach { mirror, sub },
+        Step::NewPool(number, slices) => Change::AddSpares {
+            pool: pool(number),
+            new: true,
+            spares: listed(alloc, slices)?,
+        },
+        Step::Spares(number, slices) => Change::AddSpares {
+            pool: pool(number),
+            new: false,
+            spares: listed(alloc, slices)?,
+        },
+        Step::Clear(volumes, pools) => Change::Clear {
+            volumes: listed(alloc, volumes)?,
+            pools: listed(alloc, pools)?,
+        },
+        Step::ClearAll => Change::ClearAll,
+    })
+}
+
+fn volume(number: u8) -> VolId
+    ensures { result.0 < 8192 }
+{
+    VolId(u16::from(number))
+}
+
+fn pool(number: u8) -> PoolId
+    ensures { result.0 < 1000 }
+{
+    PoolId(u16::from(number))
+}
+
+fn listed<T: Copy + Drop>(alloc: Global, items: &[T]) -> Result<Listed<T, MAX_NAMES>, Fail> {
+    if items.len() > MAX_NAMES {
+        Err::<(), _>("too many")?;
+    }
+    Ok(Listed::from_slice(alloc, items)?)
+}
+
+fn one_row(
+    alloc: Global,
+    bases: &[Base],
+    interlace: Option<u64>,
+) -> Result<Listed<RowAsked, MAX_NAMES>, Fail> {
+    let components = listed(alloc, bases)?;
+    let mut rows = Listed::new(alloc);
+    rows.push(RowAsked {
+        components,
+        interlace,
+    })?;
+    Ok(rows)
+}
+
+fn raid(alloc: Global, bases: &[Base], spares: Option<PoolId>) -> Result<RaidAsked, Fail> {
+    Ok(RaidAsked {
+        columns: listed(alloc, bases)?,
+        interlace: Some(16),
+        spares,
+        keep: false,
+    })
+}
+
+fn mirror(alloc: Global, subs: &[VolId]) -> Result<MirrorAsked, Fail> {
+    Ok(MirrorAsked {
+        submirrors: listed(alloc, subs)?,
+        read: ReadOption::Geometric,
+        write: WriteOption::Parallel,
+        pass: 2,
+    })
+}
+
+fn add_soft(alloc: Global, table: &mut Table, number: u8, base: VolId) -> Result<bool, Fail> {
+    let soft = Soft {
+        base: Base::Volume(base),
+        start: 0,
+        extents: Listed::from_slice(alloc, &[Run { at: 1, blocks: 9 }])?,
+    };
+    table.plan.volumes.put(Volume {
+        number: volume(number),
+        kind: VolumeKind::Soft(soft),
+    })?;
+    Ok(true)
+}
+
+fn use_spare(table: &mut Table, slice: SliceName) -> Result<bool, Fail> {
+    let state = SpareState::InUse;
+    table.status.spares.put(SpareStatus { slice, state })?;
+    Ok(true)
+}
+
+fn lay_on_spare(
+    alloc: Global,
+    table: &mut Table,
+    number: u8,
+    slice: SliceName,
+) -> Result<bool, Fail> {
+    let part = PartStatus {
+        state: State::Okay,
+        spare: Some(SpareUse { slice, start: 0 }),
+    };
+    let raid = RaidStatus {
+        state: RaidState::Okay,
+        columns: Listed::from_slice(alloc, &[part])?,
+    };
+    table.status.volumes.put(VolumeStatus {
+        number: volume(number),
+        kind: KindStatus::Raid(raid),
+    })?;
+    Ok(true)
+}
