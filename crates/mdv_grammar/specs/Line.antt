@@ -1,5 +1,5 @@
 -- What a line of a script asks for.
-use Rattle.std.specs.Prelude.{◌≡◌, ◌<◌, ◌≤◌, ◌^◌, ◌==◌, ℕ, Bool, true, false, List, [], ◌∷◌, codes, decimal}
+use Rattle.std.specs.Prelude.{◌≡◌, ◌<◌, ◌≤◌, ◌^◌, ◌==◌, ℕ, Bool, true, false, List, [], ◌∷◌, codes, decimal, ◌&&◌}
 use Rattle.mdv_grammar.specs.Below.{IsVolName, SpellsVolume, VolName, is_ascii_line, words}
 use Rattle.mdv_text.specs.Hex.{IsPair, SpellsBlock}
 use Rattle.mdv_command.specs.Options.{AreOptions}
@@ -132,3 +132,7 @@ pub record IsLine (line : List ℕ) (asked : Line) : Type 0 where
 abbrev pub IsFaultOf : List ℕ → WordsFault → Type 0
 IsFaultOf line BadLine = (asked : Line) → IsLine line asked → ⊥
 IsFaultOf line Memory = Unit {0}
+
+-- the line asks for nothing, and has no reply: it has no word, or is a comment
+abbrev pub asks_nothing : List ℕ → Bool
+asks_nothing line = is_ascii_line line && counts_for_nothing (words line)

@@ -11,4 +11,4 @@ mod tests;
 mod verb;
 
 pub use law::asks_one_thing;
-pub use line::{Line, WordsFault, read_line};
+pub use line::{Line, WordsFault, asks_nothing, read_line};

@@ -1,6 +1,6 @@
 ghost use Rattle.std.specs.Prelude.{◌≡◌, ◌∷◌, [], List, ℕ, IfOk, IfErr, IfSome, IfNone, MatchOption};
 ghost use Rattle.mdv_grammar.specs.Below.{words};
-ghost use Rattle.mdv_grammar.specs.Line.{AsksBehind, IsCommand, IsBare, Asks, IsLine, IsFaultOf, is_comment as spec_is_comment};
+ghost use Rattle.mdv_grammar.specs.Line.{AsksBehind, IsCommand, IsBare, Asks, IsLine, IsFaultOf, asks_nothing as spec_asks_nothing, counts_for_nothing, is_comment as spec_is_comment};
 ghost use Rattle.mdv_command.specs.declared.command.Command.{Command};
 ghost use Rattle.mdv_grammar.specs.declared.line.Line.{Line};
 
@@ -112,6 +112,23 @@ fn read_words(alloc: Global, line: &[u8]) -> Result<Option<Line>, AllocError>
         Some(command) => Ok(Some(Line::Command(command))),
         None => Ok(None),
     }
+}
+
+fn begins_with_comment(line: &[u8]) -> bool
+    ensures { result ≡ counts_for_nothing (words line.now) }
+{
+    match first_word(line) {
+        Some((word, _)) => is_comment(word),
+        None => true,
+    }
+}
+
+/// Whether the line, without its newline, asks for nothing and has no reply: it has no word, or its first one
+/// begins with `#`. A line with a byte past ASCII is a bad one and no comment.
+pub fn asks_nothing(line: &[u8]) -> bool
+    ensures { result ≡ spec_asks_nothing line.now }
+{
+    is_ascii_line(line) && begins_with_comment(line)
 }
 
 /// Reads a line, without its newline. Its words are parted by blanks and tabs.

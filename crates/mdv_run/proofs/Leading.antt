@@ -1,6 +1,6 @@
 -- How one turn of a run goes on from the script that is before it.
 use Rattle.std.proofs.Common.{◌≡◌, ℕ, Bool, true, List, [], Option, Some, refl, sym, ◌∙◌, ap, subst, arith}
-use Rattle.mdv_run.specs.Below.{Rose, LineTooLong, Reader, Script, at_end, spent, too_long, line, script_before, IsTurn, Line, TooLong, End, Spent, Tale, told, Answer, Reply, Host, Memory, IsTold, IsReplied, Kept, IsTurnedDown, kept_at, Replied, RunStatus, Panic, ReadFault, WriteFault, NoMemory, NumbersSpent, At, Counts, RoseTo, NextLine, Stretch, IsAnswered, drive_failed, source_failed, replies_failed}
+use Rattle.mdv_run.specs.Below.{Rose, LineTooLong, Reader, Script, at_end, spent, too_long, line, asked_before, IsAskedTurn, Line, TooLong, End, Spent, Tale, told, Answer, Reply, Host, Memory, IsTold, IsReplied, Kept, IsTurnedDown, kept_at, Replied, RunStatus, Panic, ReadFault, WriteFault, NoMemory, NumbersSpent, At, Counts, RoseTo, NextLine, Stretch, IsAnswered, drive_failed, source_failed, replies_failed}
 use Rattle.mdv_run_law.specs.Run.{Over as IsOver, broken, ended, unread, EndsAs, EndsWith, IsSaid, refused_by}
 use Rattle.mdv_engine_law.specs.Replies.{HasReplyCause, IsLost, text_of}
 use Rattle.mdv_engine_law.specs.declared.answer.Answer.TheVariants as outcome
@@ -11,25 +11,25 @@ use Rattle.mdv_run.specs.Turns.{LineAnswered, Leads, Turns, at, turn_of, HasTurn
 use Rattle.std.proofs.lemmas.List.{append-nil}
 
 -- the script that each answer of the reader comes from
-pub end_is : (s : Script) (new : Reader) (left : Option (List ℕ)) → IsTurn s End new left → s ≡ at_end
+pub end_is : (s : Script) (new : Reader) (left : Option (List ℕ)) → IsAskedTurn s End new left → s ≡ at_end
 end_is at_end new left is = refl
 end_is (spent lines bytes) new left is = absurd (cc (is.0))
 end_is (too_long more) new left is = absurd (cc (is.0))
 end_is (line text more) new left is = absurd (cc (is.0))
 
-pub spent_is : (s : Script) (lines bytes : ℕ) (new : Reader) (left : Option (List ℕ)) → IsTurn s (Spent lines bytes) new left → s ≡ spent lines bytes
+pub spent_is : (s : Script) (lines bytes : ℕ) (new : Reader) (left : Option (List ℕ)) → IsAskedTurn s (Spent lines bytes) new left → s ≡ spent lines bytes
 spent_is at_end lines bytes new left is = absurd (cc (is.0))
 spent_is (spent l b) lines bytes new left is = cc (is.0)
 spent_is (too_long more) lines bytes new left is = absurd (cc (is.0))
 spent_is (line text more) lines bytes new left is = absurd (cc (is.0))
 
-pub long_is : (s : Script) (new : Reader) (left : Option (List ℕ)) → IsTurn s TooLong new left → (more : Script) × (s ≡ too_long more) × (script_before new left ≡ Some more)
+pub long_is : (s : Script) (new : Reader) (left : Option (List ℕ)) → IsAskedTurn s TooLong new left → (more : Script) × (s ≡ too_long more) × (asked_before new left ≡ Some more)
 long_is at_end new left is = absurd (cc (is.0))
 long_is (spent lines bytes) new left is = absurd (cc (is.0))
 long_is (too_long more) new left is = (more, refl, is.1)
 long_is (line text more) new left is = absurd (cc (is.0))
 
-pub line_is : (s : Script) (text : List ℕ) (new : Reader) (left : Option (List ℕ)) → text ≡ new.line → IsTurn s Line new left → (more : Script) × (s ≡ line text more) × (script_before new left ≡ Some more)
+pub line_is : (s : Script) (text : List ℕ) (new : Reader) (left : Option (List ℕ)) → text ≡ new.line → IsAskedTurn s Line new left → (more : Script) × (s ≡ line text more) × (asked_before new left ≡ Some more)
 line_is at_end text new left shown is = absurd (cc (is.0))
 line_is (spent lines bytes) text new left shown is = absurd (cc (is.0))
 line_is (too_long more) text new left shown is = absurd (cc (is.0))

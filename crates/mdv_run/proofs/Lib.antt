@@ -6,3 +6,4 @@ pub mod Used
 pub mod Shown
 pub mod Fronts
 pub mod Fronting
+pub mod Asking

@@ -1,7 +1,7 @@
 -- How the turns of a run add up.
 use Rattle.std.proofs.Common.{◌≡◌, ℕ, ◌+◌, ◌≤◌, ◌<◌, Bool, false, List, [], ◌++◌, length, Option, Some, refl, sym, ◌∙◌, ap, subst, append_assoc, arith}
 use Rattle.std.proofs.lemmas.List.{append-nil, length-append}
-use Rattle.mdv_run.specs.Below.{Reader, Script, script_before, script_of, Tale, told, Moments, Ends, Host, Memory, kept_at, Knows, RunStatus, Done, SomeRefused, Usage, NoQuorum, Panic, ReadFault, WriteFault, NoMemory, TwoDatabases, ScriptTooLong, NumbersSpent, At, Counts, Kept, RoseTo, LineTold, LinesTold, Stretch, IsLastShown, IsShown, drive_content, HasStatusCause, LinesMoment, RanTo}
+use Rattle.mdv_run.specs.Below.{Reader, Script, asked_before, asked_of, Tale, told, Moments, Ends, Host, Memory, kept_at, Knows, RunStatus, Done, SomeRefused, Usage, NoQuorum, Panic, ReadFault, WriteFault, NoMemory, TwoDatabases, ScriptTooLong, NumbersSpent, At, Counts, Kept, RoseTo, LineTold, LinesTold, Stretch, IsLastShown, IsShown, drive_content, HasStatusCause, LinesMoment, RanTo}
 use Rattle.mdv_run_law.specs.Run.{Over as IsOver, broken, ended, no_line, one_more, unread}
 use Rattle.mdv_shelf.proofs.Moments.{moments_none, moments_after, ends_more, some_is}
 use Rattle.mdv_engine_law.proofs.Executing.{rose_within}
@@ -47,18 +47,18 @@ pub record Went (host : Host) (stretch : Stretch) (start here : Counts) (first n
 pub record SoFar (host : Host) (stretch : Stretch) (start here : Counts) (first now : Memory) (any : Bool) (input : List ℕ) (before : Option Script) (a b : Option Tale) : Type 0 where
   pub left : Script
   pub comes : before ≡ Some left
-  pub moments : Moments (LinesMoment host (script_of input) first) a b
-  pub ran : Ends (RanTo host (script_of input) first now left) a b
-  pub went : Ends (λ t u. Knows host first t → Went host stretch start here first now any (script_of input) left t u) a b
+  pub moments : Moments (LinesMoment host (asked_of input) first) a b
+  pub ran : Ends (RanTo host (asked_of input) first now left) a b
+  pub went : Ends (λ t u. Knows host first t → Went host stretch start here first now any (asked_of input) left t u) a b
 
 module _ (host : Host) (first : Memory) (input : List ℕ) (start : Counts) where
-  pub so_far_start : (stretch : Stretch) (before : Option Script) (a : Option Tale) → before ≡ Some (script_of input) → SoFar host stretch start start first first false input before a a
+  pub so_far_start : (stretch : Stretch) (before : Option Script) (a : Option Tale) → before ≡ Some (asked_of input) → SoFar host stretch start start first first false input before a a
   so_far_start stretch before a comes = record {
-    left = script_of input;
+    left = asked_of input;
     comes = comes;
-    moments = moments_none (LinesMoment host (script_of input) first) a a refl (λ t. lines_start host (script_of input) first t);
-    ran = λ t is. (t, is, ran_start host (script_of input) first t);
-    went = λ t is. (t, is, λ knows. record { so_far = []; is_told = sym (append-nil (told t)); lines = no_line 0 (at start (kept_at first t) false (script_of input)) });
+    moments = moments_none (LinesMoment host (asked_of input) first) a a refl (λ t. lines_start host (asked_of input) first t);
+    ran = λ t is. (t, is, ran_start host (asked_of input) first t);
+    went = λ t is. (t, is, λ knows. record { so_far = []; is_told = sym (append-nil (told t)); lines = no_line 0 (at start (kept_at first t) false (asked_of input)) });
   }
 
   module _ (here end : Counts) (now new : Memory) (any : Bool) (before then : Option Script) (a b c : Option Tale) (stretch : Stretch) (so_far : SoFar host stretch start here first now any input before a b) where
@@ -78,8 +78,8 @@ module _ (host : Host) (first : Memory) (input : List ℕ) (start : Counts) wher
       pub still : ShowsStill other
       pub last : (t u v : Tale) → a ≡ Some t → b ≡ Some u → c ≡ Some v → (bytes : ℕ) → length (told t) + bytes ≡ length (told u) → IsLastShown other bytes end.drive (drive_content v)
 
-    went_more : (other : Stretch) → Shows other → (r : Bool) (left : Script) (t u v : Tale) → a ≡ Some t → b ≡ Some u → c ≡ Some v → then ≡ Some left → Went host stretch start here first now any (script_of input) so_far.left t u
-        → Turns host here end now new any so_far.left then (On r) u v → Went host other start end first new r (script_of input) left t v
+    went_more : (other : Stretch) → Shows other → (r : Bool) (left : Script) (t u v : Tale) → a ≡ Some t → b ≡ Some u → c ≡ Some v → then ≡ Some left → Went host stretch start here first now any (asked_of input) so_far.left t u
+        → Turns host here end now new any so_far.left then (On r) u v → Went host other start end first new r (asked_of input) left t v
     went_more other shows r left t u v is_t is_u is_v comes went turns =
         let until : length (told u) ≡ length (told t) + length went.so_far = ap length went.is_told ∙ length-append (told t) went.so_far in
         let then_told : length (told v) ≡ length (told u) + length turns.piece = ap length turns.is_told ∙ length-append (told u) turns.piece in
@@ -87,7 +87,7 @@ module _ (host : Host) (first : Memory) (input : List ℕ) (start : Counts) wher
         record {
           so_far = went.so_far ++ turns.piece;
           is_told = turns.is_told ∙ ap (λ (l : List ℕ). l ++ turns.piece) went.is_told ∙ append_assoc (told t) went.so_far turns.piece;
-          lines = lines_then host other 0 (at start (kept_at first t) false (script_of input)) (at here (kept_at now u) any so_far.left) (at end (kept_at new v) r left) went.so_far turns.piece
+          lines = lines_then host other 0 (at start (kept_at first t) false (asked_of input)) (at here (kept_at now u) any so_far.left) (at end (kept_at new v) r left) went.so_far turns.piece
               (lines_shown host stretch other (length went.so_far) (λ bytes piece c some le seen. shows.still t u is_t is_u bytes piece c some (omega (arith, until, le)) seen) 0 _ _ went.so_far (omega arith) went.lines)
               (let more = shows.grew u v is_u is_v in omega (arith, more, then_told)) (subst (λ (s : Script). LineTold host (at here (kept_at now u) any so_far.left) turns.piece (at end (kept_at new v) r s)) same turns.leads.2) (shows.last t u v is_t is_u is_v (0 + length went.so_far) (length turns.piece) (omega (arith, until)) (omega (arith, then_told)) r left);
         } where
@@ -104,10 +104,10 @@ module _ (host : Host) (first : Memory) (input : List ℕ) (start : Counts) wher
         record {
           left = left.0;
           comes = left.1;
-          moments = moments_after (LinesMoment host (script_of input) first) (RanTo host (script_of input) first now so_far.left) (LinesMoment host so_far.left now) (LinesMoment host (script_of input) first) a b c (λ t m lines. lines)
-              (λ t u m before more. lines_more_moment host (script_of input) first t now so_far.left u before m more) so_far.moments so_far.ran (moments so_far.left so_far.comes);
-          ran = ends_more (RanTo host (script_of input) first now so_far.left) (TurnEnd host here end now new any so_far.left then (On r)) (RanTo host (script_of input) first new left.0) a b c
-              (λ t u v one other. ran_more host (script_of input) first t now so_far.left u one new left.0 v (other.ran tt left.0 left.1)) so_far.ran (turns so_far.left so_far.comes);
+          moments = moments_after (LinesMoment host (asked_of input) first) (RanTo host (asked_of input) first now so_far.left) (LinesMoment host so_far.left now) (LinesMoment host (asked_of input) first) a b c (λ t m lines. lines)
+              (λ t u m before more. lines_more_moment host (asked_of input) first t now so_far.left u before m more) so_far.moments so_far.ran (moments so_far.left so_far.comes);
+          ran = ends_more (RanTo host (asked_of input) first now so_far.left) (TurnEnd host here end now new any so_far.left then (On r)) (RanTo host (asked_of input) first new left.0) a b c
+              (λ t u v one other. ran_more host (asked_of input) first t now so_far.left u one new left.0 v (other.ran tt left.0 left.1)) so_far.ran (turns so_far.left so_far.comes);
           went = λ t is.
               let one = so_far.went t is in
               let known = so_far.ran t is in
@@ -117,13 +117,13 @@ module _ (host : Host) (first : Memory) (input : List ℕ) (start : Counts) wher
         }
 
     -- the moments of the last turn too
-    pub moments_over : ((lines : Script) → before ≡ Some lines → Moments (LinesMoment host lines now) b c) → Moments (LinesMoment host (script_of input) first) a c
+    pub moments_over : ((lines : Script) → before ≡ Some lines → Moments (LinesMoment host lines now) b c) → Moments (LinesMoment host (asked_of input) first) a c
     moments_over moments =
-        moments_after (LinesMoment host (script_of input) first) (RanTo host (script_of input) first now so_far.left) (LinesMoment host so_far.left now) (LinesMoment host (script_of input) first) a b c (λ t m lines. lines)
-        (λ t u m before more. lines_more_moment host (script_of input) first t now so_far.left u before m more) so_far.moments so_far.ran (moments so_far.left so_far.comes)
+        moments_after (LinesMoment host (asked_of input) first) (RanTo host (asked_of input) first now so_far.left) (LinesMoment host so_far.left now) (LinesMoment host (asked_of input) first) a b c (λ t m lines. lines)
+        (λ t u m before more. lines_more_moment host (asked_of input) first t now so_far.left u before m more) so_far.moments so_far.ran (moments so_far.left so_far.comes)
 
     -- the turn that ends the run
-    pub over_ends : (other : Stretch) (status : RunStatus) → ShowsOver other → ((lines : Script) → before ≡ Some lines → Ends (TurnEnd host here end now new any lines then (Over status)) b c) → Ends (λ t u. Knows host first t → LinesRun host other start end first false (script_of input) status t u) a c
+    pub over_ends : (other : Stretch) (status : RunStatus) → ShowsOver other → ((lines : Script) → before ≡ Some lines → Ends (TurnEnd host here end now new any lines then (Over status)) b c) → Ends (λ t u. Knows host first t → LinesRun host other start end first false (asked_of input) status t u) a c
     over_ends other status shows turns t is =
         let one = so_far.went t is in
         let known = so_far.ran t is in
@@ -143,10 +143,10 @@ module _ (host : Host) (first : Memory) (input : List ℕ) (start : Counts) wher
               },
         )
       where
-        until : (t u : Tale) (went : Went host stretch start here first now any (script_of input) so_far.left t u) → length (told t) + length went.so_far ≡ length (told u)
+        until : (t u : Tale) (went : Went host stretch start here first now any (asked_of input) so_far.left t u) → length (told t) + length went.so_far ≡ length (told u)
         until t u went = sym (ap length went.is_told ∙ length-append (told t) went.so_far)
 
-        still : (t u : Tale) → a ≡ Some t → b ≡ Some u → (went : Went host stretch start here first now any (script_of input) so_far.left t u) → LinesTold host other 0 (at start (kept_at first t) false (script_of input)) went.so_far (at here (kept_at now u) any so_far.left)
+        still : (t u : Tale) → a ≡ Some t → b ≡ Some u → (went : Went host stretch start here first now any (asked_of input) so_far.left t u) → LinesTold host other 0 (at start (kept_at first t) false (asked_of input)) went.so_far (at here (kept_at now u) any so_far.left)
         still t u is_t is_u went =
             lines_shown host stretch other (length went.so_far) (λ bytes piece c some le seen. shows.still t u is_t is_u bytes piece c some (omega (arith, until t u went, le)) seen) 0 _ _ went.so_far (omega arith) went.lines
 
@@ -191,5 +191,5 @@ cause_within start now then end (ScriptTooLong lines bytes) before behind cause 
 cause_within start now then end NumbersSpent before behind cause = tt
 
 -- a reader that has taken nothing has the whole script before it
-pub script_at_start : (reader : Reader) (left : Option (List ℕ)) (input : List ℕ) → reader ≡ record { unread = []; lines = 0; bytes = 0; line = [] } → left ≡ Some input → script_before reader left ≡ Some (script_of input)
-script_at_start reader left input is comes = subst (λ (r : Reader). script_before r left ≡ Some (script_of input)) (sym is) (subst (λ (l : Option (List ℕ)). script_before (record { unread = []; lines = 0; bytes = 0; line = [] }) l ≡ Some (script_of input)) (sym comes) refl)
+pub script_at_start : (reader : Reader) (left : Option (List ℕ)) (input : List ℕ) → reader ≡ record { unread = []; lines = 0; bytes = 0; line = [] } → left ≡ Some input → asked_before reader left ≡ Some (asked_of input)
+script_at_start reader left input is comes = subst (λ (r : Reader). asked_before r left ≡ Some (asked_of input)) (sym is) (subst (λ (l : Option (List ℕ)). asked_before (record { unread = []; lines = 0; bytes = 0; line = [] }) l ≡ Some (asked_of input)) (sym comes) refl)

@@ -16,7 +16,8 @@ pub use Rattle.mdv_home.specs.Home.{IsHome}
 pub use Rattle.mdv_home.specs.declared.geometry.Home.{Home}
 pub use Rattle.mdv_name.specs.declared.geometry.Geometry.{Geometry}
 pub use Rattle.mdv_port.specs.Reader.{Reader}
-pub use Rattle.mdv_port.specs.Script.{IsTurn, Script, at_end, line, script_before, script_of, spent, too_long}
+pub use Rattle.mdv_port.specs.Script.{Script, at_end, line, spent, too_long}
+pub use Rattle.mdv_run.specs.Lines.{IsAskedTurn, asked_before, asked_of}
 pub use Rattle.mdv_port.specs.declared.reader.LineEnd.TheVariants.{End, Line, Spent, TooLong}
 pub use Rattle.mdv_run_law.specs.Run.{AreLast, AreShown, At, Counts, IsLastShown, IsNextFront, IsToldBy, LinesToldBy, NextFront, HasStatusCause, IsAnswered, IsLeft, IsShown, IsWholeRun, LineTold, LinesTold, NextLine, RoseTo, Runs, Stretch, counts}
 pub use Rattle.mdv_run_law.specs.Run.{drive_failed, replies_failed, source_failed, status_of}

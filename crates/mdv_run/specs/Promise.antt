@@ -1,6 +1,6 @@
 -- What a run promises, of the whole bench and the whole source.
 use Rattle.std.specs.Prelude.{◌≡◌, ◌≢◌, ◌⊎◌, ◌↔◌, ◌≤◌, ◌<◌, ◌+◌, ℕ, Bool, false, List, Option, Some}
-use Rattle.mdv_run.specs.Below.{Reader, Script, line, script_before, script_of, Tale, Reply, IsReplied, Host, Memory, Engine, Knows, IsWell, StaysHome, TellsFront, IsAnswered, IsToldBy, kept_at, RunStatus, NoMemory, Usage, Counts, Stretch, counts, HasStatusCause, IsWholeRun, RunMoment, LinesMoment, RanTo}
+use Rattle.mdv_run.specs.Below.{Reader, Script, line, asked_before, asked_of, Tale, Reply, IsReplied, Host, Memory, Engine, Knows, IsWell, StaysHome, TellsFront, IsAnswered, IsToldBy, kept_at, RunStatus, NoMemory, Usage, Counts, Stretch, counts, HasStatusCause, IsWholeRun, RunMoment, LinesMoment, RanTo}
 use Rattle.mdv_shelf.specs.Shelves.{AtEachMoment, AtEachTale, AtEnd, DriveFailed, EndsTold, GivingFailed, RestsOnceTold}
 use Rattle.mdv_shelf.specs.Story.{OfTales}
 use Rattle.mdv_shelf.specs.declared.shelf.Shelf.{Ghosts as Shelf}
@@ -43,19 +43,19 @@ pub record IsUnbegun {B I : Type 0} (old : B) (from : I) (new : B) (to : I) (sta
 -- far, and what was told by then is what the script asks for; nothing happens outside the host's area. Whatever they tell, a status that tells of a failure comes only where one came.
 pub record HasRun {B I : Type 0} (shelf : Shelf B) (source : Source I) (host : Host) (old : B) (from : I) (new : B) (to : I) (status : RunStatus) : Type 0 where
   pub runs : (t : Tale) → shelf.tale old ≡ Some t → (input : List ℕ) → source.left from ≡ Some input
-      → IsUnbegun old from new to status ⊎ IsWholeRun host (between shelf old new) (by shelf source old from) (by shelf source new to) t (script_of input) (shelf.tale new) status
-  pub stands : (input : List ℕ) → source.left from ≡ Some input → AtEachMoment shelf (OfTales (RunMoment host (script_of input))) old new
-  pub tells : (input : List ℕ) → source.left from ≡ Some input → AtEachMoment shelf (IsToldBy host (between shelf old new) (by shelf source old from) (script_of input)) old new
+      → IsUnbegun old from new to status ⊎ IsWholeRun host (between shelf old new) (by shelf source old from) (by shelf source new to) t (asked_of input) (shelf.tale new) status
+  pub stands : (input : List ℕ) → source.left from ≡ Some input → AtEachMoment shelf (OfTales (RunMoment host (asked_of input))) old new
+  pub tells : (input : List ℕ) → source.left from ≡ Some input → AtEachMoment shelf (IsToldBy host (between shelf old new) (by shelf source old from) (asked_of input)) old new
   pub home : AtEachTale shelf (StaysHome host) old new
   pub causes : (status ≡ NoMemory) ⊎ HasStatusCause (by shelf source old from) (by shelf source new to) status
 
 -- the lines of a run behind its boot, which left this memory
 pub record HaveRun {B I : Type 0} (shelf : Shelf B) (source : Source I) (host : Host) (memory : Memory) (old : B) (from : I) (new : B) (to : I) (status : RunStatus) : Type 0 where
   pub runs : (input : List ℕ) → source.left from ≡ Some input
-      → AtEnd shelf (λ t u. Knows host memory t → LinesRun host (between shelf old new) (by shelf source old from) (by shelf source new to) memory false (script_of input) status t u) old new
-  pub moments : (input : List ℕ) → source.left from ≡ Some input → AtEachTale shelf (LinesMoment host (script_of input) memory) old new
+      → AtEnd shelf (λ t u. Knows host memory t → LinesRun host (between shelf old new) (by shelf source old from) (by shelf source new to) memory false (asked_of input) status t u) old new
+  pub moments : (input : List ℕ) → source.left from ≡ Some input → AtEachTale shelf (LinesMoment host (asked_of input) memory) old new
   pub tells : (input : List ℕ) → source.left from ≡ Some input
-      → AtEachMoment shelf (λ t m. Knows host memory t.tale → LinesFront host (between shelf old new) (at (by shelf source old from) (kept_at memory t.tale) false (script_of input)) t m) old new
+      → AtEachMoment shelf (λ t m. Knows host memory t.tale → LinesFront host (between shelf old new) (at (by shelf source old from) (kept_at memory t.tale) false (asked_of input)) t m) old new
   pub home : AtEachTale shelf (StaysHome host) old new
   pub causes : HasStatusCause (by shelf source old from) (by shelf source new to) status
 
@@ -68,8 +68,8 @@ pub record TurnEnd (host : Host) (now later : Counts) (old new : Memory) (refuse
 -- each script before the turn leads so to the one behind it
 abbrev pub TurnEnds : {B I : Type 0} → Shelf B → Source I → Engine → Engine → B → B → I → I → Reader → Reader → Bool → Turn → Type 0
 TurnEnds shelf source engine then bench on from to before after refused turn =
-    (script : Script) → script_before before (source.left from) ≡ Some script
-    → AtEnd shelf (TurnEnd engine.host (by shelf source bench from) (by shelf source on to) engine.state then.state refused script (script_before after (source.left to)) turn) bench on
+    (script : Script) → asked_before before (source.left from) ≡ Some script
+    → AtEnd shelf (TurnEnd engine.host (by shelf source bench from) (by shelf source on to) engine.state then.state refused script (asked_before after (source.left to)) turn) bench on
 
 -- what a turn says whatever bench and source tell: its cause, and what the engine and the reader are then
 pub record TurnAnswer (now later : Counts) (host : Host) (engine : Engine) (before after : Reader) (left rest : Option (List ℕ)) (turn : Turn) : Type 0 where
@@ -79,7 +79,7 @@ pub record TurnAnswer (now later : Counts) (host : Host) (engine : Engine) (befo
   pub well : IsWell host engine.state
   pub begun : engine.state.begun ≤ after.lines
   pub on : IsOn turn → (before.lines < after.lines) × (after.lines ≤ 1048576)
-  pub goes_on : IsOn turn → (script : Script) → script_before before left ≡ Some script → (more : Script) × (script_before after rest ≡ Some more)
+  pub goes_on : IsOn turn → (script : Script) → asked_before before left ≡ Some script → (more : Script) × (asked_before after rest ≡ Some more)
 
 abbrev pub TurnAnswers : {B I : Type 0} → Shelf B → Source I → Host → Engine → B → B → I → I → Reader → Reader → Turn → Type 0
 TurnAnswers shelf source host engine bench on from to before after turn = TurnAnswer (by shelf source bench from) (by shelf source on to) host engine before after (source.left from) (source.left to) turn
@@ -87,7 +87,7 @@ TurnAnswers shelf source host engine bench on from to before after turn = TurnAn
 -- each script before the turn gives the line of which a front is told
 abbrev pub TurnTells : {B I : Type 0} → Shelf B → Source I → Engine → B → B → I → Reader → Bool → Type 0
 TurnTells shelf source engine bench on from before refused =
-    (script : Script) → script_before before (source.left from) ≡ Some script
+    (script : Script) → asked_before before (source.left from) ≡ Some script
     → AtEachMoment shelf (λ t m. Knows engine.host engine.state t.tale → TurnFront engine.host (at (by shelf source bench from) (kept_at engine.state t.tale) refused script) t m) bench on
 
 -- a front of a line's reply

@@ -2,6 +2,7 @@
 //! tells a reply to each line.
 #![tactic(auto)]
 
+mod lines;
 mod session;
 #[cfg(test)]
 mod session_tests;

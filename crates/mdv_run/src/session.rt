@@ -1,6 +1,7 @@
 ghost use Rattle.std.specs.Prelude.{◌≡◌, Err, IfOk, ◌<◌, ◌≤◌, ◌+◌, ◌^◌, ◌↔◌, ℕ, List, [], ◌∷◌, map, string_bytes, Some, IsTrue};
 ghost use Rattle.mdv_shelf.specs.Shelves.{AtEachTale, DriveFailed, GivingFailed, Kept};
-ghost use Rattle.mdv_port.specs.Script.{Script, line as line_of, script_before};
+ghost use Rattle.mdv_port.specs.Script.{Script, line as line_of};
+ghost use Rattle.mdv_run.specs.Lines.{asked_before};
 ghost use Rattle.mdv_home.specs.declared.geometry.Home.{Home};
 ghost use Rattle.mdv_words.specs.declared.command.Line.TheVariants.{Boot};
 ghost use Rattle.mdv_words.specs.Line.{IsLine};
@@ -18,6 +19,7 @@ ghost use Rattle.mdv_run_law.specs.Standing.{LinesMoment};
 ghost use Rattle.mdv_run.specs.Promise.{HasRun, HaveRun, IsUntouched, IsUsageOf, LineEnds, LineReply, LineStays, LineTells, OfEachUse, TurnAnswers, TurnEnds, TurnTells};
 ghost use Rattle.mdv_run.specs.Turns.{IsOn, over_status, turn_of as spec_turn_of};
 
+use crate::lines::next_asked;
 use mdv_base::{DriveNo, Failed, Refusal};
 use mdv_engine::Engine;
 use mdv_engine_law::{BootRefusal, Host, Reply};
@@ -192,13 +194,13 @@ fn take_turn<B: Bench, I: Source>(
     requires ready { IsReady engine.old.host (B.sizes bench.old) }
     requires well { IsWell engine.old.host engine.old.state }
     requires begun { engine.old.state.begun ≤ reader.old.lines }
-    ensures moments { (lines : Script) → script_before reader.old (I.left script.old) ≡ Some lines → AtEachTale B.Shelf (LinesMoment engine.old.host lines engine.old.state) bench.old bench.new }
+    ensures moments { (lines : Script) → asked_before reader.old (I.left script.old) ≡ Some lines → AtEachTale B.Shelf (LinesMoment engine.old.host lines engine.old.state) bench.old bench.new }
     ensures end { TurnEnds B.Shelf I.Source engine.old engine.new bench.old bench.new script.old script.new reader.old reader.new any_refused result }
     ensures stays { LineStays B.Shelf engine.old.host (IsOn result) (TurnTells B.Shelf I.Source engine.old bench.old bench.new script.old reader.old any_refused) bench.old bench.new }
     ensures answer { TurnAnswers B.Shelf I.Source engine.old.host engine.new bench.old bench.new script.old script.new reader.old reader.new result }
     ensures kept { Kept B.Shelf bench.old bench.new }
 {
-    match reader.next(script) {
+    match next_asked(reader, script) {
         Ok(LineEnd::Line) => turn_of(answer(engine, alloc, bench, reader.line()), any_refused),
         Ok(LineEnd::TooLong) => turn_of(engine.refuse(bench, &Refusal::LineTooLong), any_refused),
         Ok(LineEnd::End) => Turn::Over(ended(any_refused)),

@@ -293,7 +293,7 @@ read d0 477 1024
 #[test]
 fn refuses_what_the_grammar_lacks(rt: HostRuntime) -> Result<(), Fail> {
     let lines = [
-        "",
+        "# a comment with \u{e9}",
         "metadb",
         "boot ",
         "metadb -a c0t0d0s8",
@@ -320,6 +320,18 @@ fn refuses_what_the_grammar_lacks(rt: HostRuntime) -> Result<(), Fail> {
     expect_run(&rt, TABLE, &mut shelf, long.as_str(), refused, told)?;
     let mut shelf = MemShelf::new(rt.alloc(), &[BLOCKS])?;
     expect_run(&rt, TABLE, &mut shelf, "", RunStatus::Done, "")
+}
+
+#[test]
+fn passes_over_lines_that_ask_for_nothing(rt: HostRuntime) -> Result<(), Fail> {
+    let script = format!(in rt.alloc();
+        "\n# a comment\n \t\n{CREATION}\t# metadb\n#boot\nboot\n\nmetadb # x\n\n#"
+    )?;
+    let mut shelf = MemShelf::new(rt.alloc(), &[BLOCKS])?;
+    let refused = RunStatus::SomeRefused;
+    let told = "ok\nok\nrefused E1 BadLine\n";
+    expect_run(&rt, TABLE, &mut shelf, script.as_str(), refused, told)?;
+    expect_run(&rt, TABLE, &mut shelf, "# all\n\n", RunStatus::Done, told)
 }
 
 // A creation writes each block as it is spelled here, and each boot behind it writes the table anew: that

@@ -1,5 +1,5 @@
 use Rattle.std.proofs.Common.{◌≡◌, refl, ap, subst, inl, Err}
-use Rattle.mdv_run.specs.Below.{counts, script_of, told, Host, RunMoment, host_of}
+use Rattle.mdv_run.specs.Below.{counts, asked_of, told, Host, RunMoment, host_of}
 use Rattle.mdv_run.specs.Promise.{HasRun, between}
 use Rattle.mdv_run.proofs.Fronting.{fronts_quiet}
 use Rattle.mdv_shelf.proofs.Moments.{moments_none}
@@ -33,9 +33,9 @@ pub returns-in-Err-Memory-clause-used : goal.returns-in-Err-Memory-clause-used
 returns-in-Err-Memory-clause-used g c = λ drives home used.
     let host : Host = host_of drives home c.args.fresh in record {
       runs = λ t is input left. inl (record { wanting = refl; untouched = (refl, refl) });
-      stands = λ input left. moments_of_tales g.B.Shelf g.met.B.Shelf.telling _ _ (RunMoment host (script_of input)) (kept_itself g.B.Shelf c.args.bench.now).goes
-          (moments_none (RunMoment host (script_of input)) _ _ refl (λ t. nothing_run host (script_of input) t));
-      tells = λ input left. fronts_quiet g.B.Shelf g.met.B.Shelf.telling host (counts (g.B.Shelf.faults c.args.bench.now) (g.I.Source.faults c.args.script.now)) (counts (g.B.Shelf.faults c.args.bench.now) (g.I.Source.faults c.args.script.now)) (script_of input) (between g.B.Shelf c.args.bench.now c.args.bench.now) _ _ (kept_itself g.B.Shelf c.args.bench.now).goes (moments_none (λ t m. told m ≡ told t) _ _ refl (λ t. refl));
+      stands = λ input left. moments_of_tales g.B.Shelf g.met.B.Shelf.telling _ _ (RunMoment host (asked_of input)) (kept_itself g.B.Shelf c.args.bench.now).goes
+          (moments_none (RunMoment host (asked_of input)) _ _ refl (λ t. nothing_run host (asked_of input) t));
+      tells = λ input left. fronts_quiet g.B.Shelf g.met.B.Shelf.telling host (counts (g.B.Shelf.faults c.args.bench.now) (g.I.Source.faults c.args.script.now)) (counts (g.B.Shelf.faults c.args.bench.now) (g.I.Source.faults c.args.script.now)) (asked_of input) (between g.B.Shelf c.args.bench.now c.args.bench.now) _ _ (kept_itself g.B.Shelf c.args.bench.now).goes (moments_none (λ t m. told m ≡ told t) _ _ refl (λ t. refl));
       home = nothing_stays host _ _ refl;
       causes = inl refl;
     }

@@ -1,5 +1,5 @@
 use Rattle.std.proofs.Common.{◌≤◌, false, refl, sym, ◌∙◌, subst, arith}
-use Rattle.mdv_run.specs.Below.{Reader, script_of, script_before, OnDrive, OnReplies, Moments, Ends, Host, IsReady, Knows, IsWell, counts, LinesMoment, StaysHome}
+use Rattle.mdv_run.specs.Below.{Reader, asked_of, asked_before, OnDrive, OnReplies, Moments, Ends, Host, IsReady, Knows, IsWell, counts, LinesMoment, StaysHome}
 use Rattle.mdv_run.specs.Promise.{between}
 use Rattle.mdv_run.specs.Turns.{LinesRun}
 use Rattle.mdv_shelf.specs.Shelves.{AtEachMoment}
@@ -21,7 +21,7 @@ loop-refused-init g c = record {
   kept = kept_itself g.B.Shelf c.args.bench.now;
   source = omega arith;
   home = nothing_stays c.args.engine.now.host _ _ refl;
-  fronts = λ input left. fronts_start c.args.engine.now.host (counts (g.B.Shelf.faults c.args.bench.now) (g.I.Source.faults c.args.script.now)) c.args.engine.now.state (script_of input) g.B.Shelf g.met.B.Shelf.telling c.args.bench.now;
+  fronts = λ input left. fronts_start c.args.engine.now.host (counts (g.B.Shelf.faults c.args.bench.now) (g.I.Source.faults c.args.script.now)) c.args.engine.now.state (asked_of input) g.B.Shelf g.met.B.Shelf.telling c.args.bench.now;
   so_far = λ input left. so_far_start c.args.engine.now.host c.args.engine.now.state input _ (between g.B.Shelf c.args.bench.now c.args.bench.now) _ _ (script_at_start _ _ _ c.new-reader.ensures left);
 }
 
@@ -39,13 +39,13 @@ loop-refused-preserved g c =
       source = let first = before.source in let more = answer.source in omega arith;
       home = both_stay c.args.engine.now.host _ _ _ before.home
           (subst (λ (h : Host). Moments (StaysHome h) (g.B.Shelf.tale c.loop-refused.bench) (g.B.Shelf.tale c.take_turn.new.bench)) before.host c.in-On.ensures.stays.home);
-      fronts = λ input left. subst (λ (h : Host). AtEachMoment g.B.Shelf (RunFront h (between g.B.Shelf c.args.bench.now c.take_turn.new.bench) (counts (g.B.Shelf.faults c.args.bench.now) (g.I.Source.faults c.args.script.now)) c.args.engine.now.state (script_of input)) c.args.bench.now c.take_turn.new.bench) (sym answer.same)
+      fronts = λ input left. subst (λ (h : Host). AtEachMoment g.B.Shelf (RunFront h (between g.B.Shelf c.args.bench.now c.take_turn.new.bench) (counts (g.B.Shelf.faults c.args.bench.now) (g.I.Source.faults c.args.script.now)) c.args.engine.now.state (asked_of input)) c.args.bench.now c.take_turn.new.bench) (sym answer.same)
           (let here = before.so_far input left in
-          fronts_more c.loop-refused.engine.host (counts (g.B.Shelf.faults c.args.bench.now) (g.I.Source.faults c.args.script.now)) c.args.engine.now.state (script_of input) g.B.Shelf g.met.B.Shelf.telling _ _ _ (counts (g.B.Shelf.faults c.loop-refused.bench) (g.I.Source.faults c.loop-refused.script)) c.loop-refused.engine.state c.loop-refused.any_refused here.left before.kept.goes c.in-On.ensures.kept.goes
+          fronts_more c.loop-refused.engine.host (counts (g.B.Shelf.faults c.args.bench.now) (g.I.Source.faults c.args.script.now)) c.args.engine.now.state (asked_of input) g.B.Shelf g.met.B.Shelf.telling _ _ _ (counts (g.B.Shelf.faults c.loop-refused.bench) (g.I.Source.faults c.loop-refused.script)) c.loop-refused.engine.state c.loop-refused.any_refused here.left before.kept.goes c.in-On.ensures.kept.goes
           (before.fronts input left) here.went (λ t is. (let ran = here.ran t is in (ran.0, ran.1, ran.2.knows))) (c.in-On.ensures.stays.tells here.left here.comes));
       so_far = λ input left.
           let here = before.so_far input left in
-          subst (λ (h : Host). SoFar h (between g.B.Shelf c.args.bench.now c.take_turn.new.bench) (counts (g.B.Shelf.faults c.args.bench.now) (g.I.Source.faults c.args.script.now)) (counts (g.B.Shelf.faults c.take_turn.new.bench) (g.I.Source.faults c.take_turn.new.script)) c.args.engine.now.state c.take_turn.new.engine.state c.in-On.refused input (script_before c.take_turn.new.reader (g.I.Source.left c.take_turn.new.script)) (g.B.Shelf.tale c.args.bench.now) (g.B.Shelf.tale c.take_turn.new.bench)) (sym answer.same)
+          subst (λ (h : Host). SoFar h (between g.B.Shelf c.args.bench.now c.take_turn.new.bench) (counts (g.B.Shelf.faults c.args.bench.now) (g.I.Source.faults c.args.script.now)) (counts (g.B.Shelf.faults c.take_turn.new.bench) (g.I.Source.faults c.take_turn.new.script)) c.args.engine.now.state c.take_turn.new.engine.state c.in-On.refused input (asked_before c.take_turn.new.reader (g.I.Source.left c.take_turn.new.script)) (g.B.Shelf.tale c.args.bench.now) (g.B.Shelf.tale c.take_turn.new.bench)) (sym answer.same)
           (so_far_more c.loop-refused.engine.host c.args.engine.now.state input (counts (g.B.Shelf.faults c.args.bench.now) (g.I.Source.faults c.args.script.now)) (counts (g.B.Shelf.faults c.loop-refused.bench) (g.I.Source.faults c.loop-refused.script)) (counts (g.B.Shelf.faults c.take_turn.new.bench) (g.I.Source.faults c.take_turn.new.script)) c.loop-refused.engine.state c.take_turn.new.engine.state c.loop-refused.any_refused _ _ _ _ _ _ here
           (between g.B.Shelf c.args.bench.now c.take_turn.new.bench) c.in-On.refused (record {
             still = λ t u is_t is_u bytes piece shown some le seen. shown_later g.B.Shelf g.met.B.Shelf.telling _ _ _ before.kept.goes c.in-On.ensures.kept.goes bytes piece shown t u some is_t is_u le seen;
@@ -59,20 +59,20 @@ returns-in-Over-clause-lines g c =
     let before = c.loop-refused.invariant in record {
       runs = λ input left.
           let here = before.so_far input left in
-          subst (λ (h : Host). Ends (λ t u. Knows h c.args.engine.now.state t → LinesRun h (between g.B.Shelf c.args.bench.now c.take_turn.new.bench) (counts (g.B.Shelf.faults c.args.bench.now) (g.I.Source.faults c.args.script.now)) (counts (g.B.Shelf.faults c.take_turn.new.bench) (g.I.Source.faults c.take_turn.new.script)) c.args.engine.now.state false (script_of input) c.in-Over.status t u) (g.B.Shelf.tale c.args.bench.now) (g.B.Shelf.tale c.take_turn.new.bench)) before.host
+          subst (λ (h : Host). Ends (λ t u. Knows h c.args.engine.now.state t → LinesRun h (between g.B.Shelf c.args.bench.now c.take_turn.new.bench) (counts (g.B.Shelf.faults c.args.bench.now) (g.I.Source.faults c.args.script.now)) (counts (g.B.Shelf.faults c.take_turn.new.bench) (g.I.Source.faults c.take_turn.new.script)) c.args.engine.now.state false (asked_of input) c.in-Over.status t u) (g.B.Shelf.tale c.args.bench.now) (g.B.Shelf.tale c.take_turn.new.bench)) before.host
           (over_ends c.loop-refused.engine.host c.args.engine.now.state input (counts (g.B.Shelf.faults c.args.bench.now) (g.I.Source.faults c.args.script.now)) (counts (g.B.Shelf.faults c.loop-refused.bench) (g.I.Source.faults c.loop-refused.script)) (counts (g.B.Shelf.faults c.take_turn.new.bench) (g.I.Source.faults c.take_turn.new.script)) c.loop-refused.engine.state c.take_turn.new.engine.state c.loop-refused.any_refused _ _ _ _ _ _ here
           (between g.B.Shelf c.args.bench.now c.take_turn.new.bench) c.in-Over.status (record {
             still = λ t u is_t is_u bytes piece shown some le seen. shown_later g.B.Shelf g.met.B.Shelf.telling _ _ _ before.kept.goes c.in-Over.ensures.kept.goes bytes piece shown t u some is_t is_u le seen;
             last = λ t u v is_t is_u is_v bytes until. last_now g.B.Shelf g.met.B.Shelf.telling _ _ _ before.kept.goes c.in-Over.ensures.stays.rests bytes t u v is_t is_u is_v until;
           }) c.in-Over.ensures.end);
-      tells = λ input left. subst (λ (h : Host). AtEachMoment g.B.Shelf (RunFront h (between g.B.Shelf c.args.bench.now c.take_turn.new.bench) (counts (g.B.Shelf.faults c.args.bench.now) (g.I.Source.faults c.args.script.now)) c.args.engine.now.state (script_of input)) c.args.bench.now c.take_turn.new.bench) before.host
+      tells = λ input left. subst (λ (h : Host). AtEachMoment g.B.Shelf (RunFront h (between g.B.Shelf c.args.bench.now c.take_turn.new.bench) (counts (g.B.Shelf.faults c.args.bench.now) (g.I.Source.faults c.args.script.now)) c.args.engine.now.state (asked_of input)) c.args.bench.now c.take_turn.new.bench) before.host
           (let here = before.so_far input left in
-          fronts_more c.loop-refused.engine.host (counts (g.B.Shelf.faults c.args.bench.now) (g.I.Source.faults c.args.script.now)) c.args.engine.now.state (script_of input) g.B.Shelf g.met.B.Shelf.telling _ _ _ (counts (g.B.Shelf.faults c.loop-refused.bench) (g.I.Source.faults c.loop-refused.script)) c.loop-refused.engine.state c.loop-refused.any_refused here.left before.kept.goes c.in-Over.ensures.kept.goes
+          fronts_more c.loop-refused.engine.host (counts (g.B.Shelf.faults c.args.bench.now) (g.I.Source.faults c.args.script.now)) c.args.engine.now.state (asked_of input) g.B.Shelf g.met.B.Shelf.telling _ _ _ (counts (g.B.Shelf.faults c.loop-refused.bench) (g.I.Source.faults c.loop-refused.script)) c.loop-refused.engine.state c.loop-refused.any_refused here.left before.kept.goes c.in-Over.ensures.kept.goes
           (before.fronts input left) here.went (λ t is. (let ran = here.ran t is in (ran.0, ran.1, ran.2.knows))) (c.in-Over.ensures.stays.tells here.left here.comes));
       moments = λ input left.
           let here = before.so_far input left in
-          subst (λ (h : Host). Moments (LinesMoment h (script_of input) c.args.engine.now.state) (g.B.Shelf.tale c.args.bench.now) (g.B.Shelf.tale c.take_turn.new.bench)) before.host
-          (moments_over c.loop-refused.engine.host c.args.engine.now.state input (counts (g.B.Shelf.faults c.args.bench.now) (g.I.Source.faults c.args.script.now)) (counts (g.B.Shelf.faults c.loop-refused.bench) (g.I.Source.faults c.loop-refused.script)) (counts (g.B.Shelf.faults c.take_turn.new.bench) (g.I.Source.faults c.take_turn.new.script)) c.loop-refused.engine.state c.take_turn.new.engine.state c.loop-refused.any_refused _ (script_before c.take_turn.new.reader (g.I.Source.left c.take_turn.new.script)) _ _ _ _ here
+          subst (λ (h : Host). Moments (LinesMoment h (asked_of input) c.args.engine.now.state) (g.B.Shelf.tale c.args.bench.now) (g.B.Shelf.tale c.take_turn.new.bench)) before.host
+          (moments_over c.loop-refused.engine.host c.args.engine.now.state input (counts (g.B.Shelf.faults c.args.bench.now) (g.I.Source.faults c.args.script.now)) (counts (g.B.Shelf.faults c.loop-refused.bench) (g.I.Source.faults c.loop-refused.script)) (counts (g.B.Shelf.faults c.take_turn.new.bench) (g.I.Source.faults c.take_turn.new.script)) c.loop-refused.engine.state c.take_turn.new.engine.state c.loop-refused.any_refused _ (asked_before c.take_turn.new.reader (g.I.Source.left c.take_turn.new.script)) _ _ _ _ here
           c.in-Over.ensures.moments);
       home = both_stay c.args.engine.now.host _ _ _ before.home
           (subst (λ (h : Host). Moments (StaysHome h) (g.B.Shelf.tale c.loop-refused.bench) (g.B.Shelf.tale c.take_turn.new.bench)) before.host c.in-Over.ensures.stays.home);

@@ -1,6 +1,6 @@
 use Rattle.std.proofs.Common.{◌≡◌, ◌≤◌, refl, sym, ap, subst, arith}
 use Rattle.mdv_engine_law.specs.Line.{Nothing}
-use Rattle.mdv_run.specs.Below.{Script, Engine, line, too_long, script_before, IsTurn, Line, TooLong, End, Spent, Moments, TurnMoment, IsWell, OnDrive, OnReplies, ScriptTooLong, counts, told, LinesMoment, RanTo}
+use Rattle.mdv_run.specs.Below.{Script, Engine, line, too_long, asked_before, IsAskedTurn, Line, TooLong, End, Spent, Moments, TurnMoment, IsWell, OnDrive, OnReplies, ScriptTooLong, counts, told, LinesMoment, RanTo}
 use Rattle.mdv_run_law.specs.Run.{EndsAs}
 use Rattle.mdv_shelf.proofs.Stories.{moment}
 use Rattle.mdv_shelf.proofs.Telling.{each_within, rests_quiet}
@@ -28,8 +28,8 @@ pub returns-in-Ok-Line-clause-moments : goal.returns-in-Ok-Line-clause-moments
 returns-in-Ok-Line-clause-moments g c = λ lines before.
     let host = c.args.engine.now.host in
     let old = c.args.engine.now.state in
-    let reads : IsTurn lines Line c.next.new.self (g.I.Source.left c.next.new.source) = rw c.in-Ok-Line.field-0-is at (c.in-Ok-Line.ensures.reads lines before) in
-    let script = line_is lines c.line.result.now c.next.new.self (g.I.Source.left c.next.new.source) c.line.ensures.value reads in
+    let reads : IsAskedTurn lines Line c.next_asked.new.reader (g.I.Source.left c.next_asked.new.source) = rw c.in-Ok-Line.field-0-is at (c.in-Ok-Line.ensures.reads lines before) in
+    let script = line_is lines c.line.result.now c.next_asked.new.reader (g.I.Source.left c.next_asked.new.source) c.line.ensures.value reads in
     subst (λ (s : Script). Moments (LinesMoment host s old) (g.B.Shelf.tale c.args.bench.now) (g.B.Shelf.tale c.answer.new.bench)) (sym script.1) (c.answer.ensures.moments script.0)
 
 pub returns-in-Ok-Line-clause-end : goal.returns-in-Ok-Line-clause-end
@@ -38,16 +38,16 @@ returns-in-Ok-Line-clause-end g c = λ lines before t told.
     let old = c.args.engine.now.state in
     let new = c.answer.new.engine.state in
     let now = counts (g.B.Shelf.faults c.args.bench.now) (g.I.Source.faults c.args.script.now) in
-    let last = counts (g.B.Shelf.faults c.answer.new.bench) (g.I.Source.faults c.next.new.source) in
-    let rest = script_before c.next.new.self (g.I.Source.left c.next.new.source) in
-    let reads : IsTurn lines Line c.next.new.self (g.I.Source.left c.next.new.source) = rw c.in-Ok-Line.field-0-is at (c.in-Ok-Line.ensures.reads lines before) in
-    let script = line_is lines c.line.result.now c.next.new.self (g.I.Source.left c.next.new.source) c.line.ensures.value reads in
+    let last = counts (g.B.Shelf.faults c.answer.new.bench) (g.I.Source.faults c.next_asked.new.source) in
+    let rest = asked_before c.next_asked.new.reader (g.I.Source.left c.next_asked.new.source) in
+    let reads : IsAskedTurn lines Line c.next_asked.new.reader (g.I.Source.left c.next_asked.new.source) = rw c.in-Ok-Line.field-0-is at (c.in-Ok-Line.ensures.reads lines before) in
+    let script = line_is lines c.line.result.now c.next_asked.new.reader (g.I.Source.left c.next_asked.new.source) c.line.ensures.value reads in
     let end = c.answer.ensures.end t told in (
       end.0,
       end.1,
       subst (λ (turn : Turn). TurnEnd host now last old new c.args.any_refused lines rest turn t end.0) (sym c.turn_of.ensures)
           (record {
-            turns = λ knows. leads_line now last (record { drive = c.answer.ensures.kept.keeps.no_fewer_faults (OnDrive 0); source = c.next.ensures.cause.later; replies = c.answer.ensures.kept.keeps.no_fewer_faults OnReplies })
+            turns = λ knows. leads_line now last (record { drive = c.answer.ensures.kept.keeps.no_fewer_faults (OnDrive 0); source = c.next_asked.ensures.cause.later; replies = c.answer.ensures.kept.keeps.no_fewer_faults OnReplies })
                 host old new c.args.any_refused lines script.0 c.line.result.now c.answer.result rest t end.0 script.1 script.2 (end.2.answered knows);
             ran = λ on left is. subst (λ (s : Script). RanTo host s old new left t end.0) (sym script.1)
                 (subst (λ (s : Script). RanTo host (line c.line.result.now s) old new left t end.0) (sym (same_left left script.0 is script.2)) (end.2.ran (on_replied c.answer.result c.args.any_refused _ refl on) left));
@@ -57,15 +57,15 @@ returns-in-Ok-Line-clause-end g c = λ lines before t told.
 
 pub returns-in-Ok-Line-clause-answer : goal.returns-in-Ok-Line-clause-answer
 returns-in-Ok-Line-clause-answer g c = record {
-  cause = subst (HasTurnCause (counts (g.B.Shelf.faults c.args.bench.now) (g.I.Source.faults c.args.script.now)) (counts (g.B.Shelf.faults c.answer.new.bench) (g.I.Source.faults c.next.new.source))) (sym c.turn_of.ensures) (turn_cause (counts (g.B.Shelf.faults c.args.bench.now) (g.I.Source.faults c.args.script.now)) (counts (g.B.Shelf.faults c.answer.new.bench) (g.I.Source.faults c.next.new.source)) c.answer.result c.args.any_refused c.answer.ensures.answer.cause);
-  source = c.next.ensures.cause.later;
+  cause = subst (HasTurnCause (counts (g.B.Shelf.faults c.args.bench.now) (g.I.Source.faults c.args.script.now)) (counts (g.B.Shelf.faults c.answer.new.bench) (g.I.Source.faults c.next_asked.new.source))) (sym c.turn_of.ensures) (turn_cause (counts (g.B.Shelf.faults c.args.bench.now) (g.I.Source.faults c.args.script.now)) (counts (g.B.Shelf.faults c.answer.new.bench) (g.I.Source.faults c.next_asked.new.source)) c.answer.result c.args.any_refused c.answer.ensures.answer.cause);
+  source = c.next_asked.ensures.cause.later;
   same = c.answer.ensures.answer.same;
   well = c.answer.ensures.answer.well;
-  begun = let up = (rw c.in-Ok-Line.field-0-is at c.in-Ok-Line.ensures.counts).lines in let more = c.answer.ensures.answer.begun in let before = c.requires.begun in omega arith;
-  on = λ on. (let up = (rw c.in-Ok-Line.field-0-is at c.in-Ok-Line.ensures.counts).lines in omega arith, (rw c.in-Ok-Line.field-0-is at c.in-Ok-Line.ensures.counts).line_limit);
+  begun = let up = (rw c.in-Ok-Line.field-0-is at c.in-Ok-Line.ensures.passed).lines in let more = c.answer.ensures.answer.begun in let before = c.requires.begun in omega arith;
+  on = λ on. (let up = (rw c.in-Ok-Line.field-0-is at c.in-Ok-Line.ensures.passed).lines in omega arith, (rw c.in-Ok-Line.field-0-is at c.in-Ok-Line.ensures.passed).limit);
   goes_on = λ on lines before.
-      let reads : IsTurn lines Line c.next.new.self (g.I.Source.left c.next.new.source) = rw c.in-Ok-Line.field-0-is at (c.in-Ok-Line.ensures.reads lines before) in
-      let script = line_is lines c.line.result.now c.next.new.self (g.I.Source.left c.next.new.source) c.line.ensures.value reads in
+      let reads : IsAskedTurn lines Line c.next_asked.new.reader (g.I.Source.left c.next_asked.new.source) = rw c.in-Ok-Line.field-0-is at (c.in-Ok-Line.ensures.reads lines before) in
+      let script = line_is lines c.line.result.now c.next_asked.new.reader (g.I.Source.left c.next_asked.new.source) c.line.ensures.value reads in
       (script.0, script.2);
 }
 
@@ -75,8 +75,8 @@ returns-in-Ok-Line-clause-stays g c = record {
   told = λ on. c.answer.ensures.stays.told (on_replied c.answer.result c.args.any_refused _ c.turn_of.ensures on);
   rests = c.answer.ensures.stays.rests;
   tells = λ lines before.
-      let reads : IsTurn lines Line c.next.new.self (g.I.Source.left c.next.new.source) = rw c.in-Ok-Line.field-0-is at (c.in-Ok-Line.ensures.reads lines before) in
-      let script = line_is lines c.line.result.now c.next.new.self (g.I.Source.left c.next.new.source) c.line.ensures.value reads in
+      let reads : IsAskedTurn lines Line c.next_asked.new.reader (g.I.Source.left c.next_asked.new.source) = rw c.in-Ok-Line.field-0-is at (c.in-Ok-Line.ensures.reads lines before) in
+      let script = line_is lines c.line.result.now c.next_asked.new.reader (g.I.Source.left c.next_asked.new.source) c.line.ensures.value reads in
       each_within (LineFront c.args.engine.now.host c.line.result.now c.args.engine.now.state) (ScriptFront c.args.engine.now.host (counts (g.B.Shelf.faults c.args.bench.now) (g.I.Source.faults c.args.script.now)) c.args.engine.now.state c.args.any_refused lines) _ _ _ _
       (λ s u first last m there here within known. line_front c.args.engine.now.host c.args.engine.now.state (counts (g.B.Shelf.faults c.args.bench.now) (g.I.Source.faults c.args.script.now)) c.args.any_refused (moment s _) m refl within.counts.0 lines script.0 c.line.result.now script.1 (here known)) c.answer.ensures.stays.tells;
 }
@@ -86,8 +86,8 @@ pub returns-in-Ok-TooLong-clause-moments : goal.returns-in-Ok-TooLong-clause-mom
 returns-in-Ok-TooLong-clause-moments g c = λ lines before.
     let host = c.args.engine.now.host in
     let old = c.args.engine.now.state in
-    let reads : IsTurn lines TooLong c.next.new.self (g.I.Source.left c.next.new.source) = rw c.in-Ok-TooLong.field-0-is at (c.in-Ok-TooLong.ensures.reads lines before) in
-    let script = long_is lines c.next.new.self (g.I.Source.left c.next.new.source) reads in
+    let reads : IsAskedTurn lines TooLong c.next_asked.new.reader (g.I.Source.left c.next_asked.new.source) = rw c.in-Ok-TooLong.field-0-is at (c.in-Ok-TooLong.ensures.reads lines before) in
+    let script = long_is lines c.next_asked.new.reader (g.I.Source.left c.next_asked.new.source) reads in
     moments_weaker (TurnMoment host Nothing old) (LinesMoment host lines old) _ _
     (λ t m turn. subst (λ (s : Script). LinesMoment host s old t m) (sym script.1) (long_moment host script.0 old t m turn)) (c.refuse.ensures.moments Nothing).each
 
@@ -96,17 +96,17 @@ returns-in-Ok-TooLong-clause-end g c = λ lines before t told.
     let host = c.args.engine.now.host in
     let old = c.args.engine.now.state in
     let now = counts (g.B.Shelf.faults c.args.bench.now) (g.I.Source.faults c.args.script.now) in
-    let last = counts (g.B.Shelf.faults c.refuse.new.bench) (g.I.Source.faults c.next.new.source) in
-    let rest = script_before c.next.new.self (g.I.Source.left c.next.new.source) in
-    let reads : IsTurn lines TooLong c.next.new.self (g.I.Source.left c.next.new.source) = rw c.in-Ok-TooLong.field-0-is at (c.in-Ok-TooLong.ensures.reads lines before) in
-    let script = long_is lines c.next.new.self (g.I.Source.left c.next.new.source) reads in
+    let last = counts (g.B.Shelf.faults c.refuse.new.bench) (g.I.Source.faults c.next_asked.new.source) in
+    let rest = asked_before c.next_asked.new.reader (g.I.Source.left c.next_asked.new.source) in
+    let reads : IsAskedTurn lines TooLong c.next_asked.new.reader (g.I.Source.left c.next_asked.new.source) = rw c.in-Ok-TooLong.field-0-is at (c.in-Ok-TooLong.ensures.reads lines before) in
+    let script = long_is lines c.next_asked.new.reader (g.I.Source.left c.next_asked.new.source) reads in
     let end = c.refuse.ensures.end t told in (
       end.0,
       end.1,
       subst (λ (e : Engine). TurnEnd host now last old e.state c.args.any_refused lines rest c.turn_of-in-Ok-TooLong.result t end.0) (sym c.refuse.ensures.answer.same)
           (subst (λ (turn : Turn). TurnEnd host now last old old c.args.any_refused lines rest turn t end.0) (sym c.turn_of-in-Ok-TooLong.ensures)
           (record {
-            turns = λ knows. leads_long now last (record { drive = c.refuse.ensures.kept.keeps.no_fewer_faults (OnDrive 0); source = c.next.ensures.cause.later; replies = c.refuse.ensures.kept.keeps.no_fewer_faults OnReplies })
+            turns = λ knows. leads_long now last (record { drive = c.refuse.ensures.kept.keeps.no_fewer_faults (OnDrive 0); source = c.next_asked.ensures.cause.later; replies = c.refuse.ensures.kept.keeps.no_fewer_faults OnReplies })
                 host old c.args.any_refused lines script.0 c.refuse.result rest t end.0 script.1 script.2 (refused_down host old LineTooLong too_long_plain _ c.refuse.result t end.0 end.2) end.2.replied;
             ran = λ on left is.
                 let turned = refused_turned host old LineTooLong too_long_plain _ c.refuse.result t end.0 end.2 Nothing (on_replied c.refuse.result c.args.any_refused _ refl on) in
@@ -118,15 +118,15 @@ returns-in-Ok-TooLong-clause-end g c = λ lines before t told.
 
 pub returns-in-Ok-TooLong-clause-answer : goal.returns-in-Ok-TooLong-clause-answer
 returns-in-Ok-TooLong-clause-answer g c = record {
-  cause = subst (HasTurnCause (counts (g.B.Shelf.faults c.args.bench.now) (g.I.Source.faults c.args.script.now)) (counts (g.B.Shelf.faults c.refuse.new.bench) (g.I.Source.faults c.next.new.source))) (sym c.turn_of-in-Ok-TooLong.ensures) (turn_cause (counts (g.B.Shelf.faults c.args.bench.now) (g.I.Source.faults c.args.script.now)) (counts (g.B.Shelf.faults c.refuse.new.bench) (g.I.Source.faults c.next.new.source)) c.refuse.result c.args.any_refused c.refuse.ensures.answer.cause);
-  source = c.next.ensures.cause.later;
+  cause = subst (HasTurnCause (counts (g.B.Shelf.faults c.args.bench.now) (g.I.Source.faults c.args.script.now)) (counts (g.B.Shelf.faults c.refuse.new.bench) (g.I.Source.faults c.next_asked.new.source))) (sym c.turn_of-in-Ok-TooLong.ensures) (turn_cause (counts (g.B.Shelf.faults c.args.bench.now) (g.I.Source.faults c.args.script.now)) (counts (g.B.Shelf.faults c.refuse.new.bench) (g.I.Source.faults c.next_asked.new.source)) c.refuse.result c.args.any_refused c.refuse.ensures.answer.cause);
+  source = c.next_asked.ensures.cause.later;
   same = ap (λ (e : Engine). e.host) c.refuse.ensures.answer.same;
   well = subst (λ (e : Engine). IsWell c.args.engine.now.host e.state) (sym c.refuse.ensures.answer.same) c.requires.well;
-  begun = subst (λ (e : Engine). e.state.begun ≤ c.next.new.self.lines) (sym c.refuse.ensures.answer.same) (let up = (rw c.in-Ok-TooLong.field-0-is at c.in-Ok-TooLong.ensures.counts).lines in let before = c.requires.begun in omega arith);
-  on = λ on. (let up = (rw c.in-Ok-TooLong.field-0-is at c.in-Ok-TooLong.ensures.counts).lines in omega arith, (rw c.in-Ok-TooLong.field-0-is at c.in-Ok-TooLong.ensures.counts).line_limit);
+  begun = subst (λ (e : Engine). e.state.begun ≤ c.next_asked.new.reader.lines) (sym c.refuse.ensures.answer.same) (let up = (rw c.in-Ok-TooLong.field-0-is at c.in-Ok-TooLong.ensures.passed).lines in let before = c.requires.begun in omega arith);
+  on = λ on. (let up = (rw c.in-Ok-TooLong.field-0-is at c.in-Ok-TooLong.ensures.passed).lines in omega arith, (rw c.in-Ok-TooLong.field-0-is at c.in-Ok-TooLong.ensures.passed).limit);
   goes_on = λ on lines before.
-      let reads : IsTurn lines TooLong c.next.new.self (g.I.Source.left c.next.new.source) = rw c.in-Ok-TooLong.field-0-is at (c.in-Ok-TooLong.ensures.reads lines before) in
-      let script = long_is lines c.next.new.self (g.I.Source.left c.next.new.source) reads in
+      let reads : IsAskedTurn lines TooLong c.next_asked.new.reader (g.I.Source.left c.next_asked.new.source) = rw c.in-Ok-TooLong.field-0-is at (c.in-Ok-TooLong.ensures.reads lines before) in
+      let script = long_is lines c.next_asked.new.reader (g.I.Source.left c.next_asked.new.source) reads in
       (script.0, script.2);
 }
 
@@ -136,8 +136,8 @@ returns-in-Ok-TooLong-clause-stays g c = record {
   told = λ on. c.refuse.ensures.counted.told (on_replied c.refuse.result c.args.any_refused _ c.turn_of-in-Ok-TooLong.ensures on);
   rests = (c.refuse.ensures.moments Nothing).rests;
   tells = λ lines before.
-      let reads : IsTurn lines TooLong c.next.new.self (g.I.Source.left c.next.new.source) = rw c.in-Ok-TooLong.field-0-is at (c.in-Ok-TooLong.ensures.reads lines before) in
-      let script = long_is lines c.next.new.self (g.I.Source.left c.next.new.source) reads in
+      let reads : IsAskedTurn lines TooLong c.next_asked.new.reader (g.I.Source.left c.next_asked.new.source) = rw c.in-Ok-TooLong.field-0-is at (c.in-Ok-TooLong.ensures.reads lines before) in
+      let script = long_is lines c.next_asked.new.reader (g.I.Source.left c.next_asked.new.source) reads in
       each_within (AnswerFront c.args.engine.now.host (outcome.Refused LineTooLong) c.args.engine.now.state) (ScriptFront c.args.engine.now.host (counts (g.B.Shelf.faults c.args.bench.now) (g.I.Source.faults c.args.script.now)) c.args.engine.now.state c.args.any_refused lines) _ _ _ _
       (λ s u first last m there here within known. long_front c.args.engine.now.host c.args.engine.now.state (counts (g.B.Shelf.faults c.args.bench.now) (g.I.Source.faults c.args.script.now)) c.args.any_refused (moment s _) m refl within.counts.0 lines script.0 script.1 (here known)) (c.refuse.ensures.moments Nothing).fronts;
 }
@@ -156,12 +156,12 @@ pub returns-in-Ok-End-clause-end : goal.returns-in-Ok-End-clause-end
 returns-in-Ok-End-clause-end g c = λ lines before t told.
     let host = c.args.engine.now.host in
     let state = c.args.engine.now.state in
-    let reads : IsTurn lines End c.next.new.self (g.I.Source.left c.next.new.source) = rw c.in-Ok-End.field-0-is at (c.in-Ok-End.ensures.reads lines before) in
-    let script = end_is lines c.next.new.self (g.I.Source.left c.next.new.source) reads in (
+    let reads : IsAskedTurn lines End c.next_asked.new.reader (g.I.Source.left c.next_asked.new.source) = rw c.in-Ok-End.field-0-is at (c.in-Ok-End.ensures.reads lines before) in
+    let script = end_is lines c.next_asked.new.reader (g.I.Source.left c.next_asked.new.source) reads in (
       t,
       told,
       record {
-        turns = λ knows. ended_turn host _ _ (record { drive = omega arith; source = c.next.ensures.cause.later; replies = omega arith }) state c.args.any_refused lines _ c.ended.result t
+        turns = λ knows. ended_turn host _ _ (record { drive = omega arith; source = c.next_asked.ensures.cause.later; replies = omega arith }) state c.args.any_refused lines _ c.ended.result t
             (subst (λ (x : Script). EndsAs c.args.any_refused x c.ended.result) (sym script) c.ended.ensures);
         ran = λ on. absurd on;
         knows = λ kept known. known;
@@ -173,12 +173,12 @@ returns-in-Ok-Spent-clause-end g c = λ lines before t told.
     let host = c.args.engine.now.host in
     let state = c.args.engine.now.state in
     let status = ScriptTooLong c.in-Ok-Spent.lines c.in-Ok-Spent.bytes in
-    let reads : IsTurn lines (Spent c.in-Ok-Spent.lines c.in-Ok-Spent.bytes) c.next.new.self (g.I.Source.left c.next.new.source) = rw c.in-Ok-Spent.field-0-is at (c.in-Ok-Spent.ensures.reads lines before) in
-    let script = spent_is lines c.in-Ok-Spent.lines c.in-Ok-Spent.bytes c.next.new.self (g.I.Source.left c.next.new.source) reads in (
+    let reads : IsAskedTurn lines (Spent c.in-Ok-Spent.lines c.in-Ok-Spent.bytes) c.next_asked.new.reader (g.I.Source.left c.next_asked.new.source) = rw c.in-Ok-Spent.field-0-is at (c.in-Ok-Spent.ensures.reads lines before) in
+    let script = spent_is lines c.in-Ok-Spent.lines c.in-Ok-Spent.bytes c.next_asked.new.reader (g.I.Source.left c.next_asked.new.source) reads in (
       t,
       told,
       record {
-        turns = λ knows. ended_turn host _ _ (record { drive = omega arith; source = c.next.ensures.cause.later; replies = omega arith }) state c.args.any_refused lines _ status t (subst (λ (x : Script). EndsAs c.args.any_refused x status) (sym script) refl);
+        turns = λ knows. ended_turn host _ _ (record { drive = omega arith; source = c.next_asked.ensures.cause.later; replies = omega arith }) state c.args.any_refused lines _ status t (subst (λ (x : Script). EndsAs c.args.any_refused x status) (sym script) refl);
         ran = λ on. absurd on;
         knows = λ kept known. known;
       },
@@ -189,7 +189,7 @@ returns-in-Err-clause-end g c = λ lines before t told. (
   t,
   told,
   record {
-    turns = λ knows. unread_turn c.args.engine.now.host _ _ (record { drive = omega arith; source = c.next.ensures.cause.later; replies = omega arith }) c.in-Err.ensures.cause.failed c.args.engine.now.state c.args.any_refused lines _ t;
+    turns = λ knows. unread_turn c.args.engine.now.host _ _ (record { drive = omega arith; source = c.next_asked.ensures.cause.later; replies = omega arith }) c.in-Err.ensures.cause.failed c.args.engine.now.state c.args.any_refused lines _ t;
     ran = λ on. absurd on;
     knows = λ kept known. known;
   },
