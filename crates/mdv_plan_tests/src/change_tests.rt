@@ -5,34 +5,9 @@ use crate::facts::Fact::*;
 use crate::steps::Line::{InUse, Is, OnSpare, Soft, Told};
 use crate::steps::Step::*;
 use crate::steps::{Line, first_wrong};
-use mdv_base::{PoolId, VolId};
 use mdv_plan::Base::{Slice, Volume};
 use mdv_plan::{Resync, SpareState, State};
 use std::test::Fail;
-
-const D0: VolId = VolId(0);
-
-const D1: VolId = VolId(1);
-
-const D5: VolId = VolId(5);
-
-const D6: VolId = VolId(6);
-
-const D9: VolId = VolId(9);
-
-const D10: VolId = VolId(10);
-
-const D20: VolId = VolId(20);
-
-const D30: VolId = VolId(30);
-
-const D40: VolId = VolId(40);
-
-const HSP1: PoolId = PoolId(1);
-
-const HSP2: PoolId = PoolId(2);
-
-const HSP9: PoolId = PoolId(9);
 
 const OKAY: Option<State> = Some(State::Okay);
 
@@ -74,8 +49,8 @@ const MIRRORS: &[Line] = &[
     Told(Mirror(1, &[D0, D20]), 12),
     Told(Mirror(1, &[D30, D20]), 11),
     Is(Submirrors(D0, 2, 2, 990)),
-    Is(Component(D10, OKAY)),
-    Is(Component(D20, WHOLE)),
+    Is(StripeState(D10, OKAY)),
+    Is(StripeState(D20, WHOLE)),
 ];
 
 // A submirror that is too small is 10. The last stripe has 19792 blocks.
@@ -87,21 +62,21 @@ const SUBMIRRORS: &[Line] = &[
     Told(Mirror(0, &[D20]), 0),
     Told(Mirror(1, &[D40]), 0),
     Told(Attach(D0, D9), 4),
-    Is(Component(D9, None)),
+    Is(StripeState(D9, None)),
     Told(Attach(D9, D10), 4),
-    Is(Component(D10, OKAY)),
+    Is(StripeState(D10, OKAY)),
     Told(Attach(D30, D10), 12),
-    Is(Component(D10, OKAY)),
+    Is(StripeState(D10, OKAY)),
     Told(Attach(D0, D1), 12),
-    Is(Component(D1, None)),
+    Is(StripeState(D1, None)),
     Told(Attach(D1, D30), 10),
-    Is(Component(D30, OKAY)),
+    Is(StripeState(D30, OKAY)),
     Told(Attach(D0, D30), 0),
-    Is(Component(D30, WHOLE)),
+    Is(StripeState(D30, WHOLE)),
     Told(Attach(D0, D30), 11),
-    Is(Component(D30, WHOLE)),
+    Is(StripeState(D30, WHOLE)),
     Told(Attach(D0, D10), 0),
-    Is(Component(D10, WHOLE)),
+    Is(StripeState(D10, WHOLE)),
     Is(Submirrors(D0, 3, 3, 990)),
     Is(Submirrors(D1, 1, 1, 19792)),
 ];

@@ -1,8 +1,8 @@
-//! The drives of the tests, and a table with nothing but a replica.
+//! The drives of the tests, the names of slices, volumes and pools, and a table with nothing but a replica.
 ghost use Rattle.std.specs.Prelude.{◌<◌, IfOk};
 ghost use Rattle.mdv_plan.specs.Slices.{IsSound};
 
-use mdv_base::{DriveName, Place, Places, SliceName};
+use mdv_base::{DriveName, Place, Places, PoolId, SliceName, VolId};
 use mdv_name::Geometry;
 use mdv_plan::{Table, read_geometries_are_sound};
 use std::alloc::Global;
@@ -86,6 +86,30 @@ pub(crate) const OTHER: SliceName = SliceName {
     drive: SECOND,
     slice: 0,
 };
+
+pub(crate) const D0: VolId = VolId(0);
+
+pub(crate) const D1: VolId = VolId(1);
+
+pub(crate) const D5: VolId = VolId(5);
+
+pub(crate) const D6: VolId = VolId(6);
+
+pub(crate) const D9: VolId = VolId(9);
+
+pub(crate) const D10: VolId = VolId(10);
+
+pub(crate) const D20: VolId = VolId(20);
+
+pub(crate) const D30: VolId = VolId(30);
+
+pub(crate) const D40: VolId = VolId(40);
+
+pub(crate) const HSP1: PoolId = PoolId(1);
+
+pub(crate) const HSP2: PoolId = PoolId(2);
+
+pub(crate) const HSP9: PoolId = PoolId(9);
 
 pub(crate) fn drives(alloc: Global) -> Result<Geometry, Fail>
     ensures { IfOk result IsSound }

@@ -4,11 +4,19 @@ use mdv_base::{PoolId, VolId};
 use mdv_plan::{KindStatus, SpareState, State, Table, VolumeKind};
 
 pub(crate) enum Fact {
+    /// Whether there is such a volume.
+    Has(VolId, bool),
+    /// Whether a volume uses it.
+    HasParent(VolId, bool),
+    /// Whether a volume that is no soft partition uses it.
+    IsTaken(VolId, bool),
+    /// Whether a volume has the pool's spares.
+    IsPoolNamed(PoolId, bool),
     /// So many volumes, and states of volumes.
     Volumes(usize, usize),
     Pools(usize),
     /// The state of the only component of a stripe; `None` of what is no such stripe.
-    Component(VolId, Option<State>),
+    StripeState(VolId, Option<State>),
     /// So many submirrors, so many flags of them, and the blocks of a mirror.
     Submirrors(VolId, usize, usize, u64),
     /// So many spares have a state, and so many of them are available.
@@ -22,11 +30,15 @@ pub(crate) enum Fact {
 pub(crate) fn holds(table: &Table, fact: &Fact) -> bool {
     let (plan, status) = (&table.plan, &table.status);
     match *fact {
+        Fact::Has(volume, is) => plan.volumes.find(u32::from(volume.0)).is_some() == is,
+        Fact::HasParent(volume, is) => plan.has_parent(volume) == is,
+        Fact::IsTaken(volume, is) => plan.is_taken(volume) == is,
+        Fact::IsPoolNamed(pool, is) => plan.is_pool_named(pool) == is,
         Fact::Volumes(volumes, states) => {
             plan.volumes.as_slice().len() == volumes && status.volumes.as_slice().len() == states
         }
         Fact::Pools(pools) => plan.pools.as_slice().len() == pools,
-        Fact::Component(volume, state) => component(table, volume) == state,
+        Fact::StripeState(volume, state) => component(table, volume) == state,
         Fact::Submirrors(volume, subs, flags, blocks) => {
             mirror(table, volume) == Some((subs, flags, blocks))
         }
@@ -34,6 +46,16 @@ pub(crate) fn holds(table: &Table, fact: &Fact) -> bool {
         Fact::FirstSpare(state) => first_spare(table) == state,
         Fact::LastStart(pool, start) => last_start(table, pool) == Some(start),
     }
+}
+
+/// The place of the first that doesn't hold.
+pub(crate) fn first_false(table: &Table, facts: &[Fact]) -> Option<usize> {
+    for place in 0..facts.len() {
+        if !holds(table, &facts[place]) {
+            return Some(place);
+        }
+    }
+    None
 }
 
 fn component(table: &Table, volume: VolId) -> Option<State> {

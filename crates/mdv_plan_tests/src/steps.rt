@@ -17,7 +17,7 @@ use std::test::Fail;
 pub(crate) enum Step {
     /// One row, with this interlace.
     Stripe(u8, &'static [Base], Option<u64>),
-    /// With the spares of the first pool.
+    /// With the spares of this pool.
     Raid(u8, &'static [Base], Option<PoolId>),
     Mirror(u8, &'static [VolId]),
     Attach(VolId, VolId),
