@@ -87,23 +87,23 @@ pub(crate) const OTHER: SliceName = SliceName {
     slice: 0,
 };
 
-pub(crate) const D0: VolId = VolId(0);
+pub(crate) const VOL0: VolId = VolId(0);
 
-pub(crate) const D1: VolId = VolId(1);
+pub(crate) const VOL1: VolId = VolId(1);
 
-pub(crate) const D5: VolId = VolId(5);
+pub(crate) const VOL5: VolId = VolId(5);
 
-pub(crate) const D6: VolId = VolId(6);
+pub(crate) const VOL6: VolId = VolId(6);
 
-pub(crate) const D9: VolId = VolId(9);
+pub(crate) const VOL9: VolId = VolId(9);
 
-pub(crate) const D10: VolId = VolId(10);
+pub(crate) const VOL10: VolId = VolId(10);
 
-pub(crate) const D20: VolId = VolId(20);
+pub(crate) const VOL20: VolId = VolId(20);
 
-pub(crate) const D30: VolId = VolId(30);
+pub(crate) const VOL30: VolId = VolId(30);
 
-pub(crate) const D40: VolId = VolId(40);
+pub(crate) const VOL40: VolId = VolId(40);
 
 pub(crate) const HSP1: PoolId = PoolId(1);
 

@@ -33,7 +33,7 @@ fn add(table: &mut Table, number: u16, kind: VolumeKind) -> Result<(), Fail>
 
 // A column on slice 1, and one on the soft partition d1.
 fn add_raid(alloc: Global, table: &mut Table) -> Result<(), Fail> {
-    let columns = [part(Base::Slice(S1)), part(Base::Volume(D1))];
+    let columns = [part(Base::Slice(S1)), part(Base::Volume(VOL1))];
     let columns = Listed::from_slice(alloc, &columns)?;
     let raid = Raid {
         columns,
@@ -76,17 +76,17 @@ fn add_pool(alloc: Global, table: &mut Table) -> Result<(), Fail> {
 }
 
 const BOTH: &[Fact] = &[
-    Has(D1, true),
-    Has(D5, true),
-    Has(D0, false),
+    Has(VOL1, true),
+    Has(VOL5, true),
+    Has(VOL0, false),
     Has(VolId(8191), false),
-    HasParent(D1, true),
-    IsTaken(D1, true),
-    HasParent(D5, false),
+    HasParent(VOL1, true),
+    IsTaken(VOL1, true),
+    HasParent(VOL5, false),
     IsPoolNamed(HSP1, true),
 ];
 
-const NO_RAID: &[Fact] = &[Has(D5, false), HasParent(D1, false)];
+const NO_RAID: &[Fact] = &[Has(VOL5, false), HasParent(VOL1, false)];
 
 fn remove(table: &mut Table, number: u32) {
     table.plan.volumes.remove(number);
