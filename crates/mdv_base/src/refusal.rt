@@ -10,7 +10,7 @@ use itoa::Buffer;
 pub type ReplyText = ArrayString<80>;
 
 /// Why a line was refused. The variants stand in the order of their numbers, 1 to 29; the order in
-/// which causes are looked at is another one, which each command states.
+/// which causes are judged is another one, the same for all commands.
 #[derive(Clone, Copy, Debug, PartialEq, Eq)]
 pub enum Refusal {
     /// The line isn't in the grammar.
