@@ -1,5 +1,5 @@
 -- What a table of drives says of its slices, and which new uses of a slice clash with those that there are.
-use Rattle.std.specs.Prelude.{◌+◌, ◌==◌, ◌&&◌, ℕ, Bool, true, false, not, nat_lt, List, [], ◌∷◌, Option, None, Some, if◌then◌else◌}
+use Rattle.std.specs.Prelude.{◌+◌, ◌==◌, ◌&&◌, ℕ, Bool, true, false, not, nat_lt, List, Option, None, Some, if◌then◌else◌}
 use Rattle.std.specs.List.{list_any}
 use Rattle.mdv_plan.specs.Below.{SliceName, Geometry, SliceAt, SliceLine}
 use Rattle.mdv_plan.specs.Uses.{same_slice}

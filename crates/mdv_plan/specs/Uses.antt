@@ -1,7 +1,7 @@
 -- Which blocks of slices are in use by what: by replicas, components, soft partitions and spares.
 use Rattle.std.specs.Prelude.{ℕ, Bool, false, ◌==◌, ◌&&◌, List, [], ◌∷◌, ◌++◌, map, if◌then◌else◌}
 use Rattle.std.specs.List.{flat_map}
-use Rattle.mdv_plan.specs.Below.{SliceName, VolId, PoolId, Place, Run}
+use Rattle.mdv_plan.specs.Below.{VolId, PoolId, Place, Run}
 use Rattle.mdv_plan.specs.declared.lists.Lists.{Lists}
 use Rattle.mdv_plan.specs.declared.lists.Lists.TheVariants.{One, Two}
 use Rattle.mdv_plan.specs.declared.plan.Plan.{Plan}
