@@ -3,7 +3,7 @@ use Rattle.std.proofs.Common.{◌≡◌, ℕ, false, List, Option, Some, None, r
 use Rattle.mdv_store_law.specs.Adoptable.{IsAdoptable}
 use Rattle.mdv_engine.specs.Below.{place_of, PlaceAt, with_blocks, other_slot, KeptOutside, nowhere, Moments, Ends, IsSynced, Tale, last, NoCreation, is_firm, Site, Newest, IsFound, IsTableAt, GoesOn, GoesOnTo, IsNewestIn, IsOpened, ShowsNothing, IsAdopted, IsDrawn, IsQuiet, IsSpent, Host, IsReady, site_of, Memory, IsRebooted, IsUsedUp, adopted, empty, down, kept_at, unbooted, BootMoment, BootedTo}
 use Rattle.mdv_shelf.proofs.Moments.{moments_both, moments_weaker, moments_end, ends_both}
-use Rattle.mdv_engine_law.specs.declared.answer.Answer.TheVariants as outcome
+use Rattle.mdv_engine_law.specs.Answers.{accepted}
 use Rattle.mdv_engine_law.proofs.Booting.{boot_moment, booted, booted_adopted, booted_down, booted_empty, unread}
 use Rattle.mdv_engine_law.proofs.Keeping.{rewritten_newest, same_content}
 use Rattle.mdv_engine.specs.Engine.{IsWell}
@@ -24,7 +24,7 @@ module _ (host : Host) (sizes : List ℕ) (ready : IsReady host sizes) (at : Pla
   -- a boot that adopted a replica
   module _ (begun : ℕ) (newest : Newest) (a b : Option Tale) where
     pub adopted_rebooted : (failed : Type 0) → Moments (IsQuiet at) a b → ((t : Tale) → a ≡ Some t → IsDrawn site (last t at.drive.0) newest) → Ends (λ t u. IsAdopted site (last t at.drive.0) newest u × IsOpened site newest u) a b
-        → Ends (λ t u. (old new : Memory) → old.begun ≡ begun → new ≡ booted (Some newest) begun → IsRebooted failed host (kept_at old t) outcome.Ok (kept_at new u)) a b
+        → Ends (λ t u. (old new : Memory) → old.begun ≡ begun → new ≡ booted (Some newest) begun → IsRebooted failed host (kept_at old t) accepted (kept_at new u)) a b
     adopted_rebooted failed quiet drawn is t start =
         let end = ends_both (λ t u. IsAdopted site (last t at.drive.0) newest u × IsOpened site newest u) (IsQuiet at) (λ t u. IsAdopted site (last t at.drive.0) newest u × IsQuiet at t u) a b (λ t u q s. (q.0, s)) is (moments_end (IsQuiet at) a b quiet) t start in
         let of = to_host (λ s. IsDrawn s (last t s.at.drive.0) newest) (drawn t start) in
@@ -42,7 +42,7 @@ module _ (host : Host) (sizes : List ℕ) (ready : IsReady host sizes) (at : Pla
   -- one that found nothing
   module _ (begun : ℕ) (a b : Option Tale) where
     pub empty_rebooted : (failed : Type 0) → ((t : Tale) → a ≡ Some t → IsFound site (last t at.drive.0) None) → Ends (KeptOutside nowhere) a b
-        → Ends (λ t u. (old new : Memory) → old.begun ≡ begun → new ≡ unbooted begun → IsRebooted failed host (kept_at old t) outcome.Ok (kept_at new u)) a b
+        → Ends (λ t u. (old new : Memory) → old.begun ≡ begun → new ≡ unbooted begun → IsRebooted failed host (kept_at old t) accepted (kept_at new u)) a b
     empty_rebooted failed found kept t start =
         let end = kept t start in
         (end.0, end.1, λ old new same now. empty refl (now ∙ ap unbooted (sym same)) (to_host (λ s. IsFound s (last t s.at.drive.0) None) (found t start)) (same_content t end.0 end.2))
@@ -57,7 +57,7 @@ module _ (host : Host) (sizes : List ℕ) (ready : IsReady host sizes) (at : Pla
 
     -- one that couldn't read the drive
     pub down_rebooted : (failed : Type 0) → failed → Ends (KeptOutside nowhere) a b
-        → Ends (λ t u. (old new : Memory) → old.begun ≡ begun → new ≡ unread begun → IsRebooted failed host (kept_at old t) outcome.Ok (kept_at new u)) a b
+        → Ends (λ t u. (old new : Memory) → old.begun ≡ begun → new ≡ unread begun → IsRebooted failed host (kept_at old t) accepted (kept_at new u)) a b
     down_rebooted failed so kept t start =
         let end = kept t start in
         (end.0, end.1, λ old new same now. down so refl (now ∙ ap unread (sym same)) (same_content t end.0 end.2))

@@ -1,11 +1,14 @@
 -- What a commit of the open database answers and leaves, told of the host, by the answer of the database.
 use Rattle.mdv_engine_law.specs.Line.{ToDo}
 use Rattle.std.proofs.Common.{◌≡◌, Option, Some, refl, sym, subst, ap, ◌∙◌}
-use Rattle.mdv_engine.specs.Below.{Refusal, Ends, Tale, Change, Newest, Changed, Answer, Host, Memory, kept_at, CarriedTo, CarryEnd, Knows}
+use Rattle.mdv_engine.specs.Below.{VolId, SliceName, CameTo, Refusal, Ends, Tale, Change, Newest, Changed, Answer, Host, Memory, kept_at, CarriedTo, CarryEnd, Knows}
 use Rattle.mdv_shelf.proofs.Moments.{ends_both}
-use Rattle.mdv_engine_law.specs.declared.answer.Answer.TheVariants as outcome
+use Rattle.mdv_table.specs.declared.change.Change.TheVariants as change
+use Rattle.mdv_words.specs.declared.command.Command.TheVariants.{MakeStripe}
+use Rattle.mdv_engine_law.specs.Answers.{refusing}
+use Rattle.mdv_engine_law.specs.declared.answer.Answer.TheVariants.{Over}
+use Rattle.mdv_engine_law.specs.declared.answer.Ended.TheVariants as ended
 use Rattle.mdv_engine_law.proofs.Refusing.{refused_still, spent_still}
-use Rattle.mdv_engine.specs.Engine.{IsCommit}
 
 -- what is in memory, where another database is open
 pub opened_as : (old memory : Memory) → old ≡ memory → (n m : Newest) → n ≡ m → record old { opened = Some n } ≡ record memory { opened = Some m }
@@ -15,13 +18,13 @@ opened_as old memory same n m is = subst (λ (x : Memory). record old { opened =
 pub opened_still : (old memory : Memory) → old ≡ memory → (n m : Newest) → n ≡ m → memory.opened ≡ Some m → record old { opened = Some n } ≡ memory
 opened_still old memory same n m is opened = opened_as old memory same n m is ∙ subst (λ (o : Option Newest). record memory { opened = o } ≡ memory) opened refl
 
-module _ (host : Host) (memory : Memory) (change : Change) where
+module _ (host : Host) (memory : Memory) (volume : VolId) (slice : SliceName) where
   module _ (a b : Option Tale) (answer result : Answer) (result_is : result ≡ answer) (after real : Memory) (real_is : real ≡ after) where
     abbrev Committed : Type 0 → Answer → Memory → Type 0
-    Committed failed answer after = Ends (λ t u. Knows host memory t → IsCommit failed host (kept_at memory t) change answer (kept_at after u)) a b
+    Committed failed answer after = Ends (λ t u. Knows host memory t → CameTo failed host (kept_at memory t) (MakeStripe volume slice) answer (kept_at after u)) a b
 
     abbrev Carried : Answer → Memory → Type 0
-    Carried answer after = Ends (CarriedTo host (ToDo (Changed change)) memory answer after) a b
+    Carried answer after = Ends (CarriedTo host (ToDo (Changed (change.MakeStripe volume slice))) memory answer after) a b
 
     -- what the commit answers, and leaves in memory
     commit_as : (failed : Type 0) → Committed failed answer after → Committed failed result real
@@ -30,15 +33,16 @@ module _ (host : Host) (memory : Memory) (change : Change) where
     carried_as : Carried answer after → Carried result real
     carried_as is = subst (λ (x : Answer). Carried x real) (sym result_is) (subst (λ (m : Memory). Carried answer m) (sym real_is) is)
 
-    pub end_as : (failed : Type 0) → Committed failed answer after → Carried answer after → Ends (CarryEnd (λ kept x next. IsCommit failed host kept change x next) host (ToDo (Changed change)) memory result real) a b
+    pub end_as : (failed : Type 0) → Committed failed answer after → Carried answer after → Ends (CarryEnd (λ kept x next. CameTo failed host kept (MakeStripe volume slice) x next) host (ToDo (Changed (change.MakeStripe volume slice))) memory result real) a b
     end_as failed is carried =
-        ends_both (λ t u. Knows host memory t → IsCommit failed host (kept_at memory t) change result (kept_at real u)) (CarriedTo host (ToDo (Changed change)) memory result real) (CarryEnd (λ kept x next. IsCommit failed host kept change x next) host (ToDo (Changed change)) memory result real) a b
+        ends_both (λ t u. Knows host memory t → CameTo failed host (kept_at memory t) (MakeStripe volume slice) result (kept_at real u)) (CarriedTo host (ToDo (Changed (change.MakeStripe volume slice))) memory result real)
+        (CarryEnd (λ kept x next. CameTo failed host kept (MakeStripe volume slice) x next) host (ToDo (Changed (change.MakeStripe volume slice))) memory result real) a b
         (λ t u one two. record { answered = one; carried = two }) (commit_as failed is) (carried_as carried)
 
-  -- nothing was done
-  module _ (a b : Option Tale) (same : b ≡ a) where
-    pub refused_carried : (refusal : Refusal) → Ends (CarriedTo host (ToDo (Changed change)) memory (outcome.Refused refusal) memory) a b
-    refused_carried refusal t start = (t, same ∙ start, refused_still host (ToDo (Changed change)) memory memory t refl refl refusal)
+-- nothing was done
+module _ (host : Host) (memory : Memory) (change : Change) (a b : Option Tale) (same : b ≡ a) where
+  pub refused_carried : (refusal : Refusal) → Ends (CarriedTo host (ToDo (Changed change)) memory (refusing refusal) memory) a b
+  refused_carried refusal t start = (t, same ∙ start, refused_still host (ToDo (Changed change)) memory memory t refl refl refusal)
 
-    pub spent_carried : Ends (CarriedTo host (ToDo (Changed change)) memory outcome.Spent memory) a b
-    spent_carried t start = (t, same ∙ start, spent_still host (ToDo (Changed change)) memory memory t)
+  pub spent_carried : Ends (CarriedTo host (ToDo (Changed change)) memory (Over ended.Spent) memory) a b
+  spent_carried t start = (t, same ∙ start, spent_still host (ToDo (Changed change)) memory memory t)

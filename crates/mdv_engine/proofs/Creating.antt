@@ -1,9 +1,12 @@
 -- What a creation of the host's database leaves, told of the host.
 use Rattle.mdv_engine_law.specs.Line.{ToDo}
-use Rattle.std.proofs.Common.{◌≡◌, ◌≤◌, ◌+◌, inl, inr, ℕ, false, List, Option, Some, None, refl, subst, ap, ◌∙◌}
-use Rattle.mdv_engine.specs.Below.{Identity, IoFault, OutOfMemory, place_of, PlaceAt, Moments, Ends, Tale, IsCreated, Log, IsThis, is_firm, Site, Newest, Anything, GoesOnTo, IsOpened, ShowsNothing, Created, IsQuiet, IsSafe, first_newest, first_table, Host, IsReady, site_of, identity_of, Memory, IsCreation, kept_at, CarriedTo, CarryMoment, Knows}
+use Rattle.mdv_engine_law.specs.Commands as came
+use Rattle.std.proofs.Common.{◌≡◌, ◌≤◌, ◌+◌, ℕ, Bool, false, List, Option, Some, None, refl, subst, ap, ◌∙◌}
+use Rattle.mdv_engine.specs.Below.{SliceName, Create, Identity, IoFault, OutOfMemory, place_of, PlaceAt, Moments, Ends, Tale, IsCreated, Log, IsThis, is_firm, Site, Newest, Anything, GoesOnTo, IsOpened, ShowsNothing, Created, IsQuiet, IsSafe, first_newest, first_table, Host, IsReady, site_of, identity_of, Memory, CameTo, IsAllowed, kept_at, CarriedTo, CarryMoment, Knows}
 use Rattle.mdv_shelf.proofs.Moments.{moments_both, moments_weaker, moments_end, ends_both}
-use Rattle.mdv_engine_law.specs.declared.answer.Answer.TheVariants as outcome
+use Rattle.mdv_engine_law.specs.Answers.{accepted, refusing}
+use Rattle.mdv_engine_law.specs.declared.answer.Answer.TheVariants.{Over}
+use Rattle.mdv_engine_law.specs.declared.answer.Ended.TheVariants as ended
 use Rattle.mdv_engine_law.proofs.Keeping.{created, uncreated}
 use Rattle.mdv_engine_law.proofs.Making.{Makes, making_moment, made, unmade, made_or_lost}
 use Rattle.mdv_engine_law.proofs.Refusing.{refused_still}
@@ -42,16 +45,16 @@ module _ (host : Host) (sizes : List ℕ) (ready : IsReady host sizes) (at : Pla
       (moments_both (IsQuiet at) (Goes Anything) a b quiet goes)
 
   -- it was made
-  module _ (safe : Ends (λ t u. IsSafe site identity u) a b) where
-    pub made_creation : (failed : Type 0) (next : Memory) → next ≡ with_new host memory → Ends (λ t u. Knows host memory t → IsCreation failed host (kept_at memory t) outcome.Ok (kept_at next u)) a b
+  module _ (slice : SliceName) (force : Bool) (free : IsAllowed (record { host = host; memory = memory }) (Create slice force)) (safe : Ends (λ t u. IsSafe site identity u) a b) where
+    pub made_creation : (failed : Type 0) (next : Memory) → next ≡ with_new host memory → Ends (λ t u. Knows host memory t → CameTo failed host (kept_at memory t) (Create slice force) accepted (kept_at next u)) a b
     made_creation failed next next_is = ends_both (IsQuiet at) (λ t u. IsSafe site identity u) _ a b
-        (λ t u q s. λ known. inl (
+        (λ t u q s. λ known. came.done free (
           refl,
           created host memory next t u (first_table (site_of host).at.place) room (quiet_here host sizes ready at at_is t u q) next_is refl refl (to_host (λ x. IsSafe x identity u) s),
         ))
         (moments_end (IsQuiet at) a b quiet) safe
 
-  pub made_carried : (newest : Newest) (next : Memory) → newest ≡ first_newest at → next ≡ with_new host memory → Ends (λ t u. IsOpened site newest u) a b → Ends (Goes (IsCreated site identity newest.table)) a b → Ends (CarriedTo host (ToDo Created) memory outcome.Ok next) a b
+  pub made_carried : (newest : Newest) (next : Memory) → newest ≡ first_newest at → next ≡ with_new host memory → Ends (λ t u. IsOpened site newest u) a b → Ends (Goes (IsCreated site identity newest.table)) a b → Ends (CarriedTo host (ToDo Created) memory accepted next) a b
   made_carried newest next is next_is opened goes =
       ends_both _ _ _ a b
       (λ t u q two. made host memory room none up t u (quiet_here host sizes ready at at_is t u q) (first_table (site_of host).at.place) next (ap (λ (m : Memory). m.opened) next_is)
@@ -66,15 +69,12 @@ module _ (host : Host) (sizes : List ℕ) (ready : IsReady host sizes) (at : Pla
 
   -- its format failed
   module _ (nothing : Ends (λ t u. ShowsNothing site t → ShowsNothing site u) a b) where
-    pub unmade_creation : (failed : Type 0) → failed → Ends (λ t u. Knows host memory t → IsCreation failed host (kept_at memory t) (outcome.Refused IoFault) (kept_at (begun memory) u)) a b
-    unmade_creation failed so = ends_both (IsQuiet at) (λ t u. ShowsNothing site t → ShowsNothing site u) _ a b
-        (λ t u q n. λ known. inr (inr (
-          so,
-          inl (refl, uncreated host memory (begun memory) t u (quiet_here host sizes ready at at_is t u q) refl (to_host (λ s. ShowsNothing s t → ShowsNothing s u) n (known.nothing none up))),
-        )))
+    pub unmade_creation : (slice : SliceName) (force : Bool) → IsAllowed (record { host = host; memory = memory }) (Create slice force) → (failed : Type 0) → failed → Ends (λ t u. Knows host memory t → CameTo failed host (kept_at memory t) (Create slice force) (refusing IoFault) (kept_at (begun memory) u)) a b
+    unmade_creation slice force free failed so = ends_both (IsQuiet at) (λ t u. ShowsNothing site t → ShowsNothing site u) _ a b
+        (λ t u q n. λ known. came.faulted so free refl (uncreated host memory (begun memory) t u (quiet_here host sizes ready at at_is t u q) refl (to_host (λ s. ShowsNothing s t → ShowsNothing s u) n (known.nothing none up))))
         (moments_end (IsQuiet at) a b quiet) nothing
 
-    pub unmade_carried : Ends (Goes (λ lg. is_firm lg ≡ false)) a b → Ends (CarriedTo host (ToDo Created) memory (outcome.Refused IoFault) (begun memory)) a b
+    pub unmade_carried : Ends (Goes (λ lg. is_firm lg ≡ false)) a b → Ends (CarriedTo host (ToDo Created) memory (refusing IoFault) (begun memory)) a b
     unmade_carried goes =
         ends_both _ _ _ a b
         (λ t u q two. unmade host memory room none up t u (quiet_here host sizes ready at at_is t u q) (begun memory) none (to_host (λ s. ShowsNothing s t → ShowsNothing s u) two.0) (makes (λ lg. is_firm lg ≡ false) t u two.1))
@@ -82,22 +82,22 @@ module _ (host : Host) (sizes : List ℕ) (ready : IsReady host sizes) (at : Pla
         (ends_both (λ t u. ShowsNothing site t → ShowsNothing site u) (Goes (λ lg. is_firm lg ≡ false)) (λ t u. (ShowsNothing site t → ShowsNothing site u) × Goes (λ lg. is_firm lg ≡ false) t u) a b (λ t u o g. (o, g)) nothing goes)
 
   -- the write of its table failed
-  pub lost_creation : (failed : Type 0) → failed → Ends (λ _ u. ShowsReplica site identity u) a b → Ends (λ t u. Knows host memory t → IsCreation failed host (kept_at memory t) outcome.Panic (kept_at (begun memory) u)) a b
-  lost_creation failed so shows =
-      ends_both (IsQuiet at) (λ _ u. ShowsReplica site identity u) (λ t u. Knows host memory t → IsCreation failed host (kept_at memory t) outcome.Panic (kept_at (begun memory) u)) a b
-      (λ t u q s known. inr (inr (so, inr (refl, to_host (λ x. ShowsReplica x identity u) s (last u) (last_image u)))))
+  pub lost_creation : (slice : SliceName) (force : Bool) → IsAllowed (record { host = host; memory = memory }) (Create slice force) → (failed : Type 0) → failed → Ends (λ _ u. ShowsReplica site identity u) a b → Ends (λ t u. Knows host memory t → CameTo failed host (kept_at memory t) (Create slice force) (Over (ended.Lost 0 1)) (kept_at (begun memory) u)) a b
+  lost_creation slice force free failed so shows =
+      ends_both (IsQuiet at) (λ _ u. ShowsReplica site identity u) (λ t u. Knows host memory t → CameTo failed host (kept_at memory t) (Create slice force) (Over (ended.Lost 0 1)) (kept_at (begun memory) u)) a b
+      (λ t u q s known. came.over (ended.Lost 0 1) free refl (so, refl, refl, to_host (λ x. ShowsReplica x identity u) s (last u) (last_image u)))
       (moments_end (IsQuiet at) a b quiet) shows
 
-  pub lost_carried : (next : Memory) → Moments (Goes Anything) a b → Ends (CarriedTo host (ToDo Created) memory outcome.Panic next) a b
+  pub lost_carried : (next : Memory) → Moments (Goes Anything) a b → Ends (CarriedTo host (ToDo Created) memory (Over (ended.Lost 0 1)) next) a b
   lost_carried next goes =
-      ends_both (IsQuiet at) (Goes Anything) (CarriedTo host (ToDo Created) memory outcome.Panic next) a b
-      (λ t u q g. made_or_lost host memory room none up t u (quiet_here host sizes ready at at_is t u q) next (makes Anything t u g))
+      ends_both (IsQuiet at) (Goes Anything) (CarriedTo host (ToDo Created) memory (Over (ended.Lost 0 1)) next) a b
+      (λ t u q g. made_or_lost host memory room none up t u (quiet_here host sizes ready at at_is t u q) 0 1 next (makes Anything t u g))
       (moments_end (IsQuiet at) a b quiet) (moments_end (Goes Anything) a b goes)
 
 -- memory was wanting
 module _ (host : Host) (memory : Memory) (a b : Option Tale) (same : b ≡ a) where
-  pub unbegun_creation : (failed : Type 0) → Ends (λ t u. Knows host memory t → IsCreation failed host (kept_at memory t) (outcome.Refused OutOfMemory) (kept_at (begun memory) u)) a b
-  unbegun_creation failed t start = (t, same ∙ start, λ known. inr (inl (refl, record { memory = refl; content = λ block. refl })))
+  pub unbegun_creation : (slice : SliceName) (force : Bool) → IsAllowed (record { host = host; memory = memory }) (Create slice force) → (failed : Type 0) → Ends (λ t u. Knows host memory t → CameTo failed host (kept_at memory t) (Create slice force) (refusing OutOfMemory) (kept_at (begun memory) u)) a b
+  unbegun_creation slice force free failed t start = (t, same ∙ start, λ known. came.wanting refl (free, record { memory = refl; content = λ block. refl }))
 
-  pub unbegun_carried : Ends (CarriedTo host (ToDo Created) memory (outcome.Refused OutOfMemory) (begun memory)) a b
+  pub unbegun_carried : Ends (CarriedTo host (ToDo Created) memory (refusing OutOfMemory) (begun memory)) a b
   unbegun_carried t start = (t, same ∙ start, refused_still host (ToDo Created) memory (begun memory) t refl refl OutOfMemory)

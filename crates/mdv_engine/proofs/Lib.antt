@@ -8,3 +8,4 @@ pub mod Blocks
 pub mod Counting
 pub mod Ending
 mod Parts
+mod Judging

@@ -1,7 +1,13 @@
 -- Where the blocks of a volume lie.
-use Rattle.std.proofs.Common.{◌≡◌, inl, inr, ◌≤◌, ◌+◌, ◌^◌, ℕ, true, false, List, Option, Some, None, IfSome, IfNone, refl, subst, ap, ◌∙◌, Contains, arith}
+use Rattle.std.proofs.Common.{◌≡◌, inl, inr, ◌≤◌, ◌<◌, ◌+◌, ◌^◌, ℕ, Bool, true, false, List, Option, Some, None, refl, subst, ap, ◌∙◌, Contains, arith}
 use Rattle.std.proofs.lemmas.List.Elements.{All-contains}
-use Rattle.std.specs.Option.{is_some}
+use Rattle.std.proofs.lemmas.Bool.Decides.{nat_tests}
+use Rattle.std.specs.List.{find}
+use Rattle.std.specs.Prelude.{nat_lt}
+use Rattle.mdv_base.specs.Order.{first_refusal, where_so}
+use Rattle.mdv_base.specs.declared.refusal.Refusal.TheVariants.{NoSuchVolume, OutOfRange}
+use Rattle.mdv_engine_law.specs.Refusals.{blocks_refusal, has_number, held_past, size_of}
+use Rattle.mdv_engine_law.proofs.Volumes.{find_is, find_none}
 use Rattle.mdv_engine.specs.Below.{VolId, SliceName, IsHomeTable, IsWithin, HasSlice, HasNoSlice, SliceAt, Table, Base, Slice, Volume, VolumeKind, Stripe, IsComponentOn, IsKindOf, IsStripeOf, IsWholeSlice, HasVolume, HasNoVolume, Newest, LiesOn, Host, site_of, Memory, HasVolumeOn, IsSound as IsSoundMemory}
 use Rattle.mdv_shelf.proofs.Blocks.{both_ways}
 use Rattle.mdv_home.proofs.Places.{slices_within}
@@ -63,12 +69,33 @@ module _ (host : Host) (home : IsHomeTable host.drives host.home) (sound : IsSou
     pub ends_small : (at.start + stripe.component.start) + stripe.component.blocks ≤ 2 ^ 40
     ends_small = (let zero = starts in let count = counts in let less = (sound.each slice at has).within in omega arith)
 
+is_past : (size end : ℕ) → size < end → nat_lt size end ≡ true
+is_past size end past = grind (arith, nat_tests)
+
+not_past : (size end : ℕ) → end ≤ size → nat_lt size end ≡ false
+not_past size end less = grind (arith, nat_tests)
+
 -- a volume of the open table
 module _ (host : Host) (memory : Memory) (well : IsWell host memory) (newest : Newest) (opened : memory.opened ≡ Some newest) (table : Table) (table_is : table ≡ newest.table) (number : VolId) where
-  pub no_volume : HasNoVolume table.plan.volumes number → (n : Newest) × (memory.opened ≡ Some n) × HasNoVolume n.table.plan.volumes number
-  no_volume never = (newest, opened, subst (λ (t : Table). HasNoVolume t.plan.volumes number) table_is never)
+  -- what blocks up to that one are refused for, by what was found
+  found_refusal : (o : Option Volume) (end : ℕ) → find (has_number number) newest.table.plan.volumes ≡ o → blocks_refusal memory.opened number end ≡ first_refusal (held_past o end)
+  found_refusal o end is = ap (λ (x : Option Newest). blocks_refusal x number end) opened ∙ ap (λ (x : Option Volume). first_refusal (held_past x end)) is
+
+  pub no_volume : (end : ℕ) → HasNoVolume table.plan.volumes number → blocks_refusal memory.opened number end ≡ Some NoSuchVolume
+  no_volume end never = found_refusal None end (find_none newest.table.plan.volumes number (subst (λ (t : Table). HasNoVolume t.plan.volumes number) table_is never))
 
   module _ (volume : Volume) (has : HasVolume table.plan.volumes number volume) where
+    refusal_is : (end : ℕ) → blocks_refusal memory.opened number end ≡ first_refusal (where_so (nat_lt (size_of volume.kind) end) OutOfRange)
+    refusal_is end =
+        let is : IsTableOf host newest.blocks newest.table = opened_has memory newest (λ n. IsTableOf host n.blocks n.table) opened well.table in
+        found_refusal (Some volume) end (find_is newest.table.plan.volumes number volume is.of_geometry.numbers.ascending (subst (λ (t : Table). HasVolume t.plan.volumes number volume) table_is has))
+
+    pub past_its_end : (end : ℕ) → size_of volume.kind < end → blocks_refusal memory.opened number end ≡ Some OutOfRange
+    past_its_end end past = refusal_is end ∙ ap (λ (b : Bool). first_refusal (where_so b OutOfRange)) (is_past (size_of volume.kind) end past)
+
+    pub within_it : (end : ℕ) → end ≤ size_of volume.kind → blocks_refusal memory.opened number end ≡ None
+    within_it end less = refusal_is end ∙ ap (λ (b : Bool). first_refusal (where_so b OutOfRange)) (not_past (size_of volume.kind) end less)
+
     pub kind_of : IsKindOf host.drives volume.kind
     kind_of =
         let is : IsTableOf host newest.blocks newest.table = opened_has memory newest (λ n. IsTableOf host n.blocks n.table) opened well.table in
@@ -90,12 +117,3 @@ awake_opened memory newest sound opened = elim (both_ways memory.down) [
 
 pub awake_blocks : (host : Host) (memory : Memory) (volume : VolId) (at count : ℕ) → IsSoundMemory memory → HasBlocks host memory volume at count → memory.down ≡ false
 awake_blocks host memory volume at count sound has = awake_opened memory has.1.lies.0 sound has.1.lies.1
-
--- what was looked for, where it is known whether it was found
-pub found_none : {A : Type 0} (o : Option A) (P : Type 0) → is_some o ≡ false → IfNone o P → P
-found_none None P not is = is
-found_none (Some x) P not is = absurd (cc (not))
-
-pub found_some : {A : Type 0} (o : Option A) (P : A → Type 0) → is_some o ≡ true → IfSome o P → (x : A) × P x
-found_some None P there is = absurd (cc (there))
-found_some (Some x) P there is = (x, is)

@@ -13,13 +13,14 @@ pub use Rattle.mdv_database.specs.Database.{IsCommitted, IsDrawn, IsLaid, IsOnDr
 pub use Rattle.mdv_database.specs.Database.{first_newest, first_table}
 pub use Rattle.mdv_database.specs.declared.database.CommitFault.{CommitFault}
 pub use Rattle.mdv_engine_law.specs.Home.{IsReady, StaysHome, identity_of, site_of}
-pub use Rattle.mdv_engine_law.specs.Line.{AreBlocksAt, AreBlocksRefused, HasVolumeOn, IsCarriedOut, IsChange, IsChangeRefused, IsChanged, IsCreation}
-pub use Rattle.mdv_engine_law.specs.Line.{IsRebooted, IsSound, IsTurnedDown, IsUsedUp, Kept, MayChange, Memory, adopted, asked_by, blocks_of, down}
+pub use Rattle.mdv_engine_law.specs.Commands.{CameTo, IsAllowed}
+pub use Rattle.mdv_engine_law.specs.Line.{AreBlocksAt, HasVolumeOn}
+pub use Rattle.mdv_engine_law.specs.Line.{IsRebooted, IsSound, IsTurnedDown, IsUsedUp, Kept, Memory, adopted, asked_by, blocks_of, down}
 pub use Rattle.mdv_engine_law.specs.Line.{empty, kept_at, lost, record_room, spent, unbooted, wanting}
 pub use Rattle.mdv_engine_law.specs.Replies.{IsPlain, IsPlainAnswer, text_of}
 pub use Rattle.mdv_engine_law.specs.Standing.{BootMoment, BootedTo, CarriedTo, CarryEnd, CarryMoment, Executed, Knows, OnlyReplied, TellMoment, TellsFront, TurnMoment, Turned}
 pub use Rattle.mdv_engine_law.specs.declared.answer.Answer.{Answer}
-pub use Rattle.mdv_engine_law.specs.declared.answer.BootRefusal.{BootRefusal}
+pub use Rattle.mdv_engine_law.specs.declared.answer.Ended.{Ended}
 pub use Rattle.mdv_engine_law.specs.declared.host.Host.{Host}
 pub use Rattle.mdv_history.specs.History.{Changed, Created, Deed, LiesOn, Saw, Wrote}
 pub use Rattle.mdv_home.specs.Home.{line_of, place_of}
@@ -43,7 +44,6 @@ pub use Rattle.mdv_store_law.specs.Log.{IsMade, IsThis, with_asked, Log, NoCreat
 pub use Rattle.mdv_store_law.specs.Site.{IsFound, IsTableAt, Newest, Site, area_of}
 pub use Rattle.mdv_store_law.specs.Standing.{Anything, GoesFrom, GoesOn, GoesOnTo, IsNewestIn, IsOpened, ShowsNothing}
 pub use Rattle.mdv_store_law.specs.Steps.{IsAdopted, next_newest}
-pub use Rattle.mdv_table.specs.Change.{IsRefused}
 pub use Rattle.mdv_table.specs.Table.{IsComponentOn, IsKindOf, IsListsOf, IsOfGeometry, IsPlaceOf, IsStripeOf, IsWholeSlice}
 pub use Rattle.mdv_table.specs.Volumes.{HasNoVolume, HasVolume}
 pub use Rattle.mdv_table.specs.declared.change.Change.{Change}
@@ -55,4 +55,4 @@ pub use Rattle.mdv_table.specs.declared.volume.Base.TheVariants.{Slice}
 pub use Rattle.mdv_table.specs.declared.volume.Volume.{Volume}
 pub use Rattle.mdv_table.specs.declared.volume.VolumeKind.{VolumeKind}
 pub use Rattle.mdv_table.specs.declared.volume.VolumeKind.TheVariants.{Stripe}
-pub use Rattle.mdv_words.specs.declared.command.Command.TheVariants.{Read, Write}
+pub use Rattle.mdv_words.specs.declared.command.Command.TheVariants.{Create, Read, Write}

@@ -10,7 +10,10 @@ use Rattle.mdv_words.specs.declared.command.Command.TheVariants.{Create, MakeStr
 use Rattle.mdv_store_law.specs.Site.{Newest}
 use Rattle.mdv_engine_law.specs.Line.{Memory}
 use Rattle.mdv_engine_law.specs.declared.answer.Answer.{Answer}
-use Rattle.mdv_engine_law.specs.declared.answer.Answer.TheVariants as outcome
+use Rattle.mdv_engine_law.specs.declared.answer.Answer.TheVariants.{Said, Over}
+use Rattle.mdv_engine_law.specs.declared.answer.Ended.TheVariants as ended
+use Rattle.mdv_engine_law.specs.declared.answer.Outcome.TheVariants as outcome
+use Rattle.mdv_engine_law.specs.Answers.{refusing}
 use Rattle.mdv_engine_law.specs.declared.answer.Reply.{Reply}
 use Rattle.mdv_engine_law.specs.declared.answer.Reply.TheVariants as reply
 
@@ -31,19 +34,19 @@ blocks_of (Write volume at block) = 1
 -- The calls of a command, by what it came to: exactly so many where it was done, and no more where one failed. Without memory
 -- nothing is written. A command that is refused for another cause does nothing at all: it doesn't even read.
 abbrev pub IsCommandCounted : {S : Type 0} → (S → Option Tale) → (S → Option ℕ) → (S → Option ℕ) → S → S → ℕ → ℕ → Answer → Type 0
-IsCommandCounted tale calls written old new count blocks outcome.Ok = TookBetween calls written old new count count blocks
-IsCommandCounted tale calls written old new count blocks (outcome.Values text) = TookBetween calls written old new count count blocks
-IsCommandCounted tale calls written old new count blocks (outcome.Refused IoFault) = TookAtMost calls written old new count blocks
-IsCommandCounted tale calls written old new count blocks (outcome.Refused OutOfMemory) = TookAtMost calls written old new count 0 × (tale new ≡ tale old)
-IsCommandCounted tale calls written old new count blocks (outcome.Refused other) = new ≡ old
-IsCommandCounted tale calls written old new count blocks outcome.Panic = TookAtMost calls written old new count blocks
-IsCommandCounted tale calls written old new count blocks outcome.Spent = new ≡ old
-IsCommandCounted tale calls written old new count blocks outcome.NoMemory = new ≡ old
+IsCommandCounted tale calls written old new count blocks (Said outcome.Ok) = TookBetween calls written old new count count blocks
+IsCommandCounted tale calls written old new count blocks (Said (outcome.Values text)) = TookBetween calls written old new count count blocks
+IsCommandCounted tale calls written old new count blocks (Said (outcome.Refused IoFault)) = TookAtMost calls written old new count blocks
+IsCommandCounted tale calls written old new count blocks (Said (outcome.Refused OutOfMemory)) = TookAtMost calls written old new count 0 × (tale new ≡ tale old)
+IsCommandCounted tale calls written old new count blocks (Said (outcome.Refused other)) = new ≡ old
+IsCommandCounted tale calls written old new count blocks (Over (ended.Lost active listed)) = TookAtMost calls written old new count blocks
+IsCommandCounted tale calls written old new count blocks (Over ended.Spent) = new ≡ old
+IsCommandCounted tale calls written old new count blocks (Over ended.Memory) = new ≡ old
 
 -- the same of a read, before its answer is made
 abbrev pub HasReadCounts : {S T : Type 0} → (S → Option Tale) → (S → Option ℕ) → (S → Option ℕ) → S → S → Result T Refusal → Type 0
 HasReadCounts tale calls written old new (Ok text) = TookBetween calls written old new 1 1 0
-HasReadCounts tale calls written old new (Err refusal) = IsCommandCounted tale calls written old new 1 0 (outcome.Refused refusal)
+HasReadCounts tale calls written old new (Err refusal) = IsCommandCounted tale calls written old new 1 0 (refusing refusal)
 
 -- a refusal that no call on the drive came before
 abbrev pub IsUnlooked : Reply → Type 0
@@ -73,9 +76,7 @@ IsOpenedCounted calls written old new (Some newest) = TookBetween calls written 
 IsOpenedCounted calls written old new None = TookBetween calls written old new 1 5 0
 
 abbrev pub IsBootedCounted : {S : Type 0} → (S → Option ℕ) → (S → Option ℕ) → S → S → Answer → Memory → Type 0
-IsBootedCounted calls written old new outcome.Ok memory = IsOpenedCounted calls written old new memory.opened
-IsBootedCounted calls written old new (outcome.Values text) memory = TookAtMost calls written old new 13 4097
-IsBootedCounted calls written old new (outcome.Refused refusal) memory = TookAtMost calls written old new 13 4097
-IsBootedCounted calls written old new outcome.Panic memory = TookAtMost calls written old new 13 4097
-IsBootedCounted calls written old new outcome.Spent memory = TookAtMost calls written old new 5 0
-IsBootedCounted calls written old new outcome.NoMemory memory = TookAtMost calls written old new 5 0
+IsBootedCounted calls written old new (Said this) memory = IsOpenedCounted calls written old new memory.opened
+IsBootedCounted calls written old new (Over (ended.Lost active listed)) memory = TookAtMost calls written old new 13 4097
+IsBootedCounted calls written old new (Over ended.Spent) memory = TookAtMost calls written old new 5 0
+IsBootedCounted calls written old new (Over ended.Memory) memory = TookAtMost calls written old new 5 0

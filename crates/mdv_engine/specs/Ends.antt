@@ -1,13 +1,15 @@
 -- What the calls of an engine say of their answers, and of the drive in the end.
-use Rattle.mdv_engine_law.specs.Line.{Ask, ToDo, deeds}
+use Rattle.mdv_engine_law.specs.Line.{Ask, deeds}
 use Rattle.std.specs.Prelude.{◌≡◌, ◌≤◌, ◌+◌, ℕ, List, Some, None, Result, Ok, Err, IfOk, IfErr, OnOk, Contains, length}
 use Rattle.mdv_shelf.specs.Between.{TookBetween}
 use Rattle.mdv_shelf.specs.Shelves.{AtEachMoment, AtEachTale, AtEnd, DriveFailed, EndsTold, MadeCalls, MadeCallsAtMost, RestsOnceTold}
 use Rattle.mdv_shelf.specs.declared.shelf.Shelf.{Ghosts}
 use Rattle.mdv_words.specs.declared.command.Command.{Command}
+use Rattle.mdv_words.specs.declared.command.Command.TheVariants.{MakeStripe}
 use Rattle.mdv_words.specs.declared.command.Line.TheVariants as words
-use Rattle.mdv_engine.specs.Below.{VolId, Refusal, IoFault, KeptOutside, nowhere, IsSettled, Settling, Tale, last, Change, Table, Changed, Created, Answer, BootRefusal, Host, Kept, Memory, kept_at, unbooted, asked_by, blocks_of, AreBlocksAt, AreBlocksRefused, IsCarriedOut, IsCreation, IsRebooted, IsPlainAnswer, BootedTo, CarryEnd, Executed, Knows, TellsFront, TurnMoment, Turned}
-use Rattle.mdv_engine_law.specs.declared.answer.Answer.TheVariants as outcome
+use Rattle.mdv_engine.specs.Below.{SliceName, VolId, Refusal, IoFault, KeptOutside, nowhere, IsSettled, Settling, Tale, last, Change, Table, Created, Answer, Ended, Host, Kept, Memory, kept_at, unbooted, asked_by, blocks_of, AreBlocksAt, CameTo, IsRebooted, IsPlainAnswer, BootedTo, CarryEnd, Executed, Knows, TellsFront, TurnMoment, Turned}
+use Rattle.mdv_engine_law.specs.Answers.{accepted}
+use Rattle.mdv_engine_law.specs.Refusals.{blocks_refusal}
 use Rattle.mdv_engine_law.specs.declared.answer.Reply.{Reply}
 use Rattle.mdv_engine_law.specs.declared.answer.Reply.TheVariants as reply
 use Rattle.mdv_engine_law.specs.Replies.{HasAnswerCause, HasReplyCause, IsAccepted, IsLost, IsReplied}
@@ -15,25 +17,19 @@ use Rattle.mdv_engine_law.specs.Standing.{IsAwake}
 use Rattle.mdv_engine.specs.declared.engine.Engine.{Engine}
 use Rattle.mdv_engine.specs.Counts as counts
 use Rattle.mdv_engine.specs.Counts.{IsQuietRefusal, IsUnlooked, calls_of}
-use Rattle.mdv_engine.specs.Engine.{HasBootCause, IsCommit, IsNextTable, IsWell}
+use Rattle.mdv_engine.specs.Engine.{HasBootCause, IsNextTable, IsWell}
 
 -- the end of a command
 abbrev pub CommandEnd : Type 0 → Engine → Command → Answer → Engine → Tale → Tale → Type 0
-CommandEnd failed old command answer new t u = CarryEnd (λ kept a next. IsCarriedOut failed old.host kept command a next) old.host (asked_by command) old.state answer new.state t u
+CommandEnd failed old command answer new t u = CarryEnd (λ kept a next. CameTo failed old.host kept command a next) old.host (asked_by command) old.state answer new.state t u
 
--- the end of a creation that may begin
-abbrev pub CreationEnd : Type 0 → Engine → Answer → Memory → Tale → Tale → Type 0
-CreationEnd failed old answer new t u = CarryEnd (IsCreation failed old.host) old.host (ToDo Created) old.state answer new t u
-
--- the table that the change makes of the engine's, and the end of its commit
+-- the table that the change makes of the engine's
 abbrev pub IsNext : Engine → Change → Table → Type 0
 IsNext engine change next = IsNextTable engine.host engine.state change next
 
-abbrev pub CommitEnd : Type 0 → Engine → Change → Answer → Memory → Tale → Tale → Type 0
-CommitEnd failed old change answer new t u = CarryEnd (λ kept a next. IsCommit failed old.host kept change a next) old.host (ToDo (Changed change)) old.state answer new t u
-
-abbrev pub CommitEnds : {S : Type 0} → Ghosts S → S → S → Engine → Change → Answer → Memory → Type 0
-CommitEnds shelf from to old change answer new = AtEnd shelf (CommitEnd (DriveFailed shelf from to 0) old change answer new) from to
+-- the end of a stripe's making
+abbrev pub StripeEnds : {S : Type 0} → Ghosts S → S → S → Engine → VolId → SliceName → Answer → Engine → Type 0
+StripeEnds shelf from to old volume slice answer new = AtEnd shelf (CommandEnd (DriveFailed shelf from to 0) old (MakeStripe volume slice) answer new) from to
 
 -- What an answer says, whatever the shelf tells: its text is a reply's, it has its cause, a deed is accepted only where the last boot read
 -- the drive, and a creation only where no database is open; and what the engine keeps.
@@ -46,7 +42,7 @@ pub record HasAnswered (failed : Type 0) (ask : Ask) (old : Engine) (answer : An
   pub well : IsWell old.host new.state
   pub begun : new.state.begun ≤ old.state.begun + 1
 
--- Each moment of a line: how the drive stands, and what was told of its reply, while which the drives are at rest.
+-- Each moment of a line: how the drive stands, what was told of its reply by then, and that from the first byte of that on the drives are at rest.
 pub record LineMoments {S : Type 0} (shelf : Ghosts S) (host : Host) (ask : Ask) (old : Memory) (Comes : Type 0 → Kept → Answer → Kept → Type 0) (from to : S) : Type 0 where
   pub each : AtEachTale shelf (TurnMoment host ask old) from to
   pub fronts : AtEachMoment shelf (λ t m. Knows host old t.tale → TellsFront Comes old t m) from to
@@ -54,7 +50,7 @@ pub record LineMoments {S : Type 0} (shelf : Ghosts S) (host : Host) (ask : Ask)
 
 -- what a command comes to
 abbrev pub CarriesOut : Host → Command → Type 0 → Kept → Answer → Kept → Type 0
-CarriesOut host command failed kept answer next = IsCarriedOut failed host kept command answer next
+CarriesOut host command failed kept answer next = CameTo failed host kept command answer next
 
 -- this answer, and all else as it was
 abbrev pub OnlyAnswers : Answer → Type 0 → Kept → Answer → Kept → Type 0
@@ -95,29 +91,29 @@ pub record IsReplyCounted {S : Type 0} (shelf : Ghosts S) (old new : S) (given :
   pub told : IsReplied given → EndsTold shelf old new
 
 -- what a boot leaves in memory: how many creations were begun alone, where it isn't answered
-abbrev pub kept_by : ℕ → Result Memory BootRefusal → Memory
+abbrev pub kept_by : ℕ → Result Memory Ended → Memory
 kept_by begun (Ok memory) = memory
-kept_by begun (Err refusal) = unbooted begun
+kept_by begun (Err end) = unbooted begun
 
-abbrev pub left_by : Result Engine BootRefusal → Memory
+abbrev pub left_by : Result Engine Ended → Memory
 left_by (Ok engine) = engine.state
-left_by (Err refusal) = unbooted 0
+left_by (Err end) = unbooted 0
 
 -- the end of a boot: what it came to; and where it was answered, what is known
 pub record IsBootEnd (failed : Type 0) (host : Host) (old : Memory) (answer : Answer) (new : Memory) (t u : Tale) : Type 0 where
   pub rebooted : IsRebooted failed host (kept_at old t) answer (kept_at new u)
-  pub booted : answer ≡ outcome.Ok → BootedTo host new t u
+  pub booted : answer ≡ accepted → BootedTo host new t u
 
 -- why a boot isn't answered, and what it leaves that is
-pub record HasBootedFrom (failed : Type 0) (host : Host) (begun : ℕ) (result : Result Memory BootRefusal) : Type 0 where
+pub record HasBootedFrom (failed : Type 0) (host : Host) (begun : ℕ) (result : Result Memory Ended) : Type 0 where
   pub cause : HasBootCause failed result
   pub well : IfOk result (λ memory. IsWell host memory × (memory.begun ≡ begun))
 
-pub record HasBooted (failed : Type 0) (host : Host) (result : Result Engine BootRefusal) : Type 0 where
+pub record HasBooted (failed : Type 0) (host : Host) (result : Result Engine Ended) : Type 0 where
   pub cause : HasBootCause failed result
   pub engine : IfOk result (λ engine. (engine.host ≡ host) × IsWell host engine.state × (engine.state.begun ≡ 0))
 
-pub record HasRebooted (failed : Type 0) (old : Engine) (result : Result (Unit {0}) BootRefusal) (new : Engine) : Type 0 where
+pub record HasRebooted (failed : Type 0) (old : Engine) (result : Result (Unit {0}) Ended) (new : Engine) : Type 0 where
   pub cause : HasBootCause failed result
   pub closed : IfErr result (λ refusal. new.state.opened ≡ None)
   pub host : new.host ≡ old.host
@@ -128,6 +124,7 @@ pub record HasRebooted (failed : Type 0) (old : Engine) (result : Result (Unit {
 pub record AreRead {S : Type 0} (shelf : Ghosts S) (s : S) (engine : Engine) (volume : VolId) (at count : ℕ) (IsTold : List (List ℕ) → Type 0) : Type 0 where
   pub block : ℕ
   pub there : AreBlocksAt engine.host engine.state volume at count block
+  pub allowed : blocks_refusal engine.state.opened volume (at + count) ≡ None
   pub blocks : List (List ℕ)
   pub as_told : IsTold blocks
   pub as_there : (t : Tale) → shelf.tale s ≡ Some t → blocks ≡ blocks_of (last t 0) block count
@@ -136,6 +133,7 @@ pub record AreRead {S : Type 0} (shelf : Ghosts S) (s : S) (engine : Engine) (vo
 pub record ArePutting {S : Type 0} (shelf : Ghosts S) (old new : S) (engine : Engine) (volume : VolId) (at : ℕ) (blocks : List (List ℕ)) : Type 0 where
   pub block : ℕ
   pub there : AreBlocksAt engine.host engine.state volume at (length blocks) block
+  pub allowed : blocks_refusal engine.state.opened volume (at + length blocks) ≡ None
   pub moments : AtEachTale shelf (Settling 0 block blocks) old new
 
 -- they are on the disk in the end
@@ -153,4 +151,4 @@ AreWritten shelf old new engine volume at blocks (Err other) = Unit {0}
 pub record AreBlocksCounted {S : Type 0} (shelf : Ghosts S) (old new : S) (calls written : ℕ) (engine : Engine) (volume : VolId) (at count : ℕ) (result : Result (Unit {0}) Refusal) : Type 0 where
   pub done : OnOk result (MadeCalls shelf old new calls written)
   pub most : MadeCallsAtMost shelf old new calls written
-  pub refused : IfErr result (λ refusal. AreBlocksRefused engine.host engine.state volume at count refusal → new ≡ old)
+  pub refused : IfErr result (λ refusal. blocks_refusal engine.state.opened volume (at + count) ≡ Some refusal → new ≡ old)

@@ -1,24 +1,24 @@
-ghost use Rattle.std.specs.Prelude.{[], ◌∷◌, ◌<◌, Some, IfOk, IfErr, IfSome, OnOk};
-ghost use Rattle.mdv_base.specs.declared.refusal.Refusal.{Refusal as AnyRefusal};
+ghost use Rattle.std.specs.Prelude.{◌≡◌, [], ◌∷◌, ◌<◌, None, Some, IfOk, IfErr, IfSome, OnOk};
+ghost use Rattle.mdv_base.specs.declared.drive.SliceName.{SliceName};
+ghost use Rattle.mdv_base.specs.declared.name.VolId.{VolId};
 ghost use Rattle.mdv_table.specs.declared.change.Change.{Change as AnyChange};
-ghost use Rattle.mdv_table.specs.Change.{HasFault, IsNumbered, IsRefused};
+ghost use Rattle.mdv_table.specs.Change.{IsNumbered, refusal_of, table_after};
 ghost use Rattle.mdv_table.specs.Slices.{IsSound};
 ghost use Rattle.mdv_table.specs.Table.{IsOfGeometry};
 ghost use Rattle.mdv_words.specs.declared.command.Command.TheVariants as command;
-ghost use Rattle.mdv_store_law.specs.Log.{IsMade};
 ghost use Rattle.mdv_history.specs.History.{Changed};
 ghost use Rattle.mdv_engine_law.specs.Line.{ToDo};
 ghost use Rattle.mdv_engine.specs.Counts.{IsCommandCounted};
 ghost use Rattle.mdv_shelf.specs.Shelves.{AtEachTale, AtEnd, DriveFailed, Kept};
 ghost use Rattle.mdv_engine_law.specs.Home.{IsReady};
 ghost use Rattle.mdv_engine_law.specs.Standing.{CarryMoment};
-ghost use Rattle.mdv_engine.specs.Ends.{CommandEnd, CommitEnds, HasAnswered, IsNext};
-ghost use Rattle.mdv_engine.specs.Engine.{HasChangeCause, IsNextTable, IsTableOf, IsWell};
+ghost use Rattle.mdv_engine.specs.Ends.{CommandEnd, StripeEnds, HasAnswered, IsNext};
+ghost use Rattle.mdv_engine.specs.Engine.{HasApplyFault, HasChangeCause, IsNextTable, IsTableOf, IsWell};
 
 use crate::engine::Engine;
 use mdv_base::{Refusal, SliceName, VolId};
 use mdv_database::CommitFault;
-use mdv_engine_law::Answer;
+use mdv_engine_law::{Answer, Ended, Outcome};
 use mdv_home::place_at;
 use mdv_name::Geometry;
 use mdv_shelf::Shelf;
@@ -47,7 +47,7 @@ impl Engine {
         let change = Change::MakeStripe { volume, slice };
         match self.next_table(alloc, &change) {
             Ok(next) => self.commit(shelf, next),
-            Err(refusal) => Answer::Refused(refusal),
+            Err(refusal) => Answer::Said(Outcome::Refused(refusal)),
         }
     }
 
@@ -76,23 +76,28 @@ impl Engine {
         requires well { IsWell self.old.host self.old.state }
         requires placed { IfSome self.old.state.opened (λ newest. IsTableOf self.old.host newest.blocks next) }
         ensures moments { (change : AnyChange) → IsNext self.old change next → AtEachTale S.Shelf (CarryMoment self.old.host (ToDo (Changed change)) self.old.state) shelf.old shelf.new }
-        ensures end { (change : AnyChange) → IsNext self.old change next → CommitEnds S.Shelf shelf.old shelf.new self.old change result self.new.state }
+        ensures end { (volume : VolId) (slice : SliceName) → IsNext self.old (Change.MakeStripe volume slice) next → StripeEnds S.Shelf shelf.old shelf.new self.old volume slice result self.new }
         ensures answer { (change : AnyChange) → HasAnswered (DriveFailed S.Shelf shelf.old shelf.new 0) (ToDo (Changed change)) self.old result self.new }
         ensures counted { IsCommandCounted S.tale S.calls S.written shelf.old shelf.new 6 4096 result }
         ensures kept { Kept S.Shelf shelf.old shelf.new }
     {
         let at = place_at(&self.host.home);
         let Some(database) = &mut self.state.database else {
-            return Answer::Refused(Refusal::NoDatabase);
+            return Answer::Said(Outcome::Refused(Refusal::NoDatabase));
         };
         match database.commit(shelf, at, next) {
-            Ok(()) => Answer::Ok,
-            Err(CommitFault::Lost) => Answer::Panic,
-            Err(CommitFault::TooLong(fault)) => Answer::Refused(Refusal::ReplicaFull {
-                bytes: fault.bytes,
-                room: fault.room,
+            Ok(()) => Answer::Said(Outcome::Ok),
+            Err(CommitFault::Lost) => Answer::Over(Ended::Lost {
+                active: 0,
+                listed: 1,
             }),
-            Err(CommitFault::Spent) => Answer::Spent,
+            Err(CommitFault::TooLong(fault)) => {
+                Answer::Said(Outcome::Refused(Refusal::ReplicaFull {
+                    bytes: fault.bytes,
+                    room: fault.room,
+                }))
+            }
+            Err(CommitFault::Spent) => Answer::Over(Ended::Spent),
         }
     }
 }
@@ -106,10 +111,10 @@ fn changed(
 ) -> Result<Table, ApplyFault>
     requires sound { IsSound drives.now }
     requires numbered { IsNumbered change.now }
-    ensures made { IfOk result (IsMade drives.now (Some change.now) table.now) }
+    ensures made { IfOk result (λ next. next ≡ table_after drives.now change.now table.now) }
     ensures of_geometry { IsOfGeometry drives.now table.now → IfOk result (IsOfGeometry drives.now) }
-    ensures allowed { OnOk result ((r : AnyRefusal) → IsRefused drives.now table.now.plan change.now r → ⊥) }
-    ensures fault { IfErr result (HasFault drives.now table.now.plan change.now) }
+    ensures allowed { OnOk result (refusal_of drives.now table.now.plan change.now ≡ None) }
+    ensures fault { IfErr result (HasApplyFault (refusal_of drives.now table.now.plan change.now)) }
 {
     let mut next = table.copy(alloc)?;
     next.apply(alloc, drives, change)?;

@@ -1,18 +1,23 @@
-ghost use Rattle.std.specs.Prelude.{◌≡◌, ◌<◌, ◌≤◌, ◌+◌, ◌^◌, [], ◌∷◌, false, None, IfSome, IfNone};
+ghost use Rattle.std.specs.Prelude.{◌≡◌, ◌<◌, ◌≤◌, ◌+◌, ◌^◌, Bool, false, None};
+ghost use Rattle.mdv_base.specs.declared.drive.SliceName.{SliceName};
 ghost use Rattle.mdv_words.specs.declared.command.Command.TheVariants.{Create};
 ghost use Rattle.mdv_history.specs.History.{Created};
 ghost use Rattle.mdv_engine.specs.Counts.{IsCommandCounted};
-ghost use Rattle.mdv_engine.specs.Engine.{IsWell};
+ghost use Rattle.mdv_engine.specs.Engine.{IsWell, case_at};
 ghost use Rattle.mdv_shelf.specs.Shelves.{AtEachTale, AtEnd, DriveFailed, Kept};
 ghost use Rattle.mdv_engine_law.specs.Home.{IsReady};
-ghost use Rattle.mdv_engine_law.specs.Line.{IsCreateRefused, MayCreate, ToDo};
+ghost use Rattle.mdv_engine_law.specs.Commands.{IsAllowed};
+ghost use Rattle.mdv_engine_law.specs.Line.{ToDo};
+ghost use Rattle.mdv_engine_law.specs.Refusals.{refusal_of};
+ghost use Rattle.mdv_home.specs.Placed.{IsHomeTable};
+ghost use Rattle.mdv_table.specs.Slices.{IsSound};
 ghost use Rattle.mdv_engine_law.specs.Standing.{CarryMoment};
-ghost use Rattle.mdv_engine.specs.Ends.{CommandEnd, CreationEnd, HasAnswered};
+ghost use Rattle.mdv_engine.specs.Ends.{CommandEnd, HasAnswered};
 
 use crate::engine::Engine;
 use mdv_base::{Identity, Key, Refusal, SliceName, StateWord};
 use mdv_database::{CreateFault, create};
-use mdv_engine_law::Answer;
+use mdv_engine_law::{Answer, Ended, Outcome};
 use mdv_home::place_at;
 use mdv_shelf::Shelf;
 use std::alloc::Global;
@@ -40,21 +45,21 @@ impl Engine {
         ensures kept { Kept S.Shelf shelf.old shelf.new }
     {
         match self.creation_refusal(slice, force) {
-            Some(refusal) => Answer::Refused(refusal),
+            Some(refusal) => Answer::Said(Outcome::Refused(refusal)),
             None => self.make_database(shelf, alloc),
         }
     }
 
     // The first cause that a creation is refused for before anything is done.
     fn creation_refusal(&self, slice: SliceName, force: bool) -> Option<Refusal>
-        ensures refused { IfSome result (IsCreateRefused self.now.host self.now.state slice force) }
-        ensures free { IfNone result (MayCreate self.now.host self.now.state slice force) }
+        requires table { IsHomeTable self.now.host.drives self.now.host.home }
+        requires sound { IsSound self.now.host.drives }
+        ensures { result ≡ refusal_of (case_at self.now) (Create slice force) }
     {
-        let home = &self.host.home;
-        if self.host.drives.slices.find(slice).is_none() {
+        let Some(at) = self.host.drives.slices.find(slice) else {
             return Some(Refusal::NoSuchSlice);
-        }
-        if slice != home.slice {
+        };
+        if !at.db {
             return Some(Refusal::WrongKind);
         }
         if self.state.down {
@@ -66,7 +71,7 @@ impl Engine {
         if !force {
             return Some(Refusal::NeedForce);
         }
-        if home.blocks < SLICE_BLOCKS {
+        if self.host.home.blocks < SLICE_BLOCKS {
             return Some(Refusal::TooSmall);
         }
         None
@@ -82,7 +87,7 @@ impl Engine {
         requires none { self.old.state.opened ≡ None }
         requires up { self.old.state.down ≡ false }
         ensures moments { AtEachTale S.Shelf (CarryMoment self.old.host (ToDo Created) self.old.state) shelf.old shelf.new }
-        ensures end { AtEnd S.Shelf (CreationEnd (DriveFailed S.Shelf shelf.old shelf.new 0) self.old result self.new.state) shelf.old shelf.new }
+        ensures end { (slice : SliceName) (force : Bool) → IsAllowed (case_at self.old) (Create slice force) → AtEnd S.Shelf (CommandEnd (DriveFailed S.Shelf shelf.old shelf.new 0) self.old (Create slice force) result self.new) shelf.old shelf.new }
         ensures answer { HasAnswered (DriveFailed S.Shelf shelf.old shelf.new 0) (ToDo Created) self.old result self.new }
         ensures counted { IsCommandCounted S.tale S.calls S.written shelf.old shelf.new 12 8 result }
         ensures kept { Kept S.Shelf shelf.old shelf.new }
@@ -96,11 +101,14 @@ impl Engine {
         match create(shelf, alloc, place_at(&self.host.home), &key, identity) {
             Ok(database) => {
                 self.state.database = Some(database);
-                Answer::Ok
+                Answer::Said(Outcome::Ok)
             }
-            Err(CreateFault::Failed) => Answer::Refused(Refusal::IoFault),
-            Err(CreateFault::Lost) => Answer::Panic,
-            Err(CreateFault::Memory) => Answer::Refused(Refusal::OutOfMemory),
+            Err(CreateFault::Failed) => Answer::Said(Outcome::Refused(Refusal::IoFault)),
+            Err(CreateFault::Lost) => Answer::Over(Ended::Lost {
+                active: 0,
+                listed: 1,
+            }),
+            Err(CreateFault::Memory) => Answer::Said(Outcome::Refused(Refusal::OutOfMemory)),
         }
     }
 }

@@ -1,6 +1,7 @@
 ghost use Rattle.std.specs.Prelude.{◌<◌, ◌+◌, ◌^◌, [], List};
 ghost use Rattle.mdv_shelf.specs.Shelves.{AtEachTale, AtEnd, DriveFailed, GivingFailed, Kept};
 ghost use Rattle.mdv_history.specs.History.{Deed};
+ghost use Rattle.mdv_engine_law.specs.Answers.{accepted, refusing};
 ghost use Rattle.mdv_engine_law.specs.Home.{IsReady};
 ghost use Rattle.mdv_engine_law.specs.Line.{IsExecuted, asked_by, unbooted, Ask, Nothing};
 ghost use Rattle.mdv_engine_law.specs.Replies.{IsPlain};
@@ -12,7 +13,7 @@ ghost use Rattle.mdv_engine.specs.Engine.{IsWell, boot_answer};
 use crate::state::State;
 use mdv_base::{Key, Refusal};
 use mdv_database::{BootEnd, boot};
-use mdv_engine_law::{Answer, BootRefusal, Host, Reply, tell};
+use mdv_engine_law::{Answer, Ended, Host, Outcome, Reply, tell};
 use mdv_home::place_at;
 use mdv_shelf::{Bench, Shelf};
 use mdv_words::Command;
@@ -29,7 +30,7 @@ impl Engine {
     /// Boots the host: a database that its drive shows is adopted, under a new number. A drive that shows none
     /// gives an engine without a database.
     #[tactic(auto, using(mdv_shelf::proofs::Noted::kept_more))]
-    pub fn boot<S: Shelf>(shelf: &mut S, alloc: Global, host: Host) -> Result<Engine, BootRefusal>
+    pub fn boot<S: Shelf>(shelf: &mut S, alloc: Global, host: Host) -> Result<Engine, Ended>
         requires { IsReady host (S.sizes shelf.old) }
         ensures moments { AtEachTale S.Shelf (BootMoment host) shelf.old shelf.new }
         ensures end { AtEnd S.Shelf (IsBootEnd (DriveFailed S.Shelf shelf.old shelf.new 0) host (unbooted 0) (boot_answer result) (left_by result)) shelf.old shelf.new }
@@ -39,13 +40,13 @@ impl Engine {
     {
         match boot_from(shelf, alloc, &host, 0) {
             Ok(state) => Ok(Engine { host, state }),
-            Err(refusal) => Err(refusal),
+            Err(end) => Err(end),
         }
     }
 
     /// Boots the host anew: all is forgotten but how many creations were begun. After a refusal no database is open.
     #[tactic(auto, using(mdv_shelf::proofs::Noted::kept_more))]
-    pub fn reboot<S: Shelf>(&mut self, shelf: &mut S, alloc: Global) -> Result<(), BootRefusal>
+    pub fn reboot<S: Shelf>(&mut self, shelf: &mut S, alloc: Global) -> Result<(), Ended>
         requires { IsReady self.old.host (S.sizes shelf.old) }
         ensures moments { AtEachTale S.Shelf (BootMoment self.old.host) shelf.old shelf.new }
         ensures end { AtEnd S.Shelf (IsBootEnd (DriveFailed S.Shelf shelf.old shelf.new 0) self.old.host self.old.state (boot_answer result) self.new.state) shelf.old shelf.new }
@@ -60,7 +61,7 @@ impl Engine {
                 self.state = state;
                 Ok(())
             }
-            Err(refusal) => Err(refusal),
+            Err(end) => Err(end),
         }
     }
 
@@ -85,25 +86,25 @@ impl Engine {
     #[tactic(auto, using(mdv_shelf::proofs::Noted::kept_more))]
     pub fn refuse<B: Bench>(&mut self, bench: &mut B, refusal: &Refusal) -> Reply
         requires { IsPlain refusal.now }
-        ensures moments { (ask : Ask) → LineMoments B.Shelf self.old.host ask self.old.state (OnlyAnswers (Answer.Refused refusal.now)) bench.old bench.new }
-        ensures end { AtEnd B.Shelf (OnlyReplied (GivingFailed B.Shelf bench.old bench.new) (Answer.Refused refusal.now) result) bench.old bench.new }
+        ensures moments { (ask : Ask) → LineMoments B.Shelf self.old.host ask self.old.state (OnlyAnswers (refusing refusal.now)) bench.old bench.new }
+        ensures end { AtEnd B.Shelf (OnlyReplied (GivingFailed B.Shelf bench.old bench.new) (refusing refusal.now) result) bench.old bench.new }
         ensures answer { HasOnlyReplied (DriveFailed B.Shelf bench.old bench.new 0) (GivingFailed B.Shelf bench.old bench.new) self.old result self.new }
         ensures counted { IsReplyCounted B.Shelf bench.old bench.new result }
         ensures kept { Kept B.Shelf bench.old bench.new }
     {
-        tell(bench, &Answer::Refused(*refusal))
+        tell(bench, &Answer::Said(Outcome::Refused(*refusal)))
     }
 
     /// Tells `ok`, as of a boot that was answered.
     #[tactic(auto, using(mdv_shelf::proofs::Noted::kept_more))]
     pub fn accept<B: Bench>(&mut self, bench: &mut B) -> Reply
-        ensures moments { LineMoments B.Shelf self.old.host Nothing self.old.state (OnlyAnswers Answer.Ok) bench.old bench.new }
-        ensures end { AtEnd B.Shelf (OnlyReplied (GivingFailed B.Shelf bench.old bench.new) Answer.Ok result) bench.old bench.new }
+        ensures moments { LineMoments B.Shelf self.old.host Nothing self.old.state (OnlyAnswers accepted) bench.old bench.new }
+        ensures end { AtEnd B.Shelf (OnlyReplied (GivingFailed B.Shelf bench.old bench.new) accepted result) bench.old bench.new }
         ensures answer { HasOnlyReplied (DriveFailed B.Shelf bench.old bench.new 0) (GivingFailed B.Shelf bench.old bench.new) self.old result self.new }
         ensures counted { IsReplyCounted B.Shelf bench.old bench.new result }
         ensures kept { Kept B.Shelf bench.old bench.new }
     {
-        tell(bench, &Answer::Ok)
+        tell(bench, &Answer::Said(Outcome::Ok))
     }
 
     // Carries a command out, with nothing told.
@@ -137,7 +138,7 @@ fn boot_from<S: Shelf>(
     alloc: Global,
     host: &Host,
     begun: u32,
-) -> Result<State, BootRefusal>
+) -> Result<State, Ended>
     requires { IsReady host.now (S.sizes shelf.old) }
     ensures moments { AtEachTale S.Shelf (BootMoment host.now) shelf.old shelf.new }
     ensures end { AtEnd S.Shelf (IsBootEnd (DriveFailed S.Shelf shelf.old shelf.new 0) host.now (unbooted begun) (boot_answer result) (kept_by begun result)) shelf.old shelf.new }
@@ -154,11 +155,11 @@ fn boot_from<S: Shelf>(
         }),
         BootEnd::Empty => Ok(State::without_database(false, begun)),
         BootEnd::Down => Ok(State::without_database(true, begun)),
-        BootEnd::Lost => Err(BootRefusal::Lost {
+        BootEnd::Lost => Err(Ended::Lost {
             active: 0,
             listed: 1,
         }),
-        BootEnd::Spent => Err(BootRefusal::Spent),
-        BootEnd::Memory => Err(BootRefusal::Memory),
+        BootEnd::Spent => Err(Ended::Spent),
+        BootEnd::Memory => Err(Ended::Memory),
     }
 }

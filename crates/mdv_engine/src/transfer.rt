@@ -1,4 +1,4 @@
-ghost use Rattle.std.specs.Prelude.{◌≡◌, ◌≤◌, ◌+◌, ◌^◌, ℕ, List, [], ◌∷◌, length, replicate, Some, Err, IfOk, IfErr, OnOk, Contains};
+ghost use Rattle.std.specs.Prelude.{◌≡◌, ◌≤◌, ◌+◌, ◌^◌, ℕ, List, [], ◌∷◌, length, replicate, None, Some, Err, IfOk, IfErr, OnOk, Contains};
 ghost use Rattle.mdv_home.specs.Placed.{IsHomeTable};
 ghost use Rattle.mdv_status.specs.Values.{values_reply};
 ghost use Rattle.mdv_table.specs.declared.volume.Volume.{Volume as AnyVolume};
@@ -12,13 +12,14 @@ ghost use Rattle.mdv_engine.specs.Counts.{HasReadCounts, IsCommandCounted};
 ghost use Rattle.mdv_engine.specs.Engine.{HasBlocksCause, HasReadCause, IsCount, IsWell};
 ghost use Rattle.mdv_shelf.specs.Shelves.{AtEachTale, AtEnd, DriveFailed, Kept};
 ghost use Rattle.mdv_engine_law.specs.Home.{IsReady, site_of};
-ghost use Rattle.mdv_engine_law.specs.Line.{AreBlocksAt, AreBlocksRefused, ToDo, ToSee};
+ghost use Rattle.mdv_engine_law.specs.Line.{AreBlocksAt, ToDo, ToSee};
+ghost use Rattle.mdv_engine_law.specs.Refusals.{blocks_refusal, size_of};
 ghost use Rattle.mdv_engine_law.specs.Standing.{CarryMoment};
 ghost use Rattle.mdv_engine.specs.Ends.{AreBlocksCounted, AreRead, AreWritten, CommandEnd, HasAnswered};
 
 use crate::engine::Engine;
 use mdv_base::{Block, DriveNo, Failed, Refusal, SliceName, VolId, ZERO_BLOCK};
-use mdv_engine_law::Answer;
+use mdv_engine_law::{Answer, Outcome};
 use mdv_shelf::{Shelf, settle};
 use mdv_status::ValueText;
 use mdv_table::{Base, Component, Stripe, Volume, VolumeKind};
@@ -100,8 +101,8 @@ impl Engine {
         ensures kept { Kept S.Shelf shelf.old shelf.new }
     {
         match self.values(shelf, alloc, volume, at, count) {
-            Ok(text) => Answer::Values(text),
-            Err(refusal) => Answer::Refused(refusal),
+            Ok(text) => Answer::Said(Outcome::Values(text)),
+            Err(refusal) => Answer::Said(Outcome::Refused(refusal)),
         }
     }
 
@@ -153,8 +154,8 @@ impl Engine {
         ensures kept { Kept S.Shelf shelf.old shelf.new }
     {
         match self.write_blocks(shelf, volume, at, &[*block]) {
-            Ok(()) => Answer::Ok,
-            Err(refusal) => Answer::Refused(refusal),
+            Ok(()) => Answer::Said(Outcome::Ok),
+            Err(refusal) => Answer::Said(Outcome::Refused(refusal)),
         }
     }
 
@@ -165,7 +166,8 @@ impl Engine {
         requires well { IsWell self.now.host self.now.state }
         ensures ok { IfOk result (AreBlocksAt self.now.host self.now.state volume at count) }
         ensures within { IfOk result (λ block. block + count ≤ self.now.host.home.drive_blocks) }
-        ensures err { IfErr result (AreBlocksRefused self.now.host self.now.state volume at count) }
+        ensures free { OnOk result (blocks_refusal self.now.state.opened volume (at + count) ≡ None) }
+        ensures err { IfErr result (λ refusal. blocks_refusal self.now.state.opened volume (at + count) ≡ Some refusal) }
     {
         let Some(database) = &self.state.database else {
             return Err(Refusal::NoDatabase);
@@ -186,6 +188,7 @@ impl Engine {
         requires sound { IsSound self.now.host.drives }
         requires kind { IsKindOf self.now.host.drives volume.now.kind }
         ensures lies { (volumes : List AnyVolume) → Contains volumes volume.now → LiesOn (site_of self.now.host) volumes volume.now.number result.0 result.1 }
+        ensures sized { result.1 ≡ size_of volume.now.kind }
         ensures within { result.0 + result.1 ≤ self.now.host.home.drive_blocks }
         ensures fits { result.0 + result.1 ≤ 2 ^ 40 }
     {

@@ -1,7 +1,9 @@
 -- What a commit of a change leaves of a host's history.
-use Rattle.std.proofs.Common.{◌≡◌, List, [], ◌∷◌, Some, refl}
+use Rattle.std.proofs.Common.{◌≡◌, ℕ, List, [], ◌∷◌, Some, refl}
 use Rattle.mdv_engine_law.specs.Below.{KeptOutside, Tale, told, Change, Table, IsWithNewest, Log, IsTellable, NoCreation, Newest, area_of, IsOpened, IsNewestIn, Anything, GoesFrom, next_newest, History, Changed, Event}
-use Rattle.mdv_engine_law.specs.declared.answer.Answer.TheVariants as outcome
+use Rattle.mdv_engine_law.specs.declared.answer.Answer.TheVariants.{Said, Over}
+use Rattle.mdv_engine_law.specs.declared.answer.Ended.TheVariants as ended
+use Rattle.mdv_engine_law.specs.declared.answer.Outcome.TheVariants as outcome
 use Rattle.mdv_engine_law.specs.declared.host.Host.{Host}
 use Rattle.mdv_engine_law.specs.Home.{site_of}
 use Rattle.mdv_engine_law.specs.Line.{Memory, ToDo}
@@ -36,13 +38,13 @@ module _ (host : Host) (memory : Memory) (newest : Newest) (opened : memory.open
 
   -- it was committed, and its `ok` may be told
   pub changed : (table : Table) (next : Memory) → next.opened ≡ Some (next_newest newest table) → (IsOpened (site_of host) newest t → IsOpened (site_of host) (next_newest newest table) m)
-      → Commits host newest change (IsCommittedTo newest change table) t m → CarriedTo host (ToDo (Changed change)) memory outcome.Ok next t m
+      → Commits host newest change (IsCommittedTo newest change table) t m → CarriedTo host (ToDo (Changed change)) memory (Said outcome.Ok) next t m
   changed table next is opens goes =
       let knows : Knows host memory t → Knows host next m = λ known. knows_opened host next (next_newest newest table) m is (opens (is_opened known)) in
       record {
         done = Changed change ∷ [];
         acks = refl;
-        goes = λ h known. changing (IsCommittedTo newest change table) (λ es g. IsKnownAfter host (Changed change ∷ []) outcome.Ok next g m) goes h known (λ es g there committed. (
+        goes = λ h known. changing (IsCommittedTo newest change table) (λ es g. IsKnownAfter host (Changed change ∷ []) (Said outcome.Ok) next g m) goes h known (λ es g there committed. (
           record { stands = there; newest = of_opened next (next_newest newest table) (λ n. IsNewestIn n g.database) is committed.0; knows = knows known.knows },
           committed.1 change refl,
         ));
@@ -50,5 +52,5 @@ module _ (host : Host) (memory : Memory) (newest : Newest) (opened : memory.open
       }
 
   -- whether it was committed isn't known
-  pub changed_or_lost : (next : Memory) → Commits host newest change Anything t m → CarriedTo host (ToDo (Changed change)) memory outcome.Panic next t m
-  changed_or_lost next goes = record { done = []; acks = refl; goes = λ h known. changing Anything (λ es g. IsKnownAfter host [] outcome.Panic next g m) goes h known (λ es g there is. tt); knows = λ known. tt }
+  pub changed_or_lost : (active listed : ℕ) (next : Memory) → Commits host newest change Anything t m → CarriedTo host (ToDo (Changed change)) memory (Over (ended.Lost active listed)) next t m
+  changed_or_lost active listed next goes = record { done = []; acks = refl; goes = λ h known. changing Anything (λ es g. IsKnownAfter host [] (Over (ended.Lost active listed)) next g m) goes h known (λ es g there is. tt); knows = λ known. tt }

@@ -1,15 +1,20 @@
 -- What a command came to, told of the longer stretch that its reply ends.
 use Rattle.std.proofs.Common.{◌≡◌, inl, inr, ℕ, ◌+◌, ◌-◌, ◌^◌, ◌≤◌, min, List, [], ◌∷◌, ◌++◌, sym, refl, ◌∙◌, ap, subst, arith}
-use Rattle.mdv_engine_law.specs.Below.{Rose, KeptOutside, nowhere, Tale, told, Change, Command, Create, Read, Write, Line}
+use Rattle.mdv_engine_law.specs.Below.{Rose, KeptOutside, nowhere, Tale, told, Command, Create, Read, Write, Line}
 use Rattle.mdv_words.specs.declared.command.Command.TheVariants.{MakeStripe}
 use Rattle.mdv_words.specs.declared.command.Line.TheVariants as words
 use Rattle.mdv_engine_law.specs.declared.answer.Answer.{Answer}
-use Rattle.mdv_engine_law.specs.declared.answer.Answer.TheVariants as outcome
+use Rattle.mdv_engine_law.specs.declared.answer.Answer.TheVariants.{Said, Over}
+use Rattle.mdv_engine_law.specs.declared.answer.Outcome.TheVariants as outcome
+use Rattle.mdv_engine_law.specs.declared.answer.Ended.{Ended}
+use Rattle.mdv_engine_law.specs.declared.answer.Ended.TheVariants as ended
+use Rattle.mdv_engine_law.specs.declared.answer.Outcome.{Outcome}
 use Rattle.mdv_engine_law.specs.declared.answer.Reply.{Reply}
-use Rattle.mdv_engine_law.specs.declared.answer.Reply.TheVariants as reply
 use Rattle.mdv_engine_law.specs.declared.host.Host.{Host}
-use Rattle.mdv_engine_law.specs.Line.{Memory, Kept, kept_at, drive_content, IsCarriedOut, ComesTo, IsRebooted, adopted, empty, down, lost, spent, wanting, MayChange, IsChange, IsCreation, IsRead, IsWrite}
-use Rattle.mdv_engine_law.specs.Replies.{IsTold, HasAnswerCause, HasReplyCause}
+use Rattle.mdv_engine_law.specs.Commands as came
+use Rattle.mdv_engine_law.specs.Commands.{CameTo, ComesTo, GivesUp}
+use Rattle.mdv_engine_law.specs.Line.{Memory, Kept, kept_at, drive_content, IsRebooted, adopted, empty, down, lost, spent, wanting}
+use Rattle.mdv_engine_law.specs.Replies.{CutOff, IsTold, HasAnswerCause, HasEndCause, HasReplyCause, reply_at, reply_to}
 use Rattle.mdv_engine_law.specs.Standing.{OnlyReplied, Executed}
 
 -- a count that rose within a stretch rose over the longer one
@@ -35,98 +40,49 @@ module _ (failed more : Type 0) (cause : failed → more) (host : Host) (kept ne
   rebooted_more (spent is used) = spent is used
   rebooted_more (wanting is) = wanting is
 
-  creation_more : IsCreation failed host kept answer next → IsCreation more host kept answer next
-  creation_more (inl made) = inl made
-  creation_more (inr (inl unbegun)) = inr (inl unbegun)
-  creation_more (inr (inr (so, rest))) = inr (inr (cause so, rest))
+  gives_up_more : (command : Command) (end : Ended) → GivesUp failed host kept command end next → GivesUp more host kept command end next
+  gives_up_more (Create slice force) (ended.Lost active listed) is = (cause is.0, is.1, is.2, is.3)
+  gives_up_more (Create slice force) ended.Spent is = absurd is
+  gives_up_more (Create slice force) ended.Memory is = absurd is
+  gives_up_more (MakeStripe volume slice) (ended.Lost active listed) is = (cause is.0, is.1, is.2)
+  gives_up_more (MakeStripe volume slice) ended.Spent is = is
+  gives_up_more (MakeStripe volume slice) ended.Memory is = absurd is
+  gives_up_more (Read volume at count) end is = absurd is
+  gives_up_more (Write volume at block) end is = absurd is
 
-  change_more : (change : Change) (may : MayChange host kept.memory change) → IsChange failed host kept.memory change may kept answer next → IsChange more host kept.memory change may kept answer next
-  change_more change may (inl made) = inl made
-  change_more change may (inr (inl used)) = inr (inl used)
-  change_more change may (inr (inr (so, rest))) = inr (inr (cause so, rest))
-
-  read_more : (at count block : ℕ) → IsRead failed at count block kept answer next → IsRead more at count block kept answer next
-  read_more at count block (stays, inl values) = (stays, inl values)
-  read_more at count block (stays, inr (inl refused)) = (stays, inr (inl refused))
-  read_more at count block (stays, inr (inr (so, rest))) = (stays, inr (inr (cause so, rest)))
-
-  write_more : (block : ℕ) (blocks : List (List ℕ)) → IsWrite failed block blocks kept answer next → IsWrite more block blocks kept answer next
-  write_more block blocks (same, inl put) = (same, inl put)
-  write_more block blocks (same, inr (so, refused, put)) = (same, inr (cause so, refused, put))
-
-  pub carried_more : (command : Command) → IsCarriedOut failed host kept command answer next → IsCarriedOut more host kept command answer next
-  carried_more (Create slice force) (inl refused) = inl refused
-  carried_more (Create slice force) (inr (may, made)) = inr (may, creation_more made)
-  carried_more (MakeStripe volume slice) (inl refused) = inl refused
-  carried_more (MakeStripe volume slice) (inr (inl refused)) = inr (inl refused)
-  carried_more (MakeStripe volume slice) (inr (inr (may, changed))) = inr (inr (may, change_more _ may changed))
-  carried_more (Read volume at count) (inl refused) = inl refused
-  carried_more (Read volume at count) (inr (block, there, read)) = inr (block, there, read_more at count block read)
-  carried_more (Write volume at block) (inl refused) = inl refused
-  carried_more (Write volume at block) (inr (place, there, written)) = inr (place, there, write_more place (block ∷ []) written)
+  pub came_more : (command : Command) → CameTo failed host kept command answer next → CameTo more host kept command answer next
+  came_more command (came.refused refusal is left) = came.refused refusal is left
+  came_more command (came.wanting is left) = came.wanting is left
+  came_more command (came.done free effect) = came.done free effect
+  came_more command (came.faulted so free is fault) = came.faulted (cause so) free is fault
+  came_more command (came.over end free is gives) = came.over end free is (gives_up_more command end gives)
 
   pub comes_more : (line : Line) → ComesTo failed host kept line answer next → ComesTo more host kept line answer next
   comes_more words.Boot is = rebooted_more is
-  comes_more (words.Command command) is = carried_more command is
+  comes_more (words.Command command) is = came_more command is
 
 module _ (failed more : Type 0) (piece : List ℕ) (cause : failed → more) where
   pub told_more : (answer : Answer) (r : Reply) → IsTold failed answer r piece → IsTold more answer r piece
-  told_more outcome.Ok reply.Ok is = is
-  told_more outcome.Ok reply.Told is = (cause is.0, is.1)
-  told_more outcome.Ok (reply.Refused again) is = absurd is
-  told_more outcome.Ok (reply.Panic active listed) is = absurd is
-  told_more outcome.Ok reply.Spent is = absurd is
-  told_more outcome.Ok reply.NoMemory is = absurd is
-  told_more (outcome.Values text) reply.Ok is = is
-  told_more (outcome.Values text) reply.Told is = (cause is.0, is.1)
-  told_more (outcome.Values text) (reply.Refused again) is = absurd is
-  told_more (outcome.Values text) (reply.Panic active listed) is = absurd is
-  told_more (outcome.Values text) reply.Spent is = absurd is
-  told_more (outcome.Values text) reply.NoMemory is = absurd is
-  told_more (outcome.Refused refusal) (reply.Refused again) is = is
-  told_more (outcome.Refused refusal) reply.Told is = (cause is.0, is.1)
-  told_more (outcome.Refused refusal) reply.Ok is = absurd is
-  told_more (outcome.Refused refusal) (reply.Panic active listed) is = absurd is
-  told_more (outcome.Refused refusal) reply.Spent is = absurd is
-  told_more (outcome.Refused refusal) reply.NoMemory is = absurd is
-  told_more outcome.Panic (reply.Panic active listed) is = is
-  told_more outcome.Panic reply.Ok is = absurd is
-  told_more outcome.Panic (reply.Refused again) is = absurd is
-  told_more outcome.Panic reply.Spent is = absurd is
-  told_more outcome.Panic reply.NoMemory is = absurd is
-  told_more outcome.Panic reply.Told is = absurd is
-  told_more outcome.Spent reply.Spent is = is
-  told_more outcome.Spent reply.Ok is = absurd is
-  told_more outcome.Spent (reply.Refused again) is = absurd is
-  told_more outcome.Spent (reply.Panic active listed) is = absurd is
-  told_more outcome.Spent reply.NoMemory is = absurd is
-  told_more outcome.Spent reply.Told is = absurd is
-  told_more outcome.NoMemory reply.NoMemory is = is
-  told_more outcome.NoMemory reply.Ok is = absurd is
-  told_more outcome.NoMemory (reply.Refused again) is = absurd is
-  told_more outcome.NoMemory (reply.Panic active listed) is = absurd is
-  told_more outcome.NoMemory reply.Spent is = absurd is
-  told_more outcome.NoMemory reply.Told is = absurd is
+  told_more (Said this) r (inl whole) = inl whole
+  told_more (Said this) r (inr cut) = inr (record { cause = cause cut.cause; given_is = cut.given_is; count = cut.count; front = cut.front })
+  told_more (Over end) r is = is
 
 -- why a reply came
 module _ (drive replies failed more : Type 0) (piece : List ℕ) (one : drive → failed) (other : replies → more) where
+  reply_cause : (this : Outcome) → HasReplyCause failed more (reply_to this)
+  reply_cause outcome.Ok = tt
+  reply_cause (outcome.Values text) = tt
+  reply_cause (outcome.Refused refusal) = tt
+
+  end_cause : (end : Ended) → HasEndCause drive end → HasReplyCause failed more (reply_at end)
+  end_cause (ended.Lost active listed) cause = (one cause.0, cause.1, cause.2)
+  end_cause ended.Spent cause = tt
+  end_cause ended.Memory cause = tt
+
   pub told_cause : (answer : Answer) (r : Reply) → HasAnswerCause drive answer → IsTold replies answer r piece → HasReplyCause failed more r
-  told_cause answer reply.Ok cause is = tt
-  told_cause answer (reply.Refused again) cause is = tt
-  told_cause answer reply.Spent cause is = tt
-  told_cause answer reply.NoMemory cause is = tt
-  told_cause outcome.Ok reply.Told cause is = other is.0
-  told_cause (outcome.Values text) reply.Told cause is = other is.0
-  told_cause (outcome.Refused refusal) reply.Told cause is = other is.0
-  told_cause outcome.Panic reply.Told cause is = absurd is
-  told_cause outcome.Spent reply.Told cause is = absurd is
-  told_cause outcome.NoMemory reply.Told cause is = absurd is
-  told_cause outcome.Panic (reply.Panic active listed) cause is = (one cause, is.0, is.1)
-  told_cause outcome.Ok (reply.Panic active listed) cause is = absurd is
-  told_cause (outcome.Values text) (reply.Panic active listed) cause is = absurd is
-  told_cause (outcome.Refused refusal) (reply.Panic active listed) cause is = absurd is
-  told_cause outcome.Spent (reply.Panic active listed) cause is = absurd is
-  told_cause outcome.NoMemory (reply.Panic active listed) cause is = absurd is
+  told_cause (Said this) r cause (inl whole) = subst (HasReplyCause failed more) (sym whole.0) (reply_cause this)
+  told_cause (Said this) r cause (inr cut) = subst (HasReplyCause failed more) (sym cut.given_is) (other cut.cause)
+  told_cause (Over end) r cause is = subst (HasReplyCause failed more) (sym is.0) (end_cause end cause)
 
 -- a line that was carried out, and then replied to
 pub executed : (drive replies failed more : Type 0) (host : Host) (line : Line) (old new : Memory) (answer : Answer) (r : Reply) (t u v : Tale) → (drive → failed) → (replies → more) → told u ≡ told t

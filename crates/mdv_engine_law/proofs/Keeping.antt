@@ -5,10 +5,9 @@ use Rattle.mdv_shelf.specs.Calls.{Shows}
 use Rattle.mdv_shelf.proofs.Settled.{covered}
 use Rattle.mdv_home.proofs.Places.{whole_place}
 use Rattle.mdv_store_law.proofs.Covering.{last_image}
-use Rattle.mdv_engine_law.specs.declared.answer.Answer.TheVariants as outcome
 use Rattle.mdv_engine_law.specs.declared.host.Host.{Host}
 use Rattle.mdv_engine_law.specs.Home.{site_of, identity_of}
-use Rattle.mdv_engine_law.specs.Line.{Memory, IsSame, IsSameBeside, Stays, IsCreated, IsUncreated, IsCommitted, IsRewritten, IsRead, ArePut, MayBePut, blocks_of, drive_content, kept_at}
+use Rattle.mdv_engine_law.specs.Line.{Memory, IsSame, IsSameBeside, Stays, IsCreated, IsUncreated, IsCommitted, IsRewritten, ArePut, MayBePut, blocks_of, drive_content, kept_at}
 
 -- these blocks are what a read gives
 pub blocks_shown : (t : Tale) (block : ℕ) (blocks : List (List ℕ)) → Shows t 0 block blocks → blocks_of (drive_content t) block (length blocks) ≡ blocks
@@ -79,9 +78,5 @@ module _ (host : Host) (memory next : Memory) (t u : Tale) where
   }
 
 -- a read told what is there
-pub read_blocks : (failed : Type 0) (memory : Memory) (t : Tale) (at block : ℕ) (blocks : List (List ℕ)) (text : List ℕ) → Shows t 0 block blocks → text ≡ values_reply at blocks
-    → IsRead failed at (length blocks) block (kept_at memory t) (outcome.Values text) (kept_at memory t)
-read_blocks failed memory t at block blocks text shows is = (
-  record { memory = refl; content = λ b. refl },
-  inl (text, refl, is ∙ ap (λ (bs : List (List ℕ)). values_reply at bs) (sym (blocks_shown t block blocks shows))),
-)
+pub read_values : (t : Tale) (at block : ℕ) (blocks : List (List ℕ)) (text : List ℕ) → Shows t 0 block blocks → text ≡ values_reply at blocks → text ≡ values_reply at (blocks_of (drive_content t) block (length blocks))
+read_values t at block blocks text shows is = is ∙ ap (λ (bs : List (List ℕ)). values_reply at bs) (sym (blocks_shown t block blocks shows))

@@ -17,3 +17,7 @@ pub mod Transfer
 pub mod Keeping
 pub mod Staying
 pub mod Kept
+pub mod Allowed
+pub mod Volumes
+mod Ordered
+pub mod Judging

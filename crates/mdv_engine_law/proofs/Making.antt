@@ -1,7 +1,9 @@
 -- What a creation leaves of a host's history.
-use Rattle.std.proofs.Common.{◌≡◌, ◌≤◌, false, List, [], ◌∷◌, Option, Some, None, IfSome, refl, sym, subst, arith}
+use Rattle.std.proofs.Common.{◌≡◌, ◌≤◌, ℕ, false, List, [], ◌∷◌, Option, Some, None, IfSome, refl, sym, subst, arith}
 use Rattle.mdv_engine_law.specs.Below.{Identity, IoFault, KeptOutside, Tale, told, Table, IsCreated, created_newest, Log, IsThis, is_firm, Newest, area_of, ShowsNothing, IsOpened, IsNewestIn, Anything, GoesOnTo, History, Created, Event}
-use Rattle.mdv_engine_law.specs.declared.answer.Answer.TheVariants as outcome
+use Rattle.mdv_engine_law.specs.declared.answer.Answer.TheVariants.{Said, Over}
+use Rattle.mdv_engine_law.specs.declared.answer.Ended.TheVariants as ended
+use Rattle.mdv_engine_law.specs.declared.answer.Outcome.TheVariants as outcome
 use Rattle.mdv_engine_law.specs.declared.host.Host.{Host}
 use Rattle.mdv_engine_law.specs.Home.{site_of, identity_of}
 use Rattle.mdv_engine_law.specs.Line.{Memory, ToDo}
@@ -29,14 +31,14 @@ module _ (host : Host) (memory : Memory) (room : 8208 ≤ host.home.blocks) (non
 
   -- it was made, and its `ok` may be told
   pub made : (table : Table) (next : Memory) → next.opened ≡ Some (created_newest (site_of host) table) → (ShowsNothing (site_of host) t → IsOpened (site_of host) (created_newest (site_of host) table) m)
-      → Makes host memory (IsCreated (site_of host) (identity_of host memory.begun) table) t m → CarriedTo host (ToDo Created) memory outcome.Ok next t m
+      → Makes host memory (IsCreated (site_of host) (identity_of host memory.begun) table) t m → CarriedTo host (ToDo Created) memory (Said outcome.Ok) next t m
   made table next opened is goes =
       let newest : Newest = created_newest (site_of host) table in
       let knows : Knows host memory t → Knows host next m = λ known. knows_opened host next newest m opened (is (known.nothing none up)) in
       record {
         done = Created ∷ [];
         acks = refl;
-        goes = λ h known. making (IsCreated (site_of host) (identity_of host memory.begun) table) (λ es g. IsKnownAfter host (Created ∷ []) outcome.Ok next g m) goes h known (λ es g there created. (
+        goes = λ h known. making (IsCreated (site_of host) (identity_of host memory.begun) table) (λ es g. IsKnownAfter host (Created ∷ []) (Said outcome.Ok) next g m) goes h known (λ es g there created. (
           record { stands = there; newest = of_opened next newest (λ n. IsNewestIn n g.database) opened created.newest; knows = knows known.knows },
           created.tellable,
         ));
@@ -44,7 +46,7 @@ module _ (host : Host) (memory : Memory) (room : 8208 ≤ host.home.blocks) (non
       }
 
   -- it failed, and nothing is there
-  pub unmade : (next : Memory) → next.opened ≡ None → (ShowsNothing (site_of host) t → ShowsNothing (site_of host) m) → Makes host memory (λ lg. is_firm lg ≡ false) t m → CarriedTo host (ToDo Created) memory (outcome.Refused IoFault) next t m
+  pub unmade : (next : Memory) → next.opened ≡ None → (ShowsNothing (site_of host) t → ShowsNothing (site_of host) m) → Makes host memory (λ lg. is_firm lg ≡ false) t m → CarriedTo host (ToDo Created) memory (Said (outcome.Refused IoFault)) next t m
   unmade next closed nothing goes =
       let empty : (P : Newest → Type 0) → IfSome next.opened P = λ P. subst (λ (o : Option Newest). IfSome o P) (sym closed) tt in
       let knows : Knows host memory t → Knows host next m = λ known. record { nothing = λ free read. nothing (known.nothing none up); opened = empty (λ n. IsOpened (site_of host) n m) } in
@@ -56,5 +58,5 @@ module _ (host : Host) (memory : Memory) (room : 8208 ≤ host.home.blocks) (non
       }
 
   -- whether it is there isn't known
-  pub made_or_lost : (next : Memory) → Makes host memory Anything t m → CarriedTo host (ToDo Created) memory outcome.Panic next t m
-  made_or_lost next goes = record { done = []; acks = refl; goes = λ h known. making Anything (λ es g. IsKnownAfter host [] outcome.Panic next g m) goes h known (λ es g there is. tt); knows = λ known. tt }
+  pub made_or_lost : (active listed : ℕ) (next : Memory) → Makes host memory Anything t m → CarriedTo host (ToDo Created) memory (Over (ended.Lost active listed)) next t m
+  made_or_lost active listed next goes = record { done = []; acks = refl; goes = λ h known. making Anything (λ es g. IsKnownAfter host [] (Over (ended.Lost active listed)) next g m) goes h known (λ es g there is. tt); knows = λ known. tt }

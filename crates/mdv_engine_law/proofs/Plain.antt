@@ -1,16 +1,32 @@
 -- The texts of replies: which refusals are plain, and that of each text one line answers.
-use Rattle.std.proofs.Common.{◌≡◌, ◌⊎◌, ⊎_elim, inl, inr, ℕ, zero, suc, ◌≤◌, ◌<◌, Bool, true, false, ◌&&◌, ◌==◌, not, List, [], ◌∷◌, ◌++◌, length, take, refl, sym, ◌∙◌, ap, subst, append_assoc, length-append, arith}
+use Rattle.std.proofs.Common.{◌≡◌, ◌⊎◌, ⊎_elim, inl, inr, ℕ, zero, suc, ◌≤◌, ◌<◌, Bool, true, false, ◌&&◌, ◌==◌, not, List, [], ◌∷◌, ◌++◌, ◌+◌, length, take, Option, Some, None, All, refl, sym, ◌∙◌, ap, subst, append_assoc, length-append, arith}
 use Rattle.std.proofs.lemmas.List.{append-nil, append_cancel_right, take_all, take-append-le}
+use Rattle.std.proofs.lemmas.List.Elements.{All-append, All-nil, All-cons}
 use Rattle.std.proofs.lemmas.List.Folds.{list_all-append}
+use Rattle.std.specs.List.{find}
+use Rattle.std.specs.Option.{is_none}
+use Rattle.std.specs.Prelude.{is_some, nat_lt}
 use Rattle.std.specs.Fmt.{digits, decimal}
-use Rattle.mdv_engine_law.specs.Below.{refusal_text, SliceName, VolId, Refusal, BadLine, NoDatabase, NeedForce, NoSuchVolume, NameTaken, NoSuchSlice, SliceInUse, TooSmall, WrongKind, WrongState, ReplicaFull, OutOfRange, IoFault, OutOfMemory, LineTooLong, Down, Said, lacks, one_reply, refused, replies_in, said_in, unsaid, with_reply, block_text, Deed, MakeStripe}
+use Rattle.mdv_engine_law.specs.Below.{refusal_text, SliceName, VolId, Refusal, BadLine, NoDatabase, NeedForce, NoSuchVolume, NameTaken, NoSuchSlice, SliceInUse, TooSmall, WrongKind, WrongState, ReplicaFull, OutOfRange, IoFault, OutOfMemory, LineTooLong, Down, Change, Newest, Command, Create, Read, Write, Volume, lacks, one_reply, refused, replies_in, said_in, unsaid, with_reply, block_text, Deed, MakeStripe}
+use Rattle.mdv_base.specs.Order.{order, where_so}
+use Rattle.mdv_base.proofs.Order.{first_holds}
+use Rattle.mdv_status.specs.Telling.{Said as SaidBytes}
+use Rattle.mdv_words.specs.declared.command.Command.TheVariants as command
 use Rattle.mdv_status.proofs.Lines.{is_value_line}
 use Rattle.mdv_status.proofs.Pieces.{lacks_append, lacks_one, lacks_take}
 use Rattle.mdv_status.proofs.Replies.{values_are_one_reply, refusals_are_one_reply}
 use Rattle.mdv_engine_law.specs.declared.answer.Answer.{Answer}
-use Rattle.mdv_engine_law.specs.declared.answer.Answer.TheVariants as outcome
+use Rattle.mdv_engine_law.specs.declared.answer.Answer.TheVariants.{Said, Over}
+use Rattle.mdv_engine_law.specs.declared.answer.Ended.TheVariants as ended
+use Rattle.mdv_engine_law.specs.declared.answer.Outcome.TheVariants as outcome
 use Rattle.mdv_engine_law.specs.declared.host.Host.{Host}
-use Rattle.mdv_engine_law.specs.Line.{Ask, Nothing, ToDo, ToSee, deeds, Memory, IsCreateRefused, IsChangeRefused, AreBlocksRefused}
+use Rattle.mdv_engine_law.specs.Line.{Ask, Nothing, ToDo, ToSee, deeds, record_room}
+use Rattle.mdv_engine_law.specs.Refusals.{Case, bytes_after, held, held_of_blocks, held_of_change, held_past, has_number, is_plain, refusal_of, size_of}
+use Rattle.mdv_name.specs.SliceIndex.{slice_at}
+use Rattle.mdv_table.specs.Change as table
+use Rattle.mdv_table.specs.Change.{is_db}
+use Rattle.mdv_table.specs.Plan.{is_in_use, used_slices}
+use Rattle.mdv_table.specs.Volumes.{has_volume}
 use Rattle.mdv_engine_law.specs.Replies.{Acks, AcksAnswer, AcksBy, AcksFront, AcksIn, IsRefusalFront, IsPlain, IsPlainAnswer, AreValues, IsReply, IsFront, IsAccepted, issuable, issuable_in, issuable_of, issued_by, text_of, refusal_line, ok_line}
 use Rattle.mdv_store_law.specs.Part.{IsPart}
 use Rattle.mdv_store_law.proofs.Parts.{part_itself}
@@ -35,10 +51,6 @@ pub memory_plain : IsPlain OutOfMemory
 unfolding digits
 memory_plain = plainly OutOfMemory refl refl
 
-pub no_database_plain : IsPlain NoDatabase
-unfolding digits
-no_database_plain = plainly NoDatabase refl refl
-
 -- a number is no newline
 decimal_lacks : (n : ℕ) → lacks 10 (decimal n) ≡ true
 decimal_lacks n =
@@ -54,34 +66,78 @@ pub numbers_plain : (bytes room : ℕ) → IsPlain (ReplicaFull bytes room)
 unfolding digits
 numbers_plain bytes room = plainly (ReplicaFull bytes room) (lacks_append (decimal bytes) (32 ∷ decimal room) (decimal_lacks bytes) (lacks_one 32 (decimal room) refl (decimal_lacks room))) refl
 
-module _ (host : Host) (memory : Memory) where
-  pub create_plain : (slice : SliceName) (force : Bool) (r : Refusal) → IsCreateRefused host memory slice force r → IsPlain r
-  unfolding digits
-  create_plain slice force NoSuchSlice is = plainly NoSuchSlice refl refl
-  create_plain slice force WrongKind is = plainly WrongKind refl refl
-  create_plain slice force (WrongState Down) is = plainly (WrongState Down) refl refl
-  create_plain slice force NeedForce is = plainly NeedForce refl refl
-  create_plain slice force SliceInUse is = plainly SliceInUse refl refl
-  create_plain slice force TooSmall is = plainly TooSmall refl refl
-  create_plain slice force (WrongState other) is = absurd is.1
-  create_plain slice force other is = absurd is
+-- a refusal whose cause may hold is plain
+and_plain : (holds : Bool) (r : Refusal) (rest : List Refusal) → IsPlain r → All IsPlain rest → All IsPlain (where_so holds r ++ rest)
+and_plain true r rest plain behind = All-cons IsPlain r rest plain behind
+and_plain false r rest plain behind = behind
 
-  pub change_plain : (volume : VolId) (slice : SliceName) (r : Refusal) → IsChangeRefused host memory (MakeStripe volume slice) r → IsPlain r
-  unfolding digits
-  change_plain volume slice NoDatabase is = plainly NoDatabase refl refl
-  change_plain volume slice (ReplicaFull bytes room) is = numbers_plain bytes room
-  change_plain volume slice NoSuchSlice is = plainly NoSuchSlice refl refl
-  change_plain volume slice NameTaken is = plainly NameTaken refl refl
-  change_plain volume slice WrongKind is = plainly WrongKind refl refl
-  change_plain volume slice SliceInUse is = plainly SliceInUse refl refl
-  change_plain volume slice other is = absurd is.2
+where_plain : (holds : Bool) (r : Refusal) → IsPlain r → All IsPlain (where_so holds r)
+where_plain true r plain = All-cons IsPlain r [] plain (All-nil IsPlain)
+where_plain false r plain = All-nil IsPlain
 
-  pub blocks_plain : (volume : VolId) (at count : ℕ) (r : Refusal) → AreBlocksRefused host memory volume at count r → IsPlain r
+-- those of a creation
+module _ (gone plain unread unforced used small : Bool) where
+  abbrev from_used : List Refusal
+  from_used = where_so used SliceInUse ++ where_so small TooSmall
+
+  abbrev from_unread : List Refusal
+  from_unread = where_so unread (WrongState Down) ++ (where_so unforced NeedForce ++ from_used)
+
+  creation_plain : All IsPlain (where_so gone NoSuchSlice ++ (where_so plain WrongKind ++ from_unread))
   unfolding digits
-  blocks_plain volume at count NoDatabase is = plainly NoDatabase refl refl
-  blocks_plain volume at count NoSuchVolume is = plainly NoSuchVolume refl refl
-  blocks_plain volume at count OutOfRange is = plainly OutOfRange refl refl
-  blocks_plain volume at count other is = absurd is
+  creation_plain =
+      and_plain gone NoSuchSlice (where_so plain WrongKind ++ from_unread) (plainly NoSuchSlice refl refl) (and_plain plain WrongKind from_unread (plainly WrongKind refl refl)
+      (and_plain unread (WrongState Down) (where_so unforced NeedForce ++ from_used) (plainly (WrongState Down) refl refl) (and_plain unforced NeedForce from_used (plainly NeedForce refl refl)
+      (and_plain used SliceInUse (where_so small TooSmall) (plainly SliceInUse refl refl) (where_plain small TooSmall (plainly TooSmall refl refl))))))
+
+-- those of a stripe, by its table
+module _ (gone taken db used : Bool) where
+  abbrev named : List Refusal
+  named = where_so gone NoSuchSlice ++ where_so taken NameTaken
+
+  stripe_plain : All IsPlain ((named ++ where_so db WrongKind) ++ where_so used SliceInUse)
+  unfolding digits
+  stripe_plain =
+      All-append IsPlain (named ++ where_so db WrongKind) (where_so used SliceInUse)
+      (All-append IsPlain named (where_so db WrongKind) (All-append IsPlain (where_so gone NoSuchSlice) (where_so taken NameTaken) (where_plain gone NoSuchSlice (plainly NoSuchSlice refl refl)) (where_plain taken NameTaken (plainly NameTaken refl refl))) (where_plain db WrongKind (plainly WrongKind refl refl)))
+      (where_plain used SliceInUse (plainly SliceInUse refl refl))
+
+one_plain : (r : Refusal) → IsPlain r → All IsPlain (r ∷ [])
+one_plain r plain = All-cons IsPlain r [] plain (All-nil IsPlain)
+
+no_database_plain : All IsPlain (NoDatabase ∷ [])
+unfolding digits
+no_database_plain = one_plain NoDatabase (plainly NoDatabase refl refl)
+
+change_plain : (host : Host) (opened : Option Newest) (volume : VolId) (slice : SliceName) → All IsPlain (held_of_change host opened (MakeStripe volume slice))
+change_plain host None volume slice = no_database_plain
+change_plain host (Some newest) volume slice =
+    let change : Change = MakeStripe volume slice in
+    All-append IsPlain (table.held host.drives newest.table.plan change) (where_so (nat_lt (record_room newest) (bytes_after host newest change)) (ReplicaFull (bytes_after host newest change) (record_room newest)))
+    (stripe_plain (is_none (slice_at host.drives.slices slice)) (has_volume newest.table.plan.volumes volume) (is_db (slice_at host.drives.slices slice)) (is_in_use host.drives.slices (used_slices newest.table.plan) slice))
+    (where_plain (nat_lt (record_room newest) (bytes_after host newest change)) (ReplicaFull (bytes_after host newest change) (record_room newest)) (numbers_plain (bytes_after host newest change) (record_room newest)))
+
+past_plain : (volume : Option Volume) (end : ℕ) → All IsPlain (held_past volume end)
+unfolding digits
+past_plain None end = one_plain NoSuchVolume (plainly NoSuchVolume refl refl)
+past_plain (Some volume) end = where_plain (nat_lt (size_of volume.kind) end) OutOfRange (plainly OutOfRange refl refl)
+
+blocks_plain : (opened : Option Newest) (volume : VolId) (end : ℕ) → All IsPlain (held_of_blocks opened volume end)
+blocks_plain None volume end = no_database_plain
+blocks_plain (Some newest) volume end = past_plain (find (has_number volume) newest.table.plan.volumes) end
+
+held_plain : (case : Case) (command : Command) → All IsPlain (held case command)
+held_plain case (Create slice force) =
+    let at = slice_at case.host.drives.slices slice in
+    let opened = is_some case.memory.opened in
+    creation_plain (not (is_some at)) (is_plain at) case.memory.down (not opened && not force) opened (nat_lt case.host.home.blocks 8208)
+held_plain case (command.MakeStripe volume slice) = change_plain case.host case.memory.opened volume slice
+held_plain case (Read volume at count) = blocks_plain case.memory.opened volume (at + count)
+held_plain case (Write volume at block) = blocks_plain case.memory.opened volume (at + 1)
+
+-- whatever a command is refused for
+pub refusal_plain : (case : Case) (command : Command) (r : Refusal) → refusal_of case command ≡ Some r → IsPlain r
+refusal_plain case command r is = first_holds IsPlain order (held case command) r (held_plain case command) is
 
 -- the text is one reply, once its last byte is told
 pub record Answers (text : List ℕ) : Type 0 where
@@ -95,7 +151,7 @@ pub nothing_said : said_in [] ≡ unsaid []
 nothing_said = refusals_are_one_reply.front [] refl
 
 pub nothing_answers : replies_in [] ≡ []
-nothing_answers = ap (λ (s : Said). s.replies) nothing_said
+nothing_answers = ap (λ (s : SaidBytes). s.replies) nothing_said
 
 alone : (text : List ℕ) → Answers text → said_in text ≡ one_reply text
 alone text answers = ap said_in (sym (append-nil text)) ∙ answers.behind [] ∙ ap (with_reply text) nothing_said
@@ -138,12 +194,10 @@ front_is text answers count = ⊎_elim
 
 -- what was told of an answer is a front of one reply
 pub front_of : (answer : Answer) → IsPlainAnswer answer → (count : ℕ) → IsFront (take count (text_of answer))
-front_of outcome.Ok plain count = front_is ok_line ok_answers count
-front_of (outcome.Values text) plain count = front_is text (values_answer text plain) count
-front_of (outcome.Refused r) plain count = front_is (refusal_line r) (refusal_answers r plain) count
-front_of outcome.Panic plain count = inl (none_ways count)
-front_of outcome.Spent plain count = inl (none_ways count)
-front_of outcome.NoMemory plain count = inl (none_ways count)
+front_of (Said outcome.Ok) plain count = front_is ok_line ok_answers count
+front_of (Said (outcome.Values text)) plain count = front_is text (values_answer text plain) count
+front_of (Said (outcome.Refused r)) plain count = front_is (refusal_line r) (refusal_answers r plain) count
+front_of (Over end) plain count = inl (none_ways count)
 
 reply_is : (text : List ℕ) → Answers text → IsReply text
 reply_is text answers = record { alone = alone text answers; behind = answers.behind }
@@ -173,16 +227,16 @@ module _ (ask : Ask) where
   no_front bytes none = refusal_front bytes (BadLine, 0, none)
 
   acks_unsaid : (bytes : List ℕ) (done : List Deed) → said_in bytes ≡ unsaid bytes → AcksFront ask bytes done → Acks ask bytes done
-  acks_unsaid bytes done none acks = subst (λ (s : Said). AcksIn ask s.replies s.left done) (sym none) acks
+  acks_unsaid bytes done none acks = subst (λ (s : SaidBytes). AcksIn ask s.replies s.left done) (sym none) acks
 
   pub nothing_acked : Acks ask [] []
   nothing_acked = acks_unsaid [] [] nothing_said (no_front [] refl)
 
   acks_one : (bytes reply : List ℕ) (done : List Deed) → said_in bytes ≡ one_reply reply → AcksBy ask reply done → Acks ask bytes done
-  acks_one bytes reply done one acks = subst (λ (s : Said). AcksIn ask s.replies s.left done) (sym one) acks
+  acks_one bytes reply done one acks = subst (λ (s : SaidBytes). AcksIn ask s.replies s.left done) (sym one) acks
 
   issuable_unsaid : (bytes : List ℕ) → said_in bytes ≡ unsaid bytes → issuable_of ask bytes ≡ deeds ask
-  issuable_unsaid bytes none = ap (λ (s : Said). issuable_in ask s.replies) none
+  issuable_unsaid bytes none = ap (λ (s : SaidBytes). issuable_in ask s.replies) none
 
   pub nothing_issuable : issuable_of ask [] ≡ deeds ask
   nothing_issuable = issuable_unsaid [] nothing_said
@@ -197,16 +251,16 @@ module _ (ask : Ask) where
 
   -- what an answer says that the line may have begun is no more than what it asks
   issued_asked : (answer : Answer) → IsPart (issued_by ask answer) (deeds ask)
-  issued_asked outcome.Ok = part_itself (deeds ask)
-  issued_asked (outcome.Values text) = tt
-  issued_asked (outcome.Refused IoFault) = part_itself (deeds ask)
-  issued_asked (outcome.Refused other) = tt
-  issued_asked outcome.Panic = part_itself (deeds ask)
-  issued_asked outcome.Spent = tt
-  issued_asked outcome.NoMemory = tt
+  issued_asked (Said outcome.Ok) = part_itself (deeds ask)
+  issued_asked (Said (outcome.Values text)) = tt
+  issued_asked (Said (outcome.Refused IoFault)) = part_itself (deeds ask)
+  issued_asked (Said (outcome.Refused other)) = tt
+  issued_asked (Over (ended.Lost active listed)) = part_itself (deeds ask)
+  issued_asked (Over ended.Spent) = tt
+  issued_asked (Over ended.Memory) = tt
 
   -- and no more than its reply says
-  let_refusal : (r : Refusal) → IsPart (issued_by ask (outcome.Refused r)) (issuable ask (refusal_line r))
+  let_refusal : (r : Refusal) → IsPart (issued_by ask (Said (outcome.Refused r))) (issuable ask (refusal_line r))
   unfolding digits
   let_refusal IoFault = part_itself (deeds ask)
   let_refusal other = tt
@@ -221,13 +275,13 @@ module _ (ask : Ask) where
     pub lets : IsPart (issued_by ask answer) (issuable ask reply)
     pub all : TellsAll answer done told
 
-  pub ok_way : (done : List Deed) → AcksBy ask ok_line done → ReplyWay outcome.Ok done ok_line done
+  pub ok_way : (done : List Deed) → AcksBy ask ok_line done → ReplyWay (Said outcome.Ok) done ok_line done
   ok_way done acks = record { acks = acks; lets = part_itself (deeds ask); all = inr (tt, refl) }
 
-  pub values_way : (text : List ℕ) (done : List Deed) → AcksBy ask text done → ReplyWay (outcome.Values text) done text done
+  pub values_way : (text : List ℕ) (done : List Deed) → AcksBy ask text done → ReplyWay (Said (outcome.Values text)) done text done
   values_way text done acks = record { acks = acks; lets = tt; all = inr (tt, refl) }
 
-  pub refusal_way : (r : Refusal) (done : List Deed) → ReplyWay (outcome.Refused r) done (refusal_line r) []
+  pub refusal_way : (r : Refusal) (done : List Deed) → ReplyWay (Said (outcome.Refused r)) done (refusal_line r) []
   refusal_way r done = record { acks = refusal_acks r; lets = let_refusal r; all = inl refl }
 
   -- and by the bytes told of it
@@ -259,7 +313,7 @@ module _ (ask : Ask) where
   whole_way answer done bytes reply told one way = record {
     told = told;
     acks = acks_one bytes reply told one way.acks;
-    lets = subst (λ (may : List Deed). IsPart (issued_by ask answer) may) (sym (ap (λ (s : Said). issuable_in ask s.replies) one)) way.lets;
+    lets = subst (λ (may : List Deed). IsPart (issued_by ask answer) may) (sym (ap (λ (s : SaidBytes). issuable_in ask s.replies) one)) way.lets;
     all = way.all;
   }
 
@@ -269,19 +323,17 @@ module _ (ask : Ask) where
       (λ (one : (take count text ≡ text) × (said_in (take count text) ≡ one_reply text)). whole_way answer done (take count text) text done one.1 way)
       (front_ways text answers count)
 
-  refused_way : (r : Refusal) (done : List Deed) → IsPlain r → (count : ℕ) → Way (outcome.Refused r) done (take count (refusal_line r))
+  refused_way : (r : Refusal) (done : List Deed) → IsPlain r → (count : ℕ) → Way (Said (outcome.Refused r)) done (take count (refusal_line r))
   refused_way r done plain count = ⊎_elim
-      (λ (none : said_in (take count (refusal_line r)) ≡ unsaid (take count (refusal_line r))). unsaid_way (outcome.Refused r) done (take count (refusal_line r)) [] none (refusal_front (take count (refusal_line r)) (r, count, refl)) (inl refl))
-      (λ (one : (take count (refusal_line r) ≡ refusal_line r) × (said_in (take count (refusal_line r)) ≡ one_reply (refusal_line r))). whole_way (outcome.Refused r) done (take count (refusal_line r)) (refusal_line r) [] one.1 (refusal_way r done))
+      (λ (none : said_in (take count (refusal_line r)) ≡ unsaid (take count (refusal_line r))). unsaid_way (Said (outcome.Refused r)) done (take count (refusal_line r)) [] none (refusal_front (take count (refusal_line r)) (r, count, refl)) (inl refl))
+      (λ (one : (take count (refusal_line r) ≡ refusal_line r) × (said_in (take count (refusal_line r)) ≡ one_reply (refusal_line r))). whole_way (Said (outcome.Refused r)) done (take count (refusal_line r)) (refusal_line r) [] one.1 (refusal_way r done))
       (front_ways (refusal_line r) (refusal_answers r plain) count)
 
   untold_way : (answer : Answer) (done : List Deed) (count : ℕ) → Way answer done (take count [])
   untold_way answer done count = unsaid_way answer done (take count []) [] (none_ways count) (no_front (take count []) (take_none count)) (inl refl)
 
   pub ways : (answer : Answer) → IsPlainAnswer answer → (done : List Deed) → AcksAnswer ask answer done → (count : ℕ) → Way answer done (take count (text_of answer))
-  ways outcome.Ok plain done acks count = accepted_way outcome.Ok tt done ok_line ok_answers (ok_way done acks) count
-  ways (outcome.Values text) plain done acks count = accepted_way (outcome.Values text) tt done text (values_answer text plain) (values_way text done acks) count
-  ways (outcome.Refused r) plain done acks count = refused_way r done plain count
-  ways outcome.Panic plain done acks count = untold_way outcome.Panic done count
-  ways outcome.Spent plain done acks count = untold_way outcome.Spent done count
-  ways outcome.NoMemory plain done acks count = untold_way outcome.NoMemory done count
+  ways (Said outcome.Ok) plain done acks count = accepted_way (Said outcome.Ok) tt done ok_line ok_answers (ok_way done acks) count
+  ways (Said (outcome.Values text)) plain done acks count = accepted_way (Said (outcome.Values text)) tt done text (values_answer text plain) (values_way text done acks) count
+  ways (Said (outcome.Refused r)) plain done acks count = refused_way r done plain count
+  ways (Over end) plain done acks count = untold_way (Over end) done count

@@ -1,7 +1,9 @@
 -- A line that ends before anything is done, and what is known by what is in memory.
 use Rattle.std.proofs.Common.{◌≡◌, [], Option, Some, IfSome, refl, sym, ◌∙◌, subst}
 use Rattle.mdv_engine_law.specs.Below.{Refusal, Tale, Newest, IsOpened, IsNewestIn}
-use Rattle.mdv_engine_law.specs.declared.answer.Answer.TheVariants as outcome
+use Rattle.mdv_engine_law.specs.declared.answer.Answer.TheVariants.{Said, Over}
+use Rattle.mdv_engine_law.specs.declared.answer.Ended.TheVariants as ended
+use Rattle.mdv_engine_law.specs.declared.answer.Outcome.TheVariants as outcome
 use Rattle.mdv_engine_law.specs.declared.host.Host.{Host}
 use Rattle.mdv_engine_law.specs.Home.{site_of}
 use Rattle.mdv_engine_law.specs.Line.{Ask, Memory}
@@ -33,11 +35,11 @@ module _ (host : Host) (ask : Ask) (old next : Memory) (t : Tale) where
     }
 
     -- a refusal before anything was done
-    pub refused_still : (refusal : Refusal) → CarriedTo host ask old (outcome.Refused refusal) next t t
+    pub refused_still : (refusal : Refusal) → CarriedTo host ask old (Said (outcome.Refused refusal)) next t t
     refused_still refusal = record {
       done = [];
       acks = refl;
-      goes = λ h known. goes_none host (issued_by ask (outcome.Refused refusal)) (λ es g. IsKnownAfter host [] (outcome.Refused refusal) next g t) t h known.stands (record {
+      goes = λ h known. goes_none host (issued_by ask (Said (outcome.Refused refusal))) (λ es g. IsKnownAfter host [] (Said (outcome.Refused refusal)) next g t) t h known.stands (record {
         stands = known.stands;
         newest = subst (λ (o : Option Newest). IfSome o (λ n. IsNewestIn n h.database)) (sym opened) known.newest;
         knows = still_knows known.knows;
@@ -46,5 +48,5 @@ module _ (host : Host) (ask : Ask) (old next : Memory) (t : Tale) where
     }
 
   -- a number would reach its limit
-  pub spent_still : CarriedTo host ask old outcome.Spent next t t
-  spent_still = record { done = []; acks = refl; goes = λ h known. goes_none host [] (λ es g. IsKnownAfter host [] outcome.Spent next g t) t h known.stands tt; knows = λ knows. tt }
+  pub spent_still : CarriedTo host ask old (Over ended.Spent) next t t
+  spent_still = record { done = []; acks = refl; goes = λ h known. goes_none host [] (λ es g. IsKnownAfter host [] (Over ended.Spent) next g t) t h known.stands tt; knows = λ knows. tt }

@@ -11,7 +11,8 @@ use Rattle.mdv_store_law.proofs.Families.{contains_first, written_firm}
 use Rattle.mdv_store_law.proofs.Frame.{frames}
 use Rattle.mdv_store_law.proofs.Parts.{part_itself}
 use Rattle.mdv_history.proofs.Values.{values_issued, issued_newest}
-use Rattle.mdv_engine_law.specs.declared.answer.Answer.TheVariants as outcome
+use Rattle.mdv_engine_law.specs.declared.answer.Answer.TheVariants.{Said, Over}
+use Rattle.mdv_engine_law.specs.declared.answer.Outcome.TheVariants as outcome
 use Rattle.mdv_engine_law.specs.declared.host.Host.{Host}
 use Rattle.mdv_engine_law.specs.Home.{IsReady, StaysHome, site_of}
 use Rattle.mdv_engine_law.specs.Line.{Memory, ToDo, ToSee, AreBlocksAt, blocks_of, drive_content}
@@ -89,14 +90,14 @@ module _ (host : Host) (sizes : List ℕ) (ready : IsReady host sizes) (memory :
       not_true false never = refl
 
   -- they were read
-  pub saw : (t : Tale) (text : List ℕ) → text ≡ values_reply at (blocks_of (drive_content t) block count) → CarriedTo host (ToSee volume at count) memory (outcome.Values text) memory t t
+  pub saw : (t : Tale) (text : List ℕ) → text ≡ values_reply at (blocks_of (drive_content t) block count) → CarriedTo host (ToSee volume at count) memory (Said (outcome.Values text)) memory t t
   saw t text is =
       let blocks = blocks_of (drive_content t) block count in
       let counted : length blocks ≡ count = length-map-range_with_len (drive_content t) block count in
       record {
         done = Saw volume at blocks ∷ [];
         acks = inr (record { blocks = blocks; counted = counted; told = is; seen = refl });
-        goes = λ h known. goes_none host [] (λ es g. IsKnownAfter host (Saw volume at blocks ∷ []) (outcome.Values text) memory g t) t h known.stands (
+        goes = λ h known. goes_none host [] (λ es g. IsKnownAfter host (Saw volume at blocks ∷ []) (Said (outcome.Values text)) memory g t) t h known.stands (
           known,
           (block, subst (λ (n : ℕ). HasExtent (site_of host) h extent n) (sym counted) (has_extent h t known), seen_allowed h t known),
         );
@@ -148,11 +149,11 @@ module _ (host : Host) (sizes : List ℕ) (ready : IsReady host sizes) (memory :
   writing_moment home = record { home = home; quiet = settling.quiet; goes = issued_by Reached (λ h has known. tt) }
 
   -- they are on the disk, and the `ok` may be told
-  pub wrote_blocks : IsSettled 0 block blocks m → CarriedTo host (ToDo wrote) memory outcome.Ok memory t m
+  pub wrote_blocks : IsSettled 0 block blocks m → CarriedTo host (ToDo wrote) memory (Said outcome.Ok) memory t m
   wrote_blocks settled = record {
     done = wrote ∷ [];
     acks = refl;
-    goes = issued_by (λ es g. IsKnownAfter host (wrote ∷ []) outcome.Ok memory g m) (λ h has known. (
+    goes = issued_by (λ es g. IsKnownAfter host (wrote ∷ []) (Said outcome.Ok) memory g m) (λ h has known. (
       known,
       (
         block,
@@ -165,5 +166,5 @@ module _ (host : Host) (sizes : List ℕ) (ready : IsReady host sizes) (memory :
   }
 
   -- a call on the drive failed
-  pub wrote_some : CarriedTo host (ToDo wrote) memory (outcome.Refused IoFault) memory t m
-  wrote_some = record { done = []; acks = refl; goes = issued_by (λ es g. IsKnownAfter host [] (outcome.Refused IoFault) memory g m) (λ h has known. known); knows = knows_written }
+  pub wrote_some : CarriedTo host (ToDo wrote) memory (Said (outcome.Refused IoFault)) memory t m
+  wrote_some = record { done = []; acks = refl; goes = issued_by (λ es g. IsKnownAfter host [] (Said (outcome.Refused IoFault)) memory g m) (λ h has known. known); knows = knows_written }

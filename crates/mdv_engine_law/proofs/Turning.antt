@@ -9,17 +9,21 @@ use Rattle.mdv_history.proofs.Parts.{first_or_behind}
 use Rattle.mdv_shelf.proofs.Frame.{kept_outside_same}
 use Rattle.mdv_shelf.proofs.Moments.{moments_end, ends_both}
 use Rattle.mdv_engine_law.specs.declared.answer.Answer.{Answer}
-use Rattle.mdv_engine_law.specs.declared.answer.Answer.TheVariants as outcome
+use Rattle.mdv_engine_law.specs.declared.answer.Answer.TheVariants.{Said, Over}
+use Rattle.mdv_engine_law.specs.declared.answer.Outcome.TheVariants as outcome
+use Rattle.mdv_engine_law.specs.declared.answer.Ended.{Ended}
+use Rattle.mdv_engine_law.specs.declared.answer.Ended.TheVariants as ended
+use Rattle.mdv_engine_law.specs.declared.answer.Outcome.{Outcome}
 use Rattle.mdv_engine_law.specs.declared.answer.Reply.{Reply}
-use Rattle.mdv_engine_law.specs.declared.answer.Reply.TheVariants as reply
 use Rattle.mdv_engine_law.specs.declared.host.Host.{Host}
 use Rattle.mdv_engine_law.specs.Line.{Ask, Nothing, ToDo, ToSee, deeds, Memory}
-use Rattle.mdv_engine_law.specs.Replies.{AcksAnswer, AcksBy, IsPlain, IsPlainAnswer, IsAccepted, IsReply, IsReplied, IsLost, issuable, issuable_of, issued_by, ok_line, refusal_line, text_of}
+use Rattle.mdv_engine_law.specs.Replies.{AcksAnswer, AcksBy, IsPlain, IsPlainAnswer, IsPlainOutcome, outcome_text, reply_at, IsAccepted, IsReply, IsReplied, IsLost, issuable, issuable_of, issued_by, ok_line, refusal_line, text_of}
 use Rattle.mdv_engine_law.specs.Standing.{Goes, Reached, Knows, IsKnown, CarryMoment, CarriedTo, CanTellAll, IsKnownAfter, IsAwake, TellMoment, TurnMoment, Turned, OnlyReplied}
 use Rattle.mdv_engine_law.proofs.Going.{goes_none, goes_more, goes_weaker}
 use Rattle.mdv_engine_law.proofs.Knowing.{knows_kept, known_kept}
 use Rattle.mdv_engine_law.proofs.Deeds.{told_all}
 use Rattle.mdv_engine_law.proofs.Staying.{stays_more, stays_same, stays_still}
+use Rattle.mdv_engine_law.proofs.Longer.{ended_lost, never_ended}
 use Rattle.mdv_engine_law.proofs.Plain.{front_of, nothing_said, nothing_acked, nothing_issuable, TellsAll, ReplyWay, ok_way, values_way, refusal_way, ways, ok_reply, values_are_reply, refusal_reply}
 
 -- nothing is among no deeds
@@ -41,12 +45,10 @@ created_by (ToSee volume at count) reply done (inr tells) has = elim (first_or_b
 
 -- a creation that is acknowledged was asked
 pub created_asked : (ask : Ask) (answer : Answer) (done : List Deed) → AcksAnswer ask answer done → Contains done Created → Contains (deeds ask) Created
-created_asked ask outcome.Ok done acks has = created_by ask ok_line done acks has
-created_asked ask (outcome.Values text) done acks has = created_by ask text done acks has
-created_asked ask (outcome.Refused r) done acks has = absurd (never_among done Created acks has)
-created_asked ask outcome.Panic done acks has = absurd (never_among done Created acks has)
-created_asked ask outcome.Spent done acks has = absurd (never_among done Created acks has)
-created_asked ask outcome.NoMemory done acks has = absurd (never_among done Created acks has)
+created_asked ask (Said outcome.Ok) done acks has = created_by ask ok_line done acks has
+created_asked ask (Said (outcome.Values text)) done acks has = created_by ask text done acks has
+created_asked ask (Said (outcome.Refused r)) done acks has = absurd (never_among done Created acks has)
+created_asked ask (Over end) done acks has = absurd (never_among done Created acks has)
 
 module _ (host : Host) (ask : Ask) (old : Memory) where
   -- while a line is carried out
@@ -70,12 +72,10 @@ module _ (host : Host) (ask : Ask) (old : Memory) where
   module _ (new : Memory) where
     -- what is known behind an answer that is accepted
     accepted_known : (done : List Deed) (answer : Answer) (h : History) (u : Tale) → IsAccepted answer → IsKnownAfter host done answer new h u → IsKnown host new h u × CanTellAll host done h u
-    accepted_known done outcome.Ok h u on is = is
-    accepted_known done (outcome.Values text) h u on is = is
-    accepted_known done (outcome.Refused refusal) h u on is = absurd on
-    accepted_known done outcome.Panic h u on is = absurd on
-    accepted_known done outcome.Spent h u on is = absurd on
-    accepted_known done outcome.NoMemory h u on is = absurd on
+    accepted_known done (Said outcome.Ok) h u on is = is
+    accepted_known done (Said (outcome.Values text)) h u on is = is
+    accepted_known done (Said (outcome.Refused refusal)) h u on is = absurd on
+    accepted_known done (Over end) h u on is = absurd on
 
     module _ (answer : Answer) (t u : Tale) (carried : CarriedTo host ask old answer new t u) (v : Tale) (kept : KeptOutside nowhere u v) (may : List Deed) (lets : IsPart (issued_by ask answer) may) where
       -- a history that goes on by the telling of what was done
@@ -102,12 +102,10 @@ module _ (host : Host) (ask : Ask) (old : Memory) where
       only_awake done said acks (inr (on, all)) some = awake on (λ nothing. some (all ∙ nothing_done answer on done (subst (λ (a : Ask). AcksAnswer a answer done) nothing acks)))
         where
           nothing_done : (answer : Answer) → IsAccepted answer → (done : List Deed) → AcksAnswer Nothing answer done → done ≡ []
-          nothing_done outcome.Ok on done acks = acks
-          nothing_done (outcome.Values text) on done acks = acks
-          nothing_done (outcome.Refused r) on done acks = acks
-          nothing_done outcome.Panic on done acks = acks
-          nothing_done outcome.Spent on done acks = acks
-          nothing_done outcome.NoMemory on done acks = acks
+          nothing_done (Said outcome.Ok) on done acks = acks
+          nothing_done (Said (outcome.Values text)) on done acks = acks
+          nothing_done (Said (outcome.Refused r)) on done acks = acks
+          nothing_done (Over end) on done acks = acks
 
       only_free : (done said : List Deed) → AcksAnswer ask answer done → TellsAll ask answer done said → Contains said Created → old.opened ≡ None
       only_free done said acks (inl none) has = absurd (never_among said Created none has)
@@ -146,7 +144,7 @@ module _ (host : Host) (ask : Ask) (old : Memory) where
         goes = then_told answer t u carried v kept (issuable ask piece) way.lets on;
       }
 
-      refused_turned : (r : Refusal) → IsPlainAnswer (outcome.Refused r) → CarriedTo host ask old (outcome.Refused r) new t u → (piece : List ℕ) → piece ≡ refusal_line r → told v ≡ told u ++ piece → KeptOutside nowhere u v → Turned host ask old new t v
+      refused_turned : (r : Refusal) → IsPlainAnswer (Said (outcome.Refused r)) → CarriedTo host ask old (Said (outcome.Refused r)) new t u → (piece : List ℕ) → piece ≡ refusal_line r → told v ≡ told u ++ piece → KeptOutside nowhere u v → Turned host ask old new t v
       refused_turned r plain carried piece is more kept =
           let way = refusal_way ask r carried.done in
           record {
@@ -158,52 +156,28 @@ module _ (host : Host) (ask : Ask) (old : Memory) where
             awake = λ some. absurd (some refl);
             free = λ has. absurd (never_among [] Created refl has);
             knows = λ before. knows_kept host u v kept new (carried.knows before);
-            goes = then_still (outcome.Refused r) t u carried v kept (issuable ask (refusal_line r)) way.lets (λ es after. IsKnown host new after v) (λ es g is. known_kept host u v kept new g is);
+            goes = then_still (Said (outcome.Refused r)) t u carried v kept (issuable ask (refusal_line r)) way.lets (λ es after. IsKnown host new after v) (λ es g is. known_kept host u v kept new g is);
           }
 
+      said_turned : (this : Outcome) → IsPlainOutcome this → (IsAccepted (Said this) → (ask ≢ Nothing) → IsAwake old) → (IsAccepted (Said this) → Contains (deeds ask) Created → old.opened ≡ None) → CarriedTo host ask old (Said this) new t u → (piece : List ℕ) → piece ≡ outcome_text this → told v ≡ told u ++ piece
+          → KeptOutside nowhere u v → Turned host ask old new t v
+      said_turned outcome.Ok plain awake free carried piece is more kept =
+          accepted_turned (Said outcome.Ok) tt awake free carried carried.knows ok_line ok_reply (ok_way ask carried.done carried.acks) (more ∙ ap (λ (l : List ℕ). told u ++ l) is) kept
+      said_turned (outcome.Values text) plain awake free carried piece is more kept =
+          accepted_turned (Said (outcome.Values text)) tt awake free carried carried.knows text (values_are_reply text plain) (values_way ask text carried.done carried.acks) (more ∙ ap (λ (l : List ℕ). told u ++ l) is) kept
+      said_turned (outcome.Refused refusal) plain awake free carried piece is more kept = refused_turned refusal plain carried piece is more kept
+
       pub turned : (answer : Answer) → IsPlainAnswer answer → (IsAccepted answer → (ask ≢ Nothing) → IsAwake old) → (IsAccepted answer → Contains (deeds ask) Created → old.opened ≡ None) → CarriedTo host ask old answer new t u → (r : Reply) → IsReplied r → OnlyReplied failed answer r u v → Turned host ask old new t v
-      turned outcome.Ok plain awake free carried reply.Ok on given =
-          accepted_turned outcome.Ok tt awake free carried carried.knows ok_line ok_reply (ok_way ask carried.done carried.acks) (given.replied.is_told ∙ ap (λ (l : List ℕ). told u ++ l) given.replied.as_told) given.kept
-      turned (outcome.Values text) plain awake free carried reply.Ok on given =
-          accepted_turned (outcome.Values text) tt awake free carried carried.knows text (values_are_reply text plain) (values_way ask text carried.done carried.acks) (given.replied.is_told ∙ ap (λ (l : List ℕ). told u ++ l) given.replied.as_told) given.kept
-      turned (outcome.Refused refusal) plain awake free carried (reply.Refused again) on given = refused_turned refusal plain carried given.replied.piece given.replied.as_told.1 given.replied.is_told given.kept
-      turned outcome.Ok plain awake free carried (reply.Refused again) on given = absurd given.replied.as_told
-      turned (outcome.Values text) plain awake free carried (reply.Refused again) on given = absurd given.replied.as_told
-      turned (outcome.Refused refusal) plain awake free carried reply.Ok on given = absurd given.replied.as_told
-      turned outcome.Panic plain awake free carried reply.Ok on given = absurd given.replied.as_told
-      turned outcome.Panic plain awake free carried (reply.Refused again) on given = absurd given.replied.as_told
-      turned outcome.Spent plain awake free carried reply.Ok on given = absurd given.replied.as_told
-      turned outcome.Spent plain awake free carried (reply.Refused again) on given = absurd given.replied.as_told
-      turned outcome.NoMemory plain awake free carried reply.Ok on given = absurd given.replied.as_told
-      turned outcome.NoMemory plain awake free carried (reply.Refused again) on given = absurd given.replied.as_told
-      turned answer plain awake free carried (reply.Panic active listed) on given = absurd on
-      turned answer plain awake free carried reply.Spent on given = absurd on
-      turned answer plain awake free carried reply.NoMemory on given = absurd on
-      turned answer plain awake free carried reply.Told on given = absurd on
+      turned (Said this) plain awake free carried r on given = elim given.replied.as_told [
+        | inl whole ↦ said_turned this plain awake free carried given.replied.piece whole.1 given.replied.is_told given.kept
+        | inr cut ↦ absurd (let never : ⊥ = subst IsReplied cut.given_is on in never)
+      ]
+      turned (Over end) plain awake free carried r on given = absurd (never_ended end (subst IsReplied given.replied.as_told.0 on))
 
       -- unless the run is over without a reply, what is known of the drive is known behind the reply
       pub knows_after : (answer : Answer) → CarriedTo host ask old answer new t u → (r : Reply) → (IsLost r → ⊥) → OnlyReplied failed answer r u v → Knows host old t → Knows host new v
-      knows_after outcome.Ok carried r on given knows = knows_kept host u v given.kept new (carried.knows knows)
-      knows_after (outcome.Values text) carried r on given knows = knows_kept host u v given.kept new (carried.knows knows)
-      knows_after (outcome.Refused refusal) carried r on given knows = knows_kept host u v given.kept new (carried.knows knows)
-      knows_after outcome.Panic carried reply.Ok on given knows = absurd given.replied.as_told
-      knows_after outcome.Panic carried (reply.Refused again) on given knows = absurd given.replied.as_told
-      knows_after outcome.Panic carried (reply.Panic active listed) on given knows = absurd (on tt)
-      knows_after outcome.Panic carried reply.Spent on given knows = absurd given.replied.as_told
-      knows_after outcome.Panic carried reply.NoMemory on given knows = absurd given.replied.as_told
-      knows_after outcome.Panic carried reply.Told on given knows = absurd given.replied.as_told
-      knows_after outcome.Spent carried reply.Ok on given knows = absurd given.replied.as_told
-      knows_after outcome.Spent carried (reply.Refused again) on given knows = absurd given.replied.as_told
-      knows_after outcome.Spent carried (reply.Panic active listed) on given knows = absurd given.replied.as_told
-      knows_after outcome.Spent carried reply.Spent on given knows = absurd (on tt)
-      knows_after outcome.Spent carried reply.NoMemory on given knows = absurd given.replied.as_told
-      knows_after outcome.Spent carried reply.Told on given knows = absurd given.replied.as_told
-      knows_after outcome.NoMemory carried reply.Ok on given knows = absurd given.replied.as_told
-      knows_after outcome.NoMemory carried (reply.Refused again) on given knows = absurd given.replied.as_told
-      knows_after outcome.NoMemory carried (reply.Panic active listed) on given knows = absurd given.replied.as_told
-      knows_after outcome.NoMemory carried reply.Spent on given knows = absurd given.replied.as_told
-      knows_after outcome.NoMemory carried reply.NoMemory on given knows = absurd (on tt)
-      knows_after outcome.NoMemory carried reply.Told on given knows = absurd given.replied.as_told
+      knows_after (Said this) carried r on given knows = knows_kept host u v given.kept new (carried.knows knows)
+      knows_after (Over end) carried r on given knows = absurd (on (subst IsLost (sym given.replied.as_told.0) (ended_lost end)))
 
 -- what is known once a line was carried out
 abbrev pub Carried : Host → Ask → Memory → Memory → Answer → Tale → Tale → Type 0
@@ -214,20 +188,20 @@ carried_ends host ask old new answer a b moments carried =
     ends_both (CarryMoment host ask old) (CarriedTo host ask old answer new) (Carried host ask old new answer) a b (λ t u carry to. (carry, to)) (moments_end (CarryMoment host ask old) a b moments) carried
 
 -- a line that is refused before anything is done
-pub refused_none : (host : Host) (ask : Ask) (memory : Memory) (r : Refusal) (t : Tale) → CarriedTo host ask memory (outcome.Refused r) memory t t
+pub refused_none : (host : Host) (ask : Ask) (memory : Memory) (r : Refusal) (t : Tale) → CarriedTo host ask memory (Said (outcome.Refused r)) memory t t
 refused_none host ask memory r t = record {
   done = [];
   acks = refl;
-  goes = λ h known. goes_none host (issued_by ask (outcome.Refused r)) (λ es after. IsKnown host memory after t) t h known.stands known;
+  goes = λ h known. goes_none host (issued_by ask (Said (outcome.Refused r))) (λ es after. IsKnown host memory after t) t h known.stands known;
   knows = λ knows. knows;
 }
 
 -- and a boot that was answered, by which nothing was asked
-pub accepted_none : (host : Host) (memory : Memory) (t : Tale) → CarriedTo host Nothing memory outcome.Ok memory t t
+pub accepted_none : (host : Host) (memory : Memory) (t : Tale) → CarriedTo host Nothing memory (Said outcome.Ok) memory t t
 accepted_none host memory t = record {
   done = [];
   acks = refl;
-  goes = λ h known. goes_none host [] (λ es after. IsKnownAfter host [] outcome.Ok memory after t) t h known.stands (known, tt);
+  goes = λ h known. goes_none host [] (λ es after. IsKnownAfter host [] (Said outcome.Ok) memory after t) t h known.stands (known, tt);
   knows = λ knows. knows;
 }
 
@@ -235,18 +209,18 @@ accepted_none host memory t = record {
 module _ (host : Host) (memory : Memory) where
   pub refusal_told : (ask : Ask) (r : Refusal) → IsPlain r → (t m : Tale) → TellMoment (refusal_line r) t m → TurnMoment host ask memory t m
   refusal_told ask r plain t m tell =
-      turn_tell host ask memory memory (outcome.Refused r) (λ on some. absurd on) (λ on has. absurd on) plain t t (carry_none host ask memory t) (refused_none host ask memory r t) m tell
+      turn_tell host ask memory memory (Said (outcome.Refused r)) (λ on some. absurd on) (λ on has. absurd on) plain t t (carry_none host ask memory t) (refused_none host ask memory r t) m tell
 
-  pub refusal_turned : (ask : Ask) (r : Refusal) → IsPlain r → (failed : Type 0) (t u : Tale) (given : Reply) → IsReplied given → OnlyReplied failed (outcome.Refused r) given t u → Turned host ask memory memory t u
+  pub refusal_turned : (ask : Ask) (r : Refusal) → IsPlain r → (failed : Type 0) (t u : Tale) (given : Reply) → IsReplied given → OnlyReplied failed (Said (outcome.Refused r)) given t u → Turned host ask memory memory t u
   refusal_turned ask r plain failed t u given on told =
-      turned host ask memory memory failed t t u refl (outcome.Refused r) plain (λ on some. absurd on) (λ on has. absurd on) (refused_none host ask memory r t) given on told
+      turned host ask memory memory failed t t u refl (Said (outcome.Refused r)) plain (λ on some. absurd on) (λ on has. absurd on) (refused_none host ask memory r t) given on told
 
   pub ok_told : (t m : Tale) → TellMoment ok_line t m → TurnMoment host Nothing memory t m
-  ok_told t m tell = turn_tell host Nothing memory memory outcome.Ok (λ on some. absurd (some refl)) (λ on has. absurd (never_among [] Created refl has)) tt t t (carry_none host Nothing memory t) (accepted_none host memory t) m tell
+  ok_told t m tell = turn_tell host Nothing memory memory (Said outcome.Ok) (λ on some. absurd (some refl)) (λ on has. absurd (never_among [] Created refl has)) tt t t (carry_none host Nothing memory t) (accepted_none host memory t) m tell
 
-  pub ok_turned : (failed : Type 0) (t u : Tale) (given : Reply) → IsReplied given → OnlyReplied failed outcome.Ok given t u → Turned host Nothing memory memory t u
+  pub ok_turned : (failed : Type 0) (t u : Tale) (given : Reply) → IsReplied given → OnlyReplied failed (Said outcome.Ok) given t u → Turned host Nothing memory memory t u
   ok_turned failed t u given on told =
-      turned host Nothing memory memory failed t t u refl outcome.Ok tt (λ on some. absurd (some refl)) (λ on has. absurd (never_among [] Created refl has)) (accepted_none host memory t) given on told
+      turned host Nothing memory memory failed t t u refl (Said outcome.Ok) tt (λ on some. absurd (some refl)) (λ on has. absurd (never_among [] Created refl has)) (accepted_none host memory t) given on told
 
   -- and what was known is known
   pub told_knows : (failed : Type 0) (answer : Answer) (given : Reply) (t u : Tale) → OnlyReplied failed answer given t u → Knows host memory t → Knows host memory u

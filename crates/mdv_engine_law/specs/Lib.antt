@@ -1,6 +1,9 @@
 pub mod Below
 pub use Rattle.mdv_base.specs.Causes
+pub mod Answers
 pub mod Home
 pub mod Line
+pub mod Refusals
+pub mod Commands
 pub mod Replies
 pub mod Standing

@@ -7,7 +7,11 @@ use Rattle.mdv_shelf.specs.Story.{NoFewer}
 use Rattle.mdv_shelf.specs.declared.shelf.Shelf.{Ghosts}
 use Rattle.mdv_engine_law.specs.Below.{refusal_text, VolId, Refusal, IoFault, Deed, Saw, lacks, left_in, one_reply, refused, replies_in, said_in, unsaid, with_reply, values_reply}
 use Rattle.mdv_engine_law.specs.declared.answer.Answer.{Answer}
-use Rattle.mdv_engine_law.specs.declared.answer.Answer.TheVariants as outcome
+use Rattle.mdv_engine_law.specs.declared.answer.Answer.TheVariants.{Said, Over}
+use Rattle.mdv_engine_law.specs.declared.answer.Ended.{Ended}
+use Rattle.mdv_engine_law.specs.declared.answer.Ended.TheVariants as ended
+use Rattle.mdv_engine_law.specs.declared.answer.Outcome.{Outcome}
+use Rattle.mdv_engine_law.specs.declared.answer.Outcome.TheVariants as outcome
 use Rattle.mdv_engine_law.specs.declared.answer.Reply.{Reply}
 use Rattle.mdv_engine_law.specs.Line.{Ask, Nothing, ToDo, ToSee, deeds}
 use Rattle.mdv_engine_law.specs.declared.answer.Reply.TheVariants as reply
@@ -18,14 +22,16 @@ refusal_line refusal = refusal_text refusal ++ 10 ∷ []
 abbrev pub ok_line : List ℕ
 ok_line = codes "ok" ++ 10 ∷ []
 
--- what an answer tells
+-- what is told of an outcome
+abbrev pub outcome_text : Outcome → List ℕ
+outcome_text outcome.Ok = ok_line
+outcome_text (outcome.Values text) = text
+outcome_text (outcome.Refused refusal) = refusal_line refusal
+
+-- what an answer tells: nothing of a run's end
 abbrev pub text_of : Answer → List ℕ
-text_of outcome.Ok = ok_line
-text_of (outcome.Values text) = text
-text_of (outcome.Refused refusal) = refusal_line refusal
-text_of outcome.Panic = []
-text_of outcome.Spent = []
-text_of outcome.NoMemory = []
+text_of (Said this) = outcome_text this
+text_of (Over end) = []
 
 -- the refusal's text is one line, and begins as all of them do
 pub record IsPlain (refusal : Refusal) : Type 0 where
@@ -38,13 +44,14 @@ pub record AreValues (text : List ℕ) : Type 0 where
   pub blocks : List (List ℕ)
   pub is : text ≡ values_reply at blocks
 
+abbrev pub IsPlainOutcome : Outcome → Type 0
+IsPlainOutcome outcome.Ok = Unit {0}
+IsPlainOutcome (outcome.Values text) = AreValues text
+IsPlainOutcome (outcome.Refused refusal) = IsPlain refusal
+
 abbrev pub IsPlainAnswer : Answer → Type 0
-IsPlainAnswer outcome.Ok = Unit {0}
-IsPlainAnswer (outcome.Values text) = AreValues text
-IsPlainAnswer (outcome.Refused refusal) = IsPlain refusal
-IsPlainAnswer outcome.Panic = Unit {0}
-IsPlainAnswer outcome.Spent = Unit {0}
-IsPlainAnswer outcome.NoMemory = Unit {0}
+IsPlainAnswer (Said this) = IsPlainOutcome this
+IsPlainAnswer (Over end) = Unit {0}
 
 -- a whole reply: it is one, whatever comes behind it
 pub record IsReply (bytes : List ℕ) : Type 0 where
@@ -100,23 +107,21 @@ Acks ask bytes done = AcksIn ask (replies_in bytes) (left_in bytes) done
 
 -- what an answer acknowledges, once it is told
 abbrev pub AcksAnswer : Ask → Answer → List Deed → Type 0
-AcksAnswer ask outcome.Ok done = AcksBy ask ok_line done
-AcksAnswer ask (outcome.Values text) done = AcksBy ask text done
-AcksAnswer ask (outcome.Refused refusal) done = done ≡ []
-AcksAnswer ask outcome.Panic done = done ≡ []
-AcksAnswer ask outcome.Spent done = done ≡ []
-AcksAnswer ask outcome.NoMemory done = done ≡ []
+AcksAnswer ask (Said outcome.Ok) done = AcksBy ask ok_line done
+AcksAnswer ask (Said (outcome.Values text)) done = AcksBy ask text done
+AcksAnswer ask (Said (outcome.Refused refusal)) done = done ≡ []
+AcksAnswer ask (Over end) done = done ≡ []
 
 -- What a line may have begun that was answered so: all that it asks, where a call on a drive may have been made for it; a line that tells
 -- values begins nothing, nor does one that is refused for another cause than a failed call.
 abbrev pub issued_by : Ask → Answer → List Deed
-issued_by ask outcome.Ok = deeds ask
-issued_by ask (outcome.Values text) = []
-issued_by ask (outcome.Refused IoFault) = deeds ask
-issued_by ask (outcome.Refused other) = []
-issued_by ask outcome.Panic = deeds ask
-issued_by ask outcome.Spent = []
-issued_by ask outcome.NoMemory = []
+issued_by ask (Said outcome.Ok) = deeds ask
+issued_by ask (Said (outcome.Values text)) = []
+issued_by ask (Said (outcome.Refused IoFault)) = deeds ask
+issued_by ask (Said (outcome.Refused other)) = []
+issued_by ask (Over (ended.Lost active listed)) = deeds ask
+issued_by ask (Over ended.Spent) = []
+issued_by ask (Over ended.Memory) = []
 
 -- the same by its reply: `ok`, or that a call failed
 abbrev pub issuable : Ask → List ℕ → List Deed
@@ -130,23 +135,29 @@ issuable_in ask (reply ∷ more) = issuable ask reply
 abbrev pub issuable_of : Ask → List ℕ → List Deed
 issuable_of ask bytes = issuable_in ask (replies_in bytes)
 
--- how an answer is told: whole; or a front of it, where the giving failed; or there is none to tell
+-- the reply to what was told whole
+abbrev pub reply_to : Outcome → Reply
+reply_to outcome.Ok = reply.Ok
+reply_to (outcome.Values text) = reply.Ok
+reply_to (outcome.Refused refusal) = reply.Refused refusal
+
+-- and where the run is over
+abbrev pub reply_at : Ended → Reply
+reply_at (ended.Lost active listed) = reply.Panic active listed
+reply_at ended.Spent = reply.Spent
+reply_at ended.Memory = reply.NoMemory
+
+-- the giving failed, and a front of the text was told
+pub record CutOff (failed : Type 0) (text : List ℕ) (given : Reply) (piece : List ℕ) : Type 0 where
+  pub cause : failed
+  pub given_is : given ≡ reply.Told
+  pub count : ℕ
+  pub front : piece ≡ take count text
+
+-- how an answer is told: whole; or a front of it; or there is none to tell
 abbrev pub IsTold : Type 0 → Answer → Reply → List ℕ → Type 0
-IsTold failed outcome.Ok reply.Ok piece = piece ≡ ok_line
-IsTold failed outcome.Ok reply.Told piece = failed × ((count : ℕ) × (piece ≡ take count ok_line))
-IsTold failed outcome.Ok other piece = ⊥
-IsTold failed (outcome.Values text) reply.Ok piece = piece ≡ text
-IsTold failed (outcome.Values text) reply.Told piece = failed × ((count : ℕ) × (piece ≡ take count text))
-IsTold failed (outcome.Values text) other piece = ⊥
-IsTold failed (outcome.Refused refusal) (reply.Refused told) piece = (told ≡ refusal) × (piece ≡ refusal_line refusal)
-IsTold failed (outcome.Refused refusal) reply.Told piece = failed × ((count : ℕ) × (piece ≡ take count (refusal_line refusal)))
-IsTold failed (outcome.Refused refusal) other piece = ⊥
-IsTold failed outcome.Panic (reply.Panic active listed) piece = (active ≡ 0) × (listed ≡ 1) × (piece ≡ [])
-IsTold failed outcome.Panic other piece = ⊥
-IsTold failed outcome.Spent reply.Spent piece = piece ≡ []
-IsTold failed outcome.Spent other piece = ⊥
-IsTold failed outcome.NoMemory reply.NoMemory piece = piece ≡ []
-IsTold failed outcome.NoMemory other piece = ⊥
+IsTold failed (Said this) given piece = ((given ≡ reply_to this) × (piece ≡ outcome_text this)) ⊎ CutOff failed (outcome_text this) given piece
+IsTold failed (Over end) given piece = (given ≡ reply_at end) × (piece ≡ [])
 
 -- a reply was told whole
 abbrev pub IsReplied : Reply → Type 0
@@ -177,21 +188,20 @@ HasReplyCause drive replies reply.Told = replies
 
 -- the answer says that what was asked was done
 abbrev pub IsAccepted : Answer → Type 0
-IsAccepted outcome.Ok = Unit {0}
-IsAccepted (outcome.Values text) = Unit {0}
-IsAccepted (outcome.Refused refusal) = ⊥
-IsAccepted outcome.Panic = ⊥
-IsAccepted outcome.Spent = ⊥
-IsAccepted outcome.NoMemory = ⊥
+IsAccepted (Said outcome.Ok) = Unit {0}
+IsAccepted (Said (outcome.Values text)) = Unit {0}
+IsAccepted (Said (outcome.Refused refusal)) = ⊥
+IsAccepted (Over end) = ⊥
 
--- a panic comes only where the drive failed
+-- places are lost only where the drive failed: none of one is left
+abbrev pub HasEndCause : Type 0 → Ended → Type 0
+HasEndCause drive (ended.Lost active listed) = drive × (active ≡ 0) × (listed ≡ 1)
+HasEndCause drive ended.Spent = Unit {0}
+HasEndCause drive ended.Memory = Unit {0}
+
 abbrev pub HasAnswerCause : Type 0 → Answer → Type 0
-HasAnswerCause drive outcome.Ok = Unit {0}
-HasAnswerCause drive (outcome.Values text) = Unit {0}
-HasAnswerCause drive (outcome.Refused refusal) = Unit {0}
-HasAnswerCause drive outcome.Panic = drive
-HasAnswerCause drive outcome.Spent = Unit {0}
-HasAnswerCause drive outcome.NoMemory = Unit {0}
+HasAnswerCause drive (Said this) = Unit {0}
+HasAnswerCause drive (Over end) = HasEndCause drive end
 
 -- The calls of a telling: one at most, by which no drive's count rose, and one where the reply was told whole, by which none rose at all.
 pub record IsTellingCounted {S : Type 0} (shelf : Ghosts S) (old new : S) (given : Reply) : Type 0 where

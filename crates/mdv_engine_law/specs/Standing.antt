@@ -6,11 +6,13 @@ use Rattle.mdv_shelf.specs.Calls.{OnDrive}
 use Rattle.mdv_shelf.specs.Story.{FailedBy, Moment}
 use Rattle.mdv_history.specs.Standing as history
 use Rattle.mdv_engine_law.specs.declared.answer.Answer.{Answer}
-use Rattle.mdv_engine_law.specs.declared.answer.Answer.TheVariants as outcome
+use Rattle.mdv_engine_law.specs.declared.answer.Answer.TheVariants.{Said, Over}
+use Rattle.mdv_engine_law.specs.declared.answer.Outcome.TheVariants as outcome
 use Rattle.mdv_engine_law.specs.declared.answer.Reply.{Reply}
 use Rattle.mdv_engine_law.specs.declared.host.Host.{Host}
 use Rattle.mdv_engine_law.specs.Home.{StaysHome, site_of}
-use Rattle.mdv_engine_law.specs.Line.{Ask, Kept, Memory, ComesTo, IsSame, deeds, drive_content, kept_at}
+use Rattle.mdv_engine_law.specs.Commands.{ComesTo}
+use Rattle.mdv_engine_law.specs.Line.{Ask, Kept, Memory, IsSame, deeds, drive_content, kept_at}
 use Rattle.mdv_engine_law.specs.Replies.{Acks, AcksAnswer, AcksBy, IsReply, IsFront, IsTold, issuable, issuable_of, issued_by, text_of}
 
 -- the drive stands with the history, in which a database was made only where there is room for it
@@ -95,21 +97,14 @@ CanTellAll host (deed ∷ more) h u = ⊥
 
 -- what is known once a line was carried out: behind an `ok`, that its deeds may be told
 abbrev pub IsKnownAfter : Host → List Deed → Answer → Memory → History → Tale → Type 0
-IsKnownAfter host done outcome.Ok next h u = IsKnown host next h u × CanTellAll host done h u
-IsKnownAfter host done (outcome.Values text) next h u = IsKnown host next h u × CanTellAll host done h u
-IsKnownAfter host done (outcome.Refused refusal) next h u = IsKnown host next h u
-IsKnownAfter host done outcome.Panic next h u = Unit {0}
-IsKnownAfter host done outcome.Spent next h u = Unit {0}
-IsKnownAfter host done outcome.NoMemory next h u = Unit {0}
+IsKnownAfter host done (Said (outcome.Refused refusal)) next h u = IsKnown host next h u
+IsKnownAfter host done (Said this) next h u = IsKnown host next h u × CanTellAll host done h u
+IsKnownAfter host done (Over end) next h u = Unit {0}
 
 -- what is known of the drive alone, where a reply is to be told
 abbrev pub KnowsAfter : Host → Answer → Memory → Tale → Type 0
-KnowsAfter host outcome.Ok next u = Knows host next u
-KnowsAfter host (outcome.Values text) next u = Knows host next u
-KnowsAfter host (outcome.Refused refusal) next u = Knows host next u
-KnowsAfter host outcome.Panic next u = Unit {0}
-KnowsAfter host outcome.Spent next u = Unit {0}
-KnowsAfter host outcome.NoMemory next u = Unit {0}
+KnowsAfter host (Said this) next u = Knows host next u
+KnowsAfter host (Over end) next u = Unit {0}
 
 -- A line that was carried out, and came to this answer: each history goes on by what the answer says may have been begun, so by
 -- nothing where it is refused for another cause than a failed call; and behind it may be told what the answer acknowledges.

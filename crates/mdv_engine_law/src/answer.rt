@@ -4,22 +4,37 @@ use mdv_status::ValueText;
 /// What a line came to, before it is told.
 #[derive(Drop)]
 pub enum Answer {
+    /// Something is told, and the run goes on.
+    Said(Outcome),
+    /// The run is over, and nothing is told.
+    Over(Ended),
+}
+
+/// What is told of a line.
+#[derive(Drop)]
+pub enum Outcome {
+    /// What was asked is done.
     Ok,
     /// The whole reply to a read.
     Values(ValueText),
     Refused(Refusal),
-    /// The replica is lost, so nothing is told and no further line is run.
-    Panic,
+}
+
+/// Why a run is over with a line, or isn't begun by its boot.
+#[derive(Clone, Copy, Debug, PartialEq, Eq)]
+pub enum Ended {
+    /// The places that are left are no write quorum: so many are active, of so many that are listed.
+    Lost { active: u32, listed: u32 },
     /// A number would reach 2^63.
     Spent,
     /// A boot was refused memory.
-    NoMemory,
+    Memory,
 }
 
 /// How a line was replied to.
 #[derive(Clone, Copy, Debug, PartialEq, Eq)]
 pub enum Reply {
-    /// `ok` was told.
+    /// `ok` was told, or the values that a read asks for.
     Ok,
     /// The refusal was told.
     Refused(Refusal),
@@ -31,13 +46,4 @@ pub enum Reply {
     NoMemory,
     /// The giving of the reply failed; a front of it may have been told.
     Told,
-}
-
-/// Why a boot isn't answered. `Lost` comes where a write of the adoption failed, `Spent` where the number to
-/// draw would reach 2^63, `Memory` where memory was refused.
-#[derive(Clone, Copy, Debug, PartialEq, Eq)]
-pub enum BootRefusal {
-    Lost { active: u32, listed: u32 },
-    Spent,
-    Memory,
 }

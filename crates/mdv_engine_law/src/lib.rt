@@ -6,6 +6,6 @@ mod answer;
 mod host;
 mod telling;
 
-pub use answer::{Answer, BootRefusal, Reply};
+pub use answer::{Answer, Ended, Outcome, Reply};
 pub use host::Host;
-pub use telling::tell;
+pub use telling::{reply_at, tell};

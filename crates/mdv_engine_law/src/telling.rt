@@ -1,12 +1,13 @@
 ghost use Rattle.std.specs.Prelude.{◌≡◌, ℕ, List};
 ghost use Rattle.mdv_base.specs.Causes.{Rose};
-ghost use Rattle.mdv_shelf.specs.Calls.{OnReplies};
+ghost use Rattle.mdv_shelf.specs.Calls.{Gives, HasGivingCause, IsCounted, OnReplies};
 ghost use Rattle.mdv_shelf.specs.Moments.{Moments, Ends};
-ghost use Rattle.mdv_shelf.specs.Shelves.{Kept};
-ghost use Rattle.mdv_engine_law.specs.Replies.{refusal_line, IsTold, IsTellingCounted, text_of};
+ghost use Rattle.mdv_shelf.specs.Shelves.{Keeps, Kept};
+ghost use Rattle.mdv_shelf.specs.Story.{IsNoted};
+ghost use Rattle.mdv_engine_law.specs.Replies.{refusal_line, reply_at as spec_reply_at, reply_to as spec_reply_to, IsTold, IsTellingCounted, outcome_text, text_of};
 ghost use Rattle.mdv_engine_law.specs.Standing.{OnlyReplied, TellMoment};
 
-use crate::answer::{Answer, Reply};
+use crate::answer::{Answer, Ended, Outcome, Reply};
 use mdv_base::{Failed, Refusal, ReplyText};
 use mdv_shelf::Bench;
 
@@ -21,24 +22,47 @@ pub fn tell<B: Bench>(bench: &mut B, answer: &Answer) -> Reply
     ensures kept { Kept B.Shelf bench.old bench.new }
 {
     match answer {
-        Answer::Ok => match bench.give(OK) {
-            Ok(()) => Reply::Ok,
+        Answer::Said(outcome) => match give(bench, outcome) {
+            Ok(()) => reply_to(outcome),
             Err(Failed) => Reply::Told,
         },
-        Answer::Values(text) => match bench.give(text.as_bytes()) {
-            Ok(()) => Reply::Ok,
-            Err(Failed) => Reply::Told,
-        },
-        Answer::Refused(refusal) => match bench.give(line_of(refusal).as_bytes()) {
-            Ok(()) => Reply::Refused(*refusal),
-            Err(Failed) => Reply::Told,
-        },
-        Answer::Panic => Reply::Panic {
-            active: 0,
-            listed: 1,
-        },
-        Answer::Spent => Reply::Spent,
-        Answer::NoMemory => Reply::NoMemory,
+        Answer::Over(end) => reply_at(*end),
+    }
+}
+
+// Gives what is told of it.
+fn give<B: Bench>(bench: &mut B, outcome: &Outcome) -> Result<(), Failed>
+    ensures gives { Gives (B.tale bench.old) (outcome_text outcome.now) result (B.tale bench.new) }
+    ensures cause { HasGivingCause (B.faults bench.old) (B.faults bench.new) result }
+    ensures counted { IsCounted B.calls B.written bench.old bench.new 0 }
+    ensures keeps { Keeps B.Shelf bench.old bench.new }
+    ensures noted { IsNoted B.story B.faults bench.old bench.new }
+{
+    match outcome {
+        Outcome::Ok => bench.give(OK),
+        Outcome::Values(text) => bench.give(text.as_bytes()),
+        Outcome::Refused(refusal) => bench.give(line_of(refusal).as_bytes()),
+    }
+}
+
+// The reply once it was told whole.
+fn reply_to(outcome: &Outcome) -> Reply
+    ensures { result ≡ spec_reply_to outcome.now }
+{
+    match outcome {
+        Outcome::Ok | Outcome::Values(_) => Reply::Ok,
+        Outcome::Refused(refusal) => Reply::Refused(*refusal),
+    }
+}
+
+/// The reply where the run is over.
+pub fn reply_at(end: Ended) -> Reply
+    ensures { result ≡ spec_reply_at end }
+{
+    match end {
+        Ended::Lost { active, listed } => Reply::Panic { active, listed },
+        Ended::Spent => Reply::Spent,
+        Ended::Memory => Reply::NoMemory,
     }
 }
 

@@ -1,6 +1,7 @@
 pub mod DriveIndexes
 pub mod Drives
 pub mod Entries
+pub mod Finding
 pub mod FirstLines
 pub mod Fresh
 pub mod DriveKinds

@@ -1,5 +1,5 @@
 -- The map beside the list of slices.
-use Rattle.std.specs.Prelude.{ℕ, Option, Some, List, map, All, Contains}
+use Rattle.std.specs.Prelude.{ℕ, Bool, ◌==◌, ◌&&◌, if◌then◌else◌, Option, None, Some, List, [], ◌∷◌, map, All, Contains}
 use Rattle.std.specs.BTreeMap.{BTreeMap}
 use Rattle.mdv_base.specs.declared.drive.SliceName.{SliceName}
 use Rattle.mdv_name.specs.declared.slice_lines.SliceAt.{SliceAt}
@@ -17,6 +17,14 @@ HasSlice lines name at = Contains lines (record { name = name; at = at })
 
 abbrev pub HasNoSlice : List SliceLine → SliceName → Type 0
 HasNoSlice lines name = (at : SliceAt) → HasSlice lines name at → ⊥
+
+abbrev pub same_slice : SliceName → SliceName → Bool
+same_slice a b = ((a.drive.controller == b.drive.controller) && (a.drive.target == b.drive.target)) && ((a.drive.disk == b.drive.disk) && (a.slice == b.slice))
+
+-- where the first slice of this name lies
+abbrev pub slice_at : List SliceLine → SliceName → Option SliceAt
+slice_at [] name = None
+slice_at (line ∷ lines) name = if same_slice line.name name then Some line.at else slice_at lines name
 
 -- each slice's code has a place, at which the slice stands
 pub record IsSliceIndex (places : BTreeMap ℕ ℕ) (lines : List SliceLine) : Type 0 where

@@ -1,5 +1,5 @@
 -- What a table of drives that was read says of its slices.
-use Rattle.std.specs.Prelude.{◌≡◌, ◌<◌, ◌≤◌, ◌+◌, ◌^◌, ℕ}
+use Rattle.std.specs.Prelude.{◌≡◌, ◌<◌, ◌≤◌, ◌+◌, ◌^◌}
 use Rattle.mdv_base.specs.declared.drive.SliceName.{SliceName}
 use Rattle.mdv_name.specs.Drive.{IsSliceName}
 use Rattle.mdv_name.specs.SliceIndex.{HasSlice}

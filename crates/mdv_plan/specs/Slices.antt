@@ -8,12 +8,8 @@ use Rattle.mdv_plan.specs.declared.clash.Asked.TheVariants.{ReplicasTo, OneCompo
 use Rattle.mdv_plan.specs.declared.uses.SliceUse.{SliceUse}
 use Rattle.mdv_plan.specs.declared.uses.User.{User}
 use Rattle.mdv_plan.specs.declared.uses.User.TheVariants.{Replica, Component, Extent, Spare}
+pub use Rattle.mdv_name.specs.SliceIndex.{slice_at}
 pub use Rattle.mdv_name.specs.Sound.{IsSound, IsSoundSlice}
-
--- where the slice of this name lies
-abbrev pub slice_at : List SliceLine → SliceName → Option SliceAt
-slice_at [] name = None
-slice_at (line ∷ lines) name = if same_slice line.name name then Some line.at else slice_at lines name
 
 -- they lie on one drive and share a block, as each slice does with itself
 abbrev pub share_a_block : SliceAt → SliceAt → Bool

@@ -1,5 +1,5 @@
 -- Which blocks of slices are in use by what: by replicas, components, soft partitions and spares.
-use Rattle.std.specs.Prelude.{ℕ, Bool, false, ◌==◌, ◌&&◌, List, [], ◌∷◌, ◌++◌, map, if◌then◌else◌}
+use Rattle.std.specs.Prelude.{ℕ, Bool, false, ◌==◌, List, [], ◌∷◌, ◌++◌, map, if◌then◌else◌}
 use Rattle.std.specs.List.{flat_map}
 use Rattle.mdv_plan.specs.Below.{VolId, PoolId, Place, Run}
 use Rattle.mdv_plan.specs.declared.lists.Lists.{Lists}
@@ -17,6 +17,7 @@ use Rattle.mdv_plan.specs.declared.volume.Row.{Row}
 use Rattle.mdv_plan.specs.declared.volume.Volume.{Volume as OneVolume}
 use Rattle.mdv_plan.specs.declared.volume.VolumeKind.{VolumeKind}
 use Rattle.mdv_plan.specs.declared.volume.VolumeKind.TheVariants.{Stripe, Mirror, Raid, Soft}
+pub use Rattle.mdv_name.specs.SliceIndex.{same_slice}
 
 -- a run of a base, where the base is a slice
 abbrev pub uses_on : Base → ℕ → Run → User → List SliceUse
@@ -63,9 +64,6 @@ pool_uses p = map (spare_use p.number) p.spares
 -- all uses of slices
 abbrev pub uses_of : Plan → List SliceUse
 uses_of p = list_uses p.lists ++ flat_map volume_uses p.volumes ++ flat_map pool_uses p.pools
-
-abbrev pub same_slice : SliceName → SliceName → Bool
-same_slice a b = ((a.drive.controller == b.drive.controller) && (a.drive.target == b.drive.target)) && ((a.drive.disk == b.drive.disk) && (a.slice == b.slice))
 
 abbrev pub same_base : Base → Base → Bool
 same_base (Slice a) (Slice b) = same_slice a b

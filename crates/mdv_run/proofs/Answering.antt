@@ -6,7 +6,7 @@ use Rattle.mdv_run.specs.Turns.{LineAnswered}
 use Rattle.mdv_shelf.proofs.Blocks.{both_ways}
 use Rattle.mdv_words.specs.declared.command.Line.TheVariants as words
 use Rattle.mdv_words.proofs.Lines.{one_line}
-use Rattle.mdv_engine_law.specs.declared.answer.Answer.TheVariants as outcome
+use Rattle.mdv_engine_law.specs.Answers.{accepted, refusing}
 use Rattle.mdv_engine_law.proofs.Turning.{accepted_none, never_among, refused_none, turned}
 use Rattle.mdv_engine_law.proofs.Knowing.{knows_kept}
 use Rattle.mdv_engine_law.specs.Replies.{IsPlain}
@@ -55,17 +55,17 @@ pub line_executed : (text : List ℕ) (spelled : Spelled) → IsLine text spelle
 line_executed text spelled is drive replies host old new reply t u done = record { answer = done.answer; done = inr (spelled, is, done.carried); replied = done.replied }
 
 -- a refusal that was told, and nothing else happened
-module _ (host : Host) (memory : Memory) (r : Refusal) (plain : IsPlain r) (replies : Type 0) (reply : Reply) (t u : Tale) (given : OnlyReplied replies (outcome.Refused r) reply t u) where
+module _ (host : Host) (memory : Memory) (r : Refusal) (plain : IsPlain r) (replies : Type 0) (reply : Reply) (t u : Tale) (given : OnlyReplied replies (refusing r) reply t u) where
   pub refused_turned : (ask : Ask) → IsReplied reply → Turned host ask memory memory t u
-  refused_turned ask on = turned host ask memory memory replies t t u refl (outcome.Refused r) plain (λ on some. absurd on) (λ on has. absurd on) (refused_none host ask memory r t) reply on given
+  refused_turned ask on = turned host ask memory memory replies t t u refl (refusing r) plain (λ on some. absurd on) (λ on has. absurd on) (refused_none host ask memory r t) reply on given
 
-  pub refused_down : IsTurnedDown r (kept_at memory t) (outcome.Refused r) (kept_at memory u)
+  pub refused_down : IsTurnedDown r (kept_at memory t) (refusing r) (kept_at memory u)
   refused_down = (refl, record { memory = refl; content = λ block. (given.kept 0 block refl).last })
 
   pub refused_knows : Knows host memory t → Knows host memory u
   refused_knows = knows_kept host t u given.kept memory
 
 -- an `ok` of a boot that was told
-pub accepted_turned : (host : Host) (memory : Memory) (replies : Type 0) (reply : Reply) (t u : Tale) → OnlyReplied replies outcome.Ok reply t u → IsReplied reply → Turned host Nothing memory memory t u
+pub accepted_turned : (host : Host) (memory : Memory) (replies : Type 0) (reply : Reply) (t u : Tale) → OnlyReplied replies accepted reply t u → IsReplied reply → Turned host Nothing memory memory t u
 accepted_turned host memory replies reply t u given on =
-    turned host Nothing memory memory replies t t u refl outcome.Ok tt (λ on some. absurd (some refl)) (λ on has. absurd (never_among [] Created refl has)) (accepted_none host memory t) reply on given
+    turned host Nothing memory memory replies t t u refl accepted tt (λ on some. absurd (some refl)) (λ on has. absurd (never_among [] Created refl has)) (accepted_none host memory t) reply on given

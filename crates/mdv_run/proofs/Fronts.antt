@@ -11,7 +11,7 @@ use Rattle.mdv_shelf.proofs.Stories.{each_none, moment}
 use Rattle.mdv_base.specs.declared.refusal.Refusal.{Refusal}
 use Rattle.mdv_engine_law.specs.Line.{Stays}
 use Rattle.mdv_engine_law.specs.Replies.{text_of}
-use Rattle.mdv_engine_law.specs.declared.answer.Answer.TheVariants as outcome
+use Rattle.mdv_engine_law.specs.Answers.{accepted, refusing}
 use Rattle.mdv_engine_law.proofs.Executing.{rebooted_more, rose_within}
 use Rattle.mdv_engine.specs.Ends.{OnlyAnswers}
 
@@ -30,20 +30,20 @@ pub front_of : (Comes More : Type 0 → Kept → Answer → Kept → Type 0) (ol
 front_of Comes More old t m more (inl same) = inl same
 front_of Comes More old t m more (inr front) = inr (record { answer = front.answer; next = front.next; came = more _ _ _ _ front.came; count = front.count; is_told = front.is_told; shows = front.shows })
 
-pub only_refused : (refusal : Refusal) (failed : Type 0) (kept : Kept) (answer : Answer) (next : Kept) → OnlyAnswers (outcome.Refused refusal) failed kept answer next → IsTurnedDown refusal kept answer next
+pub only_refused : (refusal : Refusal) (failed : Type 0) (kept : Kept) (answer : Answer) (next : Kept) → OnlyAnswers (refusing refusal) failed kept answer next → IsTurnedDown refusal kept answer next
 only_refused refusal failed kept answer next is = (is.0, subst (λ (k : Kept). Stays kept k) (sym is.1) (record { memory = refl; content = λ block. refl }))
 
 -- an `ok` that was told behind a boot
 pub boot_front : (host : Host) (old new : Memory) (text : List ℕ) → IsLine text Boot → (t u m : Moment) → told u.tale ≡ told t.tale → NoFewer u.faults m.faults
-    → IsRebooted (FailedBy t u (OnDrive 0)) host (kept_at old t.tale) outcome.Ok (kept_at new u.tale) → TellsFront (OnlyAnswers outcome.Ok) new u m
+    → IsRebooted (FailedBy t u (OnDrive 0)) host (kept_at old t.tale) accepted (kept_at new u.tale) → TellsFront (OnlyAnswers accepted) new u m
     → TellsFront (λ failed kept answer next. IsAnswered failed host kept text answer next) old t m
 boot_front host old new text boots t u m quiet rise rebooted (inl same) = inl (same ∙ quiet)
 boot_front host old new text boots t u m quiet rise rebooted (inr front) = inr (record {
-  answer = outcome.Ok;
+  answer = accepted;
   next = kept_at new u.tale;
-  came = inr (Boot, boots, rebooted_more (FailedBy t u (OnDrive 0)) (FailedBy t m (OnDrive 0)) (λ rose. rose_within _ _ _ _ (omega arith) (rise (OnDrive 0)) rose) host (kept_at old t.tale) (kept_at new u.tale) outcome.Ok rebooted);
+  came = inr (Boot, boots, rebooted_more (FailedBy t u (OnDrive 0)) (FailedBy t m (OnDrive 0)) (λ rose. rose_within _ _ _ _ (omega arith) (rise (OnDrive 0)) rose) host (kept_at old t.tale) (kept_at new u.tale) accepted rebooted);
   count = front.count;
-  is_told = front.is_told ∙ ap (λ (a : Answer). told u.tale ++ take front.count (text_of a)) front.came.0 ∙ ap (λ (l : List ℕ). l ++ take front.count (text_of outcome.Ok)) quiet;
+  is_told = front.is_told ∙ ap (λ (a : Answer). told u.tale ++ take front.count (text_of a)) front.came.0 ∙ ap (λ (l : List ℕ). l ++ take front.count (text_of accepted)) quiet;
   shows = subst (λ (k : Kept). IsSame k.content (drive_content m.tale)) front.came.1 front.shows;
 })
 
@@ -79,7 +79,7 @@ module _ (host : Host) (old : Memory) (now : Counts) (refused : Bool) (t m : Mom
   })
 
   -- of the refusal of a line that was too long
-  pub long_front : (script more : Script) → script ≡ too_long more → TellsFront (OnlyAnswers (outcome.Refused LineTooLong)) old t m → TurnFront host (at now (kept_at old t.tale) refused script) t m
+  pub long_front : (script more : Script) → script ≡ too_long more → TellsFront (OnlyAnswers (refusing LineTooLong)) old t m → TurnFront host (at now (kept_at old t.tale) refused script) t m
   long_front script more is (inl same) = no_front script same
   long_front script more is (inr front) = subst (λ (s : Script). TurnFront host (at now (kept_at old t.tale) refused s) t m) (sym is) (record {
     bytes = take front.count (text_of front.answer);

@@ -1,9 +1,14 @@
 -- How one turn of a run goes on from the script that is before it.
-use Rattle.std.proofs.Common.{◌≡◌, ℕ, Bool, true, List, [], Option, Some, refl, sym, ◌∙◌, ap, subst, arith}
+use Rattle.std.proofs.Common.{◌≡◌, inl, inr, ℕ, Bool, true, List, [], Option, Some, refl, sym, ◌∙◌, ap, subst, arith}
 use Rattle.mdv_run.specs.Below.{Rose, LineTooLong, Reader, Script, at_end, spent, too_long, line, asked_before, IsAskedTurn, Line, TooLong, End, Spent, Tale, told, Answer, Reply, Host, Memory, IsTold, IsReplied, Kept, IsTurnedDown, kept_at, Replied, RunStatus, Panic, ReadFault, WriteFault, NoMemory, NumbersSpent, At, Counts, RoseTo, NextLine, Stretch, IsAnswered, drive_failed, source_failed, replies_failed}
-use Rattle.mdv_run_law.specs.Run.{Over as IsOver, broken, ended, unread, EndsAs, EndsWith, IsSaid, refused_by}
-use Rattle.mdv_engine_law.specs.Replies.{HasReplyCause, IsLost, text_of}
-use Rattle.mdv_engine_law.specs.declared.answer.Answer.TheVariants as outcome
+use Rattle.mdv_run_law.specs.Run.{Over as IsOver, broken, ended as script_ended, unread, EndsAs, EndsWith, IsSaid, refused_by}
+use Rattle.mdv_engine_law.specs.Answers.{refusing}
+use Rattle.mdv_engine_law.specs.Replies.{HasReplyCause, IsLost, outcome_text, reply_at, reply_to, text_of}
+use Rattle.mdv_engine_law.specs.declared.answer.Answer.TheVariants.{Said, Over as Ends}
+use Rattle.mdv_engine_law.specs.declared.answer.Ended.{Ended}
+use Rattle.mdv_engine_law.specs.declared.answer.Ended.TheVariants as ended
+use Rattle.mdv_engine_law.specs.declared.answer.Outcome.{Outcome}
+use Rattle.mdv_engine_law.specs.declared.answer.Outcome.TheVariants as outcome
 use Rattle.mdv_engine_law.specs.declared.answer.Reply.TheVariants as reply
 use Rattle.mdv_run.specs.declared.session.Turn.{Turn}
 use Rattle.mdv_run.specs.declared.session.Turn.TheVariants.{On, Over}
@@ -58,49 +63,19 @@ module _ (host : Host) (from : At) (then : Counts) (rose : RoseTo from.counts th
 -- what a reply leads to, by its answer
 leads : (host : Host) (from : At) (then : Counts) → RoseTo from.counts then → (next : Kept) (more : Script) (before : Option Script) → before ≡ Some more → (answer : Answer) (r : Reply) (piece : List ℕ)
     → ((c : Counts) → RoseTo from.counts c → c.drive ≡ then.drive → NextLine host from.counts from.kept from.script answer c next more) → IsTold (replies_failed from.counts then) answer r piece → Leads host from piece then next before (turn_of r from.refused)
-leads host from then rose next more before is answer r piece comes told = by answer r comes told where
-  by : (answer : Answer) (r : Reply) → ((c : Counts) → RoseTo from.counts c → c.drive ≡ then.drive → NextLine host from.counts from.kept from.script answer c next more) → IsTold (replies_failed from.counts then) answer r piece
-      → Leads host from piece then next before (turn_of r from.refused)
-  by outcome.Ok reply.Ok comes told = line_on host from then rose next more before is outcome.Ok comes from.refused piece tt told refl
-  by (outcome.Values text) reply.Ok comes told = line_on host from then rose next more before is (outcome.Values text) comes from.refused piece tt told refl
-  by (outcome.Refused refusal) (reply.Refused again) comes told = line_on host from then rose next more before is (outcome.Refused refusal) comes true piece tt told.1 refl
-  by outcome.Ok reply.Told comes told =
-      over_by host from then rose next more before is outcome.Ok comes WriteFault piece (record { cause = told.0; count = told.1.0; front = told.1.1; ended = refl; keeps = refl })
-  by (outcome.Values text) reply.Told comes told =
-      over_by host from then rose next more before is (outcome.Values text) comes WriteFault piece (record { cause = told.0; count = told.1.0; front = told.1.1; ended = refl; keeps = refl })
-  by (outcome.Refused refusal) reply.Told comes told =
-      over_by host from then rose next more before is (outcome.Refused refusal) comes WriteFault piece (record { cause = told.0; count = told.1.0; front = told.1.1; ended = refl; keeps = refl })
-  by outcome.Panic (reply.Panic active listed) comes told =
-      over_by host from then rose next more before is outcome.Panic comes (Panic active listed) piece (record { silent = told.2; ended = λ i. Panic (told.0 i) (told.1 i); keeps = refl })
-  by outcome.Spent reply.Spent comes told = over_by host from then rose next more before is outcome.Spent comes NumbersSpent piece (record { silent = told; ended = refl; keeps = refl })
-  by outcome.NoMemory reply.NoMemory comes told = over_by host from then rose next more before is outcome.NoMemory comes NoMemory piece (record { silent = told; ended = refl; keeps = refl })
-  by outcome.Ok (reply.Refused again) comes told = absurd told
-  by outcome.Ok (reply.Panic active listed) comes told = absurd told
-  by outcome.Ok reply.Spent comes told = absurd told
-  by outcome.Ok reply.NoMemory comes told = absurd told
-  by (outcome.Values text) (reply.Refused again) comes told = absurd told
-  by (outcome.Values text) (reply.Panic active listed) comes told = absurd told
-  by (outcome.Values text) reply.Spent comes told = absurd told
-  by (outcome.Values text) reply.NoMemory comes told = absurd told
-  by (outcome.Refused refusal) reply.Ok comes told = absurd told
-  by (outcome.Refused refusal) (reply.Panic active listed) comes told = absurd told
-  by (outcome.Refused refusal) reply.Spent comes told = absurd told
-  by (outcome.Refused refusal) reply.NoMemory comes told = absurd told
-  by outcome.Panic reply.Ok comes told = absurd told
-  by outcome.Panic (reply.Refused again) comes told = absurd told
-  by outcome.Panic reply.Spent comes told = absurd told
-  by outcome.Panic reply.NoMemory comes told = absurd told
-  by outcome.Panic reply.Told comes told = absurd told
-  by outcome.Spent reply.Ok comes told = absurd told
-  by outcome.Spent (reply.Refused again) comes told = absurd told
-  by outcome.Spent (reply.Panic active listed) comes told = absurd told
-  by outcome.Spent reply.NoMemory comes told = absurd told
-  by outcome.Spent reply.Told comes told = absurd told
-  by outcome.NoMemory reply.Ok comes told = absurd told
-  by outcome.NoMemory (reply.Refused again) comes told = absurd told
-  by outcome.NoMemory (reply.Panic active listed) comes told = absurd told
-  by outcome.NoMemory reply.Spent comes told = absurd told
-  by outcome.NoMemory reply.Told comes told = absurd told
+leads host from then rose next more before is (Said this) r piece comes (inl whole) = subst (λ (x : Reply). Leads host from piece then next before (turn_of x from.refused)) (sym whole.0) (by this comes whole.1) where
+  by : (this : Outcome) → ((c : Counts) → RoseTo from.counts c → c.drive ≡ then.drive → NextLine host from.counts from.kept from.script (Said this) c next more) → piece ≡ outcome_text this → Leads host from piece then next before (turn_of (reply_to this) from.refused)
+  by outcome.Ok comes is_text = line_on host from then rose next more before is (Said outcome.Ok) comes from.refused piece tt is_text refl
+  by (outcome.Values text) comes is_text = line_on host from then rose next more before is (Said (outcome.Values text)) comes from.refused piece tt is_text refl
+  by (outcome.Refused refusal) comes is_text = line_on host from then rose next more before is (Said (outcome.Refused refusal)) comes true piece tt is_text refl
+leads host from then rose next more before is (Said this) r piece comes (inr cut) =
+    subst (λ (x : Reply). Leads host from piece then next before (turn_of x from.refused)) (sym cut.given_is)
+    (over_by host from then rose next more before is (Said this) comes WriteFault piece (record { cause = cut.cause; count = cut.count; front = cut.front; ended = refl; keeps = refl }))
+leads host from then rose next more before is (Ends end) r piece comes told = subst (λ (x : Reply). Leads host from piece then next before (turn_of x from.refused)) (sym told.0) (by end comes) where
+  by : (end : Ended) → ((c : Counts) → RoseTo from.counts c → c.drive ≡ then.drive → NextLine host from.counts from.kept from.script (Ends end) c next more) → Leads host from piece then next before (turn_of (reply_at end) from.refused)
+  by (ended.Lost active listed) comes = over_by host from then rose next more before is (Ends (ended.Lost active listed)) comes (Panic active listed) piece (record { silent = told.1; ended = refl; keeps = refl })
+  by ended.Spent comes = over_by host from then rose next more before is (Ends ended.Spent) comes NumbersSpent piece (record { silent = told.1; ended = refl; keeps = refl })
+  by ended.Memory comes = over_by host from then rose next more before is (Ends ended.Memory) comes NoMemory piece (record { silent = told.1; ended = refl; keeps = refl })
 
 -- a line
 pub leads_line : (now then : Counts) → RoseTo now then → (host : Host) (old new : Memory) (any : Bool) (s more : Script) (text : List ℕ) (r : Reply) (before : Option Script) (t u : Tale)
@@ -116,13 +91,13 @@ leads_line now then rose host old new any s more text r before t u is next done 
 
 -- a line that was too long
 pub leads_long : (now then : Counts) → RoseTo now then → (host : Host) (old : Memory) (any : Bool) (s more : Script) (r : Reply) (before : Option Script) (t u : Tale)
-    → s ≡ too_long more → before ≡ Some more → IsTurnedDown LineTooLong (kept_at old t) (outcome.Refused LineTooLong) (kept_at old u) → Replied (replies_failed now then) (outcome.Refused LineTooLong) r t u
+    → s ≡ too_long more → before ≡ Some more → IsTurnedDown LineTooLong (kept_at old t) (refusing LineTooLong) (kept_at old u) → Replied (replies_failed now then) (refusing LineTooLong) r t u
     → Turns host now then old old any s before (turn_of r any) t u
 leads_long now then rose host old any s more r before t u is next down replied = record {
   piece = replied.piece;
   is_told = replied.is_told;
-  leads = leads host (at now (kept_at old t) any s) then rose (kept_at old u) more before next (outcome.Refused LineTooLong) r replied.piece
-      (λ c up same. subst (λ (x : Script). NextLine host now (kept_at old t) x (outcome.Refused LineTooLong) c (kept_at old u) more) (sym is) (refl, up, down)) replied.as_told;
+  leads = leads host (at now (kept_at old t) any s) then rose (kept_at old u) more before next (refusing LineTooLong) r replied.piece
+      (λ c up same. subst (λ (x : Script). NextLine host now (kept_at old t) x (refusing LineTooLong) c (kept_at old u) more) (sym is) (refl, up, down)) replied.as_told;
 }
 
 -- a turn on which the run goes on was replied to
@@ -148,7 +123,7 @@ unread_turn host now then rose so memory any script before t = over_turn host no
 -- the script is at its end, or past its limit
 pub ended_turn : (host : Host) (now then : Counts) → RoseTo now then → (memory : Memory) (any : Bool) (script : Script) (before : Option Script) (status : RunStatus) (t : Tale)
     → EndsAs any script status → Turns host now then memory memory any script before (Over status) t t
-ended_turn host now then rose memory any script before status t how = over_turn host now then memory any script before status t (λ stretch bytes. ended how rose (record { silent = refl; ended = refl; keeps = refl }))
+ended_turn host now then rose memory any script before status t how = over_turn host now then memory any script before status t (λ stretch bytes. script_ended how rose (record { silent = refl; ended = refl; keeps = refl }))
 
 -- a turn is lost where its reply is
 pub lost_reply : (r : Reply) (any : Bool) → IsLost r → IsLostTurn (turn_of r any)

@@ -1,40 +1,34 @@
 -- A whole run: its boot, and the lines behind it.
 use Rattle.std.proofs.Common.{◌≡◌, ℕ, List, [], ◌++◌, Option, Some, Err, refl, sym, ◌∙◌, ap, false, arith}
 use Rattle.std.proofs.lemmas.List.{append-nil}
-use Rattle.mdv_run.specs.Below.{Script, Tale, told, BootRefusal, Host, Memory, IsRebooted, kept_at, unbooted, HasBootCause, boot_answer, RunStatus, Panic, Counts, RoseTo, Stretch, IsWholeRun, HasStatusCause, drive_failed}
-use Rattle.mdv_run_law.specs.Run.{IsLostStatus, RunsFrom}
-use Rattle.mdv_engine_law.specs.declared.answer.Answer.TheVariants as outcome
-use Rattle.mdv_engine_law.specs.declared.answer.BootRefusal.TheVariants as refusal
-use Rattle.mdv_run.specs.Turns.{LinesRun, over_status}
+use Rattle.mdv_run.specs.Below.{Script, Tale, told, Ended, Host, Memory, IsRebooted, kept_at, unbooted, HasBootCause, boot_answer, RunStatus, Panic, Counts, RoseTo, Stretch, IsWholeRun, HasStatusCause, drive_failed}
+use Rattle.mdv_run_law.specs.Run.{IsLostStatus, status_at}
+use Rattle.mdv_engine_law.specs.Answers.{accepted}
+use Rattle.mdv_engine_law.specs.declared.answer.Ended.TheVariants as ended
+use Rattle.mdv_run.specs.Turns.{LinesRun}
 
 module _ (host : Host) (stretch : Stretch) (start : Counts) (t : Tale) (script : Script) (tale : Option Tale) where
   -- a run that is over with its boot
-  pub whole_over : (T : Type 0) (end : Counts) → RoseTo start end → (u : Tale) (memory : Memory) (r : BootRefusal) → tale ≡ Some u → told u ≡ told t → IsRebooted (drive_failed start end) host (kept_at (unbooted 0) t) (boot_answer {T = T} (Err r)) (kept_at memory u)
-      → HasBootCause {T = T} (drive_failed start end) (Err r) → IsWholeRun host stretch start end t script tale (over_status r)
-  whole_over T end rose u memory r is quiet rebooted why = record {
+  pub whole_over : (T : Type 0) (end : Counts) → RoseTo start end → (u : Tale) (memory : Memory) (r : Ended) → tale ≡ Some u → told u ≡ told t → IsRebooted (drive_failed start end) host (kept_at (unbooted 0) t) (boot_answer {T = T} (Err r)) (kept_at memory u) → IsWholeRun host stretch start end t script tale (status_at r)
+  whole_over T end rose u memory r is quiet rebooted = record {
     u = u;
     tells = is;
     more = [];
     is_told = quiet ∙ sym (append-nil (told t));
     last = kept_at memory u;
     left = record { content = λ block. refl; opened = λ known. absurd (known (lost r)) };
-    runs = record { answer = boot_answer {T = T} (Err r); booted = end; rose = rose; kept = kept_at memory u; boots = rebooted; runs = by r why };
+    runs = record { answer = boot_answer {T = T} (Err r); booted = end; rose = rose; kept = kept_at memory u; boots = rebooted; runs = (still, record { silent = refl; ended = refl; keeps = refl }) };
   } where
-    lost : (r : BootRefusal) → IsLostStatus (over_status r)
-    lost (refusal.Lost active listed) = tt
-    lost refusal.Spent = tt
-    lost refusal.Memory = tt
+    lost : (r : Ended) → IsLostStatus (status_at r)
+    lost (ended.Lost active listed) = tt
+    lost ended.Spent = tt
+    lost ended.Memory = tt
 
     still : RoseTo end end
     still = record { drive = omega arith; source = omega arith; replies = omega arith }
 
-    by : (r : BootRefusal) → HasBootCause {T = T} (drive_failed start end) (Err r) → RunsFrom host stretch end (boot_answer {T = T} (Err r)) end (kept_at memory u) script [] (over_status r) (kept_at memory u)
-    by (refusal.Lost active listed) why = (still, record { silent = refl; ended = λ i. Panic (why.1 i) (why.2 i); keeps = refl })
-    by refusal.Spent why = (still, record { silent = refl; ended = refl; keeps = refl })
-    by refusal.Memory why = (still, record { silent = refl; ended = refl; keeps = refl })
-
   -- a run that goes on to its lines
-  pub whole_lines : (mid end : Counts) → RoseTo start mid → (u v : Tale) (memory : Memory) (status : RunStatus) → tale ≡ Some v → told u ≡ told t → IsRebooted (drive_failed start mid) host (kept_at (unbooted 0) t) outcome.Ok (kept_at memory u)
+  pub whole_lines : (mid end : Counts) → RoseTo start mid → (u v : Tale) (memory : Memory) (status : RunStatus) → tale ≡ Some v → told u ≡ told t → IsRebooted (drive_failed start mid) host (kept_at (unbooted 0) t) accepted (kept_at memory u)
       → LinesRun host stretch mid end memory false script status u v → IsWholeRun host stretch start end t script tale status
   whole_lines mid end rose u v memory status is quiet rebooted lines = record {
     u = v;
@@ -43,11 +37,11 @@ module _ (host : Host) (stretch : Stretch) (start : Counts) (t : Tale) (script :
     is_told = lines.is_told ∙ ap (λ (l : List ℕ). l ++ lines.more) quiet;
     last = lines.last;
     left = lines.left;
-    runs = record { answer = outcome.Ok; booted = mid; rose = rose; kept = kept_at memory u; boots = rebooted; runs = lines.runs };
+    runs = record { answer = accepted; booted = mid; rose = rose; kept = kept_at memory u; boots = rebooted; runs = lines.runs };
   }
 
 -- why a run is over with its boot
-pub over_cause : (T : Type 0) (start end : Counts) (r : BootRefusal) → HasBootCause {T = T} (drive_failed start end) (Err r) → HasStatusCause start end (over_status r)
-over_cause T start end (refusal.Lost active listed) why = why
-over_cause T start end refusal.Spent why = tt
-over_cause T start end refusal.Memory why = tt
+pub over_cause : (T : Type 0) (start end : Counts) (r : Ended) → HasBootCause {T = T} (drive_failed start end) (Err r) → HasStatusCause start end (status_at r)
+over_cause T start end (ended.Lost active listed) why = why
+over_cause T start end ended.Spent why = tt
+over_cause T start end ended.Memory why = tt

@@ -8,7 +8,7 @@ pub use Rattle.mdv_engine_law.specs.Line.{IsExecuted, IsRebooted, IsSame, IsTurn
 pub use Rattle.mdv_engine_law.specs.Replies.{IsReplied, IsTold}
 pub use Rattle.mdv_engine_law.specs.Standing.{TellsFront, BootMoment, BootedTo, Executed, IsAwake, Knows, Replied, TurnMoment, Turned}
 pub use Rattle.mdv_engine_law.specs.declared.answer.Answer.{Answer}
-pub use Rattle.mdv_engine_law.specs.declared.answer.BootRefusal.{BootRefusal}
+pub use Rattle.mdv_engine_law.specs.declared.answer.Ended.{Ended}
 pub use Rattle.mdv_engine_law.specs.declared.answer.Reply.{Reply}
 pub use Rattle.mdv_engine_law.specs.declared.host.Host.{Host}
 pub use Rattle.mdv_history.specs.History.{Deed}

@@ -1,9 +1,8 @@
 -- How the lines of a run follow one another.
 use Rattle.std.specs.Prelude.{◌≡◌, ℕ, Bool, true, List, ◌++◌, Option, Some}
-use Rattle.mdv_run.specs.Below.{Script, Tale, told, Answer, BootRefusal, Reply, Host, Kept, Memory, kept_at, Replied, RunStatus, Panic, WriteFault, NoMemory, NumbersSpent, At, Counts, IsNextFront, LinesToldBy, LineTold, Runs, Stretch, IsAnswered, IsLeft, HasStatusCause}
+use Rattle.mdv_run.specs.Below.{Script, Tale, told, Answer, Reply, Host, Kept, Memory, kept_at, Replied, RunStatus, Panic, WriteFault, NoMemory, NumbersSpent, At, Counts, IsNextFront, LinesToldBy, LineTold, Runs, Stretch, IsAnswered, IsLeft, HasStatusCause}
 use Rattle.mdv_shelf.specs.Story.{Moment}
 use Rattle.mdv_run_law.specs.Run.{IsLastShown, IsLostStatus, Over as IsOver}
-use Rattle.mdv_engine_law.specs.declared.answer.BootRefusal.TheVariants as refusal
 use Rattle.mdv_engine_law.specs.declared.answer.Reply.TheVariants as reply
 use Rattle.mdv_run.specs.declared.session.Turn.{Turn}
 use Rattle.mdv_run.specs.declared.session.Turn.TheVariants.{On, Over}
@@ -13,12 +12,6 @@ pub record LineAnswered (drive replies : Type 0) (host : Host) (text : List ℕ)
   pub answer : Answer
   pub done : IsAnswered drive host (kept_at old t) text answer (kept_at new u)
   pub replied : Replied replies answer reply t u
-
--- the status of a run that is over with a boot
-abbrev pub over_status : BootRefusal → RunStatus
-over_status (refusal.Lost active listed) = Panic active listed
-over_status refusal.Spent = NumbersSpent
-over_status refusal.Memory = NoMemory
 
 -- how a run goes on with a reply
 abbrev pub turn_of : Reply → Bool → Turn

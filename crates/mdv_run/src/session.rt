@@ -14,15 +14,15 @@ ghost use Rattle.mdv_name.specs.declared.geometry.Geometry.{Geometry};
 ghost use Rattle.mdv_name.specs.Geometry.{IsGeometry as IsTable};
 ghost use Rattle.mdv_run_law.specs.Lives.{host_of};
 ghost use Rattle.mdv_run_law.specs.Usage.{IsUsed};
-ghost use Rattle.mdv_run_law.specs.Run.{status_of};
+ghost use Rattle.mdv_run_law.specs.Run.{status_at, status_of};
 ghost use Rattle.mdv_run_law.specs.Standing.{LinesMoment};
 ghost use Rattle.mdv_run.specs.Promise.{HasRun, HaveRun, IsUntouched, IsUsageOf, LineEnds, LineReply, LineStays, LineTells, OfEachUse, TurnAnswers, TurnEnds, TurnTells};
-ghost use Rattle.mdv_run.specs.Turns.{IsOn, over_status, turn_of as spec_turn_of};
+ghost use Rattle.mdv_run.specs.Turns.{IsOn, turn_of as spec_turn_of};
 
 use crate::lines::next_asked;
 use mdv_base::{DriveNo, Failed, Refusal};
 use mdv_engine::Engine;
-use mdv_engine_law::{BootRefusal, Host, Reply};
+use mdv_engine_law::{Ended, Host, Reply, reply_at};
 use mdv_home::{Home, home_in};
 use mdv_name::{Geometry, GeometryFault};
 use mdv_port::{LineEnd, LineReader, Source};
@@ -81,18 +81,18 @@ fn run_host<B: Bench, I: Source>(
 {
     match Engine::boot(bench, alloc, host) {
         Ok(mut engine) => run_lines(&mut engine, alloc, bench, script),
-        Err(refusal) => over(refusal),
+        Err(end) => over(end),
     }
 }
 
 // The status of a run that is over with a boot.
-fn over(refusal: BootRefusal) -> RunStatus
-    ensures { result ≡ over_status refusal }
+fn over(end: Ended) -> RunStatus
+    ensures { result ≡ status_at end }
 {
-    match refusal {
-        BootRefusal::Lost { active, listed } => RunStatus::Panic { active, listed },
-        BootRefusal::Spent => RunStatus::NumbersSpent,
-        BootRefusal::Memory => RunStatus::NoMemory,
+    match end {
+        Ended::Lost { active, listed } => RunStatus::Panic { active, listed },
+        Ended::Spent => RunStatus::NumbersSpent,
+        Ended::Memory => RunStatus::NoMemory,
     }
 }
 
@@ -245,9 +245,7 @@ fn boot_anew<B: Bench>(engine: &mut Engine, alloc: Global, bench: &mut B) -> Rep
 {
     match engine.reboot(bench, alloc) {
         Ok(()) => engine.accept(bench),
-        Err(BootRefusal::Lost { active, listed }) => Reply::Panic { active, listed },
-        Err(BootRefusal::Spent) => Reply::Spent,
-        Err(BootRefusal::Memory) => Reply::NoMemory,
+        Err(end) => reply_at(end),
     }
 }
 

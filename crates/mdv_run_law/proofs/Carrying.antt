@@ -1,15 +1,22 @@
 -- Where nothing failed and memory wasn't wanting, a line comes to one answer.
-use Rattle.std.proofs.Common.{◌≡◌, inl, inr, ℕ, zero, suc, ◌+◌, ◌≤◌, ◌<◌, false, List, [], ◌∷◌, Some, refl, sym, ◌∙◌, ap, subst, arith}
-use Rattle.mdv_run_law.specs.Below.{SliceName, VolId, Refusal, IsHome, values_reply, IsSound, Command, Create, Read, Write, Line, Newest, area_of, next_newest, Answer, Host, site_of, Memory, Kept, IsTurnedDown, IsCarriedOut, ComesTo, IsCreation, IsCreated, IsNew, MayChange, IsChange, IsCommitted, AreBlocksAt, AreBlocksRefused, IsRead, IsWrite, ArePut, blocks_of}
+use Rattle.std.proofs.Common.{◌≡◌, inl, inr, ℕ, zero, suc, ◌+◌, ◌≤◌, ◌<◌, false, List, [], ◌∷◌, Option, Some, refl, sym, ◌∙◌, ap, subst, arith}
+use Rattle.mdv_run_law.specs.Below.{VolId, Refusal, IsHome, values_reply, IsSound, Change, Command, Create, Read, Write, Line, Newest, area_of, next_newest, Answer, Host, site_of, Memory, Kept, IsTurnedDown, CameTo, ComesTo, IsCreated, IsNew, IsCommitted, AreBlocksAt, ArePut, blocks_of}
 use Rattle.mdv_words.specs.declared.command.Command.TheVariants as command
 use Rattle.mdv_words.specs.declared.command.Line.TheVariants as words
 use Rattle.mdv_words.proofs.Lines.{one_line}
-use Rattle.mdv_engine_law.specs.declared.answer.Answer.TheVariants as outcome
-use Rattle.mdv_run_law.specs.Run.{IsAnswered}
-use Rattle.mdv_run_law.proofs.Changing.{stripe, one_change_cause, one_may, never_changed}
+use Rattle.mdv_engine_law.specs.declared.answer.Answer.TheVariants.{Over}
+use Rattle.mdv_engine_law.specs.declared.answer.Ended.{Ended}
+use Rattle.mdv_engine_law.specs.declared.answer.Ended.TheVariants as ended
+use Rattle.mdv_engine_law.specs.Answers.{refusing, telling}
+use Rattle.mdv_engine_law.specs.Commands as came
+use Rattle.mdv_engine_law.specs.Commands.{Effect, GivesUp, IsAllowed, case_of}
+use Rattle.mdv_engine_law.specs.Refusals.{refusal_of}
+use Rattle.mdv_engine_law.proofs.Allowed.{allowed_room}
+use Rattle.mdv_table.specs.Change.{table_after}
+use Rattle.mdv_table.specs.declared.change.Change.TheVariants.{MakeStripe}
+use Rattle.mdv_run_law.specs.Run.{IsAnswered, IsSaid}
 use Rattle.mdv_run_law.proofs.Keeping.{IsSatisfied, Settled, held, Same, One, opening_of, stays_same, boot_same, put_same}
-use Rattle.mdv_run_law.proofs.Refusing.{Opening, shut, wide, never_shut, one_create_cause, never_created, one_blocks_cause, never_at, one_at, at_beside}
-use Rattle.mdv_run_law.proofs.Waking.{IsHeard}
+use Rattle.mdv_run_law.proofs.Placing.{Opening, shut, wide, opened_twice, never_shut, one_at, at_beside}
 
 -- blocks that are the same one by one
 same_blocks : (c d : ℕ → List ℕ) (first count : ℕ) → ((k : ℕ) → k < count → c (first + k) ≡ d (first + k)) → blocks_of c first count ≡ blocks_of d first count
@@ -40,7 +47,7 @@ module _ (failed : Type 0) (calm : failed → ⊥) (host : Host) (sound : IsSoun
     module _ (same : Same host k j) (sated : IsSatisfied a) (sated_too : IsSatisfied b) where
       -- both refused
       refused : (r q : Refusal) → r ≡ q → IsTurnedDown r k a n → IsTurnedDown q j b m → One host n m a b
-      refused r q one first second = (first.0 ∙ ap (λ (x : Refusal). outcome.Refused x) one ∙ sym second.0, λ heard. stays_same host k j n m same first.1 second.1)
+      refused r q one first second = (first.0 ∙ ap refusing one ∙ sym second.0, λ said. stays_same host k j n m same first.1 second.1)
 
       created : IsCreated host k n → IsCreated host j m → 8208 ≤ host.home.blocks → Same host n m
       created one other room =
@@ -52,92 +59,87 @@ module _ (failed : Type 0) (calm : failed → ⊥) (host : Host) (sound : IsSoun
             other = held other.newest (ap (λ (x : Memory). x.opened) other.memory) room other.head other.content;
           }
 
-      creation : 8208 ≤ host.home.blocks → IsCreation failed host k a n → IsCreation failed host j b m → One host n m a b
-      creation room (inl one) (inl other) = (one.0 ∙ sym other.0, λ heard. created one.1 other.1 room)
-      creation room (inr (inl wanting)) second = absurd (sated.not_refused wanting.0)
-      creation room (inr (inr bad)) second = absurd (calm bad.0)
-      creation room first (inr (inl wanting)) = absurd (sated_too.not_refused wanting.0)
-      creation room first (inr (inr bad)) = absurd (calm bad.0)
-
-      module _ (volume : VolId) (slice : SliceName) (may also : MayChange host memory (stripe host sound volume slice)) where
-        committed : (room : 8208 ≤ host.home.blocks) → IsCommitted host may.newest may.next k n → IsCommitted host also.newest also.next j m → Same host n m
-        committed room one other =
-            let both = one_may host sound volume slice memory may also in
-            record {
-              memory = one.memory ∙ (λ i. record { opened = Some (next_newest (both.0 i) (both.1 i)); down = memory.down; begun = memory.begun }) ∙ sym other.memory;
-              beside = λ block out. one.beside block out ∙ same.beside block out ∙ sym (other.beside block out);
-              one = held (next_newest may.newest may.next) (ap (λ (x : Memory). x.opened) one.memory) room one.head one.content;
-              other = held (next_newest also.newest also.next) (ap (λ (x : Memory). x.opened) other.memory) room other.head other.content;
-            }
-
-        same_count : may.newest.mark.count ≡ also.newest.mark.count
-        same_count = ap (λ (x : Newest). x.mark.count) (one_may host sound volume slice memory may also).0
-
-        changed : 8208 ≤ host.home.blocks → IsChange failed host memory (stripe host sound volume slice) may k a n → IsChange failed host memory (stripe host sound volume slice) also j b m → One host n m a b
-        changed room (inl one) (inl other) = (one.0 ∙ sym other.0, λ heard. committed room one.2 other.2)
-        changed room (inr (inl one)) (inr (inl other)) = (one.0 ∙ sym other.0, λ heard. absurd (subst IsHeard one.0 heard))
-        changed room (inl one) (inr (inl other)) = absurd (let count = same_count in omega (arith, count, one.1, other.1))
-        changed room (inr (inl one)) (inl other) = absurd (let count = same_count in omega (arith, count, one.1, other.1))
-        changed room (inr (inr bad)) second = absurd (calm bad.0)
-        changed room first (inr (inr bad)) = absurd (calm bad.0)
+      committed : (change : Change) (newest other : Newest) → newest ≡ other → 8208 ≤ host.home.blocks → IsCommitted host newest (table_after host.drives change newest.table) k n → IsCommitted host other (table_after host.drives change other.table) j m → Same host n m
+      committed change newest other is room one two = record {
+        memory = one.memory ∙ (λ i. record { opened = Some (next_newest (is i) (table_after host.drives change (is i).table)); down = memory.down; begun = memory.begun }) ∙ sym two.memory;
+        beside = λ block out. one.beside block out ∙ same.beside block out ∙ sym (two.beside block out);
+        one = held (next_newest newest (table_after host.drives change newest.table)) (ap (λ (x : Memory). x.opened) one.memory) room one.head one.content;
+        other = held (next_newest other (table_after host.drives change other.table)) (ap (λ (x : Memory). x.opened) two.memory) room two.head two.content;
+      }
 
       room_of_opening : (newest : Newest) → memory.opened ≡ Some newest → Opening host memory → 8208 ≤ host.home.blocks
       room_of_opening newest opened (shut none) = absurd (never_shut memory.opened newest none opened)
       room_of_opening newest opened (wide other also is_plan room) = room
 
-      module _ (volume : VolId) (at count : ℕ) where
-        read_there : (newest : Newest) (opened : memory.opened ≡ Some newest) (opening : Opening host memory) (block other : ℕ) → AreBlocksAt host memory volume at count block → AreBlocksAt host memory volume at count other
-            → (block ≡ other) × ((k : ℕ) → k < count → area_of (site_of host) 0 (other + k) ≡ false)
-        read_there newest opened (shut none) block other one also = absurd (never_shut memory.opened newest none opened)
-        read_there newest opened (wide its is is_plan room) block other one also = (
-          one_at host sound home memory volume at count its is is_plan block other one also,
-          λ k less. at_beside host sound home memory volume at count its is is_plan room other k also less,
-        )
+      there_once : (volume : VolId) (at count : ℕ) (newest : Newest) (opened : memory.opened ≡ Some newest) (opening : Opening host memory) (block other : ℕ) → AreBlocksAt host memory volume at count block → AreBlocksAt host memory volume at count other
+          → (block ≡ other) × ((k : ℕ) → k < count → area_of (site_of host) 0 (other + k) ≡ false)
+      there_once volume at count newest opened (shut none) block other one also = absurd (never_shut memory.opened newest none opened)
+      there_once volume at count newest opened (wide its is is_plan room) block other one also = (
+        one_at host sound home memory volume at count its is is_plan block other one also,
+        λ k less. at_beside host sound home memory volume at count its is is_plan room other k also less,
+      )
 
-        never_read : (newest : Newest) (opened : memory.opened ≡ Some newest) (opening : Opening host memory) (r : Refusal) (block : ℕ) → AreBlocksRefused host memory volume at count r → AreBlocksAt host memory volume at count block → ⊥
-        never_read newest opened (shut none) r block refused there = never_shut memory.opened newest none opened
-        never_read newest opened (wide its is is_plan room) r block refused there = never_at host sound home memory volume at count its is is_plan r block refused there
+      -- both done
+      effects : (cmd : Command) → IsAllowed (case_of host k) cmd → Effect host k cmd a n → Effect host j cmd b m → One host n m a b
+      effects (Create slice force) free one two = (one.0 ∙ sym two.0, λ said. created one.1 two.1 (allowed_room (case_of host k) slice force free))
+      effects (command.MakeStripe volume slice) free (ok, newest, opened, less, one) (ok_too, other, also, less_too, two) =
+          (ok ∙ sym ok_too, λ said. committed (MakeStripe volume slice) newest other (opened_twice memory.opened other newest also opened) (room_of_opening newest opened (opening_of host k same.one)) one two)
+      effects (Read volume at count) free (block, there, text, stays) (other, also, text_too, stays_too) =
+          let both = there_once volume at count there.lies.0 there.lies.1 (opening_of host k same.one) block other there also in
+          let blocks = ap (λ (x : ℕ). blocks_of c x count) both.0 ∙ same_blocks c d other count (λ i less. same.beside (other + i) (both.1 i less)) in
+          (text ∙ ap (λ (bs : List (List ℕ)). telling (values_reply at bs)) blocks ∙ sym text_too, λ said. stays_same host k j n m same stays stays_too)
+      effects (Write volume at block) free (place, there, ok, kept, put) (other, also, ok_too, kept_too, put_too) =
+          let both = there_once volume at 1 there.lies.0 there.lies.1 (opening_of host k same.one) place other there also in
+          (ok ∙ sym ok_too, λ said. put_same host other block (both.1 0 (omega arith)) k j n m same kept kept_too (subst (λ (p : ℕ). ArePut p (block ∷ []) c n.content) both.0 put) put_too)
 
-        read : (block other : ℕ) → AreBlocksAt host memory volume at count block → AreBlocksAt host memory volume at count other → IsRead failed at count block k a n → IsRead failed at count other j b m → One host n m a b
-        read block other there also (stays, inl (text, is, text_is)) (stays_too, inl (text_too, is_too, text_is_too)) =
-            let both = read_there there.lies.0 there.lies.1 (opening_of host k same.one) block other there also in
-            let blocks = ap (λ (x : ℕ). blocks_of c x count) both.0 ∙ same_blocks c d other count (λ i less. same.beside (other + i) (both.1 i less)) in
-            (is ∙ ap (λ (x : List ℕ). outcome.Values x) (text_is ∙ ap (values_reply at) blocks ∙ sym text_is_too) ∙ sym is_too, λ heard. stays_same host k j n m same stays stays_too)
-        read block other there also (stays, inr (inl wanting)) second = absurd (sated.not_refused wanting)
-        read block other there also (stays, inr (inr bad)) second = absurd (calm bad.0)
-        read block other there also first (stays, inr (inl wanting)) = absurd (sated_too.not_refused wanting)
-        read block other there also first (stays, inr (inr bad)) = absurd (calm bad.0)
+      -- over for want of numbers alone
+      over_is : (cmd : Command) (end : Ended) (x y : Kept) → GivesUp failed host x cmd end y → end ≡ ended.Spent
+      over_is (Create slice force) (ended.Lost active listed) x y is = absurd (calm is.0)
+      over_is (Create slice force) ended.Spent x y is = refl
+      over_is (Create slice force) ended.Memory x y is = absurd is
+      over_is (command.MakeStripe volume slice) (ended.Lost active listed) x y is = absurd (calm is.0)
+      over_is (command.MakeStripe volume slice) ended.Spent x y is = refl
+      over_is (command.MakeStripe volume slice) ended.Memory x y is = absurd is
+      over_is (Read volume at count) end x y is = absurd is
+      over_is (Write volume at block) end x y is = absurd is
 
-      write : (volume : VolId) (at : ℕ) (block : List ℕ) (place other : ℕ) → AreBlocksAt host memory volume at 1 place → AreBlocksAt host memory volume at 1 other → IsWrite failed place (block ∷ []) k a n → IsWrite failed other (block ∷ []) j b m → One host n m a b
-      write volume at block place other there also (kept, inl one) (kept_too, inl two) =
-          let both = read_there volume at 1 there.lies.0 there.lies.1 (opening_of host k same.one) place other there also in
-          (one.0 ∙ sym two.0, λ heard. put_same host other block (both.1 0 (omega arith)) k j n m same kept kept_too (subst (λ (p : ℕ). ArePut p (block ∷ []) c n.content) both.0 one.1) two.1)
-      write volume at block place other there also (kept, inr bad) second = absurd (calm bad.0)
-      write volume at block place other there also first (kept, inr bad) = absurd (calm bad.0)
+      never_done : (cmd : Command) (end : Ended) (x y z w : Kept) (answer : Answer) → x.memory ≡ y.memory → GivesUp failed host x cmd end z → Effect host y cmd answer w → ⊥
+      never_done (Create slice force) (ended.Lost active listed) x y z w answer is gives effect = calm gives.0
+      never_done (Create slice force) ended.Spent x y z w answer is gives effect = gives
+      never_done (Create slice force) ended.Memory x y z w answer is gives effect = gives
+      never_done (command.MakeStripe volume slice) (ended.Lost active listed) x y z w answer is gives effect = calm gives.0
+      never_done (command.MakeStripe volume slice) ended.Spent x y z w answer is (newest, opened, high) (ok, other, also, less, made) =
+          let count = ap (λ (x : Newest). x.mark.count) (opened_twice y.memory.opened newest other (sym (ap (λ (m : Memory). m.opened) is) ∙ opened) also) in
+          absurd (omega (arith, count, high, less))
+      never_done (command.MakeStripe volume slice) ended.Memory x y z w answer is gives effect = gives
+      never_done (Read volume at count) end x y z w answer is gives effect = gives
+      never_done (Write volume at block) end x y z w answer is gives effect = gives
 
-      carried : (cmd : Command) → IsCarriedOut failed host k cmd a n → IsCarriedOut failed host j cmd b m → One host n m a b
-      carried (Create slice force) (inl first) (inl second) = refused first.0 second.0 (one_create_cause host home memory slice force first.0 second.0 first.1 second.1) first.2 second.2
-      carried (Create slice force) (inl first) (inr second) = absurd (never_created host home memory slice force first.0 first.1 second.0)
-      carried (Create slice force) (inr first) (inl second) = absurd (never_created host home memory slice force second.0 second.1 first.0)
-      carried (Create slice force) (inr first) (inr second) = creation first.0.room first.1 second.1
-      carried (command.MakeStripe volume slice) (inl first) (inl second) = refused first.0 second.0 (one_change_cause host sound volume slice memory (opening_of host k same.one) first.0 second.0 first.1 second.1) first.2 second.2
-      carried (command.MakeStripe volume slice) (inl first) (inr (inr second)) = absurd (never_changed host sound volume slice memory (opening_of host k same.one) first.0 first.1 second.0)
-      carried (command.MakeStripe volume slice) (inr (inr first)) (inl second) = absurd (never_changed host sound volume slice memory (opening_of host k same.one) second.0 second.1 first.0)
-      carried (command.MakeStripe volume slice) (inr (inr first)) (inr (inr second)) = changed volume slice first.0 second.0 (room_of_opening first.0.newest first.0.opened (opening_of host k same.one)) first.1 second.1
-      carried (command.MakeStripe volume slice) (inr (inl wanting)) second = absurd (sated.not_refused wanting.1.0)
-      carried (command.MakeStripe volume slice) first (inr (inl wanting)) = absurd (sated_too.not_refused wanting.1.0)
-      carried (Read volume at count) (inl first) (inl second) = refused first.0 second.0 (one_blocks_cause host sound home memory volume at count first.0 second.0 first.1 second.1) first.2 second.2
-      carried (Read volume at count) (inl first) (inr second) = absurd (never_read volume at count second.1.lies.0 second.1.lies.1 (opening_of host k same.one) first.0 second.0 first.1 second.1)
-      carried (Read volume at count) (inr first) (inl second) = absurd (never_read volume at count first.1.lies.0 first.1.lies.1 (opening_of host k same.one) second.0 first.0 second.1 first.1)
-      carried (Read volume at count) (inr first) (inr second) = read volume at count first.0 second.0 first.1 second.1 first.2 second.2
-      carried (Write volume at block) (inl first) (inl second) = refused first.0 second.0 (one_blocks_cause host sound home memory volume at 1 first.0 second.0 first.1 second.1) first.2 second.2
-      carried (Write volume at block) (inl first) (inr second) = absurd (never_read volume at 1 second.1.lies.0 second.1.lies.1 (opening_of host k same.one) first.0 second.0 first.1 second.1)
-      carried (Write volume at block) (inr first) (inl second) = absurd (never_read volume at 1 first.1.lies.0 first.1.lies.1 (opening_of host k same.one) second.0 first.0 second.1 first.1)
-      carried (Write volume at block) (inr first) (inr second) = write volume at block first.0 second.0 first.1 second.1 first.2 second.2
+      never : (cmd : Command) (r : Refusal) → refusal_of (case_of host k) cmd ≡ Some r → IsAllowed (case_of host k) cmd → ⊥
+      never cmd r is free = absurd (cc (is, free))
+
+      same_refusal : (r q : Refusal) (o : Option Refusal) → o ≡ Some r → o ≡ Some q → r ≡ q
+      same_refusal r q o is also = cc
+
+      came_same : (cmd : Command) → CameTo failed host k cmd a n → CameTo failed host j cmd b m → One host n m a b
+      came_same cmd (came.refused r is left) (came.refused q also left_too) = refused r q (same_refusal r q (refusal_of (case_of host k) cmd) is also) left left_too
+      came_same cmd (came.refused r is left) (came.done free effect) = absurd (never cmd r is free)
+      came_same cmd (came.refused r is left) (came.over end free so gives) = absurd (never cmd r is free)
+      came_same cmd (came.done free effect) (came.refused r is left) = absurd (never cmd r is free)
+      came_same cmd (came.done free effect) (came.done also effect_too) = effects cmd free effect effect_too
+      came_same cmd (came.done free effect) (came.over end also so gives) = absurd (never_done cmd end j k m n a refl gives effect)
+      came_same cmd (came.over end free so gives) (came.refused r is left) = absurd (never cmd r is free)
+      came_same cmd (came.over end free so gives) (came.done also effect) = absurd (never_done cmd end k j n m b refl gives effect)
+      came_same cmd (came.over end free so gives) (came.over other also too gives_too) =
+          (so ∙ ap (λ (e : Ended). Over e) (over_is cmd end k n gives ∙ sym (over_is cmd other j m gives_too)) ∙ sym too, λ said. absurd (let unsaid : ⊥ = subst IsSaid so said in unsaid))
+      came_same cmd (came.wanting is left) second = absurd (sated.not_refused is)
+      came_same cmd (came.faulted so free is fault) second = absurd (calm so)
+      came_same cmd first (came.wanting is left) = absurd (sated_too.not_refused is)
+      came_same cmd first (came.faulted so free is fault) = absurd (calm so)
 
       comes : (spelled : Line) → ComesTo failed host k spelled a n → ComesTo failed host j spelled b m → One host n m a b
       comes words.Boot first second = boot_same host sound failed calm k j n m a b same sated sated_too first second
-      comes (words.Command cmd) first second = carried cmd first second
+      comes (words.Command cmd) first second = came_same cmd first second
 
   -- a line comes to the same from what is kept in common
   one_carried : (spelled : Line) (k j n m : Kept) (a b : Answer) → Same host k j → IsSatisfied a → IsSatisfied b → ComesTo failed host k spelled a n → ComesTo failed host j spelled b m → One host n m a b
@@ -148,7 +150,7 @@ module _ (failed : Type 0) (calm : failed → ⊥) (host : Host) (sound : IsSoun
 
   -- and so does a line
   pub one_answer : (text : List ℕ) (k j n m : Kept) (a b : Answer) → Same host k j → IsSatisfied a → IsSatisfied b → IsAnswered failed host k text a n → IsAnswered failed host j text b m → One host n m a b
-  one_answer text k j n m a b same sated sated_too (inl first) (inl second) = (first.1.0 ∙ sym second.1.0, λ heard. stays_same host k j n m same first.1.1 second.1.1)
+  one_answer text k j n m a b same sated sated_too (inl first) (inl second) = (first.1.0 ∙ sym second.1.0, λ said. stays_same host k j n m same first.1.1 second.1.1)
   one_answer text k j n m a b same sated sated_too (inl first) (inr second) = absurd (first.0 second.0 second.1)
   one_answer text k j n m a b same sated sated_too (inr first) (inl second) = absurd (second.0 first.0 first.1)
   one_answer text k j n m a b same sated sated_too (inr first) (inr second) =

@@ -1,27 +1,33 @@
 -- Where nothing failed and memory was never wanting, a run has one course.
 use Rattle.std.proofs.Common.{◌≡◌, inl, inr, ℕ, Bool, false, List, [], ◌∷◌, ◌++◌, length, ◌+◌, Contains, refl, sym, ◌∙◌, ap, subst, append_assoc, arith}
 use Rattle.std.proofs.lemmas.List.Elements.{Contains-append_right}
-use Rattle.mdv_run_law.specs.Below.{Refusal, BadLine, OutOfMemory, Script, at_end, spent, too_long, line, Said, replies_in, Command, Create, MakeStripe, Read, Write, Boot, Line, Answer, Host, site_of, Kept, IsCarriedOut, ComesTo, IsRebooted, adopted, empty, down, lost, wanting, IsPlain, IsPlainAnswer, IsReply, refusal_line}
+use Rattle.mdv_run_law.specs.Below.{Refusal, BadLine, OutOfMemory, Script, at_end, spent, too_long, line, replies_in, Command, Create, MakeStripe, Read, Write, Boot, Line, Answer, Host, site_of, Kept, CameTo, ComesTo, IsRebooted, adopted, empty, down, lost, wanting, IsPlain, IsPlainAnswer, IsReply, refusal_line}
 use Rattle.mdv_words.specs.declared.command.Line.TheVariants as words
-use Rattle.mdv_engine_law.specs.declared.answer.Answer.TheVariants as outcome
+use Rattle.mdv_engine_law.specs.declared.answer.Answer.TheVariants.{Said, Over as Ends}
+use Rattle.mdv_engine_law.specs.declared.answer.Ended.{Ended}
+use Rattle.mdv_engine_law.specs.declared.answer.Ended.TheVariants as ended
+use Rattle.mdv_engine_law.specs.declared.answer.Outcome.TheVariants as outcome
+use Rattle.mdv_engine_law.specs.Answers.{accepted, refusing}
+use Rattle.mdv_engine_law.specs.Commands as came
+use Rattle.mdv_engine_law.specs.Commands.{Effect, case_of}
 use Rattle.mdv_engine_law.specs.Line as boot
+use Rattle.mdv_status.specs.Telling.{Said as SaidBytes}
 use Rattle.mdv_engine_law.specs.Replies.{text_of}
 use Rattle.mdv_engine_law.proofs.Executing.{rose_within, comes_more, rebooted_more}
-use Rattle.mdv_engine_law.proofs.Plain.{bad_line_plain, too_long_plain, memory_plain, create_plain, change_plain, blocks_plain, ok_reply, values_are_reply, refusal_reply}
+use Rattle.mdv_engine_law.proofs.Plain.{bad_line_plain, too_long_plain, memory_plain, refusal_plain, ok_reply, values_are_reply, refusal_reply}
 use Rattle.mdv_run_law.specs.declared.status.RunStatus.{RunStatus}
-use Rattle.mdv_run_law.specs.declared.status.RunStatus.TheVariants.{Panic, NoMemory, NumbersSpent}
-use Rattle.mdv_run_law.specs.Run.{Counts, RoseTo, IsUndisturbed, IsSated, Stops, At, NextLine, IsSaid, refused_by, LineTold, LinesTold, Stretch, no_line, one_more, EndsAs, EndsWith, Over, unread, ended, broken, Runs, RunsFrom, IsAnswered, IsLostStatus, IsSameEnd, HasHome, OneCourse, started, drive_failed}
+use Rattle.mdv_run_law.specs.declared.status.RunStatus.TheVariants.{NoMemory}
+use Rattle.mdv_run_law.specs.Run.{Counts, RoseTo, IsUndisturbed, IsSated, Stops, At, NextLine, IsSaid, refused_by, LineTold, LinesTold, Stretch, no_line, one_more, EndsAs, EndsWith, Over, unread, ended as script_ended, broken, Runs, RunsFrom, IsAnswered, IsLostStatus, IsSameEnd, HasHome, OneCourse, started, drive_failed, status_at}
 use Rattle.mdv_run_law.proofs.Again.{Alike, neither, alike_itself}
 use Rattle.mdv_run_law.proofs.Carrying.{one_answer}
 use Rattle.mdv_run_law.proofs.Keeping.{IsSatisfied, Same, One, stays_same, one_boot}
-use Rattle.mdv_run_law.proofs.Waking.{IsHeard}
 
 -- what a line comes to is told in whole replies
 module _ (failed : Type 0) (calm : failed → ⊥) (host : Host) (kept next : Kept) (answer : Answer) where
-  refused_plain : (r : Refusal) → IsPlain r → answer ≡ outcome.Refused r → IsPlainAnswer answer
+  refused_plain : (r : Refusal) → IsPlain r → answer ≡ refusing r → IsPlainAnswer answer
   refused_plain r plain is = subst IsPlainAnswer (sym is) plain
 
-  ok_plain : answer ≡ outcome.Ok → IsPlainAnswer answer
+  ok_plain : answer ≡ accepted → IsPlainAnswer answer
   ok_plain is = subst IsPlainAnswer (sym is) tt
 
   booted_plain : IsRebooted failed host kept answer next → IsPlainAnswer answer
@@ -32,27 +38,22 @@ module _ (failed : Type 0) (calm : failed → ⊥) (host : Host) (kept next : Ke
   booted_plain (boot.spent is used) = subst IsPlainAnswer (sym is) tt
   booted_plain (wanting is) = subst IsPlainAnswer (sym is) tt
 
-  carried_plain : (command : Command) → IsCarriedOut failed host kept command answer next → IsPlainAnswer answer
-  carried_plain (Create slice force) (inl (r, cause, refused)) = refused_plain r (create_plain host kept.memory slice force r cause) refused.0
-  carried_plain (Create slice force) (inr (may, inl (ok, made))) = ok_plain ok
-  carried_plain (Create slice force) (inr (may, inr (inl (refused, unbegun)))) = refused_plain OutOfMemory memory_plain refused
-  carried_plain (Create slice force) (inr (may, inr (inr (so, bad)))) = absurd (calm so)
-  carried_plain (MakeStripe volume slice) (inl (r, cause, refused)) = refused_plain r (change_plain host kept.memory volume slice r cause) refused.0
-  carried_plain (MakeStripe volume slice) (inr (inl refused)) = refused_plain OutOfMemory memory_plain refused.1.0
-  carried_plain (MakeStripe volume slice) (inr (inr (may, inl (ok, fits, made)))) = ok_plain ok
-  carried_plain (MakeStripe volume slice) (inr (inr (may, inr (inl (is, used))))) = subst IsPlainAnswer (sym is) tt
-  carried_plain (MakeStripe volume slice) (inr (inr (may, inr (inr (so, panic))))) = absurd (calm so)
-  carried_plain (Read volume at count) (inl (r, cause, refused)) = refused_plain r (blocks_plain host kept.memory volume at count r cause) refused.0
-  carried_plain (Read volume at count) (inr (block, there, (stays, inl (text, is, text_is)))) = subst IsPlainAnswer (sym is) (record { at = at; blocks = _; is = text_is })
-  carried_plain (Read volume at count) (inr (block, there, (stays, inr (inl refused)))) = refused_plain OutOfMemory memory_plain refused
-  carried_plain (Read volume at count) (inr (block, there, (stays, inr (inr (so, refused))))) = absurd (calm so)
-  carried_plain (Write volume at block) (inl (r, cause, refused)) = refused_plain r (blocks_plain host kept.memory volume at 1 r cause) refused.0
-  carried_plain (Write volume at block) (inr (place, there, (same, inl (ok, put)))) = ok_plain ok
-  carried_plain (Write volume at block) (inr (place, there, (same, inr (so, bad, put)))) = absurd (calm so)
+  effect_plain : (command : Command) → Effect host kept command answer next → IsPlainAnswer answer
+  effect_plain (Create slice force) is = ok_plain is.0
+  effect_plain (MakeStripe volume slice) is = ok_plain is.0
+  effect_plain (Read volume at count) is = subst IsPlainAnswer (sym is.2) (record { at = at; blocks = _; is = refl })
+  effect_plain (Write volume at block) is = ok_plain is.2
+
+  came_plain : (command : Command) → CameTo failed host kept command answer next → IsPlainAnswer answer
+  came_plain command (came.refused r is left) = refused_plain r (refusal_plain (case_of host kept) command r is) left.0
+  came_plain command (came.wanting is left) = refused_plain OutOfMemory memory_plain is
+  came_plain command (came.done free effect) = effect_plain command effect
+  came_plain command (came.faulted so free is fault) = absurd (calm so)
+  came_plain command (came.over end free is gives) = subst IsPlainAnswer (sym is) tt
 
   line_plain : (spelled : Line) → ComesTo failed host kept spelled answer next → IsPlainAnswer answer
   line_plain Boot is = booted_plain is
-  line_plain (words.Command command) is = carried_plain command is
+  line_plain (words.Command command) is = came_plain command is
 
   answer_plain : (text : List ℕ) → IsAnswered failed host kept text answer next → IsPlainAnswer answer
   answer_plain text (inl (none, refused)) = refused_plain BadLine bad_line_plain refused.0
@@ -63,13 +64,19 @@ pub answered_more : (failed more : Type 0) (host : Host) (kept next : Kept) (tex
 answered_more failed more host kept next text answer cause (inl none) = inl none
 answered_more failed more host kept next text answer cause (inr (spelled, is, done)) = inr (spelled, is, comes_more failed more cause host kept next answer spelled done)
 
+-- a run that is over so is lost
+ended_status : (end : Ended) → IsLostStatus (status_at end)
+ended_status (ended.Lost active listed) = tt
+ended_status ended.Spent = tt
+ended_status ended.Memory = tt
+
 -- want of memory is told as such
 told_wanting : (rest : List ℕ) → Contains (replies_in (refusal_line OutOfMemory ++ rest)) (refusal_line OutOfMemory)
-told_wanting rest = subst (λ (l : List (List ℕ)). Contains l (refusal_line OutOfMemory)) (sym (ap (λ (s : Said). s.replies) ((refusal_reply OutOfMemory memory_plain).behind rest))) (0, omega arith, refl)
+told_wanting rest = subst (λ (l : List (List ℕ)). Contains l (refusal_line OutOfMemory)) (sym (ap (λ (s : SaidBytes). s.replies) ((refusal_reply OutOfMemory memory_plain).behind rest))) (0, omega arith, refl)
 
 rest_sated : (reply rest : List ℕ) (status : RunStatus) → IsReply reply → IsSated (reply ++ rest) status → IsSated rest status
 rest_sated reply rest status is sated = record {
-  replies = λ has. sated.replies (subst (λ (l : List (List ℕ)). Contains l (refusal_line OutOfMemory)) (sym (ap (λ (s : Said). s.replies) (is.behind rest))) (Contains-append_right (reply ∷ []) (replies_in rest) (refusal_line OutOfMemory) has));
+  replies = λ has. sated.replies (subst (λ (l : List (List ℕ)). Contains l (refusal_line OutOfMemory)) (sym (ap (λ (s : SaidBytes). s.replies) (is.behind rest))) (Contains-append_right (reply ∷ []) (replies_in rest) (refusal_line OutOfMemory) has));
   end = sated.end;
 }
 
@@ -108,7 +115,7 @@ module _ (host : Host) where
 
   over_rose : (w : Stretch) (n : ℕ) (end : Counts) (now : At) (told : List ℕ) (status : RunStatus) (last : Kept) → Over host w n end now told status last → RoseTo now.counts end
   over_rose w n end now told status last (unread so rose stops) = rose
-  over_rose w n end now told status last (ended how rose stops) = rose
+  over_rose w n end now told status last (script_ended how rose stops) = rose
   over_rose w n end now told status last (broken answer then next left is shown rose with) = rose_to_more now.counts then end (next_rose now.counts then now.kept next now.script left answer is) rose
 
   lines_rose : (w : Stretch) (n : ℕ) (now then : At) (told : List ℕ) → LinesTold host w n now told then → RoseTo now.counts then.counts
@@ -118,40 +125,26 @@ module _ (host : Host) where
 
 -- an answer that no failure told, and what it was told by
 said_text : (answer : Answer) (failed : Type 0) → (failed → ⊥) → IsSaid answer → (next : Kept) (told : List ℕ) (status : RunStatus) (last : Kept) → EndsWith failed answer next told status last → ⊥
-said_text outcome.Ok failed calm said next told status last with = calm with.cause
-said_text (outcome.Values text) failed calm said next told status last with = calm with.cause
-said_text (outcome.Refused refusal) failed calm said next told status last with = calm with.cause
-said_text outcome.Panic failed calm said next told status last with = said
-said_text outcome.Spent failed calm said next told status last with = said
-said_text outcome.NoMemory failed calm said next told status last with = said
+said_text (Said this) failed calm said next told status last with = calm with.cause
+said_text (Ends end) failed calm said next told status last with = said
 
 said_reply : (answer : Answer) → IsPlainAnswer answer → IsSaid answer → IsReply (text_of answer)
-said_reply outcome.Ok plain said = ok_reply
-said_reply (outcome.Values text) plain said = values_are_reply text plain
-said_reply (outcome.Refused refusal) plain said = refusal_reply refusal plain
-said_reply outcome.Panic plain said = absurd said
-said_reply outcome.Spent plain said = absurd said
-said_reply outcome.NoMemory plain said = absurd said
-
-said_heard : (answer : Answer) → IsSaid answer → IsHeard answer
-said_heard outcome.Ok said = tt
-said_heard (outcome.Values text) said = tt
-said_heard (outcome.Refused refusal) said = tt
-said_heard outcome.Panic said = absurd said
-said_heard outcome.Spent said = absurd said
-said_heard outcome.NoMemory said = absurd said
+said_reply (Said outcome.Ok) plain said = ok_reply
+said_reply (Said (outcome.Values text)) plain said = values_are_reply text plain
+said_reply (Said (outcome.Refused refusal)) plain said = refusal_reply refusal plain
+said_reply (Ends end) plain said = absurd said
 
 -- what is told behind a line of which the rest is told tells whether memory was wanting
 line_satisfied : (answer : Answer) (piece rest : List ℕ) (status : RunStatus) → IsSaid answer → piece ≡ text_of answer → IsSated (piece ++ rest) status → IsSatisfied answer
 line_satisfied answer piece rest status said text sated = record {
   not_refused = λ is. sated.replies (subst (λ (l : List ℕ). Contains (replies_in (l ++ rest)) (refusal_line OutOfMemory)) (sym (text ∙ ap text_of is)) (told_wanting rest));
-  not_wanting = λ is. (let never : IsSaid outcome.NoMemory = subst IsSaid is said in never);
+  not_wanting = λ is. (let never : IsSaid (Ends ended.Memory) = subst IsSaid is said in never);
 }
 
 end_satisfied : (failed : Type 0) → (failed → ⊥) → (answer : Answer) (next : Kept) (told : List ℕ) (status : RunStatus) (last : Kept) → EndsWith failed answer next told status last → IsSated told status → IsSatisfied answer
 end_satisfied failed calm answer next told status last with sated = record {
-  not_refused = λ is. (let cut : EndsWith failed (outcome.Refused OutOfMemory) next told status last = subst (λ (x : Answer). EndsWith failed x next told status last) is with in calm cut.cause);
-  not_wanting = λ is. (let stops : EndsWith failed outcome.NoMemory next told status last = subst (λ (x : Answer). EndsWith failed x next told status last) is with in sated.end stops.ended);
+  not_refused = λ is. (let cut : EndsWith failed (refusing OutOfMemory) next told status last = subst (λ (x : Answer). EndsWith failed x next told status last) is with in calm cut.cause);
+  not_wanting = λ is. (let stops : EndsWith failed (Ends ended.Memory) next told status last = subst (λ (x : Answer). EndsWith failed x next told status last) is with in sated.end stops.ended);
 }
 
 -- two runs in which nothing failed
@@ -161,7 +154,7 @@ module _ (host : Host) (content : ℕ → List ℕ) (has : HasHome host content)
     same : other ≡ answer
     script : left ≡ rest
     plain : IsPlainAnswer answer
-    kept : IsHeard answer → Same host next also
+    kept : IsSaid answer → Same host next also
 
   one_next : (now then from to : Counts) → (drive_failed now then → ⊥) → (drive_failed from to → ⊥) → (n m next also : Kept) → Same host n m → (script rest left : Script) (answer other : Answer) → IsSatisfied answer → IsSatisfied other
       → NextLine host now n script answer then next rest → NextLine host from m script other to also left → Next answer other next also rest left
@@ -215,24 +208,20 @@ module _ (host : Host) (content : ℕ → List ℕ) (has : HasHome host content)
   one_with : (failed also : Type 0) → (failed → ⊥) → (also → ⊥) → (answer other : Answer) → other ≡ answer → (next mine : Kept) (a b : List ℕ) (s r : RunStatus) (k j : Kept) → EndsWith failed answer next a s k → EndsWith also other mine b r j → SameEnds host a b s r k j
   one_with failed also calm calm_too answer other same next mine a b s r k j one two = by answer one (subst (λ (x : Answer). EndsWith also x mine b r j) same two) where
     by : (x : Answer) → EndsWith failed x next a s k → EndsWith also x mine b r j → SameEnds host a b s r k j
-    by outcome.Ok one two = absurd (calm one.cause)
-    by (outcome.Values text) one two = absurd (calm one.cause)
-    by (outcome.Refused refusal) one two = absurd (calm one.cause)
-    by outcome.Panic one two = one_stop host next mine (Panic 0 1) a b s r k j tt one two
-    by outcome.Spent one two = one_stop host next mine NumbersSpent a b s r k j tt one two
-    by outcome.NoMemory one two = one_stop host next mine NoMemory a b s r k j tt one two
+    by (Said this) one two = absurd (calm one.cause)
+    by (Ends end) one two = one_stop host next mine (status_at end) a b s r k j (ended_status end) one two
 
   module _ (w v : Stretch) (c d : ℕ) (e f : Counts) (s r : RunStatus) (k j : Kept) where
     -- both are over before a line, or with its answer
     one_over : (n m : At) (a b : List ℕ) → Beside n m → IsUndisturbed n.counts e → IsUndisturbed m.counts f → IsSated a s → IsSated b r → Over host w c e n a s k → Over host v d f m b r j → SameEnds host a b s r k j
     one_over n m a b beside calm calm_too sated sated_too (unread so rose stops) two = absurd (calm.source so)
     one_over n m a b beside calm calm_too sated sated_too one (unread so rose stops) = absurd (calm_too.source so)
-    one_over n m a b beside calm calm_too sated sated_too (ended how rose stops) (ended how_too rose_too stops_too) =
+    one_over n m a b beside calm calm_too sated sated_too (script_ended how rose stops) (script_ended how_too rose_too stops_too) =
         let same = one_end n.refused m.refused n.script m.script s r beside.refused beside.script how how_too in
         (stops.silent ∙ sym stops_too.silent, same, λ known. subst (λ (x : Kept). IsSameEnd host x j) (sym stops.keeps) (subst (λ (x : Kept). IsSameEnd host n.kept x) (sym stops_too.keeps) (beside.kept.memory, beside.kept.beside)))
-    one_over n m a b beside calm calm_too sated sated_too (ended how rose stops) (broken answer then next left is shown rose_too with) =
+    one_over n m a b beside calm calm_too sated sated_too (script_ended how rose stops) (broken answer then next left is shown rose_too with) =
         absurd (never_next n.refused n.script m.script s m.counts then m.kept next left answer beside.script how is)
-    one_over n m a b beside calm calm_too sated sated_too (broken answer then next left is shown rose with) (ended how rose_too stops) =
+    one_over n m a b beside calm calm_too sated sated_too (broken answer then next left is shown rose with) (script_ended how rose_too stops) =
         absurd (never_next m.refused m.script n.script r n.counts then n.kept next left answer (sym beside.script) how is)
     one_over n m a b beside calm calm_too sated sated_too (broken answer then next left is shown rose with) (broken other to also behind is_too shown_too rose_too with_too) =
         let here = calm_within n.counts n.counts then e (rose_itself n.counts) rose calm in
@@ -246,7 +235,7 @@ module _ (host : Host) (content : ℕ → List ℕ) (has : HasHome host content)
     -- one is over where the other goes on
     one_stays : (n m then : At) (a piece rest : List ℕ) → Beside n m → IsUndisturbed n.counts e → IsUndisturbed m.counts f → RoseTo then.counts f → IsSated a s → IsSated (piece ++ rest) r → Over host w c e n a s k → LineTold host m piece then → ⊥
     one_stays n m then a piece rest beside calm calm_too rose_too sated sated_too (unread so rose stops) two = calm.source so
-    one_stays n m then a piece rest beside calm calm_too rose_too sated sated_too (ended how rose stops) two =
+    one_stays n m then a piece rest beside calm calm_too rose_too sated sated_too (script_ended how rose stops) two =
         never_next n.refused n.script m.script s m.counts then.counts m.kept then.kept then.script two.answer beside.script how two.comes
     one_stays n m then a piece rest beside calm calm_too rose_too sated sated_too (broken answer to next left is shown rose with) two =
         let here = calm_within n.counts n.counts to e (rose_itself n.counts) rose calm in
@@ -289,34 +278,30 @@ module _ (host : Host) (content : ℕ → List ℕ) (has : HasHome host content)
         let pieces : piece ≡ other = said.as_text ∙ sym (ap text_of both.same) ∙ sym turn.as_text in
         let whole : IsReply piece = subst IsReply (sym said.as_text) (said_reply said.answer both.plain said.said) in
         let ends = one_run w v (c + length piece) (d + length other) x_at y_at mid also p q rest behind x y
-        (record { script = sym both.script; refused = said.as_refused ∙ same_refused said.answer turn.answer n.refused m.refused both.same beside.refused ∙ sym turn.as_refused; kept = both.kept (said_heard said.answer said.said) })
+        (record { script = sym both.script; refused = said.as_refused ∙ same_refused said.answer turn.answer n.refused m.refused both.same beside.refused ∙ sym turn.as_refused; kept = both.kept said.said })
         left left_too (rest_sated piece (rest ++ x) s whole all) (rest_sated other (behind ++ y) r (subst IsReply pieces whole) all_too) lines turns one two in
         (append_assoc piece rest x ∙ (λ i. pieces i ++ ends.0 i) ∙ sym (append_assoc other behind y), ends.1, ends.2)
 
     runs_rose : (w : Stretch) (n : At) (told : List ℕ) → Runs host w e n told s k → RoseTo n.counts e
     runs_rose w n told runs = rose_to_more n.counts runs.at.counts e (lines_rose host w 0 n runs.at runs.so_far runs.lines) (over_rose host w (length runs.so_far) e runs.at runs.rest s k runs.over)
 
-    one_from : (w v : Stretch) (answer : Answer) (now from : Counts) (n m : Kept) → (IsHeard answer → Same host n m) → (script : Script) (a b : List ℕ) → IsUndisturbed now e → IsUndisturbed from f → IsSated a s → IsSated b r
+    one_from : (w v : Stretch) (answer : Answer) (now from : Counts) (n m : Kept) → (IsSaid answer → Same host n m) → (script : Script) (a b : List ℕ) → IsUndisturbed now e → IsUndisturbed from f → IsSated a s → IsSated b r
         → RunsFrom host w e answer now n script a s k → RunsFrom host v f answer from m script b r j → SameEnds host a b s r k j
-    one_from w v outcome.Ok now from n m same script a b calm calm_too sated sated_too one two =
+    one_from w v (Said outcome.Ok) now from n m same script a b calm calm_too sated sated_too one two =
         let ends = one_run w v 0 0 (length one.so_far) (length two.so_far) (record { counts = now; kept = n; refused = false; script = script }) (record { counts = from; kept = m; refused = false; script = script }) one.at two.at one.so_far two.so_far one.rest two.rest
         (record { script = refl; refused = refl; kept = same tt }) calm calm_too (subst (λ (l : List ℕ). IsSated l s) one.parts sated) (subst (λ (l : List ℕ). IsSated l r) two.parts sated_too) one.lines two.lines one.over two.over in
         (one.parts ∙ ends.0 ∙ sym two.parts, ends.1, ends.2)
-    one_from w v (outcome.Values text) now from n m same script a b calm calm_too sated sated_too one two = absurd one
-    one_from w v (outcome.Refused refusal) now from n m same script a b calm calm_too sated sated_too one two = absurd one
-    one_from w v outcome.Panic now from n m same script a b calm calm_too sated sated_too one two = one_stop host n m (Panic 0 1) a b s r k j tt one.1 two.1
-    one_from w v outcome.Spent now from n m same script a b calm calm_too sated sated_too one two = one_stop host n m NumbersSpent a b s r k j tt one.1 two.1
-    one_from w v outcome.NoMemory now from n m same script a b calm calm_too sated sated_too one two = one_stop host n m NoMemory a b s r k j tt one.1 two.1
+    one_from w v (Said (outcome.Values text)) now from n m same script a b calm calm_too sated sated_too one two = absurd one
+    one_from w v (Said (outcome.Refused refusal)) now from n m same script a b calm calm_too sated sated_too one two = absurd one
+    one_from w v (Ends end) now from n m same script a b calm calm_too sated sated_too one two = one_stop host n m (status_at end) a b s r k j (ended_status end) one.1 two.1
 
   -- the boot at a run's start
   module _ (e : Counts) (s : RunStatus) (k : Kept) where
     from_rose : (w : Stretch) (answer : Answer) (now : Counts) (n : Kept) (script : Script) (told : List ℕ) → RunsFrom host w e answer now n script told s k → RoseTo now e
-    from_rose w outcome.Ok now n script told from = runs_rose e e s s k k w (record { counts = now; kept = n; refused = false; script = script }) told from
-    from_rose w (outcome.Values text) now n script told from = absurd from
-    from_rose w (outcome.Refused refusal) now n script told from = absurd from
-    from_rose w outcome.Panic now n script told from = from.0
-    from_rose w outcome.Spent now n script told from = from.0
-    from_rose w outcome.NoMemory now n script told from = from.0
+    from_rose w (Said outcome.Ok) now n script told from = runs_rose e e s s k k w (record { counts = now; kept = n; refused = false; script = script }) told from
+    from_rose w (Said (outcome.Values text)) now n script told from = absurd from
+    from_rose w (Said (outcome.Refused refusal)) now n script told from = absurd from
+    from_rose w (Ends end) now n script told from = from.0
 
     satisfied_from : (w : Stretch) (answer : Answer) (now : Counts) (n : Kept) (script : Script) (told : List ℕ) → IsSated told s → RunsFrom host w e answer now n script told s k → IsSatisfied answer
     satisfied_from w answer now n script told sated from = record {

@@ -5,26 +5,8 @@ use Rattle.std.proofs.lemmas.Bool.Decides.{nat_tests}
 use Rattle.std.proofs.lemmas.List.{get_or_default}
 use Rattle.std.proofs.lemmas.List.Elements.{All-contains}
 use Rattle.mdv_run_law.specs.Below.{SliceName, VolId, IsHome, line_of, SliceAt, SliceLine, Plan, Base, Slice, Component, Volume, VolumeKind, Stripe, IsSound, HasBlock, IsPlanOf, IsKindOf, IsComponentOn, IsWholeSlice, HasVolume, IsAscending, Site, area_of, LiesOn, Host, site_of}
+use Rattle.mdv_engine_law.proofs.Volumes.{one_volume}
 use Rattle.mdv_shelf.proofs.Blocks.{both_ways}
-
-never_below : (vs : List Volume) (number : VolId) (v w : Volume) (k l : ℕ) → IsAscending vs → k < l → l < length vs → slice_index_or vs k v ≡ v → slice_index_or vs l w ≡ w → v.number ≡ number → w.number ≡ number → ⊥
-never_below vs number v w k l ascending below within first second one other =
-    let behind : slice_index_or vs l v ≡ w = get_or_default vs l v w within ∙ second in
-    let pair : v.number.0 < w.number.0 = subst (λ (x : Volume). v.number.0 < x.number.0) behind (subst (λ (x : Volume). x.number.0 < (slice_index_or vs l v).number.0) first (ascending k l v below within)) in
-    let same : v.number.0 ≡ w.number.0 = ap (λ (n : VolId). n.0) (one ∙ sym other) in
-    absurd (omega (arith, pair, same))
-
--- volumes have numbers of their own
-pub one_volume : (vs : List Volume) (number : VolId) (v w : Volume) → IsAscending vs → HasVolume vs number v → HasVolume vs number w → v ≡ w
-one_volume vs number v w ascending (one, first) (other, second) = elim (cases_lt one.0 other.0) [
-  | inl less ↦ absurd (never_below vs number v w one.0 other.0 ascending less other.1 one.2 other.2 first second)
-  | inr not ↦ elim (cases_lt other.0 one.0) [
-    | inl less ↦ absurd (never_below vs number w v other.0 one.0 ascending less one.1 other.2 one.2 second first)
-    | inr also ↦
-        let same : one.0 ≡ other.0 = omega arith in
-        sym one.2 ∙ get_or_default vs one.0 v w one.1 ∙ ap (λ (k : ℕ). slice_index_or vs k w) same ∙ other.2
-  ]
-]
 
 component_of : VolumeKind → Component
 component_of (Stripe s) = s.component

@@ -5,16 +5,18 @@ use Rattle.mdv_run_law.specs.Below.{OutOfMemory, Head, greatest, shows, covers, 
 use Rattle.mdv_shelf.specs.Area.{range}
 use Rattle.mdv_shelf.proofs.Blocks.{both_ways}
 use Rattle.mdv_store_law.proofs.Frame.{newest_there, none_there}
-use Rattle.mdv_engine_law.specs.declared.answer.Answer.TheVariants as outcome
+use Rattle.mdv_engine_law.specs.declared.answer.Answer.TheVariants.{Over}
+use Rattle.mdv_engine_law.specs.declared.answer.Ended.TheVariants as ended
+use Rattle.mdv_engine_law.specs.Answers.{refusing}
 use Rattle.mdv_engine_law.specs.Line.{spent}
+use Rattle.mdv_run_law.specs.Run.{IsSaid}
 use Rattle.mdv_run_law.proofs.Again.{Alike, neither, alike_opened, never_found, never_lost, same_number, same_adopted}
-use Rattle.mdv_run_law.proofs.Refusing.{Opening, shut, wide, opened_twice, never_shut}
-use Rattle.mdv_run_law.proofs.Waking.{IsHeard}
+use Rattle.mdv_run_law.proofs.Placing.{Opening, shut, wide, opened_twice, never_shut}
 
 -- an answer that tells nothing of a want of memory
 pub record IsSatisfied (answer : Answer) : Type 0 where
-  pub not_refused : answer ≡ outcome.Refused OutOfMemory → ⊥
-  pub not_wanting : answer ≡ outcome.NoMemory → ⊥
+  pub not_refused : answer ≡ refusing OutOfMemory → ⊥
+  pub not_wanting : answer ≡ Over ended.Memory → ⊥
 
 module _ (host : Host) where
   -- the drive has no database, or the one that is open
@@ -31,7 +33,7 @@ module _ (host : Host) where
 
   -- what a line comes to: the same answer, and after a reply the same is kept
   abbrev pub One : Kept → Kept → Answer → Answer → Type 0
-  One n m a b = (a ≡ b) × (IsHeard a → Same n m)
+  One n m a b = (a ≡ b) × (IsSaid a → Same n m)
 
   pub opening_of : (kept : Kept) → Settled kept → Opening host kept.memory
   opening_of kept (bare none found) = shut none
@@ -96,7 +98,7 @@ module _ (host : Host) where
           other = bare (ap (λ (x : Memory). x.opened) memory_too) (none_there (site_of host) j.content m.content (λ block from to. same_too block) none_too);
         },
       )
-      one_boot (spent is used) (spent also used_too) = (is ∙ sym also, λ heard. absurd (subst IsHeard is heard))
+      one_boot (spent is used) (spent also used_too) = (is ∙ sym also, λ heard. absurd (subst IsSaid is heard))
       one_boot (adopted newest ok memory is) (empty also memory_too none same) = absurd (never_found (site_of host) sound k.content j.content alike is.head is.replica is.shown none)
       one_boot (adopted newest ok memory is) (spent also used) = absurd (never_both is.head used.head is.replica is.shown used.replica used.shown is.fits used.spent)
       one_boot (empty ok memory none same) (adopted other also memory_too is) = absurd (never_lost (site_of host) sound k.content j.content alike is.head is.replica is.shown none)

@@ -8,8 +8,7 @@ pub mod Waking
 pub mod Living
 pub mod Extents
 pub mod Again
-pub mod Refusing
-pub mod Changing
+pub mod Placing
 pub mod Keeping
 pub mod Carrying
 pub mod Course

@@ -11,10 +11,11 @@ pub use Rattle.mdv_base.specs.declared.refusal.Refusal.TheVariants.{OutOfMemory,
 pub use Rattle.mdv_base.specs.declared.refusal.Refusal.TheVariants.{WrongState}
 pub use Rattle.mdv_base.specs.declared.state_word.StateWord.{StateWord}
 pub use Rattle.mdv_engine_law.specs.Home.{identity_of, site_of}
-pub use Rattle.mdv_engine_law.specs.Line.{AreBlocksAt, AreBlocksRefused, ArePut, HasVolumeOn, IsCarriedOut, IsChange, IsChangeRefused, IsChanged}
-pub use Rattle.mdv_engine_law.specs.Line.{IsCommitted, IsCreateRefused, IsCreated, IsCreation, IsDownWord, IsExecuted, IsHomeSlice, IsNew, IsOther}
-pub use Rattle.mdv_engine_law.specs.Line.{IsRead, IsRebooted, IsRewritten, IsSame, IsSameBeside, IsTurnedDown, IsWrite, Kept, MayChange, MayCreate}
-pub use Rattle.mdv_engine_law.specs.Line.{Ask, ComesTo, Memory, Nothing, Stays, ToDo, ToSee, adopted, asked_by, asked_by_line, blocks_of, deeds, down, drive_content}
+pub use Rattle.mdv_engine_law.specs.Commands.{CameTo, ComesTo}
+pub use Rattle.mdv_engine_law.specs.Line.{AreBlocksAt, ArePut, HasVolumeOn}
+pub use Rattle.mdv_engine_law.specs.Line.{IsCommitted, IsCreated, IsExecuted, IsNew}
+pub use Rattle.mdv_engine_law.specs.Line.{IsRebooted, IsRewritten, IsSame, IsSameBeside, IsTurnedDown, Kept}
+pub use Rattle.mdv_engine_law.specs.Line.{Ask, Memory, Nothing, Stays, ToDo, ToSee, adopted, asked_by, asked_by_line, blocks_of, deeds, down, drive_content}
 pub use Rattle.mdv_engine_law.specs.Line.{empty, kept_at, lost, record_room}
 pub use Rattle.mdv_engine_law.specs.Line.{unbooted, wanting}
 pub use Rattle.mdv_engine_law.specs.Replies.{Acks, AcksBy, AcksFront, AcksIn, IsFront, IsPlain, IsPlainAnswer, IsReplied, IsReply, IsTold, issuable, issuable_in, issuable_of}
@@ -53,7 +54,6 @@ pub use Rattle.mdv_store_law.specs.Log.{AreMade, Extends, IsLog, IsTellable, Log
 pub use Rattle.mdv_store_law.specs.Site.{HasTable, IsFound, IsNewestOf, IsReplica, Newest, Site, area_of, sized}
 pub use Rattle.mdv_store_law.specs.Standing.{IsNewestIn, IsOpened, nothing, replica}
 pub use Rattle.mdv_store_law.specs.Steps.{adopted_newest, next_newest}
-pub use Rattle.mdv_table.specs.Change.{StripeRefused}
 pub use Rattle.mdv_table.specs.Slices.{HasBlock, IsSound}
 pub use Rattle.mdv_table.specs.Table.{IsComponentOn, IsKindOf, IsPlanOf, IsWholeSlice}
 pub use Rattle.mdv_table.specs.Volume.{stripe_on}

@@ -1,9 +1,13 @@
 -- The run of one host, told by what its script asks.
 use Rattle.std.specs.Prelude.{◌≡◌, ◌≢◌, ◌⊎◌, ◌≤◌, ◌<◌, ◌+◌, ℕ, Bool, true, false, List, [], ◌++◌, take, length, Option, Some, IfSome, Contains, if◌then◌else◌}
-use Rattle.mdv_run_law.specs.Below.{Rose, BadLine, LineTooLong, OutOfMemory, IsHome, Script, at_end, spent, too_long, line, Head, Part, OnDrive, OnReplies, Tale, told, replies_in, IsSound, Line, IsLine, IsFound, IsOpened, Answer, Host, site_of, Kept, IsSame, IsSameBeside, ComesTo, IsRebooted, IsTurnedDown, drive_content, unbooted, ok_line, refusal_line}
+use Rattle.mdv_run_law.specs.Below.{Rose, BadLine, LineTooLong, OutOfMemory, IsHome, Script, at_end, spent, too_long, line, Head, Part, OnDrive, OnReplies, Tale, told, replies_in, IsSound, Line, IsLine, IsFound, IsOpened, Answer, Host, site_of, Kept, IsSame, IsSameBeside, ComesTo, IsRebooted, IsTurnedDown, drive_content, unbooted}
 use Rattle.mdv_shelf.specs.Story.{Moment, Story, AtEach}
-use Rattle.mdv_engine_law.specs.Replies.{text_of}
-use Rattle.mdv_engine_law.specs.declared.answer.Answer.TheVariants as outcome
+use Rattle.mdv_engine_law.specs.Replies.{outcome_text, refusal_line, text_of}
+use Rattle.mdv_engine_law.specs.declared.answer.Answer.TheVariants.{Said, Over as Ends}
+use Rattle.mdv_engine_law.specs.declared.answer.Ended.{Ended}
+use Rattle.mdv_engine_law.specs.declared.answer.Ended.TheVariants as stop
+use Rattle.mdv_engine_law.specs.declared.answer.Outcome.TheVariants as outcome
+use Rattle.mdv_engine_law.specs.Answers.{accepted}
 use Rattle.mdv_run_law.specs.declared.status.RunStatus.{RunStatus}
 use Rattle.mdv_run_law.specs.declared.status.RunStatus.TheVariants.{Done, SomeRefused, Usage, NoQuorum, Panic, ReadFault, WriteFault, NoMemory, TwoDatabases, ScriptTooLong, NumbersSpent}
 
@@ -73,21 +77,19 @@ NextLine host now kept (line text rest) answer later next more = (more ≡ rest)
 
 -- an answer that is told, and with which the run goes on
 abbrev pub IsSaid : Answer → Type 0
-IsSaid outcome.Ok = Unit {0}
-IsSaid (outcome.Values text) = Unit {0}
-IsSaid (outcome.Refused refusal) = Unit {0}
-IsSaid outcome.Panic = ⊥
-IsSaid outcome.Spent = ⊥
-IsSaid outcome.NoMemory = ⊥
+IsSaid (Said this) = Unit {0}
+IsSaid (Ends end) = ⊥
 
 -- whether some reply was a refusal, with this answer
 abbrev pub refused_by : Answer → Bool → Bool
-refused_by outcome.Ok before = before
-refused_by (outcome.Values text) before = before
-refused_by (outcome.Refused refusal) before = true
-refused_by outcome.Panic before = before
-refused_by outcome.Spent before = before
-refused_by outcome.NoMemory before = before
+refused_by (Said (outcome.Refused refusal)) before = true
+refused_by other before = before
+
+-- the status of a run that is over with a line, or with its boot
+abbrev pub status_at : Ended → RunStatus
+status_at (stop.Lost active listed) = Panic active listed
+status_at stop.Spent = NumbersSpent
+status_at stop.Memory = NoMemory
 
 -- a line that was answered, and whose reply was told whole
 pub record LineTold (host : Host) (now : At) (piece : List ℕ) (later : At) : Type 0 where
@@ -150,12 +152,8 @@ pub record CutShort (failed : Type 0) (text : List ℕ) (next : Kept) (told : Li
 
 -- how a run is over with the answer to a line
 abbrev pub EndsWith : Type 0 → Answer → Kept → List ℕ → RunStatus → Kept → Type 0
-EndsWith failed outcome.Ok next told status last = CutShort failed ok_line next told status last
-EndsWith failed (outcome.Values text) next told status last = CutShort failed text next told status last
-EndsWith failed (outcome.Refused refusal) next told status last = CutShort failed (refusal_line refusal) next told status last
-EndsWith failed outcome.Panic next told status last = Stops next (Panic 0 1) told status last
-EndsWith failed outcome.Spent next told status last = Stops next NumbersSpent told status last
-EndsWith failed outcome.NoMemory next told status last = Stops next NoMemory told status last
+EndsWith failed (Said this) next told status last = CutShort failed (outcome_text this) next told status last
+EndsWith failed (Ends end) next told status last = Stops next (status_at end) told status last
 
 -- How a run is over, which has come so far, with so many bytes told, by these counts: the source failed; the script is at its end, or past its limit; or a line
 -- was answered so that no line is run behind it, or its reply couldn't be told. What that line did the moments show.
@@ -181,12 +179,9 @@ started content = record { memory = unbooted 0; content = content }
 
 -- what follows on the boot at a run's start, to which nothing is replied
 abbrev pub RunsFrom : Host → Stretch → Counts → Answer → Counts → Kept → Script → List ℕ → RunStatus → Kept → Type 0
-RunsFrom host stretch end outcome.Ok later kept script told status last = Runs host stretch end (record { counts = later; kept = kept; refused = false; script = script }) told status last
-RunsFrom host stretch end (outcome.Values text) later kept script told status last = ⊥
-RunsFrom host stretch end (outcome.Refused refusal) later kept script told status last = ⊥
-RunsFrom host stretch end outcome.Panic later kept script told status last = RoseTo later end × Stops kept (Panic 0 1) told status last
-RunsFrom host stretch end outcome.Spent later kept script told status last = RoseTo later end × Stops kept NumbersSpent told status last
-RunsFrom host stretch end outcome.NoMemory later kept script told status last = RoseTo later end × Stops kept NoMemory told status last
+RunsFrom host stretch end (Said outcome.Ok) later kept script told status last = Runs host stretch end (record { counts = later; kept = kept; refused = false; script = script }) told status last
+RunsFrom host stretch end (Said other) later kept script told status last = ⊥
+RunsFrom host stretch end (Ends over) later kept script told status last = RoseTo later end × Stops kept (status_at over) told status last
 
 -- A whole run, from these counts to those: the boot answers from what the drive's blocks held, excused by the calls that failed until
 -- then, and the script is run from there.
@@ -228,7 +223,7 @@ pub record RunToldBy (host : Host) (stretch : Stretch) (start : Counts) (content
   pub booted : Counts
   pub rose : RoseTo start booted
   pub kept : Kept
-  pub boots : IsRebooted (drive_failed start booted) host (started content) outcome.Ok kept
+  pub boots : IsRebooted (drive_failed start booted) host (started content) accepted kept
   pub lines : LinesToldBy host stretch (record { counts = booted; kept = kept; refused = false; script = script }) told m
 
 -- By a moment of a run that began at t nothing was told, or what the script asks for, as far as it had come: values that were told are those of

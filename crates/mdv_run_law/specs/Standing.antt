@@ -76,7 +76,7 @@ AreTold (line text more) [] front told = (told ≡ []) ⊎ ((ask : Ask) × Asks 
 AreTold (line text more) (reply ∷ replies) front told = (ask : Ask) × Asks text ask × (done : List Deed) × AcksBy ask reply done × (rest : List Deed) × AreTold more replies front rest × (told ≡ done ++ rest)
 
 -- What the lines may have begun, in their order: each what it asks, where its reply is `ok` or tells that a call failed, or where it is
--- the next one, of which none was told yet.
+-- the next one, of which no whole reply was told yet.
 abbrev pub AreBegun : Script → List (List ℕ) → List Deed → Type 0
 AreBegun at_end replies begun = begun ≡ []
 AreBegun (spent lines bytes) replies begun = begun ≡ []

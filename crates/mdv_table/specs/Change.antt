@@ -1,72 +1,58 @@
--- The plan after each change, and why a change is refused.
-use Rattle.std.specs.Prelude.{◌≡◌, ◌<◌, true, false}
-use Rattle.mdv_table.specs.Below.{SliceName, VolId, Refusal, NoSuchSlice, NameTaken, WrongKind, SliceInUse, Geometry, SliceAt, HasSlice, HasNoSlice}
+-- Why a change is refused, and the plan after it.
+use Rattle.std.specs.Prelude.{◌≡◌, ◌<◌, ℕ, Bool, false, Option, None, Some, List, ◌++◌}
+use Rattle.std.specs.Option.{is_none}
+use Rattle.mdv_table.specs.Below.{SliceName, VolId, Refusal, NoSuchSlice, NameTaken, WrongKind, SliceInUse, Geometry, SliceAt, HasSlice, slice_at, first_refusal, where_so}
 use Rattle.mdv_table.specs.declared.change.ApplyFault.{ApplyFault}
 use Rattle.mdv_table.specs.declared.change.ApplyFault.TheVariants.{Refused, Memory}
 use Rattle.mdv_table.specs.declared.change.Change.{Change}
 use Rattle.mdv_table.specs.declared.change.Change.TheVariants.{MakeStripe}
 use Rattle.mdv_table.specs.declared.plan.Plan.{Plan}
-use Rattle.mdv_table.specs.declared.volume.Volume.{Volume}
-use Rattle.mdv_table.specs.Plan.{IsInUse, used_slices}
+use Rattle.mdv_table.specs.declared.table.Table.{Table}
+use Rattle.mdv_table.specs.Plan.{IsInUse, is_in_use, used_slices}
 use Rattle.mdv_table.specs.Volume.{stripe_on}
-use Rattle.mdv_table.specs.Volumes.{HasVolume, HasNoVolume, with_volume}
+use Rattle.mdv_table.specs.Volumes.{HasNoVolume, has_volume, with_volume}
 
 -- the numbers of new volumes are below the limit
 abbrev pub IsNumbered : Change → Type 0
 IsNumbered (MakeStripe volume slice) = volume.0 < 8192
 
+-- the slice is there, and set aside for replicas
+abbrev pub is_db : Option SliceAt → Bool
+is_db None = false
+is_db (Some at) = at.db
+
+-- the refusals whose causes hold, each by itself
+abbrev pub held : Geometry → Plan → Change → List Refusal
+held g p (MakeStripe volume slice) =
+    let at = slice_at g.slices slice in
+    let uses = used_slices p in
+    where_so (is_none at) NoSuchSlice ++ where_so (has_volume p.volumes volume) NameTaken ++ where_so (is_db at) WrongKind ++ where_so (is_in_use g.slices uses slice) SliceInUse
+
+-- the one for which the change is refused
+unfoldable pub refusal_of : Geometry → Plan → Change → Option Refusal
+refusal_of g p change = first_refusal (held g p change)
+
+-- none where there is no slice
+abbrev pub blocks_at : Option SliceAt → ℕ
+blocks_at None = 0
+blocks_at (Some at) = at.blocks
+
 -- the plan has the stripe as well, on all blocks of the slice, and nothing else changes
-pub record MakesStripe (g : Geometry) (volume : VolId) (slice : SliceName) (old new : Plan) : Type 0 where
-  pub at : SliceAt
-  pub has : HasSlice g.slices slice at
-  pub volumes : new.volumes ≡ with_volume (stripe_on volume slice at.blocks) old.volumes
-  pub lists : new.lists ≡ old.lists
+abbrev pub plan_after : Geometry → Change → Plan → Plan
+plan_after g (MakeStripe volume slice) p = record p { volumes = with_volume (stripe_on volume slice (blocks_at (slice_at g.slices slice))) p.volumes }
 
--- the plan after a change
+-- the change leaves the status as it was
+abbrev pub table_after : Geometry → Change → Table → Table
+table_after g change t = record t { plan = plan_after g change t.plan }
+
+-- the change is made: nothing refused it
 abbrev pub IsAfter : Geometry → Change → Plan → Plan → Type 0
-IsAfter g (MakeStripe volume slice) old new = MakesStripe g volume slice old new
+IsAfter g change old new = (refusal_of g old change ≡ None) × (new ≡ plan_after g change old)
 
--- a volume of the plan has the name
-abbrev pub IsTaken : Plan → VolId → Type 0
-IsTaken p volume = (v : Volume) × HasVolume p.volumes volume v
-
--- the name is taken, and nothing before that refuses
-pub record RefusesName (g : Geometry) (p : Plan) (volume : VolId) (slice : SliceName) : Type 0 where
-  pub at : SliceAt
-  pub has : HasSlice g.slices slice at
-  pub taken : IsTaken p volume
-
--- the slice is set aside for replicas, and nothing before that refuses
-pub record RefusesKind (g : Geometry) (p : Plan) (volume : VolId) (slice : SliceName) : Type 0 where
-  pub at : SliceAt
-  pub has : HasSlice g.slices slice at
-  pub free : HasNoVolume p.volumes volume
-  pub db : at.db ≡ true
-
--- the slice or one that overlaps it is in use, and nothing before that refuses
-pub record RefusesUse (g : Geometry) (p : Plan) (volume : VolId) (slice : SliceName) : Type 0 where
-  pub at : SliceAt
-  pub has : HasSlice g.slices slice at
-  pub free : HasNoVolume p.volumes volume
-  pub plain : at.db ≡ false
-  pub used : IsInUse g.slices (used_slices p) slice
-
--- the one cause for which a stripe is refused
-abbrev pub StripeRefused : Geometry → Plan → VolId → SliceName → Refusal → Type 0
-StripeRefused g p volume slice NoSuchSlice = HasNoSlice g.slices slice
-StripeRefused g p volume slice NameTaken = RefusesName g p volume slice
-StripeRefused g p volume slice WrongKind = RefusesKind g p volume slice
-StripeRefused g p volume slice SliceInUse = RefusesUse g p volume slice
-StripeRefused g p volume slice _ = ⊥
-
--- the one cause for which a change is refused
-abbrev pub IsRefused : Geometry → Plan → Change → Refusal → Type 0
-IsRefused g p (MakeStripe volume slice) refusal = StripeRefused g p volume slice refusal
-
--- the fault has its cause; want of memory has none
+-- the fault has its cause; want of memory is met where nothing is refused
 abbrev pub HasFault : Geometry → Plan → Change → ApplyFault → Type 0
-HasFault g p change (Refused refusal) = IsRefused g p change refusal
-HasFault g p change Memory = Unit {0}
+HasFault g p change (Refused refusal) = refusal_of g p change ≡ Some refusal
+HasFault g p change Memory = refusal_of g p change ≡ None
 
 -- nothing refuses the stripe, and the slice lies there
 pub record AllowsStripe (g : Geometry) (p : Plan) (volume : VolId) (slice : SliceName) (at : SliceAt) : Type 0 where

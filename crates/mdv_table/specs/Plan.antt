@@ -1,11 +1,12 @@
 -- The slices that a plan uses.
-use Rattle.std.specs.Prelude.{List, ◌++◌, map, flat_map, Contains}
+use Rattle.std.specs.Prelude.{Bool, List, ◌++◌, map, flat_map, Contains}
+use Rattle.std.specs.List.{list_any}
 use Rattle.mdv_table.specs.Below.{SliceName, Place, SliceLine}
 use Rattle.mdv_table.specs.declared.plan.Lists.{Lists}
 use Rattle.mdv_table.specs.declared.plan.Lists.TheVariants.{One}
 use Rattle.mdv_table.specs.declared.plan.Plan.{Plan}
 use Rattle.mdv_table.specs.declared.volume.Volume.{Volume}
-use Rattle.mdv_table.specs.Slices.{Overlaps}
+use Rattle.mdv_table.specs.Slices.{Overlaps, overlaps_by}
 use Rattle.mdv_table.specs.Volume.{volume_slices}
 
 abbrev pub places_of : Lists → List Place
@@ -26,3 +27,6 @@ pub record IsInUse (lines : List SliceLine) (uses : List SliceName) (name : Slic
   pub by : SliceName
   pub used : Contains uses by
   pub overlaps : Overlaps lines by name
+
+abbrev pub is_in_use : List SliceLine → List SliceName → SliceName → Bool
+is_in_use lines uses name = list_any (λ by. overlaps_by lines by name) uses

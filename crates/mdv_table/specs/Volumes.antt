@@ -1,6 +1,6 @@
 -- Lists of volumes.
-use Rattle.std.specs.Prelude.{◌≡◌, ◌<◌, ◌≤◌, ℕ, List, [], ◌∷◌, length, nat_lt, if◌then◌else◌, All, AllPairs, Contains}
-use Rattle.std.specs.List.{AllWithin, HoldsAt}
+use Rattle.std.specs.Prelude.{◌≡◌, ◌<◌, ◌≤◌, ◌==◌, ℕ, Bool, List, [], ◌∷◌, length, nat_lt, if◌then◌else◌, All, AllPairs, Contains}
+use Rattle.std.specs.List.{AllWithin, HoldsAt, list_any}
 use Rattle.mdv_base.specs.declared.name.VolId.{VolId}
 use Rattle.mdv_table.specs.declared.volume.Volume.{Volume}
 
@@ -10,6 +10,9 @@ HasVolume vs number v = Contains vs v × (v.number ≡ number)
 
 abbrev pub HasNoVolume : List Volume → VolId → Type 0
 HasNoVolume vs number = (v : Volume) → HasVolume vs number v → ⊥
+
+abbrev pub has_volume : List Volume → VolId → Bool
+has_volume vs number = list_any (λ v. v.number.0 == number.0) vs
 
 -- each number is below those behind it
 abbrev pub IsAscending : List Volume → Type 0

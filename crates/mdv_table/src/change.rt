@@ -1,7 +1,7 @@
-ghost use Rattle.std.specs.Prelude.{◌≡◌, ◌<◌, OnOk, OnErr, IfErr, MatchResult};
+ghost use Rattle.std.specs.Prelude.{◌≡◌, ◌<◌, None, Some, OnOk, OnErr, IfErr, MatchResult};
 ghost use Rattle.mdv_base.specs.declared.refusal.Refusal.{Refusal};
 ghost use Rattle.mdv_table.specs.declared.change.ApplyFault.TheVariants.{Refused, Memory};
-ghost use Rattle.mdv_table.specs.Change.{IsNumbered, IsAfter, HasFault, IsRefused, AllowsStripe, StripeRefused, MakesStripe};
+ghost use Rattle.mdv_table.specs.Change.{IsNumbered, IsAfter, HasFault, AllowsStripe, refusal_of, table_after};
 ghost use Rattle.mdv_table.specs.Slices.{IsSound};
 ghost use Rattle.mdv_table.specs.Table.{IsOfGeometry, IsPlanOf};
 
@@ -39,13 +39,10 @@ impl Table {
     ) -> Result<(), ApplyFault>
         requires sound { IsSound geometry.now }
         requires numbered { IsNumbered change.now }
-        // what the change leaves
-        ensures ok { OnOk result (IsAfter geometry.now change.now self.old.plan self.new.plan) }
+        ensures ok { OnOk result ((refusal_of geometry.now self.old.plan change.now ≡ None) × (self.new ≡ table_after geometry.now change.now self.old)) }
         ensures of_geometry { IsOfGeometry geometry.now self.old → IsOfGeometry geometry.now self.new }
-        ensures status { self.new.status ≡ self.old.status }
-        // why it is refused
         ensures fault { IfErr result (HasFault geometry.now self.old.plan change.now) }
-        ensures refused { (r : Refusal) → IsRefused geometry.now self.old.plan change.now r → result ≡ Err (ApplyFault.Refused r) }
+        ensures refused { (r : Refusal) → refusal_of geometry.now self.old.plan change.now ≡ Some r → result ≡ Err (ApplyFault.Refused r) }
         ensures err { OnErr result (self.new ≡ self.old) }
     {
         match *change {
@@ -63,10 +60,10 @@ impl Plan {
     ) -> Result<(), ApplyFault>
         requires sound { IsSound geometry.now }
         requires number { number.0 < 8192 }
-        ensures ok { OnOk result (MakesStripe geometry.now number slice self.old self.new) }
+        ensures ok { OnOk result (IsAfter geometry.now (Change.MakeStripe number slice) self.old self.new) }
         ensures of_geometry { IsPlanOf geometry.now self.old → IsPlanOf geometry.now self.new }
         ensures fault { IfErr result (HasFault geometry.now self.old (Change.MakeStripe number slice)) }
-        ensures refused { (r : Refusal) → StripeRefused geometry.now self.old number slice r → result ≡ Err (ApplyFault.Refused r) }
+        ensures refused { (r : Refusal) → refusal_of geometry.now self.old (Change.MakeStripe number slice) ≡ Some r → result ≡ Err (ApplyFault.Refused r) }
         ensures err { OnErr result (self.new ≡ self.old) }
     {
         let at = self.check_stripe(geometry, number, slice)?;
@@ -83,7 +80,7 @@ impl Plan {
         slice: SliceName,
     ) -> Result<SliceAt, Refusal>
         requires { IsSound geometry.now }
-        ensures { MatchResult result (AllowsStripe geometry.now self.now number slice) (StripeRefused geometry.now self.now number slice) }
+        ensures { MatchResult result (AllowsStripe geometry.now self.now number slice) (λ r. refusal_of geometry.now self.now (Change.MakeStripe number slice) ≡ Some r) }
     {
         let at = geometry.slices.find(slice).ok_or(Refusal::NoSuchSlice)?;
         if self.volumes.find(number).is_some() {

@@ -1,6 +1,6 @@
 use Rattle.std.proofs.Common.{true, false, sym, subst, refl, ap, arith}
+use Rattle.mdv_engine_law.specs.declared.answer.Ended.TheVariants as ended
 use Rattle.mdv_engine.specs.Below.{Rose, PlaceAt, OnDrive, Memory, lost, spent, wanting, unbooted}
-use Rattle.mdv_engine_law.specs.declared.answer.BootRefusal.TheVariants as unanswered
 use Rattle.mdv_engine.proofs.Ending.{answered_ends, closed_well, unanswered_ends}
 use Rattle.mdv_shelf.proofs.Moments.{moments_end}
 use Rattle.mdv_engine.specs.Counts.{IsOpenedCounted}
@@ -59,19 +59,19 @@ returns-in-Down-clause-end g c =
 
 pub returns-in-Lost-clause-end : goal.returns-in-Lost-clause-end
 returns-in-Lost-clause-end g c =
-    unanswered_ends _ c.args.host.now (unbooted c.args.begun) (unbooted c.args.begun) (unanswered.Lost 0 1) _ _ (λ t start.
+    unanswered_ends _ c.args.host.now (unbooted c.args.begun) (unbooted c.args.begun) (ended.Lost 0 1) _ _ (λ t start.
     let end = moments_end _ _ _ c.boot.ensures.moments t start in
     (end.0, end.1, lost (subst (λ (p : PlaceAt). Rose (g.S.Shelf.faults c.args.shelf.now (OnDrive p.drive.0)) (g.S.Shelf.faults c.boot.new.shelf (OnDrive p.drive.0))) c.place_at.ensures c.in-Lost.ensures.answer.cause) (adoptable_here c.args.host.now (g.S.Shelf.sizes c.args.shelf.now) c.requires c.place_at.result c.place_at.ensures t (shown _ _ _ _ _ c.in-Lost.ensures.end t start).1) refl))
 
 pub returns-in-Spent-clause-end : goal.returns-in-Spent-clause-end
 returns-in-Spent-clause-end g c =
-    unanswered_ends _ c.args.host.now (unbooted c.args.begun) (unbooted c.args.begun) unanswered.Spent _ _ (λ t start.
+    unanswered_ends _ c.args.host.now (unbooted c.args.begun) (unbooted c.args.begun) ended.Spent _ _ (λ t start.
     let end = moments_end _ _ _ c.boot.ensures.moments t start in
     (end.0, end.1, spent refl (spent_here c.args.host.now (g.S.Shelf.sizes c.args.shelf.now) c.requires c.place_at.result c.place_at.ensures t (shown _ _ _ _ _ c.in-Spent.ensures.end t start))))
 
 pub returns-in-Memory-clause-end : goal.returns-in-Memory-clause-end
 returns-in-Memory-clause-end g c =
-    unanswered_ends _ c.args.host.now (unbooted c.args.begun) (unbooted c.args.begun) unanswered.Memory _ _ (λ t start.
+    unanswered_ends _ c.args.host.now (unbooted c.args.begun) (unbooted c.args.begun) ended.Memory _ _ (λ t start.
     let end = moments_end _ _ _ c.boot.ensures.moments t start in
     (end.0, end.1, wanting refl))
 

@@ -1,4 +1,4 @@
-use Rattle.mdv_plan.proofs.Finding.{found_is, found_sound}
+use Rattle.mdv_name.proofs.Finding.{found_is, found_sound}
 use Rattle.mdv_plan.proofs.clash.slice_at.Goals as goal
 
 pub returns-clause-value : goal.returns-clause-value

@@ -2,7 +2,7 @@ use Rattle.std.proofs.Common.{refl, inl, inr, subst, sym}
 use Rattle.mdv_engine_law.specs.Line.{Nothing}
 use Rattle.mdv_run.specs.Below.{line, Ends, Boot, IsCommand, IsLine, asked_by, IsAnswered, Knows, TellsFront, TurnMoment, Engine, LinesMoment}
 use Rattle.mdv_words.specs.declared.command.Line.TheVariants as words
-use Rattle.mdv_engine_law.specs.declared.answer.Answer.TheVariants as outcome
+use Rattle.mdv_engine_law.specs.Answers.{refusing}
 use Rattle.mdv_base.specs.declared.refusal.Refusal.TheVariants.{BadLine}
 use Rattle.mdv_shelf.specs.Shelves.{DriveFailed, GivingFailed}
 use Rattle.mdv_shelf.proofs.Moments.{moments_weaker}
@@ -81,7 +81,7 @@ returns-in_default-clause-end g c =
       end.0,
       end.1,
       record {
-        answered = λ knows. record { answer = outcome.Refused BadLine; done = inl (c.in_default.ensures.none, refused_down host old BadLine bad_line_plain replies c.refuse.result t end.0 end.2); replied = end.2.replied };
+        answered = λ knows. record { answer = refusing BadLine; done = inl (c.in_default.ensures.none, refused_down host old BadLine bad_line_plain replies c.refuse.result t end.0 end.2); replied = end.2.replied };
         ran = λ on more. line_ran host c.args.line.now Nothing (inl (c.in_default.ensures.none, refl)) more old old t end.0 (refused_turned host old BadLine bad_line_plain replies c.refuse.result t end.0 end.2 Nothing on) (λ up. up) (c.in_default.ensures.none Boot);
         knows = λ kept. refused_knows host old BadLine bad_line_plain replies c.refuse.result t end.0 end.2;
       },
@@ -92,8 +92,8 @@ returns-in_default-clause-stays g c = record {
   home = turn_stays c.args.engine.now.host Nothing c.args.engine.now.state _ _ (c.refuse.ensures.moments Nothing).each;
   told = c.refuse.ensures.counted.told;
   rests = (c.refuse.ensures.moments Nothing).rests;
-  tells = moment_weaker g.B.Shelf (AnswerFront c.args.engine.now.host (outcome.Refused BadLine) c.args.engine.now.state) (LineFront c.args.engine.now.host c.args.line.now c.args.engine.now.state) _ _
-      (λ t m up down here known. front_of (OnlyAnswers (outcome.Refused BadLine)) (λ failed kept answer next. IsAnswered failed c.args.engine.now.host kept c.args.line.now answer next) c.args.engine.now.state t m (λ failed kept answer next is. inl (c.in_default.ensures.none, only_refused BadLine failed kept answer next is)) (here known)) (c.refuse.ensures.moments Nothing).fronts;
+  tells = moment_weaker g.B.Shelf (AnswerFront c.args.engine.now.host (refusing BadLine) c.args.engine.now.state) (LineFront c.args.engine.now.host c.args.line.now c.args.engine.now.state) _ _
+      (λ t m up down here known. front_of (OnlyAnswers (refusing BadLine)) (λ failed kept answer next. IsAnswered failed c.args.engine.now.host kept c.args.line.now answer next) c.args.engine.now.state t m (λ failed kept answer next is. inl (c.in_default.ensures.none, only_refused BadLine failed kept answer next is)) (here known)) (c.refuse.ensures.moments Nothing).fronts;
 }
 
 -- a boot

@@ -13,8 +13,11 @@ use Rattle.mdv_shelf.proofs.Stories.{moment}
 use Rattle.mdv_shelf.proofs.Telling.{each_joined, rests_behind, rests_quiet, told_behind}
 use Rattle.mdv_run.proofs.Fronts.{AnswerFront, LineFront, boot_front}
 use Rattle.mdv_shelf.proofs.Moments.{moments_after, moments_weaker, moments_end, some_is}
-use Rattle.mdv_engine_law.specs.declared.answer.Answer.TheVariants as outcome
-use Rattle.mdv_engine_law.proofs.Executing.{executed, rose_within}
+use Rattle.mdv_engine_law.specs.declared.answer.Answer.TheVariants.{Over}
+use Rattle.mdv_engine_law.specs.Answers.{accepted}
+use Rattle.mdv_engine_law.specs.Replies.{IsLost, IsReplied}
+use Rattle.mdv_engine_law.proofs.Longer.{ended_lost, never_ended}
+use Rattle.mdv_engine_law.proofs.Executing.{executed, rose_within, told_cause}
 use Rattle.mdv_engine_law.proofs.Knowing.{knows_kept}
 use Rattle.mdv_engine_law.proofs.Staying.{both_stay, boot_stays, turn_stays}
 use Rattle.mdv_run_law.proofs.Booting.{boot_turn, booted_turn, booted_ran}
@@ -45,7 +48,7 @@ returns-in-Ok-clause-end g c = λ text boots.
       end.1,
       record {
         answered = λ knows. line_executed text Boot boots drive replies host old new c.accept.result t end.0
-            (executed _ _ _ _ host Boot old new outcome.Ok c.accept.result t up.0 end.0
+            (executed _ _ _ _ host Boot old new accepted c.accept.result t up.0 end.0
             (λ rose. rose_within _ _ _ _ (omega arith) (c.accept.ensures.kept.keeps.no_fewer_faults (OnDrive 0)) rose)
             (λ rose. rose_within _ _ _ _ (c.reboot.ensures.kept.keeps.no_fewer_faults OnReplies) (omega arith) rose)
             (ap told (some_is _ up.0 quiet.0 up.1 quiet.1) ∙ quiet.2.quiet) up.2.rebooted end.2);
@@ -64,113 +67,55 @@ returns-in-Ok-clause-stays g c = λ text boots.
           (subst (λ (h : Host). Moments (StaysHome h) (g.B.Shelf.tale c.reboot.new.shelf) (g.B.Shelf.tale c.accept.new.bench)) c.in-Ok.ensures.answer.host (turn_stays c.reboot.new.self.host Nothing c.reboot.new.self.state _ _ c.accept.ensures.moments.each));
       told = λ on. told_behind g.B.Shelf g.met.B.Shelf.telling _ _ _ c.reboot.ensures.kept.goes quiet (c.accept.ensures.counted.told on);
       rests = rests_behind g.B.Shelf g.met.B.Shelf.telling _ _ _ c.reboot.ensures.kept.goes quiet c.accept.ensures.moments.rests;
-      tells = each_joined (OfTales (λ t m. told m ≡ told t)) (AnswerFront host outcome.Ok new) (LineFront host text old) _ _ _ _ _ _
+      tells = each_joined (OfTales (λ t m. told m ≡ told t)) (AnswerFront host accepted new) (LineFront host text old) _ _ _ _ _ _
           (λ s u v first mid last turn there ahead m here within knows. inl here)
           (λ s u v first mid last turn m here within ahead knows.
           let up = c.in-Ok.ensures.end (tale_of s) (g.met.B.Shelf.telling c.args.bench.now ∙ ap (λ (o : Option Story). option_map tale_of o) first) in
           let same = some_is (g.B.Shelf.tale c.reboot.new.shelf) up.0 (tale_of u) up.1 (g.met.B.Shelf.telling c.reboot.new.shelf ∙ ap (λ (o : Option Story). option_map tale_of o) mid) in
-          boot_front host old new text boots (moment s _) (moment u _) m turn within.counts.0 (subst (λ (x : Tale). IsRebooted (DriveFailed g.B.Shelf c.args.bench.now c.reboot.new.shelf 0) host (kept_at old (tale_of s)) outcome.Ok (kept_at new x)) same up.2.rebooted)
+          boot_front host old new text boots (moment s _) (moment u _) m turn within.counts.0 (subst (λ (x : Tale). IsRebooted (DriveFailed g.B.Shelf c.args.bench.now c.reboot.new.shelf 0) host (kept_at old (tale_of s)) accepted (kept_at new x)) same up.2.rebooted)
           (here (subst (λ (x : Tale). Knows host new x) same (up.2.booted refl).knows)))
           (moments_of_tales g.B.Shelf g.met.B.Shelf.telling _ _ (λ t m. told m ≡ told t) c.reboot.ensures.kept.goes quiet)
-          (subst (λ (h : Host). AtEachMoment g.B.Shelf (AnswerFront h outcome.Ok new) c.reboot.new.shelf c.accept.new.bench) c.in-Ok.ensures.answer.host c.accept.ensures.moments.fronts);
+          (subst (λ (h : Host). AtEachMoment g.B.Shelf (AnswerFront h accepted new) c.reboot.new.shelf c.accept.new.bench) c.in-Ok.ensures.answer.host c.accept.ensures.moments.fronts);
     }
 
-pub returns-in-Err-Lost-clause-end : goal.returns-in-Err-Lost-clause-end
-returns-in-Err-Lost-clause-end g c = λ text boots t is.
+-- a boot that wasn't answered
+pub returns-in-Err-clause-end : goal.returns-in-Err-clause-end
+returns-in-Err-clause-end g c = λ text boots t is.
     let host = c.args.engine.now.host in
     let quiet = moments_end (BootMoment host) _ _ c.reboot.ensures.moments t is in
-    let why = (rw c.in-Err-Lost.field-0-is at c.in-Err-Lost.ensures.answer.cause) in
-    let done = (rw c.in-Err-Lost.field-0-is at c.in-Err-Lost.ensures.end) t is in (
+    let done = c.in-Err.ensures.end t is in (
       done.0,
       done.1,
       record {
         answered = λ knows. record {
-          answer = outcome.Panic;
+          answer = Over c.in-Err.end;
           done = inr (Boot, boots, done.2.rebooted);
-          replied = record { piece = []; is_told = ap told (some_is _ done.0 quiet.0 done.1 quiet.1) ∙ quiet.2.quiet ∙ sym (append-nil (told t)); as_told = (why.1, why.2, refl) };
+          replied = record { piece = []; is_told = ap told (some_is _ done.0 quiet.0 done.1 quiet.1) ∙ quiet.2.quiet ∙ sym (append-nil (told t)); as_told = (c.reply_at.ensures, refl) };
         };
-        ran = λ on more. absurd on;
-        knows = λ kept. absurd (kept tt);
+        ran = λ on more. absurd (never_ended c.in-Err.end (subst IsReplied c.reply_at.ensures on));
+        knows = λ kept. absurd (kept (subst IsLost (sym c.reply_at.ensures) (ended_lost c.in-Err.end)));
       },
     )
 
-pub returns-in-Err-Lost-clause-moments : goal.returns-in-Err-Lost-clause-moments
-returns-in-Err-Lost-clause-moments g c =
+pub returns-in-Err-clause-moments : goal.returns-in-Err-clause-moments
+returns-in-Err-clause-moments g c =
     let host = c.args.engine.now.host in
     let old = c.args.engine.now.state in
     moments_weaker (BootMoment host) (TurnMoment host Nothing old) _ _ (λ t m moment. boot_turn host old t m moment) c.reboot.ensures.moments
 
-pub returns-in-Err-Lost-clause-stays : goal.returns-in-Err-Lost-clause-stays
-returns-in-Err-Lost-clause-stays g c = λ text boots. record {
+pub returns-in-Err-clause-stays : goal.returns-in-Err-clause-stays
+returns-in-Err-clause-stays g c = λ text boots. record {
   home = boot_stays c.args.engine.now.host _ _ c.reboot.ensures.moments;
-  told = λ on. absurd on;
+  told = λ on. absurd (never_ended c.in-Err.end (subst IsReplied c.reply_at.ensures on));
   rests = rests_quiet g.B.Shelf g.met.B.Shelf.telling _ _ c.reboot.ensures.kept.goes (moments_weaker (BootMoment c.args.engine.now.host) (λ t m. told m ≡ told t) _ _ (λ t m moment. moment.quiet) c.reboot.ensures.moments);
   tells = moment_weaker g.B.Shelf (OfTales (λ t m. told m ≡ told t)) (LineFront c.args.engine.now.host text c.args.engine.now.state) _ _ (λ t m up below here known. inl here) (moments_of_tales g.B.Shelf g.met.B.Shelf.telling _ _ (λ t m. told m ≡ told t) c.reboot.ensures.kept.goes
       (moments_weaker (BootMoment c.args.engine.now.host) (λ t m. told m ≡ told t) _ _ (λ t m moment. moment.quiet) c.reboot.ensures.moments));
 }
 
-pub returns-in-Err-Spent-clause-end : goal.returns-in-Err-Spent-clause-end
-returns-in-Err-Spent-clause-end g c = λ text boots t is.
-    let host = c.args.engine.now.host in
-    let quiet = moments_end (BootMoment host) _ _ c.reboot.ensures.moments t is in
-    let done = (rw c.in-Err-Spent.field-0-is at c.in-Err-Spent.ensures.end) t is in (
-      done.0,
-      done.1,
-      record {
-        answered = λ knows. record {
-          answer = outcome.Spent;
-          done = inr (Boot, boots, done.2.rebooted);
-          replied = record { piece = []; is_told = ap told (some_is _ done.0 quiet.0 done.1 quiet.1) ∙ quiet.2.quiet ∙ sym (append-nil (told t)); as_told = refl };
-        };
-        ran = λ on more. absurd on;
-        knows = λ kept. absurd (kept tt);
-      },
-    )
-
-pub returns-in-Err-Spent-clause-moments : goal.returns-in-Err-Spent-clause-moments
-returns-in-Err-Spent-clause-moments g c =
-    let host = c.args.engine.now.host in
-    let old = c.args.engine.now.state in
-    moments_weaker (BootMoment host) (TurnMoment host Nothing old) _ _ (λ t m moment. boot_turn host old t m moment) c.reboot.ensures.moments
-
-pub returns-in-Err-Spent-clause-stays : goal.returns-in-Err-Spent-clause-stays
-returns-in-Err-Spent-clause-stays g c = λ text boots. record {
-  home = boot_stays c.args.engine.now.host _ _ c.reboot.ensures.moments;
-  told = λ on. absurd on;
-  rests = rests_quiet g.B.Shelf g.met.B.Shelf.telling _ _ c.reboot.ensures.kept.goes (moments_weaker (BootMoment c.args.engine.now.host) (λ t m. told m ≡ told t) _ _ (λ t m moment. moment.quiet) c.reboot.ensures.moments);
-  tells = moment_weaker g.B.Shelf (OfTales (λ t m. told m ≡ told t)) (LineFront c.args.engine.now.host text c.args.engine.now.state) _ _ (λ t m up below here known. inl here) (moments_of_tales g.B.Shelf g.met.B.Shelf.telling _ _ (λ t m. told m ≡ told t) c.reboot.ensures.kept.goes
-      (moments_weaker (BootMoment c.args.engine.now.host) (λ t m. told m ≡ told t) _ _ (λ t m moment. moment.quiet) c.reboot.ensures.moments));
-}
-
-pub returns-in-Err-Memory-clause-end : goal.returns-in-Err-Memory-clause-end
-returns-in-Err-Memory-clause-end g c = λ text boots t is.
-    let host = c.args.engine.now.host in
-    let quiet = moments_end (BootMoment host) _ _ c.reboot.ensures.moments t is in
-    let done = (rw c.in-Err-Memory.field-0-is at c.in-Err-Memory.ensures.end) t is in (
-      done.0,
-      done.1,
-      record {
-        answered = λ knows. record {
-          answer = outcome.NoMemory;
-          done = inr (Boot, boots, done.2.rebooted);
-          replied = record { piece = []; is_told = ap told (some_is _ done.0 quiet.0 done.1 quiet.1) ∙ quiet.2.quiet ∙ sym (append-nil (told t)); as_told = refl };
-        };
-        ran = λ on more. absurd on;
-        knows = λ kept. absurd (kept tt);
-      },
-    )
-
-pub returns-in-Err-Memory-clause-moments : goal.returns-in-Err-Memory-clause-moments
-returns-in-Err-Memory-clause-moments g c =
-    let host = c.args.engine.now.host in
-    let old = c.args.engine.now.state in
-    moments_weaker (BootMoment host) (TurnMoment host Nothing old) _ _ (λ t m moment. boot_turn host old t m moment) c.reboot.ensures.moments
-
-pub returns-in-Err-Memory-clause-stays : goal.returns-in-Err-Memory-clause-stays
-returns-in-Err-Memory-clause-stays g c = λ text boots. record {
-  home = boot_stays c.args.engine.now.host _ _ c.reboot.ensures.moments;
-  told = λ on. absurd on;
-  rests = rests_quiet g.B.Shelf g.met.B.Shelf.telling _ _ c.reboot.ensures.kept.goes (moments_weaker (BootMoment c.args.engine.now.host) (λ t m. told m ≡ told t) _ _ (λ t m moment. moment.quiet) c.reboot.ensures.moments);
-  tells = moment_weaker g.B.Shelf (OfTales (λ t m. told m ≡ told t)) (LineFront c.args.engine.now.host text c.args.engine.now.state) _ _ (λ t m up below here known. inl here) (moments_of_tales g.B.Shelf g.met.B.Shelf.telling _ _ (λ t m. told m ≡ told t) c.reboot.ensures.kept.goes
-      (moments_weaker (BootMoment c.args.engine.now.host) (λ t m. told m ≡ told t) _ _ (λ t m moment. moment.quiet) c.reboot.ensures.moments));
+pub returns-in-Err-clause-answer : goal.returns-in-Err-clause-answer
+returns-in-Err-clause-answer g c = record {
+  cause = told_cause _ _ _ _ [] (λ failed. failed) (λ failed. failed) (Over c.in-Err.end) c.reply_at.result c.in-Err.ensures.answer.cause (c.reply_at.ensures, refl);
+  same = c.in-Err.ensures.answer.host;
+  well = c.in-Err.ensures.answer.well;
+  begun = (let same = c.in-Err.ensures.answer.begun in omega arith);
 }

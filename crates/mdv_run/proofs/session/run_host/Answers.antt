@@ -62,7 +62,7 @@ returns-in-Err-clause-has_run g c = record {
       let end = counts (g.B.Shelf.faults c.boot.new.shelf) (g.I.Source.faults c.args.script.now) in
       inr (subst (λ (s : RunStatus). IsWholeRun host (between g.B.Shelf c.args.bench.now c.boot.new.shelf) start end t (asked_of input) (g.B.Shelf.tale c.boot.new.shelf) s) (sym c.over.ensures)
       (whole_over host (between g.B.Shelf c.args.bench.now c.boot.new.shelf) start t (asked_of input) _ Engine end (record { drive = c.boot.ensures.kept.keeps.no_fewer_faults (OnDrive 0); source = omega arith; replies = c.boot.ensures.kept.keeps.no_fewer_faults OnReplies })
-      done.0 (unbooted 0) c.in-Err.refusal done.1 (ap told (some_is _ done.0 quiet.0 done.1 quiet.1) ∙ quiet.2.quiet) done.2.rebooted c.in-Err.ensures.answer.cause));
+      done.0 (unbooted 0) c.in-Err.end done.1 (ap told (some_is _ done.0 quiet.0 done.1 quiet.1) ∙ quiet.2.quiet) done.2.rebooted));
   stands = λ input left.
       let host = c.args.host in
       moments_of_tales g.B.Shelf g.met.B.Shelf.telling _ _ (RunMoment host (asked_of input)) c.boot.ensures.kept.goes
@@ -70,5 +70,5 @@ returns-in-Err-clause-has_run g c = record {
   tells = λ input left. fronts_quiet g.B.Shelf g.met.B.Shelf.telling c.args.host (counts (g.B.Shelf.faults c.args.bench.now) (g.I.Source.faults c.args.script.now)) (counts (g.B.Shelf.faults c.boot.new.shelf) (g.I.Source.faults c.args.script.now)) (asked_of input) (between g.B.Shelf c.args.bench.now c.boot.new.shelf) _ _ c.boot.ensures.kept.goes (moments_weaker (BootMoment c.args.host) (λ t m. told m ≡ told t) _ _ (λ t m moment. moment.quiet) c.boot.ensures.moments);
   home = boot_stays c.args.host _ _ c.boot.ensures.moments;
   causes = inr (subst (λ (s : RunStatus). HasStatusCause (counts (g.B.Shelf.faults c.args.bench.now) (g.I.Source.faults c.args.script.now)) (counts (g.B.Shelf.faults c.boot.new.shelf) (g.I.Source.faults c.args.script.now)) s) (sym c.over.ensures)
-      (over_cause Engine _ _ c.in-Err.refusal c.in-Err.ensures.answer.cause));
+      (over_cause Engine _ _ c.in-Err.end c.in-Err.ensures.answer.cause));
 }

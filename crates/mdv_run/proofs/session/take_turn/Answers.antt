@@ -17,7 +17,7 @@ use Rattle.mdv_run.proofs.Leading.{end_is, spent_is, long_is, line_is, leads_lin
 use Rattle.mdv_engine_law.proofs.Staying.{nothing_stays, turn_stays}
 use Rattle.mdv_base.specs.declared.refusal.Refusal.TheVariants.{LineTooLong}
 use Rattle.mdv_run.proofs.Answering.{refused_turned, refused_down, refused_knows}
-use Rattle.mdv_engine_law.specs.declared.answer.Answer.TheVariants as outcome
+use Rattle.mdv_engine_law.specs.Answers.{refusing}
 use Rattle.mdv_run.proofs.session.take_turn.Goals as goal
 
 pub refuse-requires : goal.refuse-requires
@@ -138,7 +138,7 @@ returns-in-Ok-TooLong-clause-stays g c = record {
   tells = λ lines before.
       let reads : IsAskedTurn lines TooLong c.next_asked.new.reader (g.I.Source.left c.next_asked.new.source) = rw c.in-Ok-TooLong.field-0-is at (c.in-Ok-TooLong.ensures.reads lines before) in
       let script = long_is lines c.next_asked.new.reader (g.I.Source.left c.next_asked.new.source) reads in
-      each_within (AnswerFront c.args.engine.now.host (outcome.Refused LineTooLong) c.args.engine.now.state) (ScriptFront c.args.engine.now.host (counts (g.B.Shelf.faults c.args.bench.now) (g.I.Source.faults c.args.script.now)) c.args.engine.now.state c.args.any_refused lines) _ _ _ _
+      each_within (AnswerFront c.args.engine.now.host (refusing LineTooLong) c.args.engine.now.state) (ScriptFront c.args.engine.now.host (counts (g.B.Shelf.faults c.args.bench.now) (g.I.Source.faults c.args.script.now)) c.args.engine.now.state c.args.any_refused lines) _ _ _ _
       (λ s u first last m there here within known. long_front c.args.engine.now.host c.args.engine.now.state (counts (g.B.Shelf.faults c.args.bench.now) (g.I.Source.faults c.args.script.now)) c.args.any_refused (moment s _) m refl within.counts.0 lines script.0 script.1 (here known)) (c.refuse.ensures.moments Nothing).fronts;
 }
 

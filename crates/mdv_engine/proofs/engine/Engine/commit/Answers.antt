@@ -1,9 +1,13 @@
-use Rattle.std.proofs.Common.{arith, ◌≡◌, ◌∙◌, rules, Some, ap, sym, subst}
+use Rattle.std.proofs.Common.{arith, ◌≡◌, ◌∙◌, rules, Some, refl, ap, sym, subst}
 use Rattle.mdv_engine_law.specs.Line.{ToDo}
 use Rattle.mdv_base.specs.declared.refusal.Refusal.TheVariants.{NoDatabase}
-use Rattle.mdv_engine.specs.Below.{Changed, Rose, Local, place_of, PlaceAt, OnDrive, TooLong, HasCommitCause, Newest, IsPlainAnswer}
-use Rattle.mdv_engine_law.specs.declared.answer.Answer.TheVariants as outcome
-use Rattle.mdv_engine_law.proofs.Plain.{no_database_plain, numbers_plain}
+use Rattle.std.specs.Fmt.{digits}
+use Rattle.mdv_engine_law.specs.Replies.{IsPlain}
+use Rattle.mdv_engine.specs.Below.{MakeStripe, Changed, Rose, Local, place_of, PlaceAt, OnDrive, TooLong, HasCommitCause, Newest, IsPlainAnswer}
+use Rattle.mdv_engine_law.specs.Answers.{accepted, refusing}
+use Rattle.mdv_engine_law.specs.declared.answer.Answer.TheVariants.{Over}
+use Rattle.mdv_engine_law.specs.declared.answer.Ended.TheVariants as ended
+use Rattle.mdv_engine_law.proofs.Plain.{numbers_plain, refusal_plain}
 use Rattle.mdv_engine_law.proofs.Refusing.{opened_has}
 use Rattle.mdv_engine.specs.Ends.{HasAnswered}
 use Rattle.mdv_engine.specs.Engine.{IsTableOf}
@@ -38,7 +42,8 @@ returns-clause-moments g c = λ change is.
     changing_moments host _ c.requires.ready _ at_is memory change c.args.next db opened (next_of host memory change c.args.next db opened is) placed _ _ (commit_quiet _ _ _ _ _ _ c.commit.ensures.moments) (commit_goes _ _ _ _ _ _ host.drives (Local host.home.host) (Some change) c.commit.ensures.moments)
 
 pub returns-clause-end : goal.returns-clause-end
-returns-clause-end g c = λ change is.
+returns-clause-end g c = λ volume slice is.
+    let change = MakeStripe volume slice in
     let host = c.args.self.now.host in
     let memory = c.args.self.now.state in
     let db = c.in-Some.database in
@@ -51,26 +56,26 @@ returns-clause-end g c = λ change is.
     let stays = (commit_goes _ _ _ _ _ _ host.drives (Local host.home.host) (Some change) c.commit.ensures.moments) in
     elim c.match-commit.branch [
       | in-Ok w ↦
-          end_as host memory change _ _ outcome.Ok _ w.result-is _ _ (opened_as _ memory same _ _ w.in-Ok.ensures.answer.0) _
-          (committed_answer host _ c.requires.ready _ at_is memory change next db opened chosen placed _ _ (commit_quiet _ _ _ _ _ _ c.commit.ensures.moments) _ w.in-Ok.ensures.answer.1.in_room w.in-Ok.ensures.answer.1.countable (commit_opened _ _ _ _ _ _ host.drives (Local host.home.host) (Some change) w.in-Ok.ensures.end))
+          end_as host memory volume slice _ _ accepted _ w.result-is _ _ (opened_as _ memory same _ _ w.in-Ok.ensures.answer.0) _
+          (committed_answer host _ c.requires.ready _ at_is memory volume slice next db opened chosen placed _ _ (commit_quiet _ _ _ _ _ _ c.commit.ensures.moments) w.in-Ok.ensures.answer.1.in_room _ w.in-Ok.ensures.answer.1.countable (commit_opened _ _ _ _ _ _ host.drives (Local host.home.host) (Some change) w.in-Ok.ensures.end))
           (committed_carried host _ c.requires.ready _ at_is memory change next db opened chosen placed _ _ (commit_quiet _ _ _ _ _ _ c.commit.ensures.moments) (commit_opened _ _ _ _ _ _ host.drives (Local host.home.host) (Some change) w.in-Ok.ensures.end) (commit_goes_to _ _ _ _ _ _ host.drives (Local host.home.host) (Some change) w.in-Ok.ensures.end))
       | in-Err-Lost w ↦
           let failed = subst (HasCommitCause _ db next) w.in-Err-Lost.field-0-is w.in-Err-Lost.ensures.answer.1 in
           let rose = subst (λ (p : PlaceAt). Rose (g.S.Shelf.faults c.args.shelf.now (OnDrive p.drive.0)) (g.S.Shelf.faults c.commit.new.shelf (OnDrive p.drive.0))) at_is failed.0 in
-          end_as host memory change _ _ outcome.Panic _ w.result-is memory _ (opened_still _ memory same _ db w.in-Err-Lost.ensures.answer.0 opened) _
-          (lost_answer host _ c.requires.ready _ at_is memory change next db opened chosen placed _ _ (commit_quiet _ _ _ _ _ _ c.commit.ensures.moments) _ memory rose failed.1.in_room)
+          end_as host memory volume slice _ _ (Over (ended.Lost 0 1)) _ w.result-is memory _ (opened_still _ memory same _ db w.in-Err-Lost.ensures.answer.0 opened) _
+          (lost_answer host _ c.requires.ready _ at_is memory volume slice next db opened chosen placed _ _ (commit_quiet _ _ _ _ _ _ c.commit.ensures.moments) failed.1.in_room _ memory rose)
           (lost_carried host _ c.requires.ready _ at_is memory change next db opened chosen placed _ _ (commit_quiet _ _ _ _ _ _ c.commit.ensures.moments) memory stays)
       | in-Err-TooLong w ↦
           let nothing = ap g.S.Shelf.tale (rw w.in-Err-TooLong.field-0-is at w.in-Err-TooLong.ensures.counted) in
           let long = subst (HasCommitCause _ db next) w.in-Err-TooLong.field-0-is w.in-Err-TooLong.ensures.answer.1 in
-          end_as host memory change _ _ _ _ w.result-is memory _ (opened_still _ memory same _ db w.in-Err-TooLong.ensures.answer.0 opened) _
-          (long_answer host _ c.requires.ready _ at_is memory change next db opened chosen placed _ _ nothing _ _ _ long.0 (ap (λ (f : TooLong). f.bytes) long.1) (ap (λ (f : TooLong). f.room) long.1))
+          end_as host memory volume slice _ _ _ _ w.result-is memory _ (opened_still _ memory same _ db w.in-Err-TooLong.ensures.answer.0 opened) _
+          (long_answer host _ c.requires.ready _ at_is memory volume slice next db opened chosen placed _ _ nothing _ _ _ long.0 (ap (λ (f : TooLong). f.bytes) long.1) (ap (λ (f : TooLong). f.room) long.1))
           (refused_carried host memory change _ _ (ap g.S.Shelf.tale (rw w.in-Err-TooLong.field-0-is at w.in-Err-TooLong.ensures.counted)) _)
       | in-Err-Spent w ↦
           let nothing = ap g.S.Shelf.tale (rw w.in-Err-Spent.field-0-is at w.in-Err-Spent.ensures.counted) in
           let reached = subst (HasCommitCause _ db next) w.in-Err-Spent.field-0-is w.in-Err-Spent.ensures.answer.1 in
-          end_as host memory change _ _ outcome.Spent _ w.result-is memory _ (opened_still _ memory same _ db w.in-Err-Spent.ensures.answer.0 opened) _
-          (spent_answer host _ c.requires.ready _ at_is memory change next db opened chosen placed _ _ nothing _ reached.0 reached.1)
+          end_as host memory volume slice _ _ (Over ended.Spent) _ w.result-is memory _ (opened_still _ memory same _ db w.in-Err-Spent.ensures.answer.0 opened) _
+          (spent_answer host _ c.requires.ready _ at_is memory volume slice next db opened chosen placed _ _ nothing _ reached.0 reached.1)
           (spent_carried host memory change _ _ (ap g.S.Shelf.tale (rw w.in-Err-Spent.field-0-is at w.in-Err-Spent.ensures.counted)))
     ]
 
@@ -90,11 +95,16 @@ returns-clause-answer g c = λ change. record {
   begun = search rules;
 }
 
+-- E2 is told in one line
+nothing_open_plain : IsPlain NoDatabase
+unfolding digits
+nothing_open_plain = record { one_line = refl; begins = refl }
+
 pub returns-in_default-clause-answer : goal.returns-in_default-clause-answer
 returns-in_default-clause-answer g c = λ change.
     let failed = Rose (g.S.Shelf.faults c.args.shelf.now (OnDrive 0)) (g.S.Shelf.faults c.args.shelf.now (OnDrive 0)) in
-    subst (λ (e : Engine). HasAnswered failed (ToDo (Changed change)) c.args.self.now (outcome.Refused NoDatabase) e) (sym c.self.view_is)
-    (refused_answer failed (ToDo (Changed change)) c.args.self.now c.requires.well NoDatabase no_database_plain)
+    subst (λ (e : Engine). HasAnswered failed (ToDo (Changed change)) c.args.self.now (refusing NoDatabase) e) (sym c.self.view_is)
+    (refused_answer failed (ToDo (Changed change)) c.args.self.now c.requires.well NoDatabase nothing_open_plain)
 
 pub returns-clause-counted : goal.returns-clause-counted
 returns-clause-counted g c =

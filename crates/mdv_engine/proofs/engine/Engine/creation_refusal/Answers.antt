@@ -1,12 +1,32 @@
-use Rattle.std.proofs.Common.{rules}
-use Rattle.mdv_engine.proofs.Places.{found_none, found_some}
+use Rattle.std.proofs.Common.{rules, true, false, refl, sym, subst}
+use Rattle.mdv_engine.proofs.Judging.{not_there, there}
+use Rattle.mdv_engine.specs.declared.engine.Engine.{Engine}
+use Rattle.mdv_table.specs.Slices.{IsSound}
 use Rattle.mdv_engine.proofs.engine.Engine.creation_refusal.Goals as goal
 
-pub returns-then-is_none-clause-refused : goal.returns-then-is_none-clause-refused
-returns-then-is_none-clause-refused c = rw (← c.self.view_is) (found_none _ _ c.if-is_none.ensures c.find.ensures.none)
+pub returns-in_default : goal.returns-in_default
+returns-in_default c = not_there _ _ c.self.view_is c.args.slice c.args.force c.in_default.ensures.none
 
-pub returns-then-ne-clause-refused : goal.returns-then-ne-clause-refused
-returns-then-ne-clause-refused c = rw (← c.self.view_is) (record {
-  other = search rules;
-  known = λ never. (let some = found_some _ _ c.if-is_none.ensures c.find.ensures.value in never some.0 some.1);
-})
+pub returns-then-not-at : goal.returns-then-not-at
+returns-then-not-at c =
+    there _ _ c.self.view_is c.args.slice c.args.force (subst (λ (x : Engine). IsSound x.host.drives) (sym c.self.view_is) c.requires.sound) c.in-Some.at c.in-Some.ensures.value false _ _ _ _ (search rules) refl refl refl refl
+
+pub returns-then-self : goal.returns-then-self
+returns-then-self c =
+    there _ _ c.self.view_is c.args.slice c.args.force (subst (λ (x : Engine). IsSound x.host.drives) (sym c.self.view_is) c.requires.sound) c.in-Some.at c.in-Some.ensures.value true true _ _ _ (search rules) (search rules) refl refl refl
+
+pub returns-then-is_some : goal.returns-then-is_some
+returns-then-is_some c =
+    there _ _ c.self.view_is c.args.slice c.args.force (subst (λ (x : Engine). IsSound x.host.drives) (sym c.self.view_is) c.requires.sound) c.in-Some.at c.in-Some.ensures.value true false true _ _ (search rules) (search rules) (search rules) refl refl
+
+pub returns-then-not-force : goal.returns-then-not-force
+returns-then-not-force c =
+    there _ _ c.self.view_is c.args.slice c.args.force (subst (λ (x : Engine). IsSound x.host.drives) (sym c.self.view_is) c.requires.sound) c.in-Some.at c.in-Some.ensures.value true false false false _ (search rules) (search rules) (search rules) (search rules) refl
+
+pub returns-then-self-lt-SLICE_BLOCKS : goal.returns-then-self-lt-SLICE_BLOCKS
+returns-then-self-lt-SLICE_BLOCKS c =
+    there _ _ c.self.view_is c.args.slice c.args.force (subst (λ (x : Engine). IsSound x.host.drives) (sym c.self.view_is) c.requires.sound) c.in-Some.at c.in-Some.ensures.value true false false true true (search rules) (search rules) (search rules) (search rules) (search rules)
+
+pub returns : goal.returns
+returns c =
+    there _ _ c.self.view_is c.args.slice c.args.force (subst (λ (x : Engine). IsSound x.host.drives) (sym c.self.view_is) c.requires.sound) c.in-Some.at c.in-Some.ensures.value true false false true false (search rules) (search rules) (search rules) (search rules) (search rules)

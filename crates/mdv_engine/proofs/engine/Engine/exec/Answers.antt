@@ -5,7 +5,7 @@ use Rattle.mdv_shelf.proofs.Telling.{rests_behind, told_behind, told_once}
 use Rattle.mdv_shelf.proofs.Between.{between_of, between_then}
 use Rattle.mdv_shelf.proofs.Counts.{at_most_then}
 use Rattle.mdv_words.specs.declared.command.Line.TheVariants as words
-use Rattle.mdv_engine_law.proofs.Executing.{carried_more, executed, told_cause, rose_within}
+use Rattle.mdv_engine_law.proofs.Executing.{came_more, executed, told_cause, rose_within}
 use Rattle.mdv_engine_law.proofs.Longer.{replied_more}
 use Rattle.mdv_engine_law.proofs.Fronts.{fronts_then, telling_rests}
 use Rattle.mdv_engine_law.proofs.Turning.{Carried, carried_ends, turn_carry, turn_tell, turned, knows_after}
@@ -29,7 +29,7 @@ returns-clause-moments g c =
           (λ t u m both tell. turn_tell host asked old new answer (λ on some. says.awake on) says.free says.plain t u both.0 both.1 m tell)
           c.carry_out-answer.ensures.moments (carried_ends host asked old new answer _ _ c.carry_out-answer.ensures.moments carried) c.tell.ensures.fronts;
       fronts = fronts_then g.B.Shelf g.met.B.Shelf.telling _ _ _ (CarriesOut host c.args.command.now) host old answer new
-          (λ failed more cause kept next is. carried_more failed more cause host kept next answer c.args.command.now is)
+          (λ failed more cause kept next is. came_more failed more cause host kept next answer c.args.command.now is)
           c.carry_out-answer.ensures.kept.goes
           (moments_weaker (CarryMoment host asked old) (λ t m. told m ≡ told t) _ _ (λ t m moment. moment.quiet) c.carry_out-answer.ensures.moments)
           (λ t is. (let end = c.carry_out-answer.ensures.end t is in (end.0, end.1, end.2.answered))) c.tell.ensures.kept.goes c.tell.ensures.fronts;

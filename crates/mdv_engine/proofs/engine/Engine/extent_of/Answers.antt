@@ -12,3 +12,6 @@ returns-in-Some-clause-fits c = ends_small c.args.self.now.host c.requires.table
 
 pub returns-in-None-clause-lies : goal.returns-in-None-clause-lies
 returns-in-None-clause-lies c = absurd (not_none c.args.self.now.host c.requires.table c.requires.sound c.args.volume.now c.stripe_of.result c.slice_of.result c.stripe_of.ensures c.slice_of.ensures c.requires.kind c.in-None.ensures.none)
+
+pub returns-in-None-clause-sized : goal.returns-in-None-clause-sized
+returns-in-None-clause-sized c = absurd (not_none c.args.self.now.host c.requires.table c.requires.sound c.args.volume.now c.stripe_of.result c.slice_of.result c.stripe_of.ensures c.slice_of.ensures c.requires.kind c.in-None.ensures.none)

@@ -1,19 +1,41 @@
-use Rattle.std.proofs.Common.{inr, refl}
-use Rattle.mdv_words.specs.declared.command.Command.TheVariants.{Create}
-use Rattle.mdv_engine_law.proofs.Plain.{create_plain}
+use Rattle.std.proofs.Common.{◌≡◌, ◌∙◌, refl, sym}
+use Rattle.mdv_engine_law.specs.Commands as came
+use Rattle.mdv_engine.specs.Below.{Create}
+use Rattle.mdv_engine_law.proofs.Allowed.{allowed_none, allowed_room, allowed_up}
+use Rattle.mdv_engine_law.proofs.Plain.{refusal_plain}
+use Rattle.mdv_engine_law.specs.Answers.{refusing}
+use Rattle.mdv_engine_law.specs.Line.{ToDo}
+use Rattle.mdv_history.specs.History.{Created}
+use Rattle.mdv_engine.proofs.Blocks.{moments_still, refused_carried}
 use Rattle.mdv_engine.proofs.Counting.{refused_counted}
 use Rattle.mdv_engine.proofs.Ending.{command_ends, refused_answer}
+use Rattle.mdv_engine.specs.Engine.{case_at}
 use Rattle.mdv_engine.proofs.engine.Engine.make.Goals as goal
+
+pub make_database-requires-clause-room : goal.make_database-requires-clause-room
+make_database-requires-clause-room g c = allowed_room (case_at c.args.self.now) c.args.slice c.args.force (sym c.creation_refusal.ensures ∙ c.in-None.is)
+
+pub make_database-requires-clause-none : goal.make_database-requires-clause-none
+make_database-requires-clause-none g c = allowed_none (case_at c.args.self.now) c.args.slice c.args.force (sym c.creation_refusal.ensures ∙ c.in-None.is)
+
+pub make_database-requires-clause-up : goal.make_database-requires-clause-up
+make_database-requires-clause-up g c = allowed_up (case_at c.args.self.now) c.args.slice c.args.force (sym c.creation_refusal.ensures ∙ c.in-None.is)
+
+pub returns-in-Some-clause-end : goal.returns-in-Some-clause-end
+returns-in-Some-clause-end g c =
+    command_ends _ c.args.self.now (Create c.args.slice c.args.force) (refusing c.in-Some.refusal) c.args.self.now _ _
+    (λ t start. (t, start, λ known. came.refused c.in-Some.refusal (sym c.creation_refusal.ensures ∙ c.in-Some.is) (refl, record { memory = refl; content = λ block. refl })))
+    (refused_carried c.args.self.now.host (ToDo Created) c.args.self.now.state _ _ refl c.in-Some.refusal)
 
 pub returns-in-Some-clause-answer : goal.returns-in-Some-clause-answer
 returns-in-Some-clause-answer g c =
-    refused_answer _ _ c.args.self.now c.requires.well c.in-Some.refusal (create_plain c.args.self.now.host c.args.self.now.state c.args.slice c.args.force c.in-Some.refusal c.in-Some.ensures.refused)
+    refused_answer _ _ c.args.self.now c.requires.well c.in-Some.refusal (refusal_plain (case_at c.args.self.now) (Create c.args.slice c.args.force) c.in-Some.refusal (sym c.creation_refusal.ensures ∙ c.in-Some.is))
 
 pub returns-in-None-clause-end : goal.returns-in-None-clause-end
-returns-in-None-clause-end g c =
-    command_ends _ c.args.self.now (Create c.args.slice c.args.force) c.make_database.result c.make_database.new.self _ _
-    (λ t start. (let end = c.make_database.ensures.end t start in (end.0, end.1, λ known. inr (c.in-None.ensures.free, end.2.answered known))))
-    (λ t start. (let end = c.make_database.ensures.end t start in (end.0, end.1, end.2.carried)))
+returns-in-None-clause-end g c = c.make_database.ensures.end c.args.slice c.args.force (sym c.creation_refusal.ensures ∙ c.in-None.is)
 
 pub returns-in-Some-clause-counted : goal.returns-in-Some-clause-counted
 returns-in-Some-clause-counted g c = refused_counted g.S.Shelf.tale g.S.Shelf.calls g.S.Shelf.written _ _ 12 8 c.in-Some.refusal refl
+
+pub returns-in-Some-clause-moments : goal.returns-in-Some-clause-moments
+returns-in-Some-clause-moments g c = moments_still c.args.self.now.host (ToDo Created) c.args.self.now.state _ _ refl

@@ -1,4 +1,7 @@
-use Rattle.std.proofs.Common.{sym, subst, ℕ, refl, arith}
+use Rattle.std.proofs.Common.{◌≡◌, ◌+◌, None, sym, subst, ℕ, refl, arith}
+use Rattle.mdv_base.specs.declared.refusal.Refusal.TheVariants.{IoFault}
+use Rattle.mdv_engine_law.specs.Refusals.{blocks_refusal}
+use Rattle.mdv_engine.proofs.Blocks.{blocks_judged}
 use Rattle.mdv_shelf.proofs.Counts.{took_at_most, took_one}
 use Rattle.mdv_engine_law.specs.Line.{AreBlocksAt}
 use Rattle.mdv_engine_law.proofs.Keeping.{blocks_shown}
@@ -9,6 +12,7 @@ pub returns-in-Ok-clause-ok : goal.returns-in-Ok-clause-ok
 returns-in-Ok-clause-ok g c = record {
   block = c.in_ok-first.first;
   there = subst (λ (n : ℕ). AreBlocksAt c.args.self.now.host c.args.self.now.state c.args.volume c.args.at n c.in_ok-first.first) (sym c.read.auto.out) c.in_ok-first.ensures.ok;
+  allowed = subst (λ (n : ℕ). blocks_refusal c.args.self.now.state.opened c.args.volume (c.args.at + n) ≡ None) (sym c.read.auto.out) c.in_ok-first.ensures.free;
   blocks = c.read.new.out;
   as_told = refl;
   as_there = λ t start. sym (blocks_shown t c.in_ok-first.first c.read.new.out (c.in-Ok.ensures.reads.gave t start));
@@ -23,7 +27,7 @@ pub returns-in-Err-clause-counted : goal.returns-in-Err-clause-counted
 returns-in-Err-clause-counted g c = record {
   done = tt;
   most = took_at_most g.S.Shelf.calls g.S.Shelf.written _ _ 1 0 1 0 (omega arith) (omega arith) (took_one g.S.Shelf.calls g.S.Shelf.written _ _ _ c.read.ensures.counted);
-  refused = λ is. absurd is;
+  refused = λ is. absurd (blocks_judged c.args.self.now.state.opened c.args.volume _ IoFault is);
 }
 
 pub returns-in-Ok-clause-kept : goal.returns-in-Ok-clause-kept

@@ -1,9 +1,13 @@
 -- The slice of a name, found in a table of drives.
-use Rattle.std.proofs.Common.{◌≡◌, Bool, true, false, zero, suc, refl, ap, subst, cond, List, [], ◌∷◌, Option, None, Some, IfSome, IfNone, arith}
+use Rattle.std.proofs.Common.{◌≡◌, Bool, true, false, zero, suc, refl, sym, ap, subst, cond, List, [], ◌∷◌, Option, None, Some, IfSome, IfNone, arith}
 use Rattle.std.proofs.lemmas.Bool.Decides.{nat_tests}
-use Rattle.mdv_plan.specs.Below.{SliceName, Geometry, SliceAt, SliceLine, HasSlice, HasNoSlice}
-use Rattle.mdv_plan.specs.Slices.{IsSound, IsSoundSlice, slice_at}
-use Rattle.mdv_plan.specs.Uses.{same_slice}
+use Rattle.std.specs.Prelude.{◌↔◌}
+use Rattle.mdv_base.specs.declared.drive.SliceName.{SliceName}
+use Rattle.mdv_name.specs.SliceIndex.{HasSlice, HasNoSlice, same_slice, slice_at}
+use Rattle.mdv_name.specs.Sound.{IsSound, IsSoundSlice}
+use Rattle.mdv_name.specs.declared.geometry.Geometry.{Geometry}
+use Rattle.mdv_name.specs.declared.slice_lines.SliceAt.{SliceAt}
+use Rattle.mdv_name.specs.declared.slice_lines.SliceLine.{SliceLine}
 
 pub same_slice-equal : (a b : SliceName) → same_slice a b ≡ true → a ≡ b
 same_slice-equal a b same =
@@ -45,18 +49,30 @@ stands_found (line ∷ lines) name at (suc k, within, is) none =
       | false ↦ λ there. stands_found lines name at (k, omega (arith, within), is) there
     ] none
 
+-- none is found exactly where there is none
+pub slice_at-none : (lines : List SliceLine) (name : SliceName) → slice_at lines name ≡ None ↔ HasNoSlice lines name
+slice_at-none lines name = (
+  λ none at has. stands_found lines name at has none,
+  λ absent. elim (slice_at lines name) as (λ o. slice_at lines name ≡ o → o ≡ None) [
+    | None ↦ λ is. refl
+    | Some a ↦ λ is. absurd (absent a (found_stands lines name a is))
+  ] refl,
+)
+
+-- names stand once: what is found is what stands there
+pub slice_at-some : (g : Geometry) (name : SliceName) (at : SliceAt) → IsSound g → slice_at g.slices name ≡ Some at ↔ HasSlice g.slices name at
+slice_at-some g name at sound = (
+  found_stands g.slices name at,
+  λ has. elim (slice_at g.slices name) as (λ o. slice_at g.slices name ≡ o → o ≡ Some at) [
+    | None ↦ λ is. absurd (stands_found g.slices name at has is)
+    | Some a ↦ λ is. ap Some (sound.once name a at (found_stands g.slices name a is) has)
+  ] refl,
+)
+
 -- what the look-up answers is what is found
 pub found_is : (g : Geometry) (name : SliceName) (answer : Option SliceAt) → IsSound g → IfSome answer (HasSlice g.slices name) → IfNone answer (HasNoSlice g.slices name) → answer ≡ slice_at g.slices name
-found_is g name (Some at) sound has none =
-    elim (slice_at g.slices name) as (λ o. slice_at g.slices name ≡ o → Some at ≡ o) [
-      | None ↦ λ is. absurd (stands_found g.slices name at has is)
-      | Some a ↦ λ is. ap Some (sound.once name at a has (found_stands g.slices name a is))
-    ] refl
-found_is g name None sound has none =
-    elim (slice_at g.slices name) as (λ o. slice_at g.slices name ≡ o → None ≡ o) [
-      | None ↦ λ is. refl
-      | Some a ↦ λ is. absurd (none a (found_stands g.slices name a is))
-    ] refl
+found_is g name (Some at) sound has none = sym ((slice_at-some g name at sound).1 has)
+found_is g name None sound has none = sym ((slice_at-none g.slices name).1 none)
 
 pub found_sound : (g : Geometry) (name : SliceName) (answer : Option SliceAt) → IsSound g → IfSome answer (HasSlice g.slices name) → IfSome answer (IsSoundSlice name)
 found_sound g name (Some at) sound has = sound.each name at has

@@ -1,0 +1,70 @@
+-- What a command comes to, and a line.
+use Rattle.std.specs.Prelude.{◌≡◌, ◌≢◌, ◌+◌, ◌<◌, ◌≤◌, ◌^◌, ℕ, [], ◌∷◌, Some, None}
+use Rattle.mdv_engine_law.specs.Below.{Refusal, IoFault, OutOfMemory, values_reply, MakeStripe, Command, Create, Read, Write, Line, Newest}
+use Rattle.mdv_store_law.specs.Standing.{IsReplicaMade}
+use Rattle.mdv_table.specs.Change.{table_after}
+use Rattle.mdv_words.specs.declared.command.Command.TheVariants as command
+use Rattle.mdv_words.specs.declared.command.Line.TheVariants as words
+use Rattle.mdv_engine_law.specs.declared.answer.Answer.{Answer}
+use Rattle.mdv_engine_law.specs.declared.answer.Answer.TheVariants.{Over}
+use Rattle.mdv_engine_law.specs.declared.answer.Ended.{Ended}
+use Rattle.mdv_engine_law.specs.declared.answer.Ended.TheVariants as ended
+use Rattle.mdv_engine_law.specs.declared.host.Host.{Host}
+use Rattle.mdv_engine_law.specs.Answers.{accepted, refusing, telling}
+use Rattle.mdv_engine_law.specs.Home.{site_of, identity_of}
+use Rattle.mdv_engine_law.specs.Line.{Memory, Kept, Stays, IsCreated, IsUncreated, IsUnbegun, IsCommitted, AreBlocksAt, ArePut, MayBePut, IsRebooted, IsTurnedDown, blocks_of}
+use Rattle.mdv_engine_law.specs.Refusals.{Case, refusal_of}
+
+-- by what a command is judged that is carried out where this is kept
+abbrev pub case_of : Host → Kept → Case
+case_of host kept = record { host = host; memory = kept.memory }
+
+-- nothing refuses it
+abbrev pub IsAllowed : Case → Command → Type 0
+IsAllowed case command = refusal_of case command ≡ None
+
+-- What a command leaves that is done, and what it tells: a database that was made; the table after the change; what the drive has in the
+-- volume's blocks; the block in its place.
+abbrev pub Effect : Host → Kept → Command → Answer → Kept → Type 0
+Effect host kept (Create slice force) answer next = (answer ≡ accepted) × IsCreated host kept next
+Effect host kept (command.MakeStripe volume slice) answer next =
+    (answer ≡ accepted) × (newest : Newest) × (kept.memory.opened ≡ Some newest) × (newest.mark.count + 1 < 2 ^ 63) × IsCommitted host newest (table_after host.drives (MakeStripe volume slice) newest.table) kept next
+Effect host kept (Read volume at count) answer next =
+    (block : ℕ) × AreBlocksAt host kept.memory volume at count block × (answer ≡ telling (values_reply at (blocks_of kept.content block count))) × Stays kept next
+Effect host kept (Write volume at block) answer next =
+    (place : ℕ) × AreBlocksAt host kept.memory volume at 1 place × (answer ≡ accepted) × (next.memory ≡ kept.memory) × ArePut place (block ∷ []) kept.content next.content
+
+-- What is left where a call on the drive failed and the line tells it. A change that can't be committed ends the run instead.
+abbrev pub Fault : Host → Kept → Command → Kept → Type 0
+Fault host kept (Create slice force) next = IsUncreated host kept next
+Fault host kept (command.MakeStripe volume slice) next = ⊥
+Fault host kept (Read volume at count) next = Stays kept next
+Fault host kept (Write volume at block) next = (place : ℕ) × AreBlocksAt host kept.memory volume at 1 place × (next.memory ≡ kept.memory) × MayBePut place (block ∷ []) kept.content next.content
+
+-- What is left where memory was wanting. A table is copied before it is judged; a write takes none.
+abbrev pub Wanting : Host → Kept → Command → Kept → Type 0
+Wanting host kept (Create slice force) next = IsAllowed (case_of host kept) (Create slice force) × IsUnbegun kept next
+Wanting host kept (command.MakeStripe volume slice) next = (kept.memory.opened ≢ None) × Stays kept next
+Wanting host kept (Read volume at count) next = IsAllowed (case_of host kept) (Read volume at count) × Stays kept next
+Wanting host kept (Write volume at block) next = ⊥
+
+-- Why the run is over with a command: the one place is lost, whose new replica is there where a creation's format was answered; or the count would reach its limit.
+abbrev pub GivesUp : Type 0 → Host → Kept → Command → Ended → Kept → Type 0
+GivesUp failed host kept (Create slice force) (ended.Lost active listed) next = failed × (active ≡ 0) × (listed ≡ 1) × IsReplicaMade (site_of host) (identity_of host kept.memory.begun) next.content
+GivesUp failed host kept (command.MakeStripe volume slice) (ended.Lost active listed) next = failed × (active ≡ 0) × (listed ≡ 1)
+GivesUp failed host kept (command.MakeStripe volume slice) ended.Spent next = (newest : Newest) × (kept.memory.opened ≡ Some newest) × (2 ^ 63 ≤ newest.mark.count + 1)
+GivesUp failed host kept command end next = ⊥
+
+-- What a command comes to, the same for all: the first cause refuses it, and nothing is done; memory is wanting; it is done; a call on the drive
+-- failed; or the run is over with it.
+pub data CameTo (failed : Type 0) (host : Host) (kept : Kept) (command : Command) (answer : Answer) (next : Kept) : Type 0 where
+  refused : (refusal : Refusal) → refusal_of (case_of host kept) command ≡ Some refusal → IsTurnedDown refusal kept answer next → CameTo failed host kept command answer next
+  wanting : answer ≡ refusing OutOfMemory → Wanting host kept command next → CameTo failed host kept command answer next
+  done : IsAllowed (case_of host kept) command → Effect host kept command answer next → CameTo failed host kept command answer next
+  faulted : failed → IsAllowed (case_of host kept) command → answer ≡ refusing IoFault → Fault host kept command next → CameTo failed host kept command answer next
+  over : (end : Ended) → IsAllowed (case_of host kept) command → answer ≡ Over end → GivesUp failed host kept command end next → CameTo failed host kept command answer next
+
+-- what a line comes to, that is in the grammar
+abbrev pub ComesTo : Type 0 → Host → Kept → Line → Answer → Kept → Type 0
+ComesTo failed host kept words.Boot answer next = IsRebooted failed host kept answer next
+ComesTo failed host kept (words.Command command) answer next = CameTo failed host kept command answer next
