@@ -96,7 +96,7 @@ same_contents drive t u is = λ i block. (is.kept drive block refl).last i
 
 -- a boot's look leaves the drives as they are
 look_moment : (site : Site) (t m : Tale) → IsUnwritten t m → BootMoment site t m
-look_moment site t m is = record { quiet = unwritten_quiet site.at t m is; goes = kept_goes_on site NoCreation t m is.kept }
+look_moment site t m is = record { quiet = unwritten_quiet site.at t m is; goes = kept_goes_on site t m is.kept }
 
 -- what is adopted is drawn from what was found
 module _ (drives : Geometry) (key : Key) (at : PlaceAt) (sizes : List ℕ) (found : Found) where
@@ -180,7 +180,7 @@ module _ (site : Site) (old new : Option Tale) (looked : Moments IsUnwritten old
   nothing_found t u was image is =
       subst (λ (c : ℕ → List ℕ). IsFound site c None) (sym (image_synced site.at.drive.0 u was.synced image is ∙ same_contents site.at.drive.0 t u was.unwritten)) was.is_found
 
-  empty_goes_on : (t u : Tale) → HasLooked site None t u → GoesOnTo site NoCreation (IsBootedTo Empty) t u
+  empty_goes_on : (t u : Tale) → HasLooked site None t u → GoesOnTo site (IsBootedTo Empty) t u
   empty_goes_on t u was log covers known =
       let after = kept_covers site log t u was.unwritten.kept covers in
       record { es = []; course = tt; come = record { tells = refl; issues = tt; begins = tt }; stands = after; after = not_firm site log u after (nothing_found t u was) }
@@ -213,7 +213,7 @@ module _ (site : Site) (old new : Option Tale) (looked : Moments IsUnwritten old
           adopted = tt;
           opened = tt;
           empty = λ same. absurd (cc (same));
-          goes = kept_goes_on site NoCreation t end.0 end.2.kept;
+          goes = kept_goes_on site t end.0 end.2.kept;
           refuses = λ refused. end.2.kept;
         },
       )
@@ -229,7 +229,7 @@ module _ (site : Site) (old new : Option Tale) (looked : Moments IsUnwritten old
           adopted = tt;
           opened = tt;
           empty = λ same. absurd (cc (same));
-          goes = kept_goes_on site NoCreation t end.0 end.2.kept;
+          goes = kept_goes_on site t end.0 end.2.kept;
           refuses = λ refused. end.2.kept;
         },
       )

@@ -1,7 +1,7 @@
 -- What the calls of a commit lead to.
-use Rattle.std.proofs.Common.{◌≡◌, ℕ, ◌+◌, ◌<◌, ◌≤◌, ◌^◌, List, length, refl, subst, ap, Option, Result, Ok, Err, arith, []}
+use Rattle.std.proofs.Common.{◌≡◌, ℕ, ◌+◌, ◌<◌, ◌≤◌, ◌^◌, List, length, refl, subst, ap, Option, Result, Ok, Err, arith}
 use Rattle.mdv_record.specs.declared.record.TooLong.{TooLong}
-use Rattle.mdv_database.specs.Below.{Mark, Key, Geometry, record_text, PlaceAt, Slot, other_slot, room_of, Leaves, with_blocks, Moments, Ends, IsSynced, Tale, Change, Table, Commits, IsWithNewest, next_mark, with_asked, NoCreation, Site, Newest, GoesFrom, MayTake, Takes}
+use Rattle.mdv_database.specs.Below.{Mark, Key, Geometry, record_text, PlaceAt, Slot, other_slot, room_of, Leaves, with_blocks, Moments, Ends, IsSynced, Tale, Change, Table, Commits, IsWithNewest, next_mark, asks_of, NoCreation, Site, Newest, GoesFrom, MayTake, Takes}
 use Rattle.mdv_shelf.proofs.Moments.{moments_weaker}
 use Rattle.mdv_store_law.proofs.Committing.{commits_go}
 use Rattle.mdv_database.specs.declared.database.CommitFault.{CommitFault}
@@ -42,7 +42,7 @@ module _ (at : PlaceAt) (newest : Newest) (next : Table) (sized : PlaceAt) (slot
     commit_moments old new = moments_weaker (WriteMoment sized slot mark next) (CommitMoment at sizes newest next) old new commit_moment
 
     committed : (drives : Geometry) (key : Key) (asked : Option Change) (t u : Tale) → MayCommit (site drives key) newest asked next t → Leaves (Takes sized slot mark next) t u
-        → GoesFrom (site drives key) (IsWithNewest (site drives key) newest) NoCreation (with_asked asked []) (IsCommitted newest asked next) t u
+        → GoesFrom (site drives key) (IsWithNewest (site drives key) newest) NoCreation (asks_of asked) (IsCommitted newest asked next) t u
     committed drives key asked t u may leaves log covers known =
         let went = commits_go.ends (site drives key) newest asked next t u (commits drives key asked t may) (at_next (λ p s k. Leaves (Takes p s k next) t u) leaves) log covers known in
         record { es = went.es; course = went.course; come = went.come; stands = went.stands; after = record { is_newest = went.after.0; tellable = went.after.1 } }

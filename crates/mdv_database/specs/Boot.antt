@@ -1,6 +1,6 @@
 -- What a boot and its adoption say: of each moment, of the end, and of their answers.
 use Rattle.std.specs.Prelude.{◌≡◌, ℕ, ◌+◌, ◌≤◌, ◌<◌, ◌^◌, List}
-use Rattle.mdv_database.specs.Below.{Mark, Key, Geometry, PlaceAt, Slot, greatest, with_blocks, Leaves, KeptOutside, nowhere, IsSynced, Tale, last, NoCreation, Site, IsTableAt, Newest, GoesOn, GoesOnTo, IsOpened, ShowsNothing, IsAdopted, Rewrites, Rewritten, Table, adopted_newest}
+use Rattle.mdv_database.specs.Below.{Mark, Key, Geometry, PlaceAt, Slot, greatest, with_blocks, Leaves, KeptOutside, nowhere, IsSynced, Tale, last, Site, IsTableAt, Newest, GoesOn, GoesOnTo, IsOpened, ShowsNothing, IsAdopted, Rewrites, Rewritten, Table, adopted_newest}
 use Rattle.mdv_database.specs.declared.database.BootEnd.{BootEnd}
 use Rattle.mdv_database.specs.declared.database.BootEnd.TheVariants as end
 use Rattle.mdv_database.specs.declared.looking.Found.{Found}
@@ -9,7 +9,7 @@ use Rattle.mdv_database.specs.Database.{IsQuiet, IsFoundIn, IsBooted, IsBootedTo
 -- by each moment nothing was told, nothing done outside the place, and the log goes on without a creation or a change
 pub record BootMoment (site : Site) (t m : Tale) : Type 0 where
   pub quiet : IsQuiet site.at t m
-  pub goes : GoesOn site NoCreation t m
+  pub goes : GoesOn site t m
 
 -- In the end the answer is what the blocks showed at the start, and what was found, or that nothing is there, is on the
 -- disk; the log went on to it, and what adopts nothing wrote nothing.
@@ -19,7 +19,7 @@ pub record BootEnds (failed : Type 0) (site : Site) (answer : BootEnd) (t u : Ta
   pub adopted : IfAdopted answer (λ newest. IsAdopted site (last t site.at.drive.0) newest u)
   pub opened : IfAdopted answer (λ newest. IsOpened site newest u)
   pub empty : answer ≡ end.Empty → ShowsNothing site u
-  pub goes : GoesOnTo site NoCreation (IsBootedTo answer) t u
+  pub goes : GoesOnTo site (IsBootedTo answer) t u
   pub refuses : IsRefusal answer → KeptOutside nowhere t u
 
 -- a boot knows nothing of the drive, or is lost, only where a call failed
@@ -40,13 +40,13 @@ pub record BootAnswer (failed : Type 0) (drives : Geometry) (sizes : List ℕ) (
 -- what was found is written anew, on whichever table of drives it was found
 pub record AdoptMoment (at : PlaceAt) (sizes : List ℕ) (found : Found) (t m : Tale) : Type 0 where
   pub quiet : IsQuiet at t m
-  pub goes : (drives : Geometry) (key : Key) → IsFoundIn (site_of drives key at sizes) found t → GoesOn (site_of drives key at sizes) NoCreation t m
+  pub goes : (drives : Geometry) (key : Key) → IsFoundIn (site_of drives key at sizes) found t → GoesOn (site_of drives key at sizes) t m
 
 pub record AdoptEnds (at : PlaceAt) (sizes : List ℕ) (found : Found) (answer : BootEnd) (t u : Tale) : Type 0 where
   pub synced : IfAdopted answer (λ newest. IsSynced at.drive.0 u)
   pub adopted : (drives : Geometry) (key : Key) → IsFoundIn (site_of drives key at sizes) found t
       → IfAdopted answer (λ newest. IsAdopted (site_of drives key at sizes) (last t at.drive.0) newest u × IsOpened (site_of drives key at sizes) newest u)
-  pub goes : (drives : Geometry) (key : Key) → IsFoundIn (site_of drives key at sizes) found t → GoesOnTo (site_of drives key at sizes) NoCreation (IsBootedTo answer) t u
+  pub goes : (drives : Geometry) (key : Key) → IsFoundIn (site_of drives key at sizes) found t → GoesOnTo (site_of drives key at sizes) (IsBootedTo answer) t u
   pub refuses : IsRefusal answer → u ≡ t
 
 -- the database that is made of what was found, where the number to draw is one

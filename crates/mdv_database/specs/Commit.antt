@@ -1,7 +1,7 @@
 -- What a commit says: of each moment, of the end, and of its answer.
 use Rattle.mdv_record.specs.declared.record.TooLong.{TooLong}
-use Rattle.std.specs.Prelude.{◌≡◌, ℕ, ◌+◌, ◌≤◌, ◌<◌, ◌^◌, List, length, Option, Result, Ok, Err, []}
-use Rattle.mdv_database.specs.Below.{Key, Geometry, record_text, PlaceAt, room_of, IsSynced, Tale, Change, Table, IsWithNewest, with_asked, NoCreation, Newest, Anything, GoesFrom, IsOpened, next_newest}
+use Rattle.std.specs.Prelude.{◌≡◌, ℕ, ◌+◌, ◌≤◌, ◌<◌, ◌^◌, List, length, Option, Result, Ok, Err}
+use Rattle.mdv_database.specs.Below.{Key, Geometry, record_text, PlaceAt, room_of, IsSynced, Tale, Change, Table, IsWithNewest, asks_of, NoCreation, Newest, Anything, GoesFrom, IsOpened, next_newest}
 use Rattle.mdv_database.specs.declared.database.CommitFault.{CommitFault}
 use Rattle.mdv_database.specs.declared.database.CommitFault.TheVariants as unwritten
 use Rattle.mdv_database.specs.Database.{IsQuiet, MayCommit, IsCommitted, site_of}
@@ -13,14 +13,14 @@ ForEachChange at sizes newest next t P = (drives : Geometry) (key : Key) (asked 
 -- by each moment nothing was told, nothing done outside the place, and the log goes on by the change alone
 pub record CommitMoment (at : PlaceAt) (sizes : List ℕ) (newest : Newest) (next : Table) (t m : Tale) : Type 0 where
   pub quiet : IsQuiet at t m
-  pub goes : ForEachChange at sizes newest next t (λ drives key asked. GoesFrom (site_of drives key at sizes) (IsWithNewest (site_of drives key at sizes) newest) NoCreation (with_asked asked []) Anything t m)
+  pub goes : ForEachChange at sizes newest next t (λ drives key asked. GoesFrom (site_of drives key at sizes) (IsWithNewest (site_of drives key at sizes) newest) NoCreation (asks_of asked) Anything t m)
 
 -- in the end the next table is on the disk, the log's newest, and its `ok` may be told
 pub record CommitDone (at : PlaceAt) (sizes : List ℕ) (newest : Newest) (next : Table) (t u : Tale) : Type 0 where
   pub synced : IsSynced at.drive.0 u
   pub opened : ForEachChange at sizes newest next t (λ drives key asked. IsOpened (site_of drives key at sizes) (next_newest newest next) u)
   pub goes : ForEachChange at sizes newest next t
-      (λ drives key asked. GoesFrom (site_of drives key at sizes) (IsWithNewest (site_of drives key at sizes) newest) NoCreation (with_asked asked []) (IsCommitted newest asked next) t u)
+      (λ drives key asked. GoesFrom (site_of drives key at sizes) (IsWithNewest (site_of drives key at sizes) newest) NoCreation (asks_of asked) (IsCommitted newest asked next) t u)
 
 -- the table's text fits a slot, and its count is a number
 pub record IsCommittable (newest : Newest) (next : Table) : Type 0 where

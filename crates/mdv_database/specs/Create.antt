@@ -1,6 +1,6 @@
 -- What a creation says: of each moment, of the end, and of its answer.
 use Rattle.std.specs.Prelude.{◌≡◌, ℕ, List, Result, Ok, Err, OnOk}
-use Rattle.mdv_database.specs.Below.{Identity, Key, Geometry, PlaceAt, IsSynced, Tale, IsPlaceOf, IsThis, IsTableAt, Newest, GoesOn, GoesOnTo, ShowsNothing, ShowsReplica}
+use Rattle.mdv_database.specs.Below.{Identity, Key, Geometry, PlaceAt, IsSynced, Tale, IsPlaceOf, IsTableAt, Newest, Anything, GoesMaking, ShowsNothing, ShowsReplica}
 use Rattle.mdv_database.specs.declared.database.CreateFault.{CreateFault}
 use Rattle.mdv_database.specs.declared.database.CreateFault.TheVariants as unmade
 use Rattle.mdv_database.specs.Database.{IsQuiet, IsSafe, IsCreatedTo, first_newest, site_of}
@@ -12,7 +12,7 @@ OnEach at P = (drives : Geometry) → IsPlaceOf drives at.place → P drives
 -- By each moment nothing was told, and nothing done outside the place. Where nothing was there the log goes on.
 pub record CreateMoment (at : PlaceAt) (key : Key) (sizes : List ℕ) (identity : Identity) (t m : Tale) : Type 0 where
   pub quiet : IsQuiet at t m
-  pub goes : OnEach at (λ drives. ShowsNothing (site_of drives key at sizes) t → GoesOn (site_of drives key at sizes) (IsThis identity) t m)
+  pub goes : OnEach at (λ drives. ShowsNothing (site_of drives key at sizes) t → GoesMaking (site_of drives key at sizes) identity Anything t m)
 
 -- In the end the new database is there, whatever a crash leaves; a format that failed left nothing where nothing was; and
 -- where the creation was lost behind its format, the new replica is there, whatever its slots show.
@@ -21,7 +21,7 @@ pub record CreateEnds (at : PlaceAt) (key : Key) (sizes : List ℕ) (identity : 
   pub safe : OnOk result (OnEach at (λ drives. IsSafe (site_of drives key at sizes) identity u))
   pub failed : result ≡ Err unmade.Failed → (drives : Geometry) → ShowsNothing (site_of drives key at sizes) t → ShowsNothing (site_of drives key at sizes) u
   pub lost : result ≡ Err unmade.Lost → OnEach at (λ drives. ShowsReplica (site_of drives key at sizes) identity u)
-  pub goes : OnEach at (λ drives. ShowsNothing (site_of drives key at sizes) t → GoesOnTo (site_of drives key at sizes) (IsThis identity) (IsCreatedTo (site_of drives key at sizes) identity result) t u)
+  pub goes : OnEach at (λ drives. ShowsNothing (site_of drives key at sizes) t → GoesMaking (site_of drives key at sizes) identity (IsCreatedTo (site_of drives key at sizes) identity result) t u)
 
 -- what was made is the table of the one place without volumes
 pub record IsMadeAt (at : PlaceAt) (newest : Newest) : Type 0 where

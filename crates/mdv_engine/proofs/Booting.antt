@@ -1,7 +1,7 @@
 -- What a boot of the host's database leaves, told of the host.
 use Rattle.std.proofs.Common.{◌≡◌, ℕ, false, List, Option, Some, None, refl, sym, subst, ap, ◌∙◌}
 use Rattle.mdv_store_law.specs.Adoptable.{IsAdoptable}
-use Rattle.mdv_engine.specs.Below.{place_of, PlaceAt, with_blocks, other_slot, KeptOutside, nowhere, Moments, Ends, IsSynced, Tale, last, NoCreation, is_firm, Site, Newest, IsFound, IsTableAt, GoesOn, GoesOnTo, IsNewestIn, IsOpened, ShowsNothing, IsAdopted, IsDrawn, IsQuiet, IsSpent, Host, IsReady, site_of, Memory, IsRebooted, IsUsedUp, adopted, empty, down, kept_at, unbooted, BootMoment, BootedTo}
+use Rattle.mdv_engine.specs.Below.{place_of, PlaceAt, with_blocks, other_slot, KeptOutside, nowhere, Moments, Ends, IsSynced, Tale, last, is_firm, Site, Newest, IsFound, IsTableAt, GoesOn, GoesOnTo, IsNewestIn, IsOpened, ShowsNothing, IsAdopted, IsDrawn, IsQuiet, IsSpent, Host, IsReady, site_of, Memory, IsRebooted, IsUsedUp, adopted, empty, down, kept_at, unbooted, BootMoment, BootedTo}
 use Rattle.mdv_shelf.proofs.Moments.{moments_both, moments_weaker, moments_end, ends_both}
 use Rattle.mdv_engine_law.specs.Answers.{accepted}
 use Rattle.mdv_engine_law.proofs.Booting.{boot_moment, booted, booted_adopted, booted_down, booted_empty, unread}
@@ -16,10 +16,10 @@ module _ (host : Host) (sizes : List ℕ) (ready : IsReady host sizes) (at : Pla
   abbrev to_host : (P : Site → Type 0) → P site → P (site_of host)
   to_host = here host sizes ready at at_is
 
-  pub boot_moments : (a b : Option Tale) → Moments (IsQuiet at) a b → Moments (GoesOn site NoCreation) a b → Moments (BootMoment host) a b
+  pub boot_moments : (a b : Option Tale) → Moments (IsQuiet at) a b → Moments (GoesOn site) a b → Moments (BootMoment host) a b
   boot_moments a b quiet goes = moments_weaker _ (BootMoment host) a b
-      (λ t m both. boot_moment host t m (quiet_here host sizes ready at at_is t m both.0) both.0.quiet (to_host (λ s. GoesOn s NoCreation t m) both.1))
-      (moments_both (IsQuiet at) (GoesOn site NoCreation) a b quiet goes)
+      (λ t m both. boot_moment host t m (quiet_here host sizes ready at at_is t m both.0) both.0.quiet (to_host (λ s. GoesOn s t m) both.1))
+      (moments_both (IsQuiet at) (GoesOn site) a b quiet goes)
 
   -- a boot that adopted a replica
   module _ (begun : ℕ) (newest : Newest) (a b : Option Tale) where
@@ -31,13 +31,13 @@ module _ (host : Host) (sizes : List ℕ) (ready : IsReady host sizes) (at : Pla
         let by = to_host (λ s. IsAdopted s (last t s.at.drive.0) newest end.0) end.2.0 in
         (end.0, end.1, λ old new same now. adopted newest refl (now ∙ ap (λ (n : ℕ). booted (Some newest) n) (sym same)) (rewritten_newest host old new t end.0 newest of.head (other_slot newest.slot) newest.table (quiet_here host sizes ready at at_is t end.0 end.2.1) of.tie of.the of.fits by))
 
-    pub adopted_booted : Moments (IsQuiet at) a b → Ends (λ t u. IsAdopted site (last t at.drive.0) newest u × IsOpened site newest u) a b → Ends (λ t u. IsSynced at.drive.0 u) a b → Ends (GoesOnTo site NoCreation (IsNewestIn newest)) a b
+    pub adopted_booted : Moments (IsQuiet at) a b → Ends (λ t u. IsAdopted site (last t at.drive.0) newest u × IsOpened site newest u) a b → Ends (λ t u. IsSynced at.drive.0 u) a b → Ends (GoesOnTo site (IsNewestIn newest)) a b
         → Ends (BootedTo host (booted (Some newest) begun)) a b
     adopted_booted quiet is synced goes =
         ends_both _ _ _ a b
-        (λ t u one two. booted_adopted host t u (quiet_here host sizes ready at at_is t u one.0) one.0.quiet (to_host (λ s. IsSynced s.at.drive.0 u) one.1) begun newest (to_host (λ s. IsOpened s newest u) two.0.1) (to_host (λ s. GoesOnTo s NoCreation (IsNewestIn newest) t u) two.1))
+        (λ t u one two. booted_adopted host t u (quiet_here host sizes ready at at_is t u one.0) one.0.quiet (to_host (λ s. IsSynced s.at.drive.0 u) one.1) begun newest (to_host (λ s. IsOpened s newest u) two.0.1) (to_host (λ s. GoesOnTo s (IsNewestIn newest) t u) two.1))
         (ends_both (IsQuiet at) (λ t u. IsSynced at.drive.0 u) (λ t u. IsQuiet at t u × IsSynced at.drive.0 u) a b (λ t u q s. (q, s)) (moments_end (IsQuiet at) a b quiet) synced)
-        (ends_both (λ t u. IsAdopted site (last t at.drive.0) newest u × IsOpened site newest u) (GoesOnTo site NoCreation (IsNewestIn newest)) (λ t u. (IsAdopted site (last t at.drive.0) newest u × IsOpened site newest u) × GoesOnTo site NoCreation (IsNewestIn newest) t u) a b (λ t u q s. (q, s)) is goes)
+        (ends_both (λ t u. IsAdopted site (last t at.drive.0) newest u × IsOpened site newest u) (GoesOnTo site (IsNewestIn newest)) (λ t u. (IsAdopted site (last t at.drive.0) newest u × IsOpened site newest u) × GoesOnTo site (IsNewestIn newest) t u) a b (λ t u q s. (q, s)) is goes)
 
   -- one that found nothing
   module _ (begun : ℕ) (a b : Option Tale) where
@@ -47,13 +47,13 @@ module _ (host : Host) (sizes : List ℕ) (ready : IsReady host sizes) (at : Pla
         let end = kept t start in
         (end.0, end.1, λ old new same now. empty refl (now ∙ ap unbooted (sym same)) (to_host (λ s. IsFound s (last t s.at.drive.0) None) (found t start)) (same_content t end.0 end.2))
 
-    pub empty_booted : Moments (IsQuiet at) a b → Ends (λ t u. IsSynced at.drive.0 u) a b → Ends (λ t u. ShowsNothing site u) a b → Ends (GoesOnTo site NoCreation (λ lg. is_firm lg ≡ false)) a b
+    pub empty_booted : Moments (IsQuiet at) a b → Ends (λ t u. IsSynced at.drive.0 u) a b → Ends (λ t u. ShowsNothing site u) a b → Ends (GoesOnTo site (λ lg. is_firm lg ≡ false)) a b
         → Ends (BootedTo host (unbooted begun)) a b
     empty_booted quiet synced nothing goes =
         ends_both _ _ _ a b
-        (λ t u one two. booted_empty host t u (quiet_here host sizes ready at at_is t u one.0) one.0.quiet (to_host (λ s. IsSynced s.at.drive.0 u) one.1) begun (to_host (λ s. ShowsNothing s u) two.0) (to_host (λ s. GoesOnTo s NoCreation (λ lg. is_firm lg ≡ false) t u) two.1))
+        (λ t u one two. booted_empty host t u (quiet_here host sizes ready at at_is t u one.0) one.0.quiet (to_host (λ s. IsSynced s.at.drive.0 u) one.1) begun (to_host (λ s. ShowsNothing s u) two.0) (to_host (λ s. GoesOnTo s (λ lg. is_firm lg ≡ false) t u) two.1))
         (ends_both (IsQuiet at) (λ t u. IsSynced at.drive.0 u) (λ t u. IsQuiet at t u × IsSynced at.drive.0 u) a b (λ t u q s. (q, s)) (moments_end (IsQuiet at) a b quiet) synced)
-        (ends_both (λ t u. ShowsNothing site u) (GoesOnTo site NoCreation (λ lg. is_firm lg ≡ false)) (λ t u. ShowsNothing site u × GoesOnTo site NoCreation (λ lg. is_firm lg ≡ false) t u) a b (λ t u q s. (q, s)) nothing goes)
+        (ends_both (λ t u. ShowsNothing site u) (GoesOnTo site (λ lg. is_firm lg ≡ false)) (λ t u. ShowsNothing site u × GoesOnTo site (λ lg. is_firm lg ≡ false) t u) a b (λ t u q s. (q, s)) nothing goes)
 
     -- one that couldn't read the drive
     pub down_rebooted : (failed : Type 0) → failed → Ends (KeptOutside nowhere) a b

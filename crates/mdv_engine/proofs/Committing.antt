@@ -134,10 +134,10 @@ module _ (host : Host) (sizes : List ℕ) (ready : IsReady host sizes) (at : Pla
   may t now = record { sound = ready.sound; is = placed; made = is_made host newest change next changed_is; opened = now }
 
   abbrev pub Goes : (Log → Type 0) → Tale → Tale → Type 0
-  Goes After t m = MayCommit site newest (Some change) next t → GoesFrom site (IsWithNewest site newest) NoCreation (change ∷ []) After t m
+  Goes After t m = MayCommit site newest (Some change) next t → GoesFrom site (IsWithNewest site newest) NoCreation (Some change ∷ []) After t m
 
   commits : (After : Log → Type 0) (t m : Tale) → Goes After t m → Commits host newest change After t m
-  commits After t m goes now = to_host (λ s. MayCommit s newest (Some change) next t → GoesFrom s (IsWithNewest s newest) NoCreation (change ∷ []) After t m) goes (may t now)
+  commits After t m goes now = to_host (λ s. MayCommit s newest (Some change) next t → GoesFrom s (IsWithNewest s newest) NoCreation (Some change ∷ []) After t m) goes (may t now)
 
   commits_to : (t m : Tale) → Goes (IsCommitted newest (Some change) next) t m → Commits host newest change (IsCommittedTo newest change next) t m
   commits_to t m goes now log covers known =

@@ -2,7 +2,7 @@
 use Rattle.mdv_engine_law.specs.Line.{ToDo}
 use Rattle.mdv_engine_law.specs.Commands as came
 use Rattle.std.proofs.Common.{◌≡◌, ◌≤◌, ◌+◌, ℕ, Bool, false, List, Option, Some, None, refl, subst, ap, ◌∙◌}
-use Rattle.mdv_engine.specs.Below.{SliceName, Create, Identity, IoFault, OutOfMemory, place_of, PlaceAt, Moments, Ends, Tale, IsCreated, Log, IsThis, is_firm, Site, Newest, Anything, GoesOnTo, IsOpened, ShowsNothing, Created, IsQuiet, IsSafe, first_newest, first_table, Host, IsReady, site_of, identity_of, Memory, CameTo, IsAllowed, kept_at, CarriedTo, CarryMoment, Knows}
+use Rattle.mdv_engine.specs.Below.{SliceName, Create, Identity, IoFault, OutOfMemory, place_of, PlaceAt, Moments, Ends, Tale, IsCreated, Log, is_firm, Site, Newest, Anything, GoesMaking, IsOpened, ShowsNothing, Created, IsQuiet, IsSafe, first_newest, first_table, Host, IsReady, site_of, identity_of, Memory, CameTo, IsAllowed, kept_at, CarriedTo, CarryMoment, Knows}
 use Rattle.mdv_shelf.proofs.Moments.{moments_both, moments_weaker, moments_end, ends_both}
 use Rattle.mdv_engine_law.specs.Answers.{accepted, refusing}
 use Rattle.mdv_engine_law.specs.declared.answer.Answer.TheVariants.{Over}
@@ -34,10 +34,10 @@ module _ (host : Host) (sizes : List ℕ) (ready : IsReady host sizes) (at : Pla
   identity = identity_of host memory.begun
 
   abbrev pub Goes : (Log → Type 0) → Tale → Tale → Type 0
-  Goes After t m = ShowsNothing site t → GoesOnTo site (IsThis identity) After t m
+  Goes After t m = ShowsNothing site t → GoesMaking site identity After t m
 
   makes : (After : Log → Type 0) (t m : Tale) → Goes After t m → Makes host memory After t m
-  makes After t m goes = to_host (λ s. ShowsNothing s t → GoesOnTo s (IsThis identity) After t m) goes
+  makes After t m goes = to_host (λ s. ShowsNothing s t → GoesMaking s identity After t m) goes
 
   pub making_moments : Moments (Goes Anything) a b → Moments (CarryMoment host (ToDo Created) memory) a b
   making_moments goes = moments_weaker _ (CarryMoment host (ToDo Created) memory) a b
@@ -59,7 +59,7 @@ module _ (host : Host) (sizes : List ℕ) (ready : IsReady host sizes) (at : Pla
       ends_both _ _ _ a b
       (λ t u q two. made host memory room none up t u (quiet_here host sizes ready at at_is t u q) (first_table (site_of host).at.place) next (ap (λ (m : Memory). m.opened) next_is)
       (λ nothing. to_host (λ s. IsOpened s (first_newest s.at) u) (subst (λ (n : Newest). IsOpened site n u) is two.0))
-      (to_host (λ s. ShowsNothing s t → GoesOnTo s (IsThis identity) (IsCreated s identity (first_table s.at.place)) t u) (subst (λ (n : Newest). Goes (IsCreated site identity n.table) t u) is two.1)))
+      (to_host (λ s. ShowsNothing s t → GoesMaking s identity (IsCreated s identity (first_table s.at.place)) t u) (subst (λ (n : Newest). Goes (IsCreated site identity n.table) t u) is two.1)))
       (moments_end (IsQuiet at) a b quiet)
       (ends_both (λ t u. IsOpened site newest u) (Goes (IsCreated site identity newest.table)) (λ t u. IsOpened site newest u × Goes (IsCreated site identity newest.table) t u) a b (λ t u o g. (o, g)) opened goes)
 

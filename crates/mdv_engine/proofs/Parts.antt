@@ -1,6 +1,6 @@
 -- What a boot, a creation and a commit of the database say, part by part.
-use Rattle.std.proofs.Common.{◌≡◌, ℕ, List, Option, Some, Ok, Err, Result, sym, subst, []}
-use Rattle.mdv_engine.specs.Below.{Identity, PlaceAt, KeptOutside, nowhere, Moments, Ends, IsSynced, Tale, last, IsPlaceOf, Geometry, Key, Change, Table, NoCreation, IsThis, with_asked, Anything, Site, Newest, GoesFrom, GoesOn, GoesOnTo, IsOpened, IsWithNewest, ShowsNothing, IsAdopted, IsQuiet, IsSafe, IsCommitted, MayCommit, first_newest, first_table, next_newest}
+use Rattle.std.proofs.Common.{◌≡◌, ℕ, List, Option, Some, Ok, Err, Result, sym, subst}
+use Rattle.mdv_engine.specs.Below.{Identity, PlaceAt, KeptOutside, nowhere, Moments, Ends, IsSynced, Tale, last, IsPlaceOf, Geometry, Key, Change, Table, NoCreation, asks_of, Anything, Site, Newest, GoesFrom, GoesMaking, GoesOn, GoesOnTo, IsOpened, IsWithNewest, ShowsNothing, IsAdopted, IsQuiet, IsSafe, IsCommitted, MayCommit, first_newest, first_table, next_newest}
 use Rattle.mdv_store_law.specs.Going.{created_head}
 use Rattle.mdv_store_law.specs.Standing.{ShowsReplica}
 use Rattle.mdv_shelf.proofs.Moments.{moments_weaker}
@@ -21,8 +21,8 @@ module _ (site : Site) (a b : Option Tale) where
   pub boot_quiet : Moments (BootMoment site) a b → Moments (IsQuiet site.at) a b
   boot_quiet moments = moments_weaker (BootMoment site) (IsQuiet site.at) a b (λ t m is. is.quiet) moments
 
-  pub boot_goes : Moments (BootMoment site) a b → Moments (GoesOn site NoCreation) a b
-  boot_goes moments = moments_weaker (BootMoment site) (GoesOn site NoCreation) a b (λ t m is. is.goes) moments
+  pub boot_goes : Moments (BootMoment site) a b → Moments (GoesOn site) a b
+  boot_goes moments = moments_weaker (BootMoment site) (GoesOn site) a b (λ t m is. is.goes) moments
 
   module _ (failed : Type 0) (answer : BootEnd) (ends : Ends (BootEnds failed site answer) a b) where
     pub shown : (t : Tale) → a ≡ Some t → IsBooted failed site (last t site.at.drive.0) answer
@@ -31,8 +31,8 @@ module _ (site : Site) (a b : Option Tale) where
     pub synced : IsCertain answer → Ends (λ _ u. IsSynced site.at.drive.0 u) a b
     synced certain = ends_of (BootEnds failed site answer) (λ _ u. IsSynced site.at.drive.0 u) a b (λ t u is. is.synced certain) ends
 
-    pub goes_to : Ends (GoesOnTo site NoCreation (IsBootedTo answer)) a b
-    goes_to = ends_of (BootEnds failed site answer) (GoesOnTo site NoCreation (IsBootedTo answer)) a b (λ t u is. is.goes) ends
+    pub goes_to : Ends (GoesOnTo site (IsBootedTo answer)) a b
+    goes_to = ends_of (BootEnds failed site answer) (GoesOnTo site (IsBootedTo answer)) a b (λ t u is. is.goes) ends
 
     pub unwritten : IsRefusal answer → Ends (KeptOutside nowhere) a b
     unwritten refusal = ends_of (BootEnds failed site answer) (KeptOutside nowhere) a b (λ t u is. is.refuses refusal) ends
@@ -52,14 +52,14 @@ module _ (at : PlaceAt) (key : Key) (sizes : List ℕ) (identity : Identity) (a 
   pub create_quiet : Moments (CreateMoment at key sizes identity) a b → Moments (IsQuiet at) a b
   create_quiet moments = moments_weaker (CreateMoment at key sizes identity) (IsQuiet at) a b (λ t m is. is.quiet) moments
 
-  pub create_goes : Moments (CreateMoment at key sizes identity) a b → (drives : Geometry) → IsPlaceOf drives at.place → Moments (λ t m. ShowsNothing (there drives) t → GoesOn (there drives) (IsThis identity) t m) a b
+  pub create_goes : Moments (CreateMoment at key sizes identity) a b → (drives : Geometry) → IsPlaceOf drives at.place → Moments (λ t m. ShowsNothing (there drives) t → GoesMaking (there drives) identity Anything t m) a b
   create_goes moments drives has =
-      moments_weaker (CreateMoment at key sizes identity) (λ t m. ShowsNothing (there drives) t → GoesOn (there drives) (IsThis identity) t m) a b (λ t m is. is.goes drives has) moments
+      moments_weaker (CreateMoment at key sizes identity) (λ t m. ShowsNothing (there drives) t → GoesMaking (there drives) identity Anything t m) a b (λ t m is. is.goes drives has) moments
 
   module _ (result : Result Newest CreateFault) (ends : Ends (CreateEnds at key sizes identity result) a b) where
-    pub create_goes_to : (drives : Geometry) → IsPlaceOf drives at.place → Ends (λ t u. ShowsNothing (there drives) t → GoesOnTo (there drives) (IsThis identity) (IsCreatedTo (there drives) identity result) t u) a b
+    pub create_goes_to : (drives : Geometry) → IsPlaceOf drives at.place → Ends (λ t u. ShowsNothing (there drives) t → GoesMaking (there drives) identity (IsCreatedTo (there drives) identity result) t u) a b
     create_goes_to drives has =
-        ends_of (CreateEnds at key sizes identity result) (λ t u. ShowsNothing (there drives) t → GoesOnTo (there drives) (IsThis identity) (IsCreatedTo (there drives) identity result) t u) a b (λ t u is. is.goes drives has) ends
+        ends_of (CreateEnds at key sizes identity result) (λ t u. ShowsNothing (there drives) t → GoesMaking (there drives) identity (IsCreatedTo (there drives) identity result) t u) a b (λ t u is. is.goes drives has) ends
 
     pub create_failed : result ≡ Err unmade.Failed → (drives : Geometry) → Ends (λ t u. ShowsNothing (there drives) t → ShowsNothing (there drives) u) a b
     create_failed failed drives = ends_of (CreateEnds at key sizes identity result) (λ t u. ShowsNothing (there drives) t → ShowsNothing (there drives) u) a b (λ t u is. is.failed failed drives) ends
@@ -86,13 +86,13 @@ module _ (at : PlaceAt) (sizes : List ℕ) (newest : Newest) (next : Table) (a b
     abbrev here : Site
     here = site_of drives key at sizes
 
-    pub commit_goes : Moments (CommitMoment at sizes newest next) a b → Moments (λ t m. MayCommit here newest asked next t → GoesFrom here (IsWithNewest here newest) NoCreation (with_asked asked []) Anything t m) a b
+    pub commit_goes : Moments (CommitMoment at sizes newest next) a b → Moments (λ t m. MayCommit here newest asked next t → GoesFrom here (IsWithNewest here newest) NoCreation (asks_of asked) Anything t m) a b
     commit_goes moments =
-        moments_weaker (CommitMoment at sizes newest next) (λ t m. MayCommit here newest asked next t → GoesFrom here (IsWithNewest here newest) NoCreation (with_asked asked []) Anything t m) a b (λ t m is. is.goes drives key asked) moments
+        moments_weaker (CommitMoment at sizes newest next) (λ t m. MayCommit here newest asked next t → GoesFrom here (IsWithNewest here newest) NoCreation (asks_of asked) Anything t m) a b (λ t m is. is.goes drives key asked) moments
 
     pub commit_opened : Ends (CommitDone at sizes newest next) a b → Ends (λ t u. MayCommit here newest asked next t → IsOpened here (next_newest newest next) u) a b
     commit_opened ends = ends_of (CommitDone at sizes newest next) (λ t u. MayCommit here newest asked next t → IsOpened here (next_newest newest next) u) a b (λ t u is. is.opened drives key asked) ends
 
-    pub commit_goes_to : Ends (CommitDone at sizes newest next) a b → Ends (λ t u. MayCommit here newest asked next t → GoesFrom here (IsWithNewest here newest) NoCreation (with_asked asked []) (IsCommitted newest asked next) t u) a b
+    pub commit_goes_to : Ends (CommitDone at sizes newest next) a b → Ends (λ t u. MayCommit here newest asked next t → GoesFrom here (IsWithNewest here newest) NoCreation (asks_of asked) (IsCommitted newest asked next) t u) a b
     commit_goes_to ends =
-        ends_of (CommitDone at sizes newest next) (λ t u. MayCommit here newest asked next t → GoesFrom here (IsWithNewest here newest) NoCreation (with_asked asked []) (IsCommitted newest asked next) t u) a b (λ t u is. is.goes drives key asked) ends
+        ends_of (CommitDone at sizes newest next) (λ t u. MayCommit here newest asked next t → GoesFrom here (IsWithNewest here newest) NoCreation (asks_of asked) (IsCommitted newest asked next) t u) a b (λ t u is. is.goes drives key asked) ends

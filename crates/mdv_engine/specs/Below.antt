@@ -40,9 +40,9 @@ pub use Rattle.mdv_shelf.specs.Settle.{IsSettled, IsSynced, Settling}
 pub use Rattle.mdv_shelf.specs.Tale.{Tale, last, told}
 pub use Rattle.mdv_status.specs.Values.{values_reply}
 pub use Rattle.mdv_store_law.specs.Going.{IsCreated, IsWithNewest}
-pub use Rattle.mdv_store_law.specs.Log.{IsMade, IsThis, with_asked, Log, NoCreation, is_firm}
+pub use Rattle.mdv_store_law.specs.Log.{IsMade, Log, NoCreation, asks_of, is_firm}
 pub use Rattle.mdv_store_law.specs.Site.{IsFound, IsTableAt, Newest, Site, area_of}
-pub use Rattle.mdv_store_law.specs.Standing.{Anything, GoesFrom, GoesOn, GoesOnTo, IsNewestIn, IsOpened, ShowsNothing}
+pub use Rattle.mdv_store_law.specs.Standing.{Anything, GoesFrom, GoesMaking, GoesOn, GoesOnTo, IsNewestIn, IsOpened, ShowsNothing}
 pub use Rattle.mdv_store_law.specs.Steps.{IsAdopted, next_newest}
 pub use Rattle.mdv_table.specs.Table.{IsComponentOn, IsKindOf, IsListsOf, IsOfGeometry, IsPlaceOf, IsStripeOf, IsWholeSlice}
 pub use Rattle.mdv_table.specs.Volumes.{HasNoVolume, HasVolume}

@@ -21,17 +21,17 @@ unread begun = record { opened = None; down = true; begun = begun }
 module _ (host : Host) (t : Tale) where
   -- the database goes on by what a boot does there
   booting : (After : Log → Type 0) (Then : List Event → History → Type 0) (m : Tale) → KeptOutside (area_of (site_of host)) t m → ((es : List Event) (g : History) → After g.database → Then es g)
-      → GoesOnTo (site_of host) NoCreation After t m → (h : History) → StandsAt host h t → Goes host [] [] Then m h
+      → GoesOnTo (site_of host) After t m → (h : History) → StandsAt host h t → Goes host [] [] Then m h
   booting After Then m kept then goes h stands =
-      lift_log host [] Then Anything NoCreation [] After t m kept (no_creation host []) tt (λ es g there after. then es g after) goes h stands tt
+      lift_log host [] Then Anything NoCreation [] After t m kept (no_creation host) tt (λ es g there after. then es g after) goes h stands tt
 
-  pub boot_moment : (m : Tale) → KeptOutside (area_of (site_of host)) t m → told m ≡ told t → GoesOn (site_of host) NoCreation t m → BootMoment host t m
+  pub boot_moment : (m : Tale) → KeptOutside (area_of (site_of host)) t m → told m ≡ told t → GoesOn (site_of host) t m → BootMoment host t m
   boot_moment m kept quiet goes = record { kept = kept; quiet = quiet; goes = booting Anything Reached m kept (λ es g is. tt) goes }
 
   -- a boot that has read the drive, and leaves it synced
   module _ (u : Tale) (kept : KeptOutside (area_of (site_of host)) t u) (quiet : told u ≡ told t) (synced : IsSynced 0 u) (begun : ℕ) where
     booted_by : (opened : Option Newest) (After : Log → Type 0) → Knows host (booted opened begun) u → ((lg : Log) → After lg → IfSome opened (λ newest. IsNewestIn newest lg))
-        → GoesOnTo (site_of host) NoCreation After t u → BootedTo host (booted opened begun) t u
+        → GoesOnTo (site_of host) After t u → BootedTo host (booted opened begun) t u
     booted_by opened After knows newest goes = record {
       home = stays_in_replica host t u kept;
       quiet = quiet;
@@ -45,11 +45,11 @@ module _ (host : Host) (t : Tale) where
     }
 
     -- it adopted a replica, whose newest table this is
-    pub booted_adopted : (newest : Newest) → IsOpened (site_of host) newest u → GoesOnTo (site_of host) NoCreation (IsNewestIn newest) t u → BootedTo host (booted (Some newest) begun) t u
+    pub booted_adopted : (newest : Newest) → IsOpened (site_of host) newest u → GoesOnTo (site_of host) (IsNewestIn newest) t u → BootedTo host (booted (Some newest) begun) t u
     booted_adopted newest opened goes = booted_by (Some newest) (IsNewestIn newest) (record { nothing = λ none up. absurd (cc (none)); opened = opened }) (λ lg is. is) goes
 
     -- it found nothing
-    pub booted_empty : ShowsNothing (site_of host) u → GoesOnTo (site_of host) NoCreation (λ lg. is_firm lg ≡ false) t u → BootedTo host (unbooted begun) t u
+    pub booted_empty : ShowsNothing (site_of host) u → GoesOnTo (site_of host) (λ lg. is_firm lg ≡ false) t u → BootedTo host (unbooted begun) t u
     booted_empty nothing goes = booted_by None (λ lg. is_firm lg ≡ false) (record { nothing = λ none up. nothing; opened = tt }) (λ lg is. tt) goes
 
   -- a call on the drive failed before anything was written

@@ -20,7 +20,7 @@ IsCommittedTo newest change table lg = IsNewestIn (next_newest newest table) lg 
 
 -- how the log goes on from an open database by this change
 abbrev pub Commits : Host → Newest → Change → (Log → Type 0) → Tale → Tale → Type 0
-Commits host newest change After t m = IsOpened (site_of host) newest t → GoesFrom (site_of host) (IsWithNewest (site_of host) newest) NoCreation (change ∷ []) After t m
+Commits host newest change After t m = IsOpened (site_of host) newest t → GoesFrom (site_of host) (IsWithNewest (site_of host) newest) NoCreation (Some change ∷ []) After t m
 
 -- a change of the open database
 module _ (host : Host) (memory : Memory) (newest : Newest) (opened : memory.opened ≡ Some newest) (change : Change) (t m : Tale) (kept : KeptOutside (area_of (site_of host)) t m) where
@@ -30,7 +30,7 @@ module _ (host : Host) (memory : Memory) (newest : Newest) (opened : memory.open
   changing : (After : Log → Type 0) (Then : List Event → History → Type 0) → Commits host newest change After t m → (h : History) → IsKnown host memory h t → ((es : List Event) (g : History) → StandsAt host g m → After g.database → Then es g)
       → Goes host (Changed change ∷ []) [] Then m h
   changing After Then goes h known then =
-      lift_log host (Changed change ∷ []) Then (IsWithNewest (site_of host) newest) NoCreation (change ∷ []) After t m kept (no_creation host (Changed change ∷ [])) (part_itself (Changed change ∷ [])) then (goes (is_opened known.knows)) h known.stands
+      lift_log host (Changed change ∷ []) Then (IsWithNewest (site_of host) newest) NoCreation (Some change ∷ []) After t m kept (no_creation host) (part_itself (Changed change ∷ [])) then (goes (is_opened known.knows)) h known.stands
       (record { is_log = known.stands.stands.database.is_log; is_newest = opened_has memory newest (λ n. IsNewestIn n h.database) opened known.newest })
 
   pub changing_moment : told m ≡ told t → Commits host newest change Anything t m → CarryMoment host (ToDo (Changed change)) memory t m

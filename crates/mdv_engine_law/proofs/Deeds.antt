@@ -10,7 +10,7 @@ use Rattle.mdv_history.proofs.Values.{values_settled}
 use Rattle.mdv_engine_law.specs.declared.host.Host.{Host}
 use Rattle.mdv_engine_law.specs.Home.{site_of}
 use Rattle.mdv_engine_law.specs.Line.{Memory}
-use Rattle.mdv_engine_law.specs.Standing.{StandsAt, IsMadeHere, Goes, IsKnown, CanTellAll}
+use Rattle.mdv_engine_law.specs.Standing.{StandsAt, IsOfRun, Goes, IsKnown, CanTellAll}
 use Rattle.mdv_engine_law.proofs.Going.{goes_none, room_after}
 use Rattle.mdv_engine_law.proofs.Knowing.{stands_kept, known_kept, known_on}
 
@@ -33,10 +33,10 @@ module _ (host : Host) (memory : Memory) (u v : Tale) (kept : KeptOutside nowher
     values = here.values;
   }
 
-  tells : (deed : Deed) (e : Event) → MayHappen (site_of host) h e → told_by (e ∷ []) ≡ deed ∷ [] → IsIssue (IsMadeHere host []) e → IsPart (issued_by (e ∷ [])) [] → Stands (site_of host) (history_after h e) v
+  tells : (deed : Deed) (e : Event) → MayHappen (site_of host) h e → told_by (e ∷ []) ≡ deed ∷ [] → IsIssue (IsOfRun host) e → IsPart (issued_by (e ∷ [])) [] → Stands (site_of host) (history_after h e) v
       → (history_after h e).database.family ≡ h.database.family → Goes host [] (deed ∷ []) Known v h
   tells deed e may told issue begins stands same =
-      let standing : StandsAt host (history_after h e) v = record { stands = stands; room = room_after host [] h (e ∷ []) (issue, tt) known.stands.room } in
+      let standing : StandsAt host (history_after h e) v = record { stands = stands; room = room_after host h (e ∷ []) (issue, tt) known.stands.room } in
       record {
         es = e ∷ [];
         course = (may, tt);

@@ -1,28 +1,26 @@
 -- How what goes on is joined, told of less, and taken from what the history's laws say.
 use Rattle.std.proofs.Common.{◌≤◌, List, [], ◌∷◌, ◌++◌, IfSome, refl}
-use Rattle.mdv_engine_law.specs.Below.{Identity, KeptOutside, nowhere, Tale, NoCreation, History, Deed, Created, Event, OfDatabase, Issues, Acknowledges, Shows, Woke, history_after, history_after_all, MayHappen, IsIssue}
+use Rattle.mdv_engine_law.specs.Below.{Identity, KeptOutside, nowhere, Tale, NoCreation, History, Deed, Event, OfDatabase, Issues, Acknowledges, Shows, Woke, history_after, history_after_all, MayHappen, IsIssue}
 use Rattle.mdv_store_law.specs.Log as log
 use Rattle.mdv_store_law.specs.Part.{IsPart}
-use Rattle.mdv_store_law.proofs.Parts.{part_before, part_front, part_itself}
 use Rattle.mdv_history.specs.Standing as history
 use Rattle.mdv_history.specs.History.{begins, tells}
 use Rattle.mdv_store_law.specs.Machine as machine
 use Rattle.mdv_store_law.specs.Machine.{AreAll}
 use Rattle.mdv_store_law.proofs.Machine.{adds_more, adds_weaker}
 use Rattle.mdv_store_law.proofs.Machine.{goes_more as machine_more, goes_weaker as machine_weaker}
-use Rattle.mdv_history.proofs.Parts.{part_contains}
 use Rattle.mdv_engine_law.specs.declared.host.Host.{Host}
 use Rattle.mdv_engine_law.specs.Home.{site_of}
-use Rattle.mdv_engine_law.specs.Standing.{StandsAt, IsMadeHere, Does, Goes}
+use Rattle.mdv_engine_law.specs.Standing.{StandsAt, IsOfRun, Does, Goes}
 use Rattle.mdv_engine_law.proofs.Knowing.{stands_kept}
 
 -- a database was made only where there is room for it
 abbrev pub HasRoom : Host → History → Type 0
 HasRoom host h = IfSome h.database.issued (λ identity. 8208 ≤ host.home.blocks)
 
-module _ (host : Host) (asks : List Deed) where
-  room_next : (h : History) (e : Event) → IsIssue (IsMadeHere host asks) e → HasRoom host h → HasRoom host (history_after h e)
-  room_next h (OfDatabase (log.Issued identity)) is room = is.0.room
+module _ (host : Host) where
+  room_next : (h : History) (e : Event) → IsIssue (IsOfRun host) e → HasRoom host h → HasRoom host (history_after h e)
+  room_next h (OfDatabase (log.Issued identity)) is room = is.room
   room_next h (OfDatabase (log.Writing mark asked before table)) is room = room
   room_next h (OfDatabase log.Written) is room = room
   room_next h (OfDatabase (log.Told asked)) is room = room
@@ -32,7 +30,7 @@ module _ (host : Host) (asks : List Deed) where
   room_next h (Woke content) is room = room
 
   -- events that issue only creations of this run keep that
-  pub room_after : (h : History) (es : List Event) → AreAll (IsIssue (IsMadeHere host asks)) es → HasRoom host h → HasRoom host (history_after_all h es)
+  pub room_after : (h : History) (es : List Event) → AreAll (IsIssue (IsOfRun host)) es → HasRoom host h → HasRoom host (history_after_all h es)
   room_after h [] is room = room
   room_after h (e ∷ es) is room = room_after (history_after h e) es is.1 (room_next h e is.0 room)
 
@@ -53,20 +51,10 @@ goes_none host asks After m h stands after = record { es = []; course = tt; come
 
 -- what is done where less is asked is done where more is
 pub does_wider : (host : Host) (asks all done : List Deed) (es : List Event) → IsPart asks all → Does host asks done es → Does host all done es
-does_wider host asks all done es within does =
-    adds_weaker tells begins (IsIssue (IsMadeHere host asks)) (IsIssue (IsMadeHere host all)) asks all done es (issue_weaker (IsMadeHere host asks) (IsMadeHere host all) (λ identity is. (is.0, part_contains asks all Created within is.1))) within does
+does_wider host asks all done es within does = adds_weaker tells begins (IsIssue (IsOfRun host)) (IsIssue (IsOfRun host)) asks all done es (λ e is. is) within does
 
 pub does_more : (host : Host) (asks others all done more : List Deed) (es fs : List Event) → IsPart (asks ++ others) all → Does host asks done es → Does host others more fs → Does host all (done ++ more) (es ++ fs)
-does_more host asks others all done more es fs within one other =
-    let both = asks ++ others in
-    let front = does_which asks (part_front asks others) one in
-    let behind = does_which others (part_before others asks others (part_itself others)) other in
-    does_wider host both all (done ++ more) (es ++ fs) within (adds_more tells begins (IsIssue (IsMadeHere host both)) asks others done more es fs front behind)
-  where
-    does_which : (some : List Deed) {told : List Deed} {gs : List Event} → IsPart some (asks ++ others) → Does host some told gs → machine.Adds tells begins (IsIssue (IsMadeHere host (asks ++ others))) some told gs
-    does_which some {told} {gs} part does =
-        adds_weaker tells begins (IsIssue (IsMadeHere host some)) (IsIssue (IsMadeHere host (asks ++ others))) some some told gs
-        (issue_weaker (IsMadeHere host some) (IsMadeHere host (asks ++ others)) (λ identity is. (is.0, part_contains some (asks ++ others) Created part is.1))) (part_itself some) does
+does_more host asks others all done more es fs within one other = does_wider host (asks ++ others) all (done ++ more) (es ++ fs) within (adds_more tells begins (IsIssue (IsOfRun host)) asks others done more es fs one other)
 
 -- one stretch after another
 pub goes_more : (host : Host) (asks others all done more : List Deed) (Between After : List Event → History → Type 0) (u m : Tale) (h : History) → IsPart (asks ++ others) all → Goes host asks done Between u h
@@ -84,19 +72,19 @@ goes_weaker host asks all done After Then u v h within kept less =
 
 -- what a law says of a history that the drive stands with
 pub lift : (host : Host) (Known : History → Type 0) (Which : Identity → Type 0) (asks all done : List Deed) (After Then : List Event → History → Type 0) (t m : Tale)
-    → ((identity : Identity) → Which identity → IsMadeHere host all identity) → IsPart asks all → ((es : List Event) (g : History) → After es g → Then es g)
+    → ((identity : Identity) → Which identity → IsOfRun host identity) → IsPart asks all → ((es : List Event) (g : History) → After es g → Then es g)
     → history.Goes (site_of host) Known Which asks done After t m → (h : History) → StandsAt host h t → Known h → Goes host all done Then m h
 lift host Known Which asks all done After Then t m mine within less goes h stands known =
     let one = goes h stands.stands known in
-    let does : Does host all done one.es = adds_weaker tells begins (IsIssue Which) (IsIssue (IsMadeHere host all)) asks all done one.es (issue_weaker Which (IsMadeHere host all) mine) within one.come in
+    let does : Does host all done one.es = adds_weaker tells begins (IsIssue Which) (IsIssue (IsOfRun host)) asks all done one.es (issue_weaker Which (IsOfRun host) mine) within one.come in
     record {
       es = one.es;
       course = one.course;
       come = does;
-      stands = record { stands = one.stands; room = room_after host all h one.es does.issues stands.room };
+      stands = record { stands = one.stands; room = room_after host h one.es does.issues stands.room };
       after = less one.es (history_after_all h one.es) one.after;
     }
 
--- no creation is one that is asked, too
-pub no_creation : (host : Host) (asks : List Deed) (identity : Identity) → NoCreation identity → IsMadeHere host asks identity
-no_creation host asks identity none = absurd none
+-- no creation is one of this run, too
+pub no_creation : (host : Host) (identity : Identity) → NoCreation identity → IsOfRun host identity
+no_creation host identity none = absurd none

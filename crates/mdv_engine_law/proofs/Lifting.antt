@@ -1,12 +1,13 @@
 -- What goes on in a host's database, and on its drive, goes on in its history.
-use Rattle.std.proofs.Common.{◌≡◌, inl, ℕ, List, [], ◌∷◌, map, slice_index_or, refl}
-use Rattle.mdv_engine_law.specs.Below.{Identity, Local, place_of, KeptOutside, IsSynced, Tale, last, Change, Log, Site, area_of, GoesFrom, PlaceAt, History, Deed, Changed, Event, Woke, history_after, history_after_all, HasWoken}
+use Rattle.std.proofs.Common.{◌≡◌, inl, ℕ, List, [], ◌∷◌, Option, map, slice_index_or, refl}
+use Rattle.mdv_engine_law.specs.Below.{Identity, Local, place_of, KeptOutside, IsSynced, Tale, last, Change, Log, Site, area_of, GoesFrom, PlaceAt, History, Deed, Event, Woke, history_after, history_after_all, HasWoken}
 use Rattle.mdv_shelf.proofs.Blocks.{last_may_be_left}
+use Rattle.mdv_history.specs.History.{told_of}
 use Rattle.mdv_history.proofs.Database.{lift_database}
 use Rattle.mdv_store_law.specs.Part.{IsPart}
 use Rattle.mdv_engine_law.specs.declared.host.Host.{Host}
 use Rattle.mdv_engine_law.specs.Home.{IsReady, site_of}
-use Rattle.mdv_engine_law.specs.Standing.{StandsAt, IsMadeHere, Goes}
+use Rattle.mdv_engine_law.specs.Standing.{StandsAt, IsOfRun, Goes}
 use Rattle.mdv_engine_law.proofs.Going.{lift}
 
 -- the site that the database is told, where its place is the home's
@@ -16,13 +17,13 @@ site_here host sizes ready at is = rw (is, ready.drive)
 
 module _ (host : Host) (asks : List Deed) (Then : List Event → History → Type 0) where
   -- what goes on in the database, where nothing is done outside the replica's blocks
-  pub lift_log : (Known : Log → Type 0) (Which : Identity → Type 0) (changes : List Change) (After : Log → Type 0) (t m : Tale) → KeptOutside (area_of (site_of host)) t m
-      → ((identity : Identity) → Which identity → IsMadeHere host asks identity) → IsPart (map Changed changes) asks
+  pub lift_log : (Known : Log → Type 0) (Which : Identity → Type 0) (asked : List (Option Change)) (After : Log → Type 0) (t m : Tale) → KeptOutside (area_of (site_of host)) t m
+      → ((identity : Identity) → Which identity → IsOfRun host identity) → IsPart (map told_of asked) asks
       → ((es : List Event) (g : History) → StandsAt host g m → After g.database → Then es g)
-      → GoesFrom (site_of host) Known Which changes After t m → (h : History) → StandsAt host h t → Known h.database → Goes host asks [] Then m h
-  lift_log Known Which changes After t m kept mine within then goes h stands known =
-      let went = lift host (λ g. Known g.database) Which (map Changed changes) asks [] (λ es g. After g.database) (λ es g. After g.database) t m mine within (λ es g is. is)
-      (lift_database (site_of host) Known Which changes After t m kept (λ lg stood of. goes lg stood.covers of)) h stands known in
+      → GoesFrom (site_of host) Known Which asked After t m → (h : History) → StandsAt host h t → Known h.database → Goes host asks [] Then m h
+  lift_log Known Which asked After t m kept mine within then goes h stands known =
+      let went = lift host (λ g. Known g.database) Which (map told_of asked) asks [] (λ es g. After g.database) (λ es g. After g.database) t m mine within (λ es g is. is)
+      (lift_database (site_of host) Known Which asked After t m kept (λ lg stood of. goes lg stood.covers of)) h stands known in
       record {
         es = went.es;
         course = went.course;

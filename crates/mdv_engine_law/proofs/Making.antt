@@ -1,30 +1,31 @@
 -- What a creation leaves of a host's history.
 use Rattle.std.proofs.Common.{◌≡◌, ◌≤◌, ℕ, false, List, [], ◌∷◌, Option, Some, None, IfSome, refl, sym, subst, arith}
-use Rattle.mdv_engine_law.specs.Below.{Identity, IoFault, KeptOutside, Tale, told, Table, IsCreated, created_newest, Log, IsThis, is_firm, Newest, area_of, ShowsNothing, IsOpened, IsNewestIn, Anything, GoesOnTo, History, Created, Event}
+use Rattle.mdv_engine_law.specs.Below.{Identity, IoFault, KeptOutside, Tale, told, Table, IsCreated, created_newest, Log, IsThis, is_firm, Newest, area_of, ShowsNothing, IsOpened, IsNewestIn, Anything, GoesMaking, History, Created, Event}
 use Rattle.mdv_engine_law.specs.declared.answer.Answer.TheVariants.{Said, Over}
 use Rattle.mdv_engine_law.specs.declared.answer.Ended.TheVariants as ended
 use Rattle.mdv_engine_law.specs.declared.answer.Outcome.TheVariants as outcome
 use Rattle.mdv_engine_law.specs.declared.host.Host.{Host}
 use Rattle.mdv_engine_law.specs.Home.{site_of, identity_of}
 use Rattle.mdv_engine_law.specs.Line.{Memory, ToDo}
-use Rattle.mdv_engine_law.specs.Standing.{StandsAt, IsOfRun, IsMadeHere, Goes, Reached, Knows, IsKnown, IsKnownAfter, CarryMoment, CarriedTo}
+use Rattle.mdv_engine_law.specs.Standing.{StandsAt, IsOfRun, Goes, Reached, Knows, IsKnown, IsKnownAfter, CarryMoment, CarriedTo}
+use Rattle.mdv_store_law.proofs.Parts.{part_itself}
 use Rattle.mdv_engine_law.proofs.Lifting.{lift_log}
 use Rattle.mdv_engine_law.proofs.Refusing.{of_opened, knows_opened}
 use Rattle.mdv_engine_law.proofs.Staying.{stays_in_replica}
 
 -- how the log goes on by the creation of this number, where nothing was there
 abbrev pub Makes : Host → Memory → (Log → Type 0) → Tale → Tale → Type 0
-Makes host memory After t m = ShowsNothing (site_of host) t → GoesOnTo (site_of host) (IsThis (identity_of host memory.begun)) After t m
+Makes host memory After t m = ShowsNothing (site_of host) t → GoesMaking (site_of host) (identity_of host memory.begun) After t m
 
 -- a creation of this run, on a slice with room, where no database is open and the last boot has read the drive
 module _ (host : Host) (memory : Memory) (room : 8208 ≤ host.home.blocks) (none : memory.opened ≡ None) (up : memory.down ≡ false) (t m : Tale) (kept : KeptOutside (area_of (site_of host)) t m) where
-  mine : (other : Identity) → IsThis (identity_of host memory.begun) other → IsMadeHere host (Created ∷ []) other
-  mine other same = (subst (λ (i : Identity). IsOfRun host i) (sym same) (record { fresh = refl; room = room }), (0, omega arith, refl))
+  mine : (other : Identity) → IsThis (identity_of host memory.begun) other → IsOfRun host other
+  mine other same = subst (λ (i : Identity). IsOfRun host i) (sym same) (record { fresh = refl; room = room })
 
   making : (After : Log → Type 0) (Then : List Event → History → Type 0) → Makes host memory After t m → (h : History) → IsKnown host memory h t → ((es : List Event) (g : History) → StandsAt host g m → After g.database → Then es g)
       → Goes host (Created ∷ []) [] Then m h
   making After Then goes h known then =
-      lift_log host (Created ∷ []) Then Anything (IsThis (identity_of host memory.begun)) [] After t m kept mine tt then (goes (known.knows.nothing none up)) h known.stands tt
+      lift_log host (Created ∷ []) Then Anything (IsThis (identity_of host memory.begun)) (None ∷ []) After t m kept mine (part_itself (Created ∷ [])) then (goes (known.knows.nothing none up)) h known.stands tt
 
   pub making_moment : told m ≡ told t → Makes host memory Anything t m → CarryMoment host (ToDo Created) memory t m
   making_moment quiet goes = record { home = stays_in_replica host t m kept; quiet = quiet; goes = λ h known. making Anything Reached goes h known (λ es g there is. tt) }

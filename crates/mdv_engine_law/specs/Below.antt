@@ -41,7 +41,7 @@ pub use Rattle.mdv_status.specs.Values.{block_text, values_reply}
 pub use Rattle.mdv_store_law.specs.Going.{IsCreated, IsWithNewest, created_head, created_newest}
 pub use Rattle.mdv_store_law.specs.Log.{IsMade, IsTellable, IsThis, Log, NoCreation, Version, is_firm}
 pub use Rattle.mdv_store_law.specs.Site.{HasTable, IsFound, IsNewestOf, IsRecordAt, IsReplica, IsTableAt, Newest, Site, area_of, sized}
-pub use Rattle.mdv_store_law.specs.Standing.{Anything, GoesFrom, GoesOn, GoesOnTo, IsNewestIn, IsOpened, ShowsNothing, nothing, replica}
+pub use Rattle.mdv_store_law.specs.Standing.{Anything, GoesFrom, GoesMaking, GoesOn, GoesOnTo, IsNewestIn, IsOpened, ShowsNothing, nothing, replica}
 pub use Rattle.mdv_store_law.specs.Steps.{IsAdopted, IsTheReplica, adopted_newest, next_newest, rewritten}
 pub use Rattle.mdv_table.specs.Slices.{HasBlock, IsSound}
 pub use Rattle.mdv_table.specs.Table.{IsComponentOn, IsKindOf, IsListsOf, IsPlaceOf, IsStripeOf, IsWholeSlice}

@@ -25,13 +25,9 @@ pub record IsOfRun (host : Host) (identity : Identity) : Type 0 where
   pub fresh : identity.fresh ≡ host.fresh
   pub room : 8208 ≤ host.home.blocks
 
--- such a creation, where one is asked
-abbrev pub IsMadeHere : Host → List Deed → Identity → Type 0
-IsMadeHere host asks identity = IsOfRun host identity × Contains asks Created
-
--- the events tell these deeds, and begin only deeds that are asked, in their order and each once
+-- the events tell these deeds, and begin only deeds that are asked, creations too, in that order and each once
 abbrev pub Does : Host → List Deed → List Deed → List Event → Type 0
-Does host asks done es = Adds (IsMadeHere host asks) asks done es
+Does host asks done es = Adds (IsOfRun host) asks done es
 
 -- From a history by some events, which tell these deeds and begin only deeds that are asked, to one that the drive stands with, of
 -- which more is known.

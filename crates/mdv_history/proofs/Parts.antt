@@ -1,12 +1,12 @@
 -- The database's part of a history's events, and what it tells and issues.
-use Rattle.std.proofs.Common.{◌≡◌, ◌⊎◌, inl, inr, ⊎_elim, List, [], ◌∷◌, ◌++◌, Option, Some, None, IfSome, Contains, refl, sym, ◌∙◌, subst, ap, arith}
+use Rattle.std.proofs.Common.{◌≡◌, ◌⊎◌, inl, inr, ⊎_elim, List, [], ◌∷◌, ◌++◌, map, Option, Some, None, IfSome, Contains, refl, sym, ◌∙◌, subst, ap, arith}
 use Rattle.std.proofs.lemmas.List.Elements.{Contains-append_cases, Contains-append_right, Contains-push_cases}
 use Rattle.mdv_history.specs.Below.{Identity, Change, Site}
 use Rattle.mdv_store_law.specs.Log as log
 use Rattle.mdv_store_law.specs.Part.{IsPart}
 use Rattle.mdv_store_law.proofs.Orders.{changes_of}
 use Rattle.mdv_store_law.proofs.Parts.{part_before, part_itself, part_more}
-use Rattle.mdv_history.specs.History.{History, Deed, Created, Changed, Wrote, Saw, Event, OfDatabase, Issues, Acknowledges, Shows, Woke, history_after, history_after_all, IsCourse, told_by, issued_by, changes_in, IsIssue}
+use Rattle.mdv_history.specs.History.{History, Deed, Created, Changed, Wrote, Saw, Event, OfDatabase, Issues, Acknowledges, Shows, Woke, history_after, history_after_all, IsCourse, told_by, told_of, issued_by, changes_in, IsIssue}
 use Rattle.mdv_store_law.specs.Machine.{AreAll}
 
 abbrev pub of_database : List Event → List log.Event
@@ -41,17 +41,27 @@ told_of_database (Changed change ∷ deeds) = Some change ∷ told_of_database d
 told_of_database (Wrote volume at blocks ∷ deeds) = told_of_database deeds
 told_of_database (Saw volume at blocks ∷ deeds) = told_of_database deeds
 
+-- what an event of the database tells or begins, and more behind it
+database_more : (some : List (Option Change)) (more : List Deed) → told_of_database (map told_of some ++ more) ≡ some ++ told_of_database more
+database_more [] more = refl
+database_more (None ∷ some) more = ap (λ (behind : List (Option Change)). None ∷ behind) (database_more some more)
+database_more (Some change ∷ some) more = ap (λ (behind : List (Option Change)). Some change ∷ behind) (database_more some more)
+
 pub database_told : (es : List Event) → log.told_by (of_database es) ≡ told_of_database (told_by es)
 database_told [] = refl
-database_told (OfDatabase (log.Issued identity) ∷ es) = database_told es
-database_told (OfDatabase (log.Writing mark asked before table) ∷ es) = database_told es
-database_told (OfDatabase log.Written ∷ es) = database_told es
-database_told (OfDatabase (log.Told None) ∷ es) = ap (λ (behind : List (Option Change)). None ∷ behind) (database_told es)
-database_told (OfDatabase (log.Told (Some change)) ∷ es) = ap (λ (behind : List (Option Change)). Some change ∷ behind) (database_told es)
+database_told (OfDatabase event ∷ es) = ap (λ (behind : List (Option Change)). log.tells event ++ behind) (database_told es) ∙ sym (database_more (log.tells event) (told_by es))
 database_told (Issues extent blocks ∷ es) = database_told es
 database_told (Acknowledges extent blocks ∷ es) = database_told es
 database_told (Shows extent blocks ∷ es) = database_told es
 database_told (Woke content ∷ es) = database_told es
+
+database_begun : (es : List Event) → log.begun_by (of_database es) ≡ told_of_database (issued_by es)
+database_begun [] = refl
+database_begun (OfDatabase event ∷ es) = ap (λ (behind : List (Option Change)). log.begins event ++ behind) (database_begun es) ∙ sym (database_more (log.begins event) (issued_by es))
+database_begun (Issues extent blocks ∷ es) = database_begun es
+database_begun (Acknowledges extent blocks ∷ es) = database_begun es
+database_begun (Shows extent blocks ∷ es) = database_begun es
+database_begun (Woke content ∷ es) = database_begun es
 
 contains_first : {X : Type 0} (x : X) (xs : List X) → Contains (x ∷ xs) x
 contains_first x xs = (0, omega arith, refl)
@@ -119,27 +129,18 @@ database_changes (Changed change ∷ deeds) = ap (λ (l : List Change). change �
 database_changes (Wrote volume at blocks ∷ deeds) = database_changes deeds
 database_changes (Saw volume at blocks ∷ deeds) = database_changes deeds
 
-pub database_written : (es : List Event) → log.written_by (of_database es) ≡ changes_in (issued_by es)
-database_written [] = refl
-database_written (OfDatabase (log.Issued identity) ∷ es) = database_written es
-database_written (OfDatabase (log.Writing mark None before table) ∷ es) = database_written es
-database_written (OfDatabase (log.Writing mark (Some change) before table) ∷ es) = ap (λ (l : List Change). change ∷ l) (database_written es)
-database_written (OfDatabase log.Written ∷ es) = database_written es
-database_written (OfDatabase (log.Told asked) ∷ es) = database_written es
-database_written (Issues extent blocks ∷ es) = database_written es
-database_written (Acknowledges extent blocks ∷ es) = database_written es
-database_written (Shows extent blocks ∷ es) = database_written es
-database_written (Woke content ∷ es) = database_written es
+pub database_written : (es : List Event) → changes_of (log.begun_by (of_database es)) ≡ changes_in (issued_by es)
+database_written es = ap changes_of (database_begun es) ∙ database_changes (issued_by es)
 
 -- what each creation that is issued has, the history's has
-pub issued_has : (P Which : Identity → Type 0) → ((identity : Identity) → Which identity → P identity) → (history : History) (es : List Event) → AreAll (IsIssue Which) es → IfSome history.database.issued P
+pub issued_has : (P : Identity → Type 0) (history : History) (es : List Event) → AreAll (IsIssue P) es → IfSome history.database.issued P
     → IfSome (history_after_all history es).database.issued P
-issued_has P Which each history [] is has = has
-issued_has P Which each history (OfDatabase (log.Issued identity) ∷ es) is has = issued_has P Which each (history_after history (OfDatabase (log.Issued identity))) es is.1 (each identity is.0)
-issued_has P Which each history (OfDatabase (log.Writing mark asked before table) ∷ es) is has = issued_has P Which each (history_after history (OfDatabase (log.Writing mark asked before table))) es is.1 has
-issued_has P Which each history (OfDatabase log.Written ∷ es) is has = issued_has P Which each (history_after history (OfDatabase log.Written)) es is.1 has
-issued_has P Which each history (OfDatabase (log.Told asked) ∷ es) is has = issued_has P Which each (history_after history (OfDatabase (log.Told asked))) es is.1 has
-issued_has P Which each history (Issues extent blocks ∷ es) is has = issued_has P Which each (history_after history (Issues extent blocks)) es is.1 has
-issued_has P Which each history (Acknowledges extent blocks ∷ es) is has = issued_has P Which each (history_after history (Acknowledges extent blocks)) es is.1 has
-issued_has P Which each history (Shows extent blocks ∷ es) is has = issued_has P Which each history es is.1 has
-issued_has P Which each history (Woke content ∷ es) is has = issued_has P Which each (history_after history (Woke content)) es is.1 has
+issued_has P history [] is has = has
+issued_has P history (OfDatabase (log.Issued identity) ∷ es) is has = issued_has P (history_after history (OfDatabase (log.Issued identity))) es is.1 is.0
+issued_has P history (OfDatabase (log.Writing mark asked before table) ∷ es) is has = issued_has P (history_after history (OfDatabase (log.Writing mark asked before table))) es is.1 has
+issued_has P history (OfDatabase log.Written ∷ es) is has = issued_has P (history_after history (OfDatabase log.Written)) es is.1 has
+issued_has P history (OfDatabase (log.Told asked) ∷ es) is has = issued_has P (history_after history (OfDatabase (log.Told asked))) es is.1 has
+issued_has P history (Issues extent blocks ∷ es) is has = issued_has P (history_after history (Issues extent blocks)) es is.1 has
+issued_has P history (Acknowledges extent blocks ∷ es) is has = issued_has P (history_after history (Acknowledges extent blocks)) es is.1 has
+issued_has P history (Shows extent blocks ∷ es) is has = issued_has P history es is.1 has
+issued_has P history (Woke content ∷ es) is has = issued_has P (history_after history (Woke content)) es is.1 has

@@ -110,7 +110,7 @@ MayHappen site history (Woke content) = (block : ℕ) → area_of site site.at.d
 abbrev pub IsCourse : Site → History → List Event → Type 0
 IsCourse site = machine.IsCourse history_after (MayHappen site)
 
--- what an event of the database tells, and what it begins
+-- a creation or a change of the database, told or begun
 abbrev pub told_of : Option Change → Deed
 told_of None = Created
 told_of (Some change) = Changed change
@@ -134,9 +134,9 @@ changes_in (Changed change ∷ deeds) = change ∷ changes_in deeds
 changes_in (Wrote volume at blocks ∷ deeds) = changes_in deeds
 changes_in (Saw volume at blocks ∷ deeds) = changes_in deeds
 
--- the change, or the write of blocks, that an event begins
+-- what an event begins
 abbrev pub begins : Event → List Deed
-begins (OfDatabase event) = map Changed (log.begins event)
+begins (OfDatabase event) = map told_of (log.begins event)
 begins (Issues extent blocks) = Wrote extent.volume extent.at blocks ∷ []
 begins (Acknowledges extent blocks) = []
 begins (Shows extent blocks) = []
@@ -153,7 +153,7 @@ IsIssue Which (Acknowledges extent blocks) = Unit {0}
 IsIssue Which (Shows extent blocks) = Unit {0}
 IsIssue Which (Woke content) = Unit {0}
 
--- The events tell these deeds; they issue only such creations, and begin only deeds that are asked, in their order and each once.
+-- The events tell these deeds, and begin only deeds that are asked, in that order and each once; and each creation is such a one.
 abbrev pub Adds : (Identity → Type 0) → List Deed → List Deed → List Event → Type 0
 Adds Which = machine.Adds tells begins (IsIssue Which)
 

@@ -1,7 +1,7 @@
 -- What a run made, told by a history.
 use Rattle.std.proofs.Common.{◌≡◌, ℕ, true, false, List, [], ◌∷◌, Option, Some, None, IfSome, Contains, refl, sym, ◌∙◌, ap, subst, arith}
 use Rattle.std.specs.List.{list_any}
-use Rattle.mdv_run_law.specs.Below.{Identity, Geometry, Tale, values, last, Version, Log, answered, empty_log, is_firm, IsLog, Newest, IsNewestIn, nothing, replica, History, Deed, Created, Event, history_after_all, IsCourse, told_by, ValuesHold, Host, site_of, identity_of, Memory, StandsAt, IsOfRun, IsMadeHere, Does, Knows, IsKnown}
+use Rattle.mdv_run_law.specs.Below.{Identity, Geometry, Tale, values, last, Version, Log, answered, empty_log, is_firm, IsLog, Newest, IsNewestIn, nothing, replica, History, Deed, Created, Event, history_after_all, IsCourse, told_by, ValuesHold, Host, site_of, identity_of, Memory, StandsAt, IsOfRun, Does, Knows, IsKnown}
 use Rattle.mdv_shelf.specs.Tale.{MayLeave}
 use Rattle.mdv_store_law.specs.Log as log
 use Rattle.mdv_store_law.proofs.Covering.{last_image, nothing_covers}
@@ -92,7 +92,7 @@ made_ours host asks told t m es course adds has stands =
     let is_log = is_log_after_all host.drives empty_log events (empty_is_log host.drives) is_course in
     let after = history_after_all (began host t) es in
     let firm : is_firm after.database ≡ true = ap is_firm (database_after (began host t) es) ∙ told_firm host.drives (log.log_after_all empty_log events) acknowledged.0 is_log acknowledged.1 in
-    let issued = issued_has (IsOfRun host) (IsMadeHere host asks) (λ identity is. is.0) (began host t) es adds.issues tt in
+    let issued = issued_has (IsOfRun host) (began host t) es adds.issues tt in
     elim (stands.stands.database.covers (last m) (last_image m)) [
       | nothing not_firm none ↦ absurd (cc (firm, not_firm))
       | replica head agrees ↦ (head.master.identity.number, record { issued = ours_by host after.database.issued head.master.identity agrees.as_issued issued; firm = firm })

@@ -20,7 +20,7 @@ pub use Rattle.mdv_engine_law.specs.Line.{empty, kept_at, lost, record_room}
 pub use Rattle.mdv_engine_law.specs.Line.{unbooted, wanting}
 pub use Rattle.mdv_engine_law.specs.Replies.{Acks, AcksBy, AcksFront, AcksIn, IsFront, IsPlain, IsPlainAnswer, IsReplied, IsReply, IsTold, issuable, issuable_in, issuable_of}
 pub use Rattle.mdv_engine_law.specs.Replies.{ok_line, refusal_line}
-pub use Rattle.mdv_engine_law.specs.Standing.{BootMoment, BootedTo, Does, Executed, IsAwake, IsKnown, IsMadeHere, IsOfRun, Knows, Reached}
+pub use Rattle.mdv_engine_law.specs.Standing.{BootMoment, BootedTo, Does, Executed, IsAwake, IsKnown, IsOfRun, Knows, Reached}
 pub use Rattle.mdv_engine_law.specs.Standing.{StandsAt, TurnMoment, Turned}
 pub use Rattle.mdv_engine_law.specs.declared.answer.Answer.{Answer}
 pub use Rattle.mdv_engine_law.specs.declared.answer.Reply.{Reply}

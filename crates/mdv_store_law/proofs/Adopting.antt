@@ -4,7 +4,7 @@ use Rattle.std.proofs.lemmas.List.Elements.{All-weaker}
 use Rattle.mdv_store_law.specs.Below.{IsBelow, Mark, record_text, Open, Head, Slot, First, Second, greatest, boot_of, IsSpareSlot, gate_of, other_slot, with_claim, IsMark, Image, Leaves, Claims, MayClaim, Tale, IsImage, last, Table}
 use Rattle.mdv_replica.proofs.Leaving.{image_synced}
 use Rattle.mdv_store_law.specs.Going.{Adopts, AdoptionsGo, drawn}
-use Rattle.mdv_store_law.specs.Log.{Version, Log, Writing, Written, IsAbove, IsNotOlder, IsNext, NoCreation}
+use Rattle.mdv_store_law.specs.Log.{Version, Log, Writing, Written, IsAbove, IsNotOlder, IsNext}
 use Rattle.mdv_store_law.specs.Site.{Site, sized, IsTableAt, IsReplica, IsNewestOf}
 use Rattle.mdv_store_law.specs.Standing.{IsVersion, Agrees, replica, Covers, IsNewestIn, GoesOnTo, GoesOn}
 use Rattle.mdv_store_law.specs.Steps.{Rewritten, Rewriting, Rewrites, adopted_newest, rewritten}
@@ -112,7 +112,7 @@ module _ (site : Site) (head : Head) (spare : Slot) (table : Table) (t : Tale) (
         taken_holds site log on_claim spare spare_on_claim mark None kept.version.changes table marked placed (omega arith) claim_greatest before.2.between image
         (claim_agreed before.0 before.2.between before.1 before.2.claims) true before.2.takes
 
-  goes : (m : Tale) → Rewrites (sized site head) spare mark table t m → GoesOn site NoCreation t m
+  goes : (m : Tale) → Rewrites (sized site head) spare mark table t m → GoesOn site t m
   goes m rewrites log covers known = ⊎_elim
       (λ claim. record { es = []; course = tt; come = record { tells = refl; issues = tt; begins = tt }; stands = in_claim log covers m claim; after = tt })
       (λ writing. record {
@@ -124,7 +124,7 @@ module _ (site : Site) (head : Head) (spare : Slot) (table : Table) (t : Tale) (
       })
       rewrites
 
-  ends : (u : Tale) → Leaves (Rewritten (sized site head) spare mark table) t u → GoesOnTo site NoCreation (IsNewestIn (adopted_newest head spare table)) t u
+  ends : (u : Tale) → Leaves (Rewritten (sized site head) spare mark table) t u → GoesOnTo site (IsNewestIn (adopted_newest head spare table)) t u
   ends u leaves log covers known = record {
     es = Writing mark None (kept log covers).version.changes table ∷ Written ∷ [];
     course = ((above log covers, inr (next log covers)), (tt, tt));

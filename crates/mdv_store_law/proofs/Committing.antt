@@ -4,7 +4,7 @@ use Rattle.std.proofs.lemmas.List.Elements.{All-cons, All-weaker}
 use Rattle.std.specs.Prelude.{Contains}
 use Rattle.mdv_store_law.specs.Below.{IsBelow, Mark, record_text, Gate, Closed, Open, Head, Slot, First, Second, shows, IsNewest, IsNewestGate, IsSpare, IsSpareSlot, gate_of, other_slot, with_slot, IsMark, Image, Leaves, with_blocks, Tale, IsImage, last, Change, Table}
 use Rattle.mdv_store_law.specs.Going.{Commits, CommitsGo, IsWithNewest, next_mark}
-use Rattle.mdv_store_law.specs.Log.{Version, Log, Writing, Written, IsAbove, IsMade, IsNext, IsNotOlder, IsRising, IsTellable, with_asked, NoCreation}
+use Rattle.mdv_store_law.specs.Log.{Version, Log, Writing, Written, IsAbove, IsMade, IsNext, IsNotOlder, IsRising, IsTellable, asks_of, with_asked, NoCreation}
 use Rattle.mdv_store_law.specs.Site.{Site, sized, IsTableAt, Newest, IsNewestOf}
 use Rattle.mdv_store_law.specs.Standing.{Agrees, Covers, IsNewestIn, Anything, GoesFrom}
 use Rattle.mdv_store_law.specs.Steps.{MayTake, Takes, next_newest}
@@ -147,10 +147,10 @@ module _ (site : Site) (newest : Newest) (asked : Option Change) (table : Table)
         subst (λ (a : Option Change). IsTellable (next_log log mark a parent.changes table true) a) (sym is) (tellable site.drives log newest with_newest.is_newest mark change table with_newest.is_log)
 
   -- no change is begun but the one that is asked
-  only_asked : IsPart (with_asked asked [] ++ []) (with_asked asked [])
-  only_asked = subst (λ (l : List Change). IsPart l (with_asked asked [])) (sym (append-nil (with_asked asked []))) (part_itself (with_asked asked []))
+  only_asked : IsPart (asks_of asked ++ []) (asks_of asked)
+  only_asked = subst (λ (l : List (Option Change)). IsPart l (asks_of asked)) (sym (append-nil (asks_of asked))) (part_itself (asks_of asked))
 
-  goes : (m : Tale) → Leaves (MayTake (with_blocks site.at newest.blocks) slot mark table) t m → GoesFrom site (IsWithNewest site newest) NoCreation (with_asked asked []) Anything t m
+  goes : (m : Tale) → Leaves (MayTake (with_blocks site.at newest.blocks) slot mark table) t m → GoesFrom site (IsWithNewest site newest) NoCreation (asks_of asked) Anything t m
   goes m leaves log covers known = record {
     es = Writing mark asked (parent log covers known).changes table ∷ [];
     course = ((above log covers known, inr (next log covers known)), tt);
@@ -160,7 +160,7 @@ module _ (site : Site) (newest : Newest) (asked : Option Change) (table : Table)
   }
 
   ends : (u : Tale) → Leaves (Takes (with_blocks site.at newest.blocks) slot mark table) t u
-      → GoesFrom site (IsWithNewest site newest) NoCreation (with_asked asked []) (λ log. IsNewestIn (next_newest newest table) log × ((change : Change) → asked ≡ Some change → IsTellable log asked)) t u
+      → GoesFrom site (IsWithNewest site newest) NoCreation (asks_of asked) (λ log. IsNewestIn (next_newest newest table) log × ((change : Change) → asked ≡ Some change → IsTellable log asked)) t u
   ends u leaves log covers known = record {
     es = Writing mark asked (parent log covers known).changes table ∷ Written ∷ [];
     course = ((above log covers known, inr (next log covers known)), (tt, tt));

@@ -34,11 +34,11 @@ module _ (site : Site) where
   pub kept_covers : (log : Log) (t m : Tale) → KeptOutside nowhere t m → Covers site log t → Covers site log m
   kept_covers log t m kept covers image is = covers image (kept_image t m image kept is)
 
-  pub kept_goes_on : (Which : Identity → Type 0) (t m : Tale) → KeptOutside nowhere t m → GoesOn site Which t m
-  kept_goes_on Which t m kept log covers known = record { es = []; course = tt; come = record { tells = refl; issues = tt; begins = tt }; stands = kept_covers log t m kept covers; after = tt }
+  pub kept_goes_on : (t m : Tale) → KeptOutside nowhere t m → GoesOn site t m
+  kept_goes_on t m kept log covers known = record { es = []; course = tt; come = record { tells = refl; issues = tt; begins = tt }; stands = kept_covers log t m kept covers; after = tt }
 
   -- a look, and then what goes on from there
-  pub goes_from_more : (Known : Log → Type 0) (Which : Identity → Type 0) (asks : List Change) (After : Log → Type 0) (t u m : Tale) → KeptOutside nowhere t u → GoesFrom site Known Which asks After u m → GoesFrom site Known Which asks After t m
+  pub goes_from_more : (Known : Log → Type 0) (Which : Identity → Type 0) (asks : List (Option Change)) (After : Log → Type 0) (t u m : Tale) → KeptOutside nowhere t u → GoesFrom site Known Which asks After u m → GoesFrom site Known Which asks After t m
   goes_from_more Known Which asks After t u m kept on log covers known = on log (kept_covers log t u kept covers) known
 
   -- where every image shows nothing no table is firm

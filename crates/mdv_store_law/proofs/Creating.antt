@@ -7,9 +7,9 @@ use Rattle.mdv_store_law.specs.Below.{IsBelow, Identity, record_text, Closed, Op
 use Rattle.mdv_replica.proofs.Leaving.{leaves_formatting, settled_here}
 use Rattle.mdv_replica.proofs.Showing.{head_formatted}
 use Rattle.mdv_store_law.specs.Going.{Creates, CreationsGo, IsCreated, created_head, created_newest, created_version, first_mark}
-use Rattle.mdv_store_law.specs.Log.{Version, Log, Issued, Writing, Written, IsFirst, IsThis, is_firm, log_after}
+use Rattle.mdv_store_law.specs.Log.{Version, Log, Issued, Writing, Written, IsFirst, is_firm, log_after}
 use Rattle.mdv_store_law.specs.Site.{Site, IsFound, IsNewestOf, IsReplica, IsTableAt}
-use Rattle.mdv_store_law.specs.Standing.{Agrees, Holds, nothing, replica, IsReplicaMade, ShowsNothing, GoesOn, GoesOnTo}
+use Rattle.mdv_store_law.specs.Standing.{Agrees, Holds, nothing, replica, IsReplicaMade, ShowsNothing, Anything, GoesMaking}
 use Rattle.mdv_store_law.specs.Steps.{MayTake, Takes}
 use Rattle.mdv_store_law.proofs.Kept.{text_taken}
 use Rattle.mdv_store_law.proofs.Replicas.{closed_replica, filled_replica, found_none_blank, found_none_closed, same_replica}
@@ -35,17 +35,17 @@ module _ (site : Site) where
     format_nothing t m none formatting image is =
         let from = leaves_formatting site.at master 1 t m formatting image is in nothing_in master 1 from.0 image from.2 (none from.0 from.1)
 
-    format_goes_on : (t m : Tale) → ShowsNothing site t → Formatting site.at master 1 t m → GoesOn site (IsThis identity) t m
+    format_goes_on : (t m : Tale) → ShowsNothing site t → Formatting site.at master 1 t m → GoesMaking site identity Anything t m
     format_goes_on t m none formatting log covers known =
         record { es = []; course = tt; come = record { tells = refl; issues = tt; begins = tt }; stands = nothing_covers site log m (not_firm site log t covers none) (format_nothing t m none formatting); after = tt }
 
     -- a format that failed began a creation of which nothing is left
-    format_ends_on : (t m : Tale) → ShowsNothing site t → Formatting site.at master 1 t m → GoesOnTo site (IsThis identity) (λ log. is_firm log ≡ false) t m
+    format_ends_on : (t m : Tale) → ShowsNothing site t → Formatting site.at master 1 t m → GoesMaking site identity (λ log. is_firm log ≡ false) t m
     format_ends_on t m none formatting log covers known =
         record {
           es = Issued identity ∷ [];
           course = (not_firm site log t covers none, tt);
-          come = record { tells = refl; issues = (refl, tt); begins = tt };
+          come = record { tells = refl; issues = (refl, tt); begins = inl (refl, tt) };
           stands = nothing_covers site (log_after log (Issued identity)) m refl (format_nothing t m none formatting);
           after = refl;
         }
@@ -125,20 +125,20 @@ module _ (site : Site) where
       is_first : IsFirst [] None [] table
       is_first = record { none = refl; unasked = refl; unchanged = refl; empty = creates.empty }
 
-      table_goes_on : (t m : Tale) → ShowsNothing site t → Leaves (MayTake site.at First first_mark table) u m → GoesOn site (IsThis identity) t m
+      table_goes_on : (t m : Tale) → ShowsNothing site t → Leaves (MayTake site.at First first_mark table) u m → GoesMaking site identity Anything t m
       table_goes_on t m none leaves log covers known = record {
         es = Issued identity ∷ Writing first_mark None [] table ∷ [];
         course = (not_firm site log t covers none, ((All-nil (λ v. IsBelow v.mark first_mark), inl is_first), tt));
-        come = record { tells = refl; issues = (refl, (tt, tt)); begins = tt };
+        come = record { tells = refl; issues = (refl, (tt, tt)); begins = inl (refl, tt) };
         stands = λ image is. (let from = leaves image is in in_table from.0 image from.1 from.2);
         after = tt;
       }
 
-      table_ends_on : (t v : Tale) → ShowsNothing site t → Leaves (Takes site.at First first_mark table) u v → GoesOnTo site (IsThis identity) (IsCreated site identity table) t v
+      table_ends_on : (t v : Tale) → ShowsNothing site t → Leaves (Takes site.at First first_mark table) u v → GoesMaking site identity (IsCreated site identity table) t v
       table_ends_on t v none leaves log covers known = record {
         es = Issued identity ∷ Writing first_mark None [] table ∷ Written ∷ [];
         course = (not_firm site log t covers none, ((All-nil (λ v. IsBelow v.mark first_mark), inl is_first), (tt, tt)));
-        come = record { tells = refl; issues = (refl, (tt, (tt, tt))); begins = tt };
+        come = record { tells = refl; issues = (refl, (tt, (tt, tt))); begins = inl (refl, tt) };
         stands = λ image is. (let from = leaves image is in replica made_head (made_agrees true from.0 image from.1 from.2));
         after = record {
           is = refl;

@@ -2,17 +2,26 @@
 use Rattle.std.proofs.Common.{◌≡◌, ◌⊎◌, inl, inr, true, false, List, [], ◌∷◌, ◌++◌, reverse, refl, sym, ◌∙◌, ap, subst, append_assoc, Option, Some, None, Contains, arith}
 use Rattle.std.proofs.lemmas.List.{append-nil, reverse-append}
 use Rattle.mdv_store_law.specs.Below.{Geometry, Mark, Change, Table}
-use Rattle.mdv_store_law.specs.Log.{Version, Log, Event, Issued, Writing, Written, Told, with_asked, answered, log_after, log_after_all, is_firm, IsFirst, IsNext, Extends, IsUntold, IsTellable, IsCourse, told_by, written_by, IsLog}
+use Rattle.mdv_store_law.specs.Log.{Version, Log, Event, Issued, Writing, Written, Told, with_asked, answered, log_after, log_after_all, is_firm, IsFirst, IsNext, Extends, IsUntold, IsTellable, IsCourse, asks_of, begun_by, told_by, IsLog}
 use Rattle.mdv_store_law.specs.Part.{IsPart}
 use Rattle.mdv_store_law.proofs.Families.{contains_first, contains_behind, contains_cases, written_firm}
 use Rattle.mdv_store_law.proofs.Logs.{is_log_after, newest_told}
 use Rattle.mdv_store_law.proofs.Parts.{part_itself, part_more}
 
--- the changes among what is told
+-- the changes among what is told, or begun
 abbrev pub changes_of : List (Option Change) → List Change
 changes_of [] = []
 changes_of (None ∷ told) = changes_of told
 changes_of (Some change ∷ told) = change ∷ changes_of told
+
+pub changes_more : (some more : List (Option Change)) → changes_of (some ++ more) ≡ changes_of some ++ changes_of more
+changes_more [] more = refl
+changes_more (None ∷ some) more = changes_more some more
+changes_more (Some change ∷ some) more = ap (λ (l : List Change). change ∷ l) (changes_more some more)
+
+changes_asked : (asked : Option Change) → changes_of (asks_of asked) ≡ with_asked asked []
+changes_asked None = refl
+changes_asked (Some change) = refl
 
 -- the oldest first, one change more stands at the end
 behind_all : (changes : List Change) (change : Change) → reverse (change ∷ changes) ≡ reverse changes ++ change ∷ []
@@ -58,13 +67,14 @@ module _ (g : Geometry) where
   ]
 
   -- so were those of each table of a log that went on by these events
-  pub all_written : (lg : Log) (es : List Event) (written : List Change) → AreWritten lg.family written → IsCourse g lg es → AreWritten (log_after_all lg es).family (written ++ written_by es)
+  pub all_written : (lg : Log) (es : List Event) (written : List Change) → AreWritten lg.family written → IsCourse g lg es → AreWritten (log_after_all lg es).family (written ++ changes_of (begun_by es))
   all_written lg [] written are course = subst (AreWritten lg.family) (sym (append-nil written)) are
   all_written lg (Issued identity ∷ es) written are course = all_written (log_after lg (Issued identity)) es written (λ v none. absurd (omega (arith, none.1))) course.1
   all_written lg (Writing mark asked before table ∷ es) written are course =
       let here = next_written lg.family written mark asked before table are course.0.1 in
       let there = all_written (log_after lg (Writing mark asked before table)) es (written ++ with_asked asked []) here course.1 in
-      let same : (written ++ with_asked asked []) ++ written_by es ≡ written ++ (with_asked asked [] ++ written_by es) = append_assoc written (with_asked asked []) (written_by es) in
+      let begun : with_asked asked [] ++ changes_of (begun_by es) ≡ changes_of (asks_of asked ++ begun_by es) = ap (λ (l : List Change). l ++ changes_of (begun_by es)) (sym (changes_asked asked)) ∙ sym (changes_more (asks_of asked) (begun_by es)) in
+      let same : (written ++ with_asked asked []) ++ changes_of (begun_by es) ≡ written ++ changes_of (asks_of asked ++ begun_by es) = append_assoc written (with_asked asked []) (changes_of (begun_by es)) ∙ ap (λ (l : List Change). written ++ l) begun in
       subst (AreWritten (log_after_all (log_after lg (Writing mark asked before table)) es).family) same there
   all_written lg (Written ∷ es) written are course = all_written (log_after lg Written) es written (written_answered lg.family written are) course.1
   all_written lg (Told asked ∷ es) written are course = all_written (log_after lg (Told asked)) es written are course.1

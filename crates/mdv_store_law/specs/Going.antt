@@ -1,9 +1,9 @@
 -- How a log goes on while a boot, a commit or a creation writes.
 use Rattle.std.specs.Prelude.{◌≡◌, ◌+◌, ◌<◌, ◌^◌, true, false, [], length, Option, Some, None}
 use Rattle.mdv_store_law.specs.Below.{Identity, Mark, record_text, Open, Head, Slot, First, IsSpareSlot, formatted_head, greatest, other_slot, with_slot, IsMaster, Image, Leaves, Formatting, IsFormatted, LiesAt, master_of, with_blocks, IsSynced, Tale, IsImage, last, Change, Table, IsSound}
-use Rattle.mdv_store_law.specs.Log.{Version, Log, IsLog, IsMade, IsTellable, IsThis, NoCreation, is_firm, with_asked}
+use Rattle.mdv_store_law.specs.Log.{Version, Log, IsLog, IsMade, IsTellable, NoCreation, asks_of, is_firm}
 use Rattle.mdv_store_law.specs.Site.{Site, sized, IsNewestOf, IsTableAt, Newest}
-use Rattle.mdv_store_law.specs.Standing.{IsOpened, IsNewestIn, Anything, GoesFrom, GoesOnTo, GoesOn, ShowsNothing, ShowsReplica, created_log}
+use Rattle.mdv_store_law.specs.Standing.{IsOpened, IsNewestIn, Anything, GoesFrom, GoesMaking, GoesOnTo, GoesOn, ShowsNothing, ShowsReplica, created_log}
 use Rattle.mdv_store_law.specs.Steps.{MayTake, Takes, Rewritten, Rewrites, IsTheReplica, IsAdopted, adopted_newest, next_newest}
 
 -- what a boot that adopts starts from: synced drives with this one replica, whose newest table isn't in the spare slot
@@ -19,11 +19,11 @@ drawn head = record { boot = greatest head + 1; count = 0 }
 
 pub record AdoptionsGo : Type 0 where
   -- while it writes
-  pub goes : (site : Site) (head : Head) (spare : Slot) (table : Table) (t m : Tale) → Adopts site head spare table t → Rewrites (sized site head) spare (drawn head) table t m → GoesOn site NoCreation t m
+  pub goes : (site : Site) (head : Head) (spare : Slot) (table : Table) (t m : Tale) → Adopts site head spare table t → Rewrites (sized site head) spare (drawn head) table t m → GoesOn site t m
   -- in the end
   pub adopts : (site : Site) (head : Head) (spare : Slot) (table : Table) (t u : Tale) → Adopts site head spare table t → Leaves (Rewritten (sized site head) spare (drawn head) table) t u → IsAdopted site (last t site.at.drive.0) (adopted_newest head spare table) u
   pub opens : (site : Site) (head : Head) (spare : Slot) (table : Table) (t u : Tale) → Adopts site head spare table t → Leaves (Rewritten (sized site head) spare (drawn head) table) t u → IsOpened site (adopted_newest head spare table) u
-  pub ends : (site : Site) (head : Head) (spare : Slot) (table : Table) (t u : Tale) → Adopts site head spare table t → Leaves (Rewritten (sized site head) spare (drawn head) table) t u → GoesOnTo site NoCreation (IsNewestIn (adopted_newest head spare table)) t u
+  pub ends : (site : Site) (head : Head) (spare : Slot) (table : Table) (t u : Tale) → Adopts site head spare table t → Leaves (Rewritten (sized site head) spare (drawn head) table) t u → GoesOnTo site (IsNewestIn (adopted_newest head spare table)) t u
 
 -- what a commit starts from: an open database, and a table that a change makes of its newest one
 pub record Commits (site : Site) (newest : Newest) (asked : Option Change) (table : Table) (t : Tale) : Type 0 where
@@ -45,13 +45,13 @@ pub record IsWithNewest (site : Site) (newest : Newest) (log : Log) : Type 0 whe
 pub record CommitsGo : Type 0 where
   -- while it writes
   pub goes : (site : Site) (newest : Newest) (asked : Option Change) (table : Table) (t m : Tale) → Commits site newest asked table t
-      → Leaves (MayTake (with_blocks site.at newest.blocks) (other_slot newest.slot) (next_mark newest) table) t m → GoesFrom site (IsWithNewest site newest) NoCreation (with_asked asked []) Anything t m
+      → Leaves (MayTake (with_blocks site.at newest.blocks) (other_slot newest.slot) (next_mark newest) table) t m → GoesFrom site (IsWithNewest site newest) NoCreation (asks_of asked) Anything t m
   -- in the end
   pub opens : (site : Site) (newest : Newest) (asked : Option Change) (table : Table) (t u : Tale) → Commits site newest asked table t
       → Leaves (Takes (with_blocks site.at newest.blocks) (other_slot newest.slot) (next_mark newest) table) t u → IsOpened site (next_newest newest table) u
   pub ends : (site : Site) (newest : Newest) (asked : Option Change) (table : Table) (t u : Tale) → Commits site newest asked table t
       → Leaves (Takes (with_blocks site.at newest.blocks) (other_slot newest.slot) (next_mark newest) table) t u
-      → GoesFrom site (IsWithNewest site newest) NoCreation (with_asked asked []) (λ log. IsNewestIn (next_newest newest table) log × ((change : Change) → asked ≡ Some change → IsTellable log asked)) t u
+      → GoesFrom site (IsWithNewest site newest) NoCreation (asks_of asked) (λ log. IsNewestIn (next_newest newest table) log × ((change : Change) → asked ≡ Some change → IsTellable log asked)) t u
 
 -- what a creation starts from, once nothing is there: a first table, which names the place, for a replica of the whole place
 pub record Creates (site : Site) (identity : Identity) (table : Table) : Type 0 where
@@ -82,12 +82,12 @@ pub record IsCreated (site : Site) (identity : Identity) (table : Table) (log : 
 pub record CreationsGo : Type 0 where
   -- while the place is formatted
   pub nothing : (site : Site) (identity : Identity) (t m : Tale) → ShowsNothing site t → Formatting site.at (master_of site.at site.key identity) 1 t m → ShowsNothing site m
-  pub begins : (site : Site) (identity : Identity) (t m : Tale) → ShowsNothing site t → Formatting site.at (master_of site.at site.key identity) 1 t m → GoesOn site (IsThis identity) t m
+  pub begins : (site : Site) (identity : Identity) (t m : Tale) → ShowsNothing site t → Formatting site.at (master_of site.at site.key identity) 1 t m → GoesMaking site identity Anything t m
   -- where that fails
-  pub fails : (site : Site) (identity : Identity) (t m : Tale) → ShowsNothing site t → Formatting site.at (master_of site.at site.key identity) 1 t m → GoesOnTo site (IsThis identity) (λ log. is_firm log ≡ false) t m
+  pub fails : (site : Site) (identity : Identity) (t m : Tale) → ShowsNothing site t → Formatting site.at (master_of site.at site.key identity) 1 t m → GoesMaking site identity (λ log. is_firm log ≡ false) t m
   -- while the table is written
   pub goes : (site : Site) (identity : Identity) (table : Table) (t u m : Tale) → Creates site identity table → ShowsNothing site t → IsFormatted site.at (master_of site.at site.key identity) 1 u
-      → Leaves (MayTake site.at First first_mark table) u m → GoesOn site (IsThis identity) t m
+      → Leaves (MayTake site.at First first_mark table) u m → GoesMaking site identity Anything t m
   -- the replica is there from then on, whether the table is written or not
   pub formatted : (site : Site) (identity : Identity) (table : Table) (u m : Tale) → Creates site identity table → IsFormatted site.at (master_of site.at site.key identity) 1 u
       → Leaves (MayTake site.at First first_mark table) u m → ShowsReplica site identity m
@@ -97,4 +97,4 @@ pub record CreationsGo : Type 0 where
   pub opens : (site : Site) (identity : Identity) (table : Table) (u v : Tale) → Creates site identity table → IsFormatted site.at (master_of site.at site.key identity) 1 u
       → Leaves (Takes site.at First first_mark table) u v → IsOpened site (created_newest site table) v
   pub ends : (site : Site) (identity : Identity) (table : Table) (t u v : Tale) → Creates site identity table → ShowsNothing site t → IsFormatted site.at (master_of site.at site.key identity) 1 u
-      → Leaves (Takes site.at First first_mark table) u v → GoesOnTo site (IsThis identity) (IsCreated site identity table) t v
+      → Leaves (Takes site.at First first_mark table) u v → GoesMaking site identity (IsCreated site identity table) t v

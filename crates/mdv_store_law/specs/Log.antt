@@ -132,15 +132,20 @@ tells (Told asked) = asked ∷ []
 abbrev pub told_by : List Event → List (Option Change)
 told_by = all_of tells
 
--- the change that an event begins to write
-abbrev pub begins : Event → List Change
-begins (Issued identity) = []
-begins (Writing mark asked before table) = with_asked asked []
+-- what a table asks that comes by this change, or by none
+abbrev pub asks_of : Option Change → List (Option Change)
+asks_of None = []
+asks_of (Some change) = Some change ∷ []
+
+-- what an event begins: a creation, or a change
+abbrev pub begins : Event → List (Option Change)
+begins (Issued identity) = None ∷ []
+begins (Writing mark asked before table) = asks_of asked
 begins Written = []
 begins (Told asked) = []
 
-abbrev pub written_by : List Event → List Change
-written_by = all_of begins
+abbrev pub begun_by : List Event → List (Option Change)
+begun_by = all_of begins
 
 -- a creation that an event issues is such a one
 abbrev pub IsIssue : (Identity → Type 0) → Event → Type 0
@@ -149,8 +154,8 @@ IsIssue Which (Writing mark asked before table) = Unit {0}
 IsIssue Which Written = Unit {0}
 IsIssue Which (Told asked) = Unit {0}
 
--- The events tell these; they issue only such creations, and begin to write only changes that are asked, in their order and each once.
-abbrev pub Adds : (Identity → Type 0) → List Change → List (Option Change) → List Event → Type 0
+-- The events tell these; they begin only what is asked, creations and changes, in that order and each once; and each creation is such a one.
+abbrev pub Adds : (Identity → Type 0) → List (Option Change) → List (Option Change) → List Event → Type 0
 Adds Which = machine.Adds tells begins (IsIssue Which)
 
 abbrev pub NoCreation : Identity → Type 0

@@ -1,7 +1,7 @@
 -- What a crash may leave of a database with one place, told by its log.
-use Rattle.std.specs.Prelude.{◌≡◌, ◌⊎◌, ℕ, ◌≤◌, true, false, List, [], ◌∷◌, Some, None, All, Contains}
+use Rattle.std.specs.Prelude.{◌≡◌, ◌⊎◌, ℕ, ◌≤◌, true, false, List, [], ◌∷◌, Option, Some, None, All, Contains}
 use Rattle.mdv_store_law.specs.Below.{IsBelow, Identity, Mark, record_text, Gate, Closed, Open, Head, Slot, First, Second, greatest, shows, text_of, Image, Tale, IsImage, Change}
-use Rattle.mdv_store_law.specs.Log.{Version, Log, Adds, IsLog, MayHappen, is_firm, log_after}
+use Rattle.mdv_store_law.specs.Log.{Version, Log, Adds, IsLog, IsThis, MayHappen, NoCreation, is_firm, log_after}
 use Rattle.mdv_store_law.specs.Machine as machine
 use Rattle.mdv_store_law.specs.Site.{Site, sized, IsTableAt, IsReplica, IsFound, Newest, IsNewestOf}
 
@@ -83,17 +83,21 @@ abbrev pub Anything : Log → Type 0
 Anything log = Unit {0}
 
 -- A log that the drives stood with, and of which so much was known, goes on, with nothing told and only such creations
--- and these changes issued, to one that they stand with, of which more is known.
-abbrev pub GoesFrom : Site → (Log → Type 0) → (Identity → Type 0) → List Change → (Log → Type 0) → Tale → Tale → Type 0
+-- and changes begun as are asked, to one that they stand with, of which more is known.
+abbrev pub GoesFrom : Site → (Log → Type 0) → (Identity → Type 0) → List (Option Change) → (Log → Type 0) → Tale → Tale → Type 0
 GoesFrom site Known Which asks After t m =
     (log : Log) → Covers site log t → Known log → machine.Goes log_after (MayHappen site.drives) (Adds Which asks []) (λ next. Covers site next m) (λ es next. After next) log
 
--- the same of a log of which nothing is known, where no change is asked
-abbrev pub GoesOnTo : Site → (Identity → Type 0) → (Log → Type 0) → Tale → Tale → Type 0
-GoesOnTo site Which After t m = GoesFrom site Anything Which [] After t m
+-- the same of a log of which nothing is known, where nothing is asked
+abbrev pub GoesOnTo : Site → (Log → Type 0) → Tale → Tale → Type 0
+GoesOnTo site After t m = GoesFrom site Anything NoCreation [] After t m
 
-abbrev pub GoesOn : Site → (Identity → Type 0) → Tale → Tale → Type 0
-GoesOn site Which t m = GoesOnTo site Which Anything t m
+abbrev pub GoesOn : Site → Tale → Tale → Type 0
+GoesOn site t m = GoesOnTo site Anything t m
+
+-- and where the creation of this database is asked
+abbrev pub GoesMaking : Site → Identity → (Log → Type 0) → Tale → Tale → Type 0
+GoesMaking site identity After t m = GoesFrom site Anything (IsThis identity) (None ∷ []) After t m
 
 -- the log of a database that was made with this table and not yet told
 abbrev pub created_log : Identity → Version → Log

@@ -1,6 +1,6 @@
 use Rattle.std.proofs.Common.{◌≡◌, ◌∙◌, ◌+◌, ◌≤◌, List, ℕ, Bool, false, Option, Some, None, Err, refl, sym, ap, subst, arith, rules}
 use Rattle.mdv_engine_law.specs.Line.{ToDo}
-use Rattle.mdv_engine.specs.Below.{SliceName, Create, Rose, Local, IoFault, OutOfMemory, OnDrive, Ends, Moments, Tale, place_of, PlaceAt, IsPlaceOf, Geometry, IsCreated, Log, IsThis, is_firm, Site, Newest, Anything, GoesOnTo, IsOpened, ShowsNothing, Created, IsQuiet, IsSafe, first_newest, Answer, IsReady, identity_of, Memory, CameTo, IsAllowed, kept_at, CarriedTo, CarryMoment, Knows}
+use Rattle.mdv_engine.specs.Below.{SliceName, Create, Rose, Local, IoFault, OutOfMemory, OnDrive, Ends, Moments, Tale, place_of, PlaceAt, IsPlaceOf, Geometry, IsCreated, Log, is_firm, Site, Newest, Anything, GoesMaking, IsOpened, ShowsNothing, Created, IsQuiet, IsSafe, first_newest, Answer, IsReady, identity_of, Memory, CameTo, IsAllowed, kept_at, CarriedTo, CarryMoment, Knows}
 use Rattle.mdv_database.specs.Database as database
 use Rattle.mdv_store_law.specs.Standing.{ShowsReplica}
 use Rattle.mdv_engine_law.specs.Answers.{accepted, refusing}
@@ -48,7 +48,7 @@ module _ (sizes : List ℕ) (e v : Engine) (is : e ≡ v) (readied : IsReady v.h
   site drives = database.site_of drives (Local e.host.home.host) at sizes
 
   abbrev Goes : (Site → Log → Type 0) → Geometry → Tale → Tale → Type 0
-  Goes After drives t m = ShowsNothing (site drives) t → GoesOnTo (site drives) (IsThis (identity_of e.host e.state.begun)) (After (site drives)) t m
+  Goes After drives t m = ShowsNothing (site drives) t → GoesMaking (site drives) (identity_of e.host e.state.begun) (After (site drives)) t m
 
   -- so on each table of drives that has the place
   abbrev OnEach : (Geometry → Type 0) → Type 0
