@@ -1,6 +1,6 @@
 -- The database of one place: what a boot finds and leaves, and what a creation and a commit leave.
 use Rattle.std.specs.Prelude.{◌≡◌, ℕ, ◌+◌, ◌≤◌, ◌<◌, ◌^◌, true, false, List, [], ◌∷◌, length, slice_index_or, Option, Some, None, Result, Ok, Err}
-use Rattle.mdv_database.specs.Below.{Identity, Key, Place, Geometry, record_text, PlaceAt, Head, First, Second, IsSpareSlot, greatest, other_slot, room_of, shows, Image, IsFormed, IsPlaced, slot_blocks, with_blocks, range, KeptOutside, nowhere, IsSynced, Tale, IsImage, last, told, Change, One, Table, IsSound, IsCreated, created_head, first_mark, Log, IsMade, IsTellable, is_firm, Site, IsFound, IsNewestOf, IsReplica, IsTableAt, Newest, IsNewestIn, IsOpened, IsTheReplica, adopted_newest, next_newest}
+use Rattle.mdv_database.specs.Below.{Identity, Key, Place, Geometry, record_text, PlaceAt, Head, First, Second, IsSpareSlot, greatest, other_slot, room_of, shows, Image, IsFormed, IsPlaced, slot_blocks, with_blocks, range, KeptOutside, nowhere, IsSynced, Tale, IsImage, last, told, Change, One, Table, IsSound, IsCreated, created_head, first_mark, Log, IsMade, IsNewestTellable, is_firm, Site, IsFound, IsNewestOf, IsReplica, IsTableAt, Newest, IsNewestIn, IsOpened, IsTheReplica, adopted_newest, next_newest}
 use Rattle.mdv_store_law.specs.Adoptable.{IsAdoptable}
 use Rattle.mdv_database.specs.declared.database.BootEnd.{BootEnd}
 use Rattle.mdv_database.specs.declared.database.BootEnd.TheVariants as end
@@ -143,4 +143,4 @@ pub record MayCommit (site : Site) (newest : Newest) (asked : Option Change) (ne
 -- what is known of the log after a commit: its newest table is the next one, and the `ok` of its change may be told
 pub record IsCommitted (newest : Newest) (asked : Option Change) (next : Table) (log : Log) : Type 0 where
   pub is_newest : IsNewestIn (next_newest newest next) log
-  pub tellable : (change : Change) → asked ≡ Some change → IsTellable log asked
+  pub tellable : (change : Change) → asked ≡ Some change → IsNewestTellable log asked

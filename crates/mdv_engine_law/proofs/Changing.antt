@@ -1,6 +1,6 @@
 -- What a commit of a change leaves of a host's history.
 use Rattle.std.proofs.Common.{◌≡◌, ℕ, List, [], ◌∷◌, Some, refl}
-use Rattle.mdv_engine_law.specs.Below.{KeptOutside, Tale, told, Change, Table, IsWithNewest, Log, IsTellable, NoCreation, Newest, area_of, IsOpened, IsNewestIn, Anything, GoesFrom, next_newest, History, Changed, Event}
+use Rattle.mdv_engine_law.specs.Below.{KeptOutside, Tale, told, Change, Table, IsWithNewest, Log, IsNewestTellable, NoCreation, Newest, area_of, IsOpened, IsNewestIn, Anything, GoesFrom, next_newest, History, Changed, Event}
 use Rattle.mdv_engine_law.specs.declared.answer.Answer.TheVariants.{Said, Over}
 use Rattle.mdv_engine_law.specs.declared.answer.Ended.TheVariants as ended
 use Rattle.mdv_engine_law.specs.declared.answer.Outcome.TheVariants as outcome
@@ -16,7 +16,7 @@ use Rattle.mdv_engine_law.proofs.Staying.{stays_in_replica}
 
 -- the newest table of the log is the next one, and the `ok` of its change may be told
 abbrev pub IsCommittedTo : Newest → Change → Table → Log → Type 0
-IsCommittedTo newest change table lg = IsNewestIn (next_newest newest table) lg × ((other : Change) → Some change ≡ Some other → IsTellable lg (Some change))
+IsCommittedTo newest change table lg = IsNewestIn (next_newest newest table) lg × ((other : Change) → Some change ≡ Some other → IsNewestTellable lg (Some change))
 
 -- how the log goes on from an open database by this change
 abbrev pub Commits : Host → Newest → Change → (Log → Type 0) → Tale → Tale → Type 0

@@ -1,11 +1,11 @@
 -- Telling a deed is one event, which leaves the tables of the database as they are: what was known is known.
 use Rattle.std.proofs.Common.{◌≡◌, ◌+◌, List, [], ◌∷◌, Option, Some, None, refl}
-use Rattle.mdv_engine_law.specs.Below.{KeptOutside, nowhere, Tale, Change, IsTellable, Site, History, Deed, Created, Changed, Wrote, Saw, Event, Extent, OfDatabase, Acknowledges, Shows, MayHappen, IsIssue, history_after, told_by, CanTell, Stands}
-use Rattle.mdv_history.specs.History.{issued_by}
+use Rattle.mdv_engine_law.specs.Below.{KeptOutside, nowhere, Tale, Change, IsNewestTellable, Site, History, Deed, Created, Changed, Wrote, Saw, Event, Extent, OfDatabase, Acknowledges, Shows, MayHappen, IsIssue, history_after, told_by, CanTell, Stands}
+use Rattle.mdv_history.specs.History.{issued_by, told_of}
 use Rattle.mdv_shelf.proofs.Frame.{fixed_kept}
 use Rattle.mdv_store_law.specs.Log as log
 use Rattle.mdv_store_law.specs.Part.{IsPart}
-use Rattle.mdv_store_law.proofs.Logs.{courses_are_logs, told_covers}
+use Rattle.mdv_history.proofs.Deeds.{one_told, told_stands}
 use Rattle.mdv_history.proofs.Values.{values_settled}
 use Rattle.mdv_engine_law.specs.declared.host.Host.{Host}
 use Rattle.mdv_engine_law.specs.Home.{site_of}
@@ -24,15 +24,6 @@ module _ (host : Host) (memory : Memory) (u v : Tale) (kept : KeptOutside nowher
   here : Stands (site_of host) h v
   here = (stands_kept host u v kept h known.stands).stands
 
-  asked_stands : (asked : Option Change) → IsTellable h.database asked → Stands (site_of host) (history_after h (OfDatabase (log.Told asked))) v
-  asked_stands asked can = record {
-    database = record {
-      is_log = courses_are_logs site h.database (log.Told asked ∷ []) here.database.is_log (can, tt);
-      covers = told_covers site h.database asked v here.database.covers;
-    };
-    values = here.values;
-  }
-
   tells : (deed : Deed) (e : Event) → MayHappen (site_of host) h e → told_by (e ∷ []) ≡ deed ∷ [] → IsIssue (IsOfRun host) e → IsPart (issued_by (e ∷ [])) [] → Stands (site_of host) (history_after h e) v
       → (history_after h e).database.family ≡ h.database.family → Goes host [] (deed ∷ []) Known v h
   tells deed e may told issue begins stands same =
@@ -45,9 +36,13 @@ module _ (host : Host) (memory : Memory) (u v : Tale) (kept : KeptOutside nowher
         after = known_on host memory h (history_after h e) v standing same (known_kept host u v kept memory h known);
       }
 
+  newest_told : (asked : Option Change) → IsNewestTellable h.database asked → Goes host [] (told_of asked ∷ []) Known v h
+  newest_told asked can =
+      tells (told_of asked) (OfDatabase (log.Told (log.with_asked asked []) can.before)) can.may (one_told asked can.before) tt tt (told_stands site h (log.with_asked asked []) can.before v here can.may) refl
+
   told_one : (deed : Deed) → CanTell (site_of host) deed h u → Goes host [] (deed ∷ []) Known v h
-  told_one Created can = tells Created (OfDatabase (log.Told None)) can refl tt tt (asked_stands None can) refl
-  told_one (Changed change) can = tells (Changed change) (OfDatabase (log.Told (Some change))) can refl tt tt (asked_stands (Some change) can) refl
+  told_one Created can = newest_told None can
+  told_one (Changed change) can = newest_told (Some change) can
   told_one (Wrote volume at blocks) can =
       let extent : Extent = record { volume = volume; at = at; block = can.0 } in
       let fixed = fixed_kept site.at.drive.0 can.0 blocks u v (λ k lt. kept site.at.drive.0 (can.0 + k) refl) can.3 in

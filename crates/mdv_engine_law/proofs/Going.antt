@@ -5,7 +5,6 @@ use Rattle.mdv_store_law.specs.Log as log
 use Rattle.mdv_store_law.specs.Part.{IsPart}
 use Rattle.mdv_history.specs.Standing as history
 use Rattle.mdv_history.specs.History.{begins, tells}
-use Rattle.mdv_store_law.specs.Machine as machine
 use Rattle.mdv_store_law.specs.Machine.{AreAll}
 use Rattle.mdv_store_law.proofs.Machine.{adds_more, adds_weaker}
 use Rattle.mdv_store_law.proofs.Machine.{goes_more as machine_more, goes_weaker as machine_weaker}
@@ -23,7 +22,7 @@ module _ (host : Host) where
   room_next h (OfDatabase (log.Issued identity)) is room = is.room
   room_next h (OfDatabase (log.Writing mark asked before table)) is room = room
   room_next h (OfDatabase log.Written) is room = room
-  room_next h (OfDatabase (log.Told asked)) is room = room
+  room_next h (OfDatabase (log.Told which before)) is room = room
   room_next h (Issues extent blocks) is room = room
   room_next h (Acknowledges extent blocks) is room = room
   room_next h (Shows extent blocks) is room = room
@@ -39,7 +38,7 @@ issue_weaker : (Which Any : Identity → Type 0) → ((identity : Identity) → 
 issue_weaker Which Any wider (OfDatabase (log.Issued identity)) is = wider identity is
 issue_weaker Which Any wider (OfDatabase (log.Writing mark asked before table)) is = is
 issue_weaker Which Any wider (OfDatabase log.Written) is = is
-issue_weaker Which Any wider (OfDatabase (log.Told asked)) is = is
+issue_weaker Which Any wider (OfDatabase (log.Told which before)) is = is
 issue_weaker Which Any wider (Issues extent blocks) is = is
 issue_weaker Which Any wider (Acknowledges extent blocks) is = is
 issue_weaker Which Any wider (Shows extent blocks) is = is

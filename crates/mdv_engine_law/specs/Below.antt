@@ -39,7 +39,7 @@ pub use Rattle.mdv_shelf.specs.Tale.{Among, Gave, IsImage, Tale, Then, covers, l
 pub use Rattle.mdv_status.specs.Telling.{Said, lacks, left_in, one_reply, refused, replies_in, said_in, unsaid, with_reply}
 pub use Rattle.mdv_status.specs.Values.{block_text, values_reply}
 pub use Rattle.mdv_store_law.specs.Going.{IsCreated, IsWithNewest, created_head, created_newest}
-pub use Rattle.mdv_store_law.specs.Log.{IsMade, IsTellable, IsThis, Log, NoCreation, Version, is_firm}
+pub use Rattle.mdv_store_law.specs.Log.{IsMade, IsNewestTellable, IsThis, Log, NoCreation, Version, is_firm}
 pub use Rattle.mdv_store_law.specs.Site.{HasTable, IsFound, IsNewestOf, IsRecordAt, IsReplica, IsTableAt, Newest, Site, area_of, sized}
 pub use Rattle.mdv_store_law.specs.Standing.{Anything, GoesFrom, GoesMaking, GoesOn, GoesOnTo, IsNewestIn, IsOpened, ShowsNothing, nothing, replica}
 pub use Rattle.mdv_store_law.specs.Steps.{IsAdopted, IsTheReplica, adopted_newest, next_newest, rewritten}

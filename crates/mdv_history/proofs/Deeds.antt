@@ -1,26 +1,40 @@
 -- Deeds: an `ok` is told, blocks of a volume are written, a boot reads the drive.
-use Rattle.std.proofs.Common.{inl, ℕ, ◌+◌, List, [], ◌∷◌, length, Option, Some, None, refl}
-use Rattle.mdv_history.specs.Below.{KeptOutside, nowhere, range, Settling, IsFixed, Tale, last, Change, IsTellable, NoCreation, Site}
+use Rattle.std.proofs.Common.{◌≡◌, inl, ℕ, ◌+◌, List, [], ◌∷◌, length, Option, Some, None, refl}
+use Rattle.mdv_history.specs.Below.{KeptOutside, nowhere, range, Settling, IsFixed, Tale, last, Change, IsNewestTellable, IsTellable, NoCreation, with_asked, Site}
 use Rattle.mdv_shelf.proofs.Blocks.{last_may_be_left}
 use Rattle.mdv_shelf.proofs.Frame.{fixed_kept, fixed_settled}
 use Rattle.mdv_store_law.specs.Log as log
 use Rattle.mdv_store_law.proofs.Frame.{frames}
 use Rattle.mdv_store_law.proofs.Logs.{courses_are_logs, told_covers}
 use Rattle.mdv_store_law.proofs.Parts.{part_itself}
-use Rattle.mdv_history.specs.History.{History, Created, Changed, Wrote, Saw, Event, Extent, OfDatabase, Issues, Acknowledges, Shows, Woke, HasExtent, history_after}
+use Rattle.mdv_history.specs.History.{History, Created, Changed, Wrote, Saw, Event, Extent, OfDatabase, Issues, Acknowledges, Shows, Woke, HasExtent, history_after, told_by, told_of}
 use Rattle.mdv_history.specs.Laws.{CanTell, TellsGo, WritesGo, Wakes}
 use Rattle.mdv_history.specs.Standing.{Stands, Goes, Reached}
 use Rattle.mdv_history.proofs.Going.{stays_standing}
 use Rattle.mdv_history.proofs.Values.{values_issued, values_settled, issued_newest}
 
--- what came to the newest table is told
-told_stands : (site : Site) (history : History) (asked : Option Change) (m : Tale) → Stands site history m → IsTellable history.database asked → Stands site (history_after history (OfDatabase (log.Told asked))) m
-told_stands site history asked m stands can = record {
+-- changes that may be told are told
+pub told_stands : (site : Site) (history : History) (which before : List Change) (m : Tale) → Stands site history m → IsTellable history.database which before → Stands site (history_after history (OfDatabase (log.Told which before))) m
+told_stands site history which before m stands can = record {
   database = record {
-    is_log = courses_are_logs site history.database (log.Told asked ∷ []) stands.database.is_log (can, tt);
-    covers = told_covers site history.database asked m stands.database.covers;
+    is_log = courses_are_logs site history.database (log.Told which before ∷ []) stands.database.is_log (can, tt);
+    covers = told_covers site history.database which before m stands.database.covers;
   };
   values = stands.values;
+}
+
+-- what came to the newest table is one deed
+pub one_told : (asked : Option Change) (before : List Change) → told_by (OfDatabase (log.Told (with_asked asked []) before) ∷ []) ≡ told_of asked ∷ []
+one_told None before = refl
+one_told (Some change) before = refl
+
+told_goes : (site : Site) (asked : Option Change) (t m : Tale) → KeptOutside nowhere t m → Goes site (λ history. IsNewestTellable history.database asked) NoCreation [] (told_of asked ∷ []) Reached t m
+told_goes site asked t m kept history stands can = record {
+  es = OfDatabase (log.Told (with_asked asked []) can.before) ∷ [];
+  course = (can.may, tt);
+  come = record { tells = one_told asked can.before; issues = (tt, tt); begins = tt };
+  stands = told_stands site history (with_asked asked []) can.before m (stays_standing site history t m kept stands) can.may;
+  after = tt;
 }
 
 -- so is a write of blocks that are on the disk
@@ -33,20 +47,8 @@ wrote_stands site history extent blocks t m kept fixed stands =
     }
 
 pub tells_go : TellsGo
-tells_go site Created t m kept history stands can = record {
-  es = OfDatabase (log.Told None) ∷ [];
-  course = (can, tt);
-  come = record { tells = refl; issues = (tt, tt); begins = tt };
-  stands = told_stands site history None m (stays_standing site history t m kept stands) can;
-  after = tt;
-}
-tells_go site (Changed change) t m kept history stands can = record {
-  es = OfDatabase (log.Told (Some change)) ∷ [];
-  course = (can, tt);
-  come = record { tells = refl; issues = (tt, tt); begins = tt };
-  stands = told_stands site history (Some change) m (stays_standing site history t m kept stands) can;
-  after = tt;
-}
+tells_go site Created t m kept history stands can = told_goes site None t m kept history stands can
+tells_go site (Changed change) t m kept history stands can = told_goes site (Some change) t m kept history stands can
 tells_go site (Wrote volume at blocks) t m kept history stands can =
     let extent : Extent = record { volume = volume; at = at; block = can.0 } in record {
       es = Acknowledges extent blocks ∷ [];

@@ -9,7 +9,7 @@ pub use Rattle.mdv_shelf.specs.Area.{AreApart, KeptOutside, nowhere, range}
 pub use Rattle.mdv_shelf.specs.Settle.{IsFixed, IsSettled, IsSynced, Settling}
 pub use Rattle.mdv_shelf.specs.Tale.{Among, IsImage, MayLeave, Tale, covers, last, values}
 pub use Rattle.mdv_store_law.specs.Laws.{restarted}
-pub use Rattle.mdv_store_law.specs.Log.{IsTellable, Log, NoCreation, Version}
+pub use Rattle.mdv_store_law.specs.Log.{IsNewestTellable, IsTellable, Log, NoCreation, Version, with_asked}
 pub use Rattle.mdv_store_law.specs.Site.{Site, area_of}
 pub use Rattle.mdv_table.specs.Volumes.{HasVolume}
 pub use Rattle.mdv_table.specs.declared.change.Change.{Change}

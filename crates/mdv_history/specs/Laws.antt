@@ -1,6 +1,6 @@
 -- Laws of histories: over crashes and new drives, over what is done to the database and to blocks of volumes, and over boots.
 use Rattle.std.specs.Prelude.{◌≡◌, ℕ, false, List, [], ◌∷◌, length, Some, None}
-use Rattle.mdv_history.specs.Below.{Image, KeptOutside, nowhere, Settling, IsSettled, IsFixed, IsSynced, Tale, Among, last, IsImage, restarted, IsTellable, NoCreation, Site, area_of}
+use Rattle.mdv_history.specs.Below.{Image, KeptOutside, nowhere, Settling, IsSettled, IsFixed, IsSynced, Tale, Among, last, IsImage, restarted, IsNewestTellable, NoCreation, Site, area_of}
 use Rattle.mdv_store_law.specs.Site.{IsFound}
 use Rattle.mdv_store_law.specs.Log as log
 use Rattle.mdv_history.specs.History.{History, Deed, Created, Changed, Wrote, Saw, Extent, HasExtent, HasWoken, AreAllowed, AreNewest}
@@ -29,8 +29,8 @@ StaysStanding = (site : Site) (history : History) (t m : Tale) → KeptOutside n
 -- What an `ok` may tell of a history: the creation or the change that came to its newest table; a write of blocks of a volume
 -- that are on the disk, and whose values are the last that were issued; values that blocks of a volume may have.
 abbrev pub CanTell : Site → Deed → History → Tale → Type 0
-CanTell site Created history t = IsTellable history.database None
-CanTell site (Changed change) history t = IsTellable history.database (Some change)
+CanTell site Created history t = IsNewestTellable history.database None
+CanTell site (Changed change) history t = IsNewestTellable history.database (Some change)
 CanTell site (Wrote volume at blocks) history t =
     (block : ℕ) × HasExtent site history (record { volume = volume; at = at; block = block }) (length blocks) × AreNewest history.allowed block blocks × IsFixed site.at.drive.0 block blocks t
 CanTell site (Saw volume at blocks) history t =

@@ -40,7 +40,7 @@ log_stays host number g lg (log.Writing mark asked before table ∷ es) course o
     firm_begun : (family : List Version) → list_any (λ v. v.is_written) family ≡ true → list_any (λ v. v.is_written) (record { mark = mark; table = table; changes = log.with_asked asked before; is_written = false } ∷ family) ≡ true
     firm_begun family is = is
 log_stays host number g lg (log.Written ∷ es) course ours = log_stays host number g (log.log_after lg log.Written) es course.1 (record { issued = ours.issued; firm = firm_answered lg.family ours.firm })
-log_stays host number g lg (log.Told asked ∷ es) course ours = log_stays host number g (log.log_after lg (log.Told asked)) es course.1 (record { issued = ours.issued; firm = ours.firm })
+log_stays host number g lg (log.Told which before ∷ es) course ours = log_stays host number g (log.log_after lg (log.Told which before)) es course.1 (record { issued = ours.issued; firm = ours.firm })
 
 pub ours_stays : (host : Host) (number : ℕ) (h : History) (es : List Event) → IsCourse (site_of host) h es → IsOurs host number h.database → IsOurs host number (history_after_all h es).database
 ours_stays host number h es course ours =

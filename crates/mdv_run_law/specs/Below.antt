@@ -50,7 +50,7 @@ pub use Rattle.mdv_shelf.specs.Tale.{Among, IsImage, MayLeave, Tale, covers, las
 pub use Rattle.mdv_status.specs.Telling.{Said, left_in, one_reply, replies_in, said_in, unsaid}
 pub use Rattle.mdv_status.specs.Values.{values_reply}
 pub use Rattle.mdv_store_law.specs.Laws.{restarted}
-pub use Rattle.mdv_store_law.specs.Log.{AreMade, Extends, IsLog, IsTellable, Log, Version, answered, empty_log, is_firm, with_asked}
+pub use Rattle.mdv_store_law.specs.Log.{AreMade, Extends, IsLog, Log, Version, answered, empty_log, is_firm, with_asked}
 pub use Rattle.mdv_store_law.specs.Site.{HasTable, IsFound, IsNewestOf, IsReplica, Newest, Site, area_of, sized}
 pub use Rattle.mdv_store_law.specs.Standing.{IsNewestIn, IsOpened, nothing, replica}
 pub use Rattle.mdv_store_law.specs.Steps.{adopted_newest, next_newest}

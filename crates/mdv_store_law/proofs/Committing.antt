@@ -4,7 +4,7 @@ use Rattle.std.proofs.lemmas.List.Elements.{All-cons, All-weaker}
 use Rattle.std.specs.Prelude.{Contains}
 use Rattle.mdv_store_law.specs.Below.{IsBelow, Mark, record_text, Gate, Closed, Open, Head, Slot, First, Second, shows, IsNewest, IsNewestGate, IsSpare, IsSpareSlot, gate_of, other_slot, with_slot, IsMark, Image, Leaves, with_blocks, Tale, IsImage, last, Change, Table}
 use Rattle.mdv_store_law.specs.Going.{Commits, CommitsGo, IsWithNewest, next_mark}
-use Rattle.mdv_store_law.specs.Log.{Version, Log, Writing, Written, IsAbove, IsMade, IsNext, IsNotOlder, IsRising, IsTellable, asks_of, with_asked, NoCreation}
+use Rattle.mdv_store_law.specs.Log.{Version, Log, Writing, Written, IsAbove, IsMade, IsNext, IsNotOlder, IsRising, IsNewestTellable, asks_of, with_asked, NoCreation}
 use Rattle.mdv_store_law.specs.Site.{Site, sized, IsTableAt, Newest, IsNewestOf}
 use Rattle.mdv_store_law.specs.Standing.{Agrees, Covers, IsNewestIn, Anything, GoesFrom}
 use Rattle.mdv_store_law.specs.Steps.{MayTake, Takes, next_newest}
@@ -142,9 +142,9 @@ module _ (site : Site) (newest : Newest) (asked : Option Change) (table : Table)
         taken_holds site log head slot spare mark asked parent.changes table marked placed claimed claim_greatest before.0 image (agrees_at before.0 before.1) true (takes_here before.0 image before.2)
 
     -- its `ok` may be told
-    may_tell : (change : Change) → asked ≡ Some change → IsTellable (next_log log mark asked parent.changes table true) asked
+    may_tell : (change : Change) → asked ≡ Some change → IsNewestTellable (next_log log mark asked parent.changes table true) asked
     may_tell change is =
-        subst (λ (a : Option Change). IsTellable (next_log log mark a parent.changes table true) a) (sym is) (tellable site.drives log newest with_newest.is_newest mark change table with_newest.is_log)
+        subst (λ (a : Option Change). IsNewestTellable (next_log log mark a parent.changes table true) a) (sym is) (tellable site.drives log newest with_newest.is_newest mark change table with_newest.is_log)
 
   -- no change is begun but the one that is asked
   only_asked : IsPart (asks_of asked ++ []) (asks_of asked)
@@ -160,7 +160,7 @@ module _ (site : Site) (newest : Newest) (asked : Option Change) (table : Table)
   }
 
   ends : (u : Tale) → Leaves (Takes (with_blocks site.at newest.blocks) slot mark table) t u
-      → GoesFrom site (IsWithNewest site newest) NoCreation (asks_of asked) (λ log. IsNewestIn (next_newest newest table) log × ((change : Change) → asked ≡ Some change → IsTellable log asked)) t u
+      → GoesFrom site (IsWithNewest site newest) NoCreation (asks_of asked) (λ log. IsNewestIn (next_newest newest table) log × ((change : Change) → asked ≡ Some change → IsNewestTellable log asked)) t u
   ends u leaves log covers known = record {
     es = Writing mark asked (parent log covers known).changes table ∷ Written ∷ [];
     course = ((above log covers known, inr (next log covers known)), (tt, tt));

@@ -144,14 +144,9 @@ module _ (site : Site) where
           is = refl;
           newest = record { version = created_version table; older = []; family = refl; mark = refl; table = refl; written = refl };
           tellable = record {
-            newest = created_version table;
-            older = [];
-            family = refl;
-            written = refl;
             before = [];
-            changes = refl;
-            creation = λ asked. (refl, refl);
-            untold = tt;
+            may = record { newest = created_version table; older = []; family = refl; written = refl; later = []; changes = refl; creation = λ none. (refl, refl); untold = tt };
+            newest = refl;
           };
         };
       }

@@ -1,8 +1,8 @@
 -- How logs go on, event by event.
-use Rattle.std.proofs.Common.{◌≡◌, ◌⊎◌, inl, inr, true, false, List, [], ◌∷◌, slice_index_or, refl, sym, ap, subst, Option, Some, None, All, Contains}
+use Rattle.std.proofs.Common.{◌≡◌, ◌⊎◌, inl, inr, true, false, List, [], ◌∷◌, ◌++◌, slice_index_or, refl, sym, subst, Option, Some, None, All, Contains}
 use Rattle.std.proofs.lemmas.List.Elements.{All-nil, All-cons, All-same, All-contains, Contains-get_or}
 use Rattle.mdv_store_law.specs.Below.{Mark, Geometry, Tale, Change, Table}
-use Rattle.mdv_store_law.specs.Log.{Version, Log, Event, Issued, Writing, Written, Told, with_asked, newest_changes, log_after, log_after_all, is_firm, IsFirst, IsNext, Extends, IsUntold, IsTellable, MayHappen, IsCourse, told_by, AreMade, IsDescended, IsHeld, IsLog}
+use Rattle.mdv_store_law.specs.Log.{Version, Log, Event, Issued, Writing, Written, Told, with_asked, log_after, log_after_all, is_firm, IsFirst, IsNext, Extends, IsUntold, IsTellable, IsNewestTellable, MayHappen, IsCourse, told_by, AreMade, IsDescended, IsHeld, IsLog}
 use Rattle.mdv_store_law.specs.Laws.{CoursesAreLogs}
 use Rattle.mdv_store_law.specs.Site.{Site, Newest}
 use Rattle.mdv_store_law.specs.Standing.{nothing, replica, Covers, IsNewestIn}
@@ -31,28 +31,20 @@ module _ (g : Geometry) (log : Log) (is : IsLog g log) (mark : Mark) (asked : Op
   pub begun_held : (told : List Change) → IsHeld log.family told → IsHeld (begun ∷ log.family) told
   begun_held told held = record { by = held.by; one_of = contains_behind begun held.by log.family held.one_of; written = held.written; has = held.has }
 
--- what is told is what the newest table has
-module _ (log : Log) (asked : Option Change) (may : IsTellable log asked) where
-  pub newest_told : newest_changes log.family ≡ Some may.newest.changes
-  newest_told = ap newest_changes may.family
-
-  pub newest_has : Contains log.family may.newest
-  newest_has = subst (λ (f : List Version). Contains f may.newest) (sym may.family) (contains_first may.newest may.older)
-
-  pub told_held : (told : List Change) → newest_changes log.family ≡ Some told → IsHeld log.family told
+-- what is told the newest table has
+module _ (log : Log) (which before : List Change) (may : IsTellable log which before) where
+  told_held : (told : List Change) → Some (which ++ before) ≡ Some told → IsHeld log.family told
   told_held told is =
-      let same : may.newest.changes ≡ told = cc (newest_told, is) in
+      let same : which ++ before ≡ told = cc (is) in
       record {
         by = may.newest;
-        one_of = newest_has;
+        one_of = subst (λ (f : List Version). Contains f may.newest) (sym may.family) (contains_first may.newest may.older);
         written = may.written;
-        has = subst (λ (c : List Change). Extends may.newest.changes c) same (extends_itself may.newest.changes);
+        has = subst (λ (c : List Change). Extends may.newest.changes c) same (record { more = may.later; is = may.changes });
       }
 
-  pub told_extends : (told : List Change) → log.acknowledged ≡ Some told → Extends may.newest.changes told
-  told_extends told is =
-      let untold : Extends may.before told = subst (λ (o : Option (List Change)). IsUntold o may.before) is may.untold in
-      subst (λ (c : List Change). Extends c told) (sym may.changes) (extends_more (with_asked asked may.before) may.before told (extends_asked asked may.before) untold)
+  told_extends : (told : List Change) → log.acknowledged ≡ Some told → Extends (which ++ before) told
+  told_extends told is = extends_more (which ++ before) before told (record { more = which; is = refl }) (subst (λ (o : Option (List Change)). IsUntold o before) is may.untold)
 
 pub is_log_after : (g : Geometry) (log : Log) (e : Event) → IsLog g log → MayHappen g log e → IsLog g (log_after log e)
 is_log_after g log (Issued identity) is may = record {
@@ -73,11 +65,11 @@ is_log_after g log Written is may = record {
   descended = answered_descended log.family is.descended;
   held = λ told same. answered_held log.family told (is.held told same);
 }
-is_log_after g log (Told asked) is may = record {
+is_log_after g log (Told which before) is may = record {
   rising = is.rising;
   made = is.made;
   descended = is.descended;
-  held = told_held log asked may;
+  held = told_held log which before may;
 }
 
 pub is_log_after_all : (g : Geometry) (log : Log) (es : List Event) → IsLog g log → IsCourse g log es → IsLog g (log_after_all log es)
@@ -88,8 +80,8 @@ pub courses_are_logs : CoursesAreLogs
 courses_are_logs = λ site log es is course. is_log_after_all site.drives log es is course
 
 -- telling changes nothing that a drive has to show
-pub told_covers : (site : Site) (log : Log) (asked : Option Change) (m : Tale) → Covers site log m → Covers site (log_after log (Told asked)) m
-told_covers site log asked m covers image is = elim (covers image is) [
+pub told_covers : (site : Site) (log : Log) (which before : List Change) (m : Tale) → Covers site log m → Covers site (log_after log (Told which before)) m
+told_covers site log which before m covers image is = elim (covers image is) [
   | nothing not_firm none ↦ nothing not_firm none
   | replica head agrees ↦ replica head (record {
     replica = agrees.replica;
@@ -115,10 +107,9 @@ told_stays g log (Issued identity ∷ es) told is course same = absurd (let firm
 told_stays g log (Writing mark asked before table ∷ es) told is course same =
     told_stays g (log_after log (Writing mark asked before table)) es told (is_log_after g log (Writing mark asked before table) is course.0) course.1 same
 told_stays g log (Written ∷ es) told is course same = told_stays g (log_after log Written) es told (is_log_after g log Written is course.0) course.1 same
-told_stays g log (Told asked ∷ es) told is course same =
-    let changes = course.0.newest.changes in
-    let rest = told_stays g (log_after log (Told asked)) es changes (is_log_after g log (Told asked) is course.0) course.1 (newest_told log asked course.0) in
-    (rest.0, rest.1, extends_more rest.0 changes told rest.2 (told_extends log asked course.0 told same))
+told_stays g log (Told which before ∷ es) told is course same =
+    let rest = told_stays g (log_after log (Told which before)) es (which ++ before) (is_log_after g log (Told which before) is course.0) course.1 refl in
+    (rest.0, rest.1, extends_more rest.0 (which ++ before) told rest.2 (told_extends log which before course.0 told same))
 
 -- where a creation or a change is told, changes are told in the end
 pub told_acknowledges : (g : Geometry) (log : Log) (es : List Event) → IsLog g log → IsCourse g log es → (told_by es ≡ [] → ⊥) → (later : List Change) × ((log_after_all log es).acknowledged ≡ Some later)
@@ -127,8 +118,8 @@ told_acknowledges g log (Issued identity ∷ es) is course some = told_acknowled
 told_acknowledges g log (Writing mark asked before table ∷ es) is course some =
     told_acknowledges g (log_after log (Writing mark asked before table)) es (is_log_after g log (Writing mark asked before table) is course.0) course.1 some
 told_acknowledges g log (Written ∷ es) is course some = told_acknowledges g (log_after log Written) es (is_log_after g log Written is course.0) course.1 some
-told_acknowledges g log (Told asked ∷ es) is course some =
-    let rest = told_stays g (log_after log (Told asked)) es course.0.newest.changes (is_log_after g log (Told asked) is course.0) course.1 (newest_told log asked course.0) in
+told_acknowledges g log (Told which before ∷ es) is course some =
+    let rest = told_stays g (log_after log (Told which before)) es (which ++ before) (is_log_after g log (Told which before) is course.0) course.1 refl in
     (rest.0, rest.1)
 
 pub told_is_acknowledged : (g : Geometry) (log : Log) (es : List Event) → IsLog g log → IsCourse g log es → (told_by es ≡ [] → ⊥) → (log_after_all log es).acknowledged ≡ None → ⊥
@@ -144,14 +135,18 @@ untold_newest g log newest known is (Some told) same =
     extends_more known.version.changes held.by.changes told (newest_extends known.version held.by known.older descended one_of held.written) held.has
 
 pub tellable : (g : Geometry) (log : Log) (newest : Newest) (known : IsNewestIn newest log) (mark : Mark) (change : Change) (table : Table) → IsLog g log
-    → IsTellable (log_after_all log (Writing mark (Some change) known.version.changes table ∷ Written ∷ [])) (Some change)
+    → IsNewestTellable (log_after_all log (Writing mark (Some change) known.version.changes table ∷ Written ∷ [])) (Some change)
 tellable g log newest known mark change table is = record {
-  newest = record { mark = mark; table = table; changes = change ∷ known.version.changes; is_written = true };
-  older = log.family;
-  family = refl;
-  written = refl;
   before = known.version.changes;
-  changes = refl;
-  creation = λ none. absurd (cc (none));
-  untold = untold_newest g log newest known is log.acknowledged refl;
+  may = record {
+    newest = record { mark = mark; table = table; changes = change ∷ known.version.changes; is_written = true };
+    older = log.family;
+    family = refl;
+    written = refl;
+    later = [];
+    changes = refl;
+    creation = λ none. absurd (cc (none));
+    untold = untold_newest g log newest known is log.acknowledged refl;
+  };
+  newest = refl;
 }

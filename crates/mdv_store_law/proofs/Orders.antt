@@ -1,11 +1,11 @@
 -- In which order the changes of a log's tables were written, and told.
-use Rattle.std.proofs.Common.{◌≡◌, ◌⊎◌, inl, inr, true, false, List, [], ◌∷◌, ◌++◌, reverse, refl, sym, ◌∙◌, ap, subst, append_assoc, Option, Some, None, Contains, arith}
+use Rattle.std.proofs.Common.{◌≡◌, ◌⊎◌, inl, inr, true, false, List, [], ◌∷◌, ◌++◌, map, reverse, refl, sym, ◌∙◌, ap, subst, append_assoc, Option, Some, None, Contains, arith}
 use Rattle.std.proofs.lemmas.List.{append-nil, reverse-append}
 use Rattle.mdv_store_law.specs.Below.{Geometry, Mark, Change, Table}
-use Rattle.mdv_store_law.specs.Log.{Version, Log, Event, Issued, Writing, Written, Told, with_asked, answered, log_after, log_after_all, is_firm, IsFirst, IsNext, Extends, IsUntold, IsTellable, IsCourse, asks_of, begun_by, told_by, IsLog}
+use Rattle.mdv_store_law.specs.Log.{Version, Log, Event, Issued, Writing, Written, Told, with_asked, answered, log_after, log_after_all, is_firm, IsFirst, IsNext, Extends, IsUntold, IsTellable, IsCourse, asks_of, begun_by, tells, told_by, IsLog}
 use Rattle.mdv_store_law.specs.Part.{IsPart}
 use Rattle.mdv_store_law.proofs.Families.{contains_first, contains_behind, contains_cases, written_firm}
-use Rattle.mdv_store_law.proofs.Logs.{is_log_after, newest_told}
+use Rattle.mdv_store_law.proofs.Logs.{is_log_after}
 use Rattle.mdv_store_law.proofs.Parts.{part_itself, part_more}
 
 -- the changes among what is told, or begun
@@ -22,6 +22,14 @@ changes_more (Some change ∷ some) more = ap (λ (l : List Change). change ∷ 
 changes_asked : (asked : Option Change) → changes_of (asks_of asked) ≡ with_asked asked []
 changes_asked None = refl
 changes_asked (Some change) = refl
+
+changes_all : (changes : List Change) → changes_of (map Some changes) ≡ changes
+changes_all [] = refl
+changes_all (change ∷ changes) = ap (λ (l : List Change). change ∷ l) (changes_all changes)
+
+changes_told : (which before : List Change) → changes_of (tells (Told which before)) ≡ reverse which
+changes_told [] before = refl
+changes_told (change ∷ which) before = changes_all (reverse (change ∷ which))
 
 -- the oldest first, one change more stands at the end
 behind_all : (changes : List Change) (change : Change) → reverse (change ∷ changes) ≡ reverse changes ++ change ∷ []
@@ -77,7 +85,7 @@ module _ (g : Geometry) where
       let same : (written ++ with_asked asked []) ++ changes_of (begun_by es) ≡ written ++ changes_of (asks_of asked ++ begun_by es) = append_assoc written (with_asked asked []) (changes_of (begun_by es)) ∙ ap (λ (l : List Change). written ++ l) begun in
       subst (AreWritten (log_after_all (log_after lg (Writing mark asked before table)) es).family) same there
   all_written lg (Written ∷ es) written are course = all_written (log_after lg Written) es written (written_answered lg.family written are) course.1
-  all_written lg (Told asked ∷ es) written are course = all_written (log_after lg (Told asked)) es written are course.1
+  all_written lg (Told which before ∷ es) written are course = all_written (log_after lg (Told which before)) es written are course.1
 
   -- What was told is a part of the acknowledged table's changes, in their order.
   abbrev pub IsToldPart : Option (List Change) → List Change → Type 0
@@ -96,28 +104,19 @@ module _ (g : Geometry) where
   untold_part None told before untold part = subst (λ (l : List Change). IsPart l (reverse before)) (sym part) tt
   untold_part (Some changes) told before untold part = oldest_extended before changes told untold part
 
-  told_next : (lg : Log) (told : List Change) (asked : Option Change) (can : IsTellable lg asked) → IsToldPart lg.acknowledged told → IsPart (told ++ changes_of (asked ∷ [])) (reverse can.newest.changes)
-  told_next lg told None can part =
-      let here = untold_part lg.acknowledged told can.before can.untold part in
-      subst (λ (l : List Change). IsPart l (reverse can.newest.changes)) (sym (append-nil told)) (subst (λ (l : List Change). IsPart told (reverse l)) (sym can.changes) here)
-  told_next lg told (Some change) can part =
-      let here = untold_part lg.acknowledged told can.before can.untold part in
-      let same : reverse can.newest.changes ≡ reverse can.before ++ change ∷ [] = ap reverse can.changes ∙ behind_all can.before change in
-      subst (λ (l : List Change). IsPart (told ++ change ∷ []) l) (sym same) (part_more told (reverse can.before) (change ∷ []) (change ∷ []) here (part_itself (change ∷ [])))
-
-  told_all : (asked : Option Change) (told : List (Option Change)) → changes_of (asked ∷ []) ++ changes_of told ≡ changes_of (asked ∷ told)
-  told_all None told = refl
-  told_all (Some change) told = refl
+  told_next : (lg : Log) (told which before : List Change) → IsTellable lg which before → IsToldPart lg.acknowledged told → IsPart (told ++ reverse which) (reverse (which ++ before))
+  told_next lg told which before can part =
+      let here = part_more told (reverse before) (reverse which) (reverse which) (untold_part lg.acknowledged told before can.untold part) (part_itself (reverse which)) in
+      subst (λ (l : List Change). IsPart (told ++ reverse which) l) (sym (reverse-append which before)) here
 
   pub all_told : (lg : Log) (es : List Event) (told : List Change) → IsLog g lg → IsToldPart lg.acknowledged told → IsCourse g lg es → IsToldPart (log_after_all lg es).acknowledged (told ++ changes_of (told_by es))
   all_told lg [] told is part course = subst (IsToldPart lg.acknowledged) (sym (append-nil told)) part
   all_told lg (Issued identity ∷ es) told is part course = all_told (log_after lg (Issued identity)) es told (is_log_after g lg (Issued identity) is course.0) (none_firm lg told is course.0 lg.acknowledged refl part) course.1
   all_told lg (Writing mark asked before table ∷ es) told is part course = all_told (log_after lg (Writing mark asked before table)) es told (is_log_after g lg (Writing mark asked before table) is course.0) part course.1
   all_told lg (Written ∷ es) told is part course = all_told (log_after lg Written) es told (is_log_after g lg Written is course.0) part course.1
-  all_told lg (Told asked ∷ es) told is part course =
-      let can : IsTellable lg asked = course.0 in
-      let newest : (log_after lg (Told asked)).acknowledged ≡ Some can.newest.changes = newest_told lg asked can in
-      let here : IsToldPart (log_after lg (Told asked)).acknowledged (told ++ changes_of (asked ∷ [])) = subst (λ (a : Option (List Change)). IsToldPart a (told ++ changes_of (asked ∷ []))) (sym newest) (told_next lg told asked can part) in
-      let there = all_told (log_after lg (Told asked)) es (told ++ changes_of (asked ∷ [])) (is_log_after g lg (Told asked) is can) here course.1 in
-      let same : (told ++ changes_of (asked ∷ [])) ++ changes_of (told_by es) ≡ told ++ changes_of (asked ∷ told_by es) = append_assoc told (changes_of (asked ∷ [])) (changes_of (told_by es)) ∙ ap (λ (l : List Change). told ++ l) (told_all asked (told_by es)) in
-      subst (IsToldPart (log_after_all (log_after lg (Told asked)) es).acknowledged) same there
+  all_told lg (Told which before ∷ es) told is part course =
+      let there = all_told (log_after lg (Told which before)) es (told ++ reverse which) (is_log_after g lg (Told which before) is course.0) (told_next lg told which before course.0 part) course.1 in
+      let told_here : changes_of (tells (Told which before) ++ told_by es) ≡ reverse which ++ changes_of (told_by es) =
+      changes_more (tells (Told which before)) (told_by es) ∙ ap (λ (l : List Change). l ++ changes_of (told_by es)) (changes_told which before) in
+      let same : (told ++ reverse which) ++ changes_of (told_by es) ≡ told ++ changes_of (tells (Told which before) ++ told_by es) = append_assoc told (reverse which) (changes_of (told_by es)) ∙ ap (λ (l : List Change). told ++ l) (sym told_here) in
+      subst (IsToldPart (log_after_all (log_after lg (Told which before)) es).acknowledged) same there

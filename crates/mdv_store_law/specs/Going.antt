@@ -1,7 +1,7 @@
 -- How a log goes on while a boot, a commit or a creation writes.
 use Rattle.std.specs.Prelude.{◌≡◌, ◌+◌, ◌<◌, ◌^◌, true, false, [], length, Option, Some, None}
 use Rattle.mdv_store_law.specs.Below.{Identity, Mark, record_text, Open, Head, Slot, First, IsSpareSlot, formatted_head, greatest, other_slot, with_slot, IsMaster, Image, Leaves, Formatting, IsFormatted, LiesAt, master_of, with_blocks, IsSynced, Tale, IsImage, last, Change, Table, IsSound}
-use Rattle.mdv_store_law.specs.Log.{Version, Log, IsLog, IsMade, IsTellable, NoCreation, asks_of, is_firm}
+use Rattle.mdv_store_law.specs.Log.{Version, Log, IsLog, IsMade, IsNewestTellable, NoCreation, asks_of, is_firm}
 use Rattle.mdv_store_law.specs.Site.{Site, sized, IsNewestOf, IsTableAt, Newest}
 use Rattle.mdv_store_law.specs.Standing.{IsOpened, IsNewestIn, Anything, GoesFrom, GoesMaking, GoesOnTo, GoesOn, ShowsNothing, ShowsReplica, created_log}
 use Rattle.mdv_store_law.specs.Steps.{MayTake, Takes, Rewritten, Rewrites, IsTheReplica, IsAdopted, adopted_newest, next_newest}
@@ -51,7 +51,7 @@ pub record CommitsGo : Type 0 where
       → Leaves (Takes (with_blocks site.at newest.blocks) (other_slot newest.slot) (next_mark newest) table) t u → IsOpened site (next_newest newest table) u
   pub ends : (site : Site) (newest : Newest) (asked : Option Change) (table : Table) (t u : Tale) → Commits site newest asked table t
       → Leaves (Takes (with_blocks site.at newest.blocks) (other_slot newest.slot) (next_mark newest) table) t u
-      → GoesFrom site (IsWithNewest site newest) NoCreation (asks_of asked) (λ log. IsNewestIn (next_newest newest table) log × ((change : Change) → asked ≡ Some change → IsTellable log asked)) t u
+      → GoesFrom site (IsWithNewest site newest) NoCreation (asks_of asked) (λ log. IsNewestIn (next_newest newest table) log × ((change : Change) → asked ≡ Some change → IsNewestTellable log asked)) t u
 
 -- what a creation starts from, once nothing is there: a first table, which names the place, for a replica of the whole place
 pub record Creates (site : Site) (identity : Identity) (table : Table) : Type 0 where
@@ -77,7 +77,7 @@ created_version table = record { mark = first_mark; table = table; changes = [];
 pub record IsCreated (site : Site) (identity : Identity) (table : Table) (log : Log) : Type 0 where
   pub is : log ≡ created_log identity (created_version table)
   pub newest : IsNewestIn (created_newest site table) log
-  pub tellable : IsTellable log None
+  pub tellable : IsNewestTellable log None
 
 pub record CreationsGo : Type 0 where
   -- while the place is formatted

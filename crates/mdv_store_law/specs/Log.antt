@@ -1,5 +1,5 @@
 -- The log of a host's database: which tables were ever written for it, by which changes, and which were told.
-use Rattle.std.specs.Prelude.{◌≡◌, ◌⊎◌, Bool, true, false, List, [], ◌∷◌, ◌++◌, Option, Some, None, All, Contains}
+use Rattle.std.specs.Prelude.{◌≡◌, ◌⊎◌, Bool, true, false, List, [], ◌∷◌, ◌++◌, map, reverse, Option, Some, None, All, Contains}
 use Rattle.std.specs.List.{list_any}
 use Rattle.mdv_store_law.specs.Below.{IsBelow, Identity, Mark, Geometry, IsAfter, Change, Table}
 use Rattle.mdv_store_law.specs.Machine.{after_all, all_of}
@@ -14,7 +14,7 @@ pub record Version : Type 0 where
   pub is_written : Bool
 
 -- The creation that was issued and not struck, told by the identity of its database; each table that was ever written
--- for it, the newest first; and the changes of the newest table that came to an `ok` which was told.
+-- for it, the newest first; and the changes up to the newest one that was told.
 pub record Log : Type 0 where
   pub issued : Option Identity
   pub family : List Version
@@ -31,8 +31,9 @@ pub data Event : Type 0 where
   Writing : Mark → Option Change → List Change → Table → Event
   -- that write was answered
   Written : Event
-  -- the newline of the `ok` of a change was told, or of the creation
-  Told : Option Change → Event
+  -- The newline was told that acknowledges these changes, the newest first; and those came before them, told or told to
+  -- nobody. Where there are none, it is the creation's.
+  Told : List Change → List Change → Event
 
 abbrev pub with_asked : Option Change → List Change → List Change
 with_asked None before = before
@@ -42,15 +43,11 @@ abbrev pub answered : List Version → List Version
 answered [] = []
 answered (v ∷ older) = record v { is_written = true } ∷ older
 
-abbrev pub newest_changes : List Version → Option (List Change)
-newest_changes [] = None
-newest_changes (v ∷ older) = Some v.changes
-
 abbrev pub log_after : Log → Event → Log
 log_after log (Issued identity) = record { issued = Some identity; family = []; acknowledged = None }
 log_after log (Writing mark asked before table) = record log { family = record { mark = mark; table = table; changes = with_asked asked before; is_written = false } ∷ log.family }
 log_after log Written = record log { family = answered log.family }
-log_after log (Told asked) = record log { acknowledged = newest_changes log.family }
+log_after log (Told which before) = record log { acknowledged = Some (which ++ before) }
 
 abbrev pub log_after_all : Log → List Event → Log
 log_after_all = after_all log_after
@@ -100,34 +97,42 @@ abbrev pub IsUntold : Option (List Change) → List Change → Type 0
 IsUntold None before = Unit {0}
 IsUntold (Some told) before = Extends before told
 
--- the newest table's write was answered, and the `ok` that it came to wasn't told
-pub record IsTellable (log : Log) (asked : Option Change) : Type 0 where
+-- The newest table's write was answered; its changes are later ones, then these, of which none was told, then those before
+-- them. A creation is told once, and before all else.
+pub record IsTellable (log : Log) (which before : List Change) : Type 0 where
   pub newest : Version
   pub older : List Version
   pub family : log.family ≡ newest ∷ older
   pub written : newest.is_written ≡ true
-  pub before : List Change
-  pub changes : newest.changes ≡ with_asked asked before
-  pub creation : asked ≡ None → (before ≡ []) × (log.acknowledged ≡ None)
+  pub later : List Change
+  pub changes : newest.changes ≡ later ++ (which ++ before)
+  pub creation : which ≡ [] → (before ≡ []) × (log.acknowledged ≡ None)
   pub untold : IsUntold log.acknowledged before
+
+-- the same of the change by which the newest table came, or of the creation, where it came by none
+pub record IsNewestTellable (log : Log) (asked : Option Change) : Type 0 where
+  pub before : List Change
+  pub may : IsTellable log (with_asked asked []) before
+  pub newest : may.later ≡ []
 
 -- when each event may happen
 abbrev pub MayHappen : Geometry → Log → Event → Type 0
 MayHappen g log (Issued identity) = is_firm log ≡ false
 MayHappen g log (Writing mark asked before table) = IsAbove mark log.family × (IsFirst log.family asked before table ⊎ IsNext g log.family asked before table)
 MayHappen g log Written = IsBegun log.family
-MayHappen g log (Told asked) = IsTellable log asked
+MayHappen g log (Told which before) = IsTellable log which before
 
 -- each of the events may happen where it happens
 abbrev pub IsCourse : Geometry → Log → List Event → Type 0
 IsCourse g = machine.IsCourse log_after (MayHappen g)
 
--- what an event tells: a creation, or a change
+-- what an event tells: a creation, or changes, the oldest first
 abbrev pub tells : Event → List (Option Change)
 tells (Issued identity) = []
 tells (Writing mark asked before table) = []
 tells Written = []
-tells (Told asked) = asked ∷ []
+tells (Told [] before) = None ∷ []
+tells (Told (change ∷ which) before) = map Some (reverse (change ∷ which))
 
 abbrev pub told_by : List Event → List (Option Change)
 told_by = all_of tells
@@ -142,7 +147,7 @@ abbrev pub begins : Event → List (Option Change)
 begins (Issued identity) = None ∷ []
 begins (Writing mark asked before table) = asks_of asked
 begins Written = []
-begins (Told asked) = []
+begins (Told which before) = []
 
 abbrev pub begun_by : List Event → List (Option Change)
 begun_by = all_of begins
@@ -152,7 +157,7 @@ abbrev pub IsIssue : (Identity → Type 0) → Event → Type 0
 IsIssue Which (Issued identity) = Which identity
 IsIssue Which (Writing mark asked before table) = Unit {0}
 IsIssue Which Written = Unit {0}
-IsIssue Which (Told asked) = Unit {0}
+IsIssue Which (Told which before) = Unit {0}
 
 -- The events tell these; they begin only what is asked, creations and changes, in that order and each once; and each creation is such a one.
 abbrev pub Adds : (Identity → Type 0) → List (Option Change) → List (Option Change) → List Event → Type 0
