@@ -2,7 +2,8 @@
 use Rattle.std.proofs.Common.{◌≡◌, ℕ, ◌+◌, ◌<◌, ◌≤◌, ◌^◌, List, [], slice_index_or, refl, sym, ◌∙◌, subst, Option, Some, None, Ok}
 use Rattle.mdv_database.specs.Below.{Mark, Key, Geometry, KeptOutside, nowhere, Moments, Ends, IsSynced, Tale, last, PlaceAt, Slot, IsSpareSlot, greatest, Leaves, Claims, with_blocks, Table, IsSound, Adopts, drawn, NoCreation, Site, IsFound, IsTableAt, Anything, Newest, GoesOnTo, IsOpened, ShowsNothing, IsAdopted, MayTake, Takes, Rewriting, Rewritten, Rewrites, adopted_newest}
 use Rattle.mdv_shelf.proofs.Moments.{moments_after, moments_end, moments_none, moments_weaker, ends_both, ends_more}
-use Rattle.mdv_replica.proofs.Leaving.{image_synced, leaves_more}
+use Rattle.mdv_shelf.proofs.Everywhere.{image_synced}
+use Rattle.mdv_replica.proofs.Leaving.{leaves_more}
 use Rattle.mdv_store_law.proofs.Adopting.{adoptions_go}
 use Rattle.mdv_store_law.proofs.Covering.{kept_covers, kept_goes_on, goes_from_more, not_firm}
 use Rattle.mdv_database.specs.declared.database.BootEnd.{BootEnd}

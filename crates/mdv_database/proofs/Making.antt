@@ -1,6 +1,6 @@
 -- What the calls of a creation lead to.
 use Rattle.std.proofs.Common.{◌≡◌, ℕ, ◌≤◌, List, [], refl, subst, Option, Ok, Err, arith}
-use Rattle.mdv_database.specs.Below.{Identity, Key, Geometry, Master, PlaceAt, First, IsMaster, Image, Formatting, IsFormatted, IsPlaced, master_of, Moments, Ends, Tale, IsImage, IsPlaceOf, Table, Creates, created_head, first_mark, Site, IsNewestOf, IsTableAt, IsOpened}
+use Rattle.mdv_database.specs.Below.{Identity, Key, Geometry, Master, PlaceAt, First, IsMaster, Formatting, IsFormatted, IsPlaced, master_of, Everywhere, Moments, Ends, Tale, IsPlaceOf, Table, Creates, created_head, first_mark, Site, IsNewestOf, IsTableAt, IsOpened}
 use Rattle.mdv_shelf.proofs.Moments.{moments_after, moments_end, moments_weaker, ends_both, ends_more}
 use Rattle.mdv_store_law.proofs.Creating.{creations_go}
 use Rattle.mdv_database.specs.Create.{CreateEnds, CreateMoment}
@@ -76,7 +76,7 @@ module _ (at : PlaceAt) (key : Key) (sizes : List ℕ) (identity : Identity) (le
           (λ t u v formatted write. record {
             synced = write.synced;
             safe = λ drives lies.
-                subst (λ (one : Table). (image : Image) → IsImage v image → IsNewestOf (site drives) (image at.drive.0) (created_head (site drives) identity one) (record { blocks = at.place.blocks; slot = First; mark = first_mark; table = one })) is
+                subst (λ (one : Table). Everywhere (λ image. IsNewestOf (site drives) (image at.drive.0) (created_head (site drives) identity one) (record { blocks = at.place.blocks; slot = First; mark = first_mark; table = one })) v) is
                 (creations_go.shows (site drives) identity table u v (from drives lies) formatted write.written);
             failed = λ same. absurd (cc (same));
             lost = λ same. absurd (cc (same));

@@ -7,7 +7,8 @@ pub use Rattle.mdv_name.specs.declared.geometry.Geometry.{Geometry}
 pub use Rattle.mdv_record.specs.Text.{record_text}
 pub use Rattle.mdv_replica.specs.Form.{IsSpareSlot, SlotFits, gate_of, greatest, other_slot, room_of, shows, text_of}
 pub use Rattle.mdv_replica.specs.Forms.{IsMaster, block_of, claim_text}
-pub use Rattle.mdv_replica.specs.Images.{Claims, Fills, Image, Leaves, MayFill}
+pub use Rattle.mdv_replica.specs.Images.{Claims, Fills, MayFill}
+pub use Rattle.mdv_shelf.specs.Everywhere.{Everywhere, Image, Leaves}
 pub use Rattle.mdv_replica.specs.Replica.{Formatting, IsFormatted, IsFormed, IsHead, IsPlaced, IsSlotWritten, SlotWriting, body_at, claim_blocks}
 pub use Rattle.mdv_replica.specs.Replica.{head_area, master_of, slot_area, slot_blocks, with_blocks}
 pub use Rattle.mdv_replica.specs.declared.forms.Gate.{Gate}

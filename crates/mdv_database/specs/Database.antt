@@ -1,6 +1,6 @@
 -- The database of one place: what a boot finds and leaves, and what a creation and a commit leave.
 use Rattle.std.specs.Prelude.{◌≡◌, ℕ, ◌+◌, ◌≤◌, ◌<◌, ◌^◌, true, false, List, [], ◌∷◌, length, slice_index_or, Option, Some, None, Result, Ok, Err}
-use Rattle.mdv_database.specs.Below.{Identity, Key, Place, Geometry, record_text, PlaceAt, Head, First, Second, IsSpareSlot, greatest, other_slot, room_of, shows, Image, IsFormed, IsPlaced, slot_blocks, with_blocks, range, KeptOutside, nowhere, IsSynced, Tale, IsImage, last, told, Change, One, Table, IsSound, IsCreated, created_head, first_mark, Log, IsMade, IsNewestTellable, is_firm, Site, IsFound, IsNewestOf, IsReplica, IsTableAt, Newest, IsNewestIn, IsOpened, IsTheReplica, adopted_newest, next_newest}
+use Rattle.mdv_database.specs.Below.{Identity, Key, Place, Geometry, record_text, PlaceAt, Head, First, Second, IsSpareSlot, greatest, other_slot, room_of, shows, Everywhere, IsFormed, IsPlaced, slot_blocks, with_blocks, range, KeptOutside, nowhere, IsSynced, Tale, last, told, Change, One, Table, IsSound, IsCreated, created_head, first_mark, Log, IsMade, IsNewestTellable, is_firm, Site, IsFound, IsNewestOf, IsReplica, IsTableAt, Newest, IsNewestIn, IsOpened, IsTheReplica, adopted_newest, next_newest}
 use Rattle.mdv_store_law.specs.Adoptable.{IsAdoptable}
 use Rattle.mdv_database.specs.declared.database.BootEnd.{BootEnd}
 use Rattle.mdv_database.specs.declared.database.BootEnd.TheVariants as end
@@ -124,7 +124,7 @@ first_newest at = record { blocks = at.place.blocks; slot = First; mark = first_
 
 -- whatever a crash leaves, the place has the replica that a creation of this identity makes, with its one table
 abbrev pub IsSafe : Site → Identity → Tale → Type 0
-IsSafe site identity u = (image : Image) → IsImage u image → IsNewestOf site (image site.at.drive.0) (created_head site identity (first_table site.at.place)) (first_newest site.at)
+IsSafe site identity = Everywhere (λ image. IsNewestOf site (image site.at.drive.0) (created_head site identity (first_table site.at.place)) (first_newest site.at))
 
 -- what is known of the log after a creation
 abbrev pub IsCreatedTo : Site → Identity → Result Newest CreateFault → Log → Type 0

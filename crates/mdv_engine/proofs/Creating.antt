@@ -12,7 +12,7 @@ use Rattle.mdv_engine_law.proofs.Making.{Makes, making_moment, made, unmade, mad
 use Rattle.mdv_engine_law.proofs.Refusing.{refused_still}
 use Rattle.mdv_shelf.specs.Tale.{last}
 use Rattle.mdv_store_law.specs.Standing.{ShowsReplica}
-use Rattle.mdv_store_law.proofs.Covering.{last_image}
+use Rattle.mdv_shelf.proofs.Everywhere.{last_image}
 use Rattle.mdv_engine.proofs.Sites.{here, told_site, quiet_here}
 
 -- what is in memory once a creation was begun, and once it made a database

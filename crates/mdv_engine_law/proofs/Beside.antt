@@ -1,66 +1,20 @@
 -- Where a volume of the open database lies, and what is written there: beside the replica, on a slice that isn't set aside for replicas.
-use Rattle.std.proofs.Common.{◌≡◌, ◌≢◌, inl, inr, ◌+◌, ◌≤◌, ◌<◌, ℕ, if◌then◌else◌, true, false, List, [], ◌∷◌, sym, ◌∙◌, ap, subst, arith}
+use Rattle.std.proofs.Common.{◌≡◌, ◌≢◌, ◌+◌, ◌≤◌, ℕ, true, false, List, [], ◌∷◌, sym, ◌∙◌, ap, subst, arith}
 use Rattle.std.proofs.lemmas.Bool.Decides.{nat_tests}
 use Rattle.std.proofs.lemmas.List.Elements.{All-contains, All-head}
-use Rattle.mdv_engine_law.specs.Below.{SliceName, VolId, Place, line_of, Site, Newest, IsRecordAt, IsTableAt, IsNewestOf, sized, IsOpened, HasSlice, SliceAt, SliceLine, Head, Slot, First, Second, text_of, Image, Area, AreApart, KeptOutside, range, Tale, last, IsImage, One, Base, Volume, VolumeKind, HasBlock, IsPlaceOf, IsListsOf, IsWholeSlice, IsComponentOn, IsStripeOf, IsKindOf, LiesOn}
-use Rattle.mdv_store_law.proofs.Covering.{last_image}
-use Rattle.mdv_store_law.proofs.Kept.{text_kept}
-use Rattle.mdv_replica.proofs.Readable.{readable_kept}
-use Rattle.mdv_shelf.proofs.Blocks.{both_ways, last_may_be_left}
+use Rattle.mdv_engine_law.specs.Below.{SliceName, VolId, Place, line_of, Site, Newest, IsTableAt, IsNewestOf, IsOpened, HasSlice, SliceAt, SliceLine, Area, AreApart, KeptOutside, range, Tale, last, One, Base, Volume, VolumeKind, HasBlock, IsPlaceOf, IsListsOf, IsWholeSlice, IsComponentOn, IsStripeOf, IsKindOf, LiesOn}
+use Rattle.mdv_shelf.proofs.Everywhere.{everywhere_apart, last_image}
+use Rattle.mdv_store_law.proofs.Frame.{newest_there, rests_there}
 use Rattle.mdv_engine_law.specs.declared.host.Host.{Host}
 use Rattle.mdv_engine_law.specs.Home.{IsReady, site_of}
 
--- The blocks of the replica that is open: what is done apart from them leaves it open, with the same table.
-module _ (site : Site) (newest : Newest) (area : Area) (t u : Tale) (apart : AreApart area (range site.at.drive.0 site.at.first newest.blocks)) (kept : KeptOutside area t u) where
-  module _ (image : Image) (is : IsImage u image) where
-    abbrev before : Image
-    before drive block = if area drive block then last t drive block else image drive block
-
-    before_image : IsImage t before
-    before_image = record {
-      each = λ drive block. elim (both_ways (area drive block)) [
-        | inl within ↦ rw within (last_may_be_left t drive block)
-        | inr out ↦ rw out ((kept drive block out).left (image drive block) (is.each drive block))
-      ];
-    }
-
-    of_replica : (block : ℕ) → site.at.first ≤ block → block < site.at.first + newest.blocks → range site.at.drive.0 site.at.first newest.blocks site.at.drive.0 block ≡ true
-    of_replica block from to = grind (arith, nat_tests)
-
-    same_there : (block : ℕ) → site.at.first ≤ block → block < site.at.first + newest.blocks → image site.at.drive.0 block ≡ before site.at.drive.0 block
-    same_there block from to = elim (both_ways (area site.at.drive.0 block)) [
-      | inl within ↦ absurd (apart site.at.drive.0 block within (of_replica block from to))
-      | inr out ↦ rw out
-    ]
-
-  -- where the contents are the same in the replica's blocks its newest table is
-  module _ (old new : ℕ → List ℕ) (head : Head) (is : IsNewestOf site old head newest) (same : (block : ℕ) → site.at.first ≤ block → block < site.at.first + newest.blocks → new block ≡ old block) where
-    there : (block : ℕ) → site.at.first ≤ block → block < site.at.first + head.master.blocks → new block ≡ old block
-    there block from to = let blocks = is.blocks in same block from (omega arith)
-
-    text_there : (slot : Slot) (bytes : ℕ) → text_of (sized site head) slot bytes new ≡ text_of (sized site head) slot bytes old
-    text_there First bytes =
-        let least = is.replica.readable.of_head.lies.least in
-        text_kept (sized site head) First old new (λ block from to. there block (omega arith) (omega arith)) bytes
-    text_there Second bytes =
-        let least = is.replica.readable.of_head.lies.least in
-        text_kept (sized site head) Second old new (λ block from to. there block (omega arith) (omega arith)) bytes
-
-    newest_there : IsNewestOf site new head newest
-    newest_there = record {
-      replica = record { readable = readable_kept (IsRecordAt site.drives) site.at site.size old new head is.replica.readable there; of_key = is.replica.of_key };
-      blocks = is.blocks;
-      has = record { bytes = is.has.bytes; gate = is.has.gate; is = is.has.is; text = text_there newest.slot is.has.bytes ∙ is.has.text };
-      last = is.last;
-      only = is.only;
-      claim = is.claim;
-    }
-
-  pub opened_beside : IsOpened site newest t → IsOpened site newest u
-  opened_beside opened = record {
-    head = opened.head;
-    each = λ image is. newest_there (before image is site.at.drive.0) (image site.at.drive.0) opened.head (opened.each (before image is) (before_image image is)) (same_there image is);
-  }
+-- what is done apart from the blocks of the replica that is open leaves it open, with the same table
+pub opened_beside : (site : Site) (newest : Newest) (area : Area) (t u : Tale) → AreApart area (range site.at.drive.0 site.at.first newest.blocks) → KeptOutside area t u → IsOpened site newest t → IsOpened site newest u
+opened_beside site newest area t u apart kept opened = record {
+  head = opened.head;
+  each = everywhere_apart (λ image. IsNewestOf site (image site.at.drive.0) opened.head newest) (range site.at.drive.0 site.at.first newest.blocks) area t u
+      (rests_there site newest.blocks (λ content. IsNewestOf site content opened.head newest) (λ old new same is. newest_there site old new opened.head (λ block from to. (let blocks = is.blocks in same block from (omega arith))) newest is)) apart kept opened.each;
+}
 
 -- so many blocks of the drive, from the first on: all of a slice that isn't set aside for replicas
 pub record IsPlain (host : Host) (first count : ℕ) : Type 0 where

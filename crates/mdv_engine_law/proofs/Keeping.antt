@@ -1,10 +1,10 @@
 -- What a line leaves in memory and on the drive, where it did what was asked.
 use Rattle.std.proofs.Common.{◌≡◌, ⊎_elim, inl, inr, ◌+◌, ◌-◌, ◌<◌, ◌≤◌, ◌^◌, ℕ, suc, false, List, [], ◌∷◌, length, slice_index_or, Some, refl, sym, ◌∙◌, ap, subst, arith}
-use Rattle.mdv_engine_law.specs.Below.{KeptOutside, nowhere, Settling, IsSettled, Tale, IsImage, last, created_head, created_newest, Newest, IsNewestOf, area_of, ShowsNothing, IsOpened, IsTheReplica, IsAdopted, next_newest, Head, Slot, First, Second, IsSpareSlot, greatest, Image, values_reply, One, Table}
+use Rattle.mdv_engine_law.specs.Below.{KeptOutside, nowhere, Settling, IsSettled, Everywhere, Tale, last, created_head, created_newest, Newest, IsNewestOf, area_of, ShowsNothing, IsOpened, IsTheReplica, IsAdopted, next_newest, Head, Slot, First, Second, IsSpareSlot, greatest, values_reply, One, Table}
 use Rattle.mdv_shelf.specs.Calls.{Shows}
 use Rattle.mdv_shelf.proofs.Settled.{covered}
 use Rattle.mdv_home.proofs.Places.{whole_place}
-use Rattle.mdv_store_law.proofs.Covering.{last_image}
+use Rattle.mdv_shelf.proofs.Everywhere.{last_image}
 use Rattle.mdv_engine_law.specs.declared.host.Host.{Host}
 use Rattle.mdv_engine_law.specs.Home.{site_of, identity_of}
 use Rattle.mdv_engine_law.specs.Line.{Memory, IsSame, IsSameBeside, Stays, IsCreated, IsUncreated, IsCommitted, IsRewritten, ArePut, MayBePut, blocks_of, drive_content, kept_at}
@@ -43,7 +43,7 @@ module _ (host : Host) (memory next : Memory) (t u : Tale) where
   beside kept block out = (kept 0 block out).last
 
   pub created : (table : Table) → 8208 ≤ host.home.blocks → KeptOutside (area_of (site_of host)) t u → next ≡ record { opened = Some (created_newest (site_of host) table); down = false; begun = memory.begun + 1 } → table.plan.lists ≡ One ((site_of host).at.place ∷ []) → table.plan.volumes ≡ []
-      → ((image : Image) → IsImage u image → IsNewestOf (site_of host) (image 0) (created_head (site_of host) (identity_of host memory.begun) table) (created_newest (site_of host) table)) → IsCreated host (kept_at memory t) (kept_at next u)
+      → Everywhere (λ image. IsNewestOf (site_of host) (image 0) (created_head (site_of host) (identity_of host memory.begun) table) (created_newest (site_of host) table)) u → IsCreated host (kept_at memory t) (kept_at next u)
   created table room kept is lists volumes each = record {
     newest = created_newest (site_of host) table;
     new = record { blocks = whole_place host.home room; slot = refl; mark = refl; lists = lists; volumes = volumes };

@@ -1,15 +1,12 @@
 -- What is known between lines stays where no block changes.
 use Rattle.std.proofs.Common.{◌≡◌, Option, Some, None, IfSome, ◌∙◌}
-use Rattle.mdv_engine_law.specs.Below.{AreApart, KeptOutside, nowhere, Tale, Log, Site, Newest, area_of, IsOpened, IsNewestIn, History}
-use Rattle.mdv_store_law.proofs.Frame.{frames}
+use Rattle.mdv_engine_law.specs.Below.{KeptOutside, nowhere, Tale, Log, Newest, IsFound, IsNewestOf, IsOpened, IsNewestIn, History}
+use Rattle.mdv_shelf.proofs.Everywhere.{everywhere_kept}
 use Rattle.mdv_history.proofs.Going.{stays_standing}
 use Rattle.mdv_engine_law.specs.declared.host.Host.{Host}
 use Rattle.mdv_engine_law.specs.Home.{site_of}
 use Rattle.mdv_engine_law.specs.Line.{Memory}
 use Rattle.mdv_engine_law.specs.Standing.{StandsAt, Knows, IsKnown}
-
-apart_from_nowhere : (site : Site) → AreApart nowhere (area_of site)
-apart_from_nowhere site drive block none there = absurd (cc (none))
 
 -- of the value in an option, where it is of the value in any
 some_more : {A : Type 0} (o : Option A) (P Q : A → Type 0) → ((x : A) → P x → Q x) → IfSome o P → IfSome o Q
@@ -34,8 +31,8 @@ module _ (host : Host) (u v : Tale) (kept : KeptOutside nowhere u v) where
   module _ (memory : Memory) where
     pub knows_kept : Knows host memory u → Knows host memory v
     knows_kept knows = record {
-      nothing = λ none up. frames.nothing (site_of host) nowhere u v (apart_from_nowhere (site_of host)) kept (knows.nothing none up);
-      opened = some_more memory.opened (λ newest. IsOpened (site_of host) newest u) (λ newest. IsOpened (site_of host) newest v) (λ newest is. frames.opened (site_of host) nowhere newest u v (apart_from_nowhere (site_of host)) kept is) knows.opened;
+      nothing = λ none up. everywhere_kept (λ image. IsFound (site_of host) (image 0) None) u v kept (knows.nothing none up);
+      opened = some_more memory.opened (λ newest. IsOpened (site_of host) newest u) (λ newest. IsOpened (site_of host) newest v) (λ newest is. record { head = is.head; each = everywhere_kept (λ image. IsNewestOf (site_of host) (image 0) is.head newest) u v kept is.each }) knows.opened;
     }
 
     pub known_kept : (h : History) → IsKnown host memory h u → IsKnown host memory h v

@@ -1,8 +1,8 @@
 -- What goes on in a host's database, and on its drive, goes on in its history.
 use Rattle.std.proofs.Common.{◌≡◌, inl, ℕ, List, [], ◌∷◌, Option, map, slice_index_or, refl}
 use Rattle.mdv_engine_law.specs.Below.{Identity, Local, place_of, KeptOutside, IsSynced, Tale, last, Change, Log, Site, area_of, GoesFrom, PlaceAt, History, Deed, Event, Woke, history_after, history_after_all, HasWoken}
-use Rattle.mdv_shelf.proofs.Blocks.{last_may_be_left}
-use Rattle.mdv_history.specs.History.{told_of}
+use Rattle.mdv_shelf.proofs.Everywhere.{everywhere_synced, last_image}
+use Rattle.mdv_history.specs.History.{HaveValues, told_of}
 use Rattle.mdv_history.proofs.Database.{lift_database}
 use Rattle.mdv_store_law.specs.Part.{IsPart}
 use Rattle.mdv_engine_law.specs.declared.host.Host.{Host}
@@ -37,12 +37,12 @@ module _ (host : Host) (asks : List Deed) (Then : List Event → History → Typ
   goes_woken u h synced stands then =
       let woke : Event = Woke (λ block. last u 0 block) in
       let now : StandsAt host (history_after h woke) u = record {
-        stands = record { database = stands.stands.database; values = λ block out x left. inl (synced block x left) };
+        stands = record { database = stands.stands.database; values = everywhere_synced (HaveValues (site_of host) (λ block. last u 0 block ∷ [])) 0 u synced (λ block out. inl refl) };
         room = stands.room;
       } in
       record {
         es = woke ∷ [];
-        course = ((λ block out. stands.stands.values block out (last u 0 block) (last_may_be_left u 0 block)), tt);
+        course = (stands.stands.values (last u) (last_image u), tt);
         come = record { tells = refl; issues = (tt, tt); begins = tt };
         stands = now;
         after = then (woke ∷ []) (history_after h woke) now tt refl;

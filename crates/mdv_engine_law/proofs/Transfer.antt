@@ -2,11 +2,10 @@
 use Rattle.std.proofs.Common.{◌≡◌, inr, ◌+◌, ◌<◌, ◌≤◌, ℕ, Bool, true, false, List, [], ◌∷◌, length, Option, IfSome, Contains, refl, sym, subst, arith}
 use Rattle.std.proofs.lemmas.List.FromFn.{length-map-range_with_len, get_or-map-range_with_len}
 use Rattle.mdv_engine_law.specs.Below.{Identity, VolId, IoFault, Among, AreAllowed, AreApart, range, Settling, IsSettled, Tale, last, Table, Version, Newest, IsTableAt, with_blocks, nothing, replica, IsOpened, IsNewestIn, History, Deed, Wrote, Saw, Event, Extent, Issues, HasExtent, LiesOn, area_of, values_reply, history_after}
-use Rattle.mdv_shelf.proofs.Blocks.{last_may_be_left}
 use Rattle.mdv_shelf.proofs.Frame.{fixed_settled}
 use Rattle.mdv_shelf.proofs.Settled.{covered}
 use Rattle.mdv_home.proofs.Places.{whole_place}
-use Rattle.mdv_store_law.proofs.Covering.{last_image}
+use Rattle.mdv_shelf.proofs.Everywhere.{last_image}
 use Rattle.mdv_store_law.proofs.Families.{contains_first, written_firm}
 use Rattle.mdv_store_law.proofs.Frame.{frames}
 use Rattle.mdv_store_law.proofs.Parts.{part_itself}
@@ -83,7 +82,7 @@ module _ (host : Host) (sizes : List ℕ) (ready : IsReady host sizes) (memory :
       let apart = (has_extent h t known).is_extent.apart in
       let out : area_of (site_of host) 0 (block + k) ≡ false = not_true (area_of (site_of host) 0 (block + k)) (apart 0 (block + k) (covered 0 block count k within)) in
       subst (λ (x : List ℕ). Among (h.allowed (block + k)) x) (sym (get_or-map-range_with_len (drive_content t) block count k (block + k) [] within refl))
-      (known.stands.stands.values (block + k) out (last t 0 (block + k)) (last_may_be_left t 0 (block + k)))
+      (known.stands.stands.values (last t) (last_image t) (block + k) out)
     where
       not_true : (x : Bool) → (x ≡ true → ⊥) → x ≡ false
       not_true true never = absurd (never refl)

@@ -25,7 +25,7 @@ pub use Rattle.mdv_name.specs.declared.slice_lines.SliceAt.{SliceAt}
 pub use Rattle.mdv_name.specs.declared.slice_lines.SliceLine.{SliceLine}
 pub use Rattle.mdv_record.specs.Text.{record_text}
 pub use Rattle.mdv_replica.specs.Form.{IsSpareSlot, greatest, other_slot, room_of, shows, text_of}
-pub use Rattle.mdv_replica.specs.Images.{Image}
+pub use Rattle.mdv_shelf.specs.Everywhere.{Everywhere, Image}
 pub use Rattle.mdv_replica.specs.Replica.{with_blocks}
 pub use Rattle.mdv_replica.specs.declared.replica.Head.{Head}
 pub use Rattle.mdv_replica.specs.declared.replica.PlaceAt.{PlaceAt}

@@ -1,13 +1,13 @@
 -- Deeds: an `ok` is told, blocks of a volume are written, a boot reads the drive.
 use Rattle.std.proofs.Common.{◌≡◌, inl, ℕ, ◌+◌, List, [], ◌∷◌, length, Option, Some, None, refl}
 use Rattle.mdv_history.specs.Below.{KeptOutside, nowhere, range, Settling, IsFixed, Tale, last, Change, IsNewestTellable, IsTellable, NoCreation, with_asked, Site}
-use Rattle.mdv_shelf.proofs.Blocks.{last_may_be_left}
+use Rattle.mdv_shelf.proofs.Everywhere.{everywhere_synced, last_image}
 use Rattle.mdv_shelf.proofs.Frame.{fixed_kept, fixed_settled}
 use Rattle.mdv_store_law.specs.Log as log
 use Rattle.mdv_store_law.proofs.Frame.{frames}
 use Rattle.mdv_store_law.proofs.Logs.{courses_are_logs, told_covers}
 use Rattle.mdv_store_law.proofs.Parts.{part_itself}
-use Rattle.mdv_history.specs.History.{History, Created, Changed, Wrote, Saw, Event, Extent, OfDatabase, Issues, Acknowledges, Shows, Woke, HasExtent, history_after, told_by, told_of}
+use Rattle.mdv_history.specs.History.{History, Created, Changed, Wrote, Saw, Event, Extent, OfDatabase, Issues, Acknowledges, Shows, Woke, HasExtent, HaveValues, history_after, told_by, told_of}
 use Rattle.mdv_history.specs.Laws.{CanTell, TellsGo, WritesGo, Wakes}
 use Rattle.mdv_history.specs.Standing.{Stands, Goes, Reached}
 use Rattle.mdv_history.proofs.Going.{stays_standing}
@@ -111,8 +111,8 @@ writes_go = record {
 pub wakes : Wakes
 wakes site t synced history stands known = record {
   es = Woke (λ block. last t site.at.drive.0 block) ∷ [];
-  course = ((λ block out. stands.values block out (last t site.at.drive.0 block) (last_may_be_left t site.at.drive.0 block)), tt);
+  course = (stands.values (last t) (last_image t), tt);
   come = record { tells = refl; issues = (tt, tt); begins = tt };
-  stands = record { database = stands.database; values = λ block out x left. inl (synced block x left) };
+  stands = record { database = stands.database; values = everywhere_synced (HaveValues site (λ block. last t site.at.drive.0 block ∷ [])) site.at.drive.0 t synced (λ block out. inl refl) };
   after = (tt, refl);
 }

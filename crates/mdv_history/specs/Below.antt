@@ -4,7 +4,7 @@ pub use Rattle.mdv_base.specs.declared.mark.Identity.{Identity}
 pub use Rattle.mdv_base.specs.declared.name.VolId.{VolId}
 pub use Rattle.mdv_name.specs.SliceIndex.{HasSlice}
 pub use Rattle.mdv_name.specs.declared.slice_lines.SliceAt.{SliceAt}
-pub use Rattle.mdv_replica.specs.Images.{Image}
+pub use Rattle.mdv_shelf.specs.Everywhere.{Everywhere, Image}
 pub use Rattle.mdv_shelf.specs.Area.{AreApart, KeptOutside, nowhere, range}
 pub use Rattle.mdv_shelf.specs.Settle.{IsFixed, IsSettled, IsSynced, Settling}
 pub use Rattle.mdv_shelf.specs.Tale.{Among, IsImage, MayLeave, Tale, covers, last, values}

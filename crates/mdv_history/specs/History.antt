@@ -98,13 +98,17 @@ AreNewest allowed from blocks = (k : ℕ) → k < length blocks → (older : Lis
 abbrev pub AreAllowed : (ℕ → List (List ℕ)) → ℕ → List (List ℕ) → Type 0
 AreAllowed allowed from blocks = (k : ℕ) → k < length blocks → Among (allowed (from + k)) (slice_index_or blocks k [])
 
+-- each block outside the database's place has one of the values that it may have
+abbrev pub HaveValues : Site → (ℕ → List (List ℕ)) → (ℕ → List ℕ) → Type 0
+HaveValues site allowed content = (block : ℕ) → area_of site site.at.drive.0 block ≡ false → Among (allowed block) (content block)
+
 -- when each event may happen
 abbrev pub MayHappen : Site → History → Event → Type 0
 MayHappen site history (OfDatabase event) = log.MayHappen site.drives history.database event
 MayHappen site history (Issues extent blocks) = HasExtent site history extent (length blocks)
 MayHappen site history (Acknowledges extent blocks) = HasExtent site history extent (length blocks) × AreNewest history.allowed extent.block blocks
 MayHappen site history (Shows extent blocks) = HasExtent site history extent (length blocks) × AreAllowed history.allowed extent.block blocks
-MayHappen site history (Woke content) = (block : ℕ) → area_of site site.at.drive.0 block ≡ false → Among (history.allowed block) (content block)
+MayHappen site history (Woke content) = HaveValues site history.allowed content
 
 -- each of the events may happen where it happens
 abbrev pub IsCourse : Site → History → List Event → Type 0

@@ -1,9 +1,9 @@
 -- Laws of histories: over crashes and new drives, over what is done to the database and to blocks of volumes, and over boots.
-use Rattle.std.specs.Prelude.{◌≡◌, ℕ, false, List, [], ◌∷◌, length, Some, None}
-use Rattle.mdv_history.specs.Below.{Image, KeptOutside, nowhere, Settling, IsSettled, IsFixed, IsSynced, Tale, Among, last, IsImage, restarted, IsNewestTellable, NoCreation, Site, area_of}
+use Rattle.std.specs.Prelude.{◌≡◌, ℕ, List, [], ◌∷◌, length, Some, None}
+use Rattle.mdv_history.specs.Below.{Image, KeptOutside, nowhere, Settling, IsSettled, IsFixed, IsSynced, Tale, last, IsImage, restarted, IsNewestTellable, NoCreation, Site}
 use Rattle.mdv_store_law.specs.Site.{IsFound}
 use Rattle.mdv_store_law.specs.Log as log
-use Rattle.mdv_history.specs.History.{History, Deed, Created, Changed, Wrote, Saw, Extent, HasExtent, HasWoken, AreAllowed, AreNewest}
+use Rattle.mdv_history.specs.History.{History, Deed, Created, Changed, Wrote, Saw, Extent, HasExtent, HasWoken, HaveValues, AreAllowed, AreNewest}
 use Rattle.mdv_history.specs.Standing.{Stands, Goes, Reached, Anything}
 
 -- what a crash leaves of a drive that stands with a history stands with it
@@ -20,7 +20,7 @@ NewDrivesStand = (site : Site) (image : Image) (told : List ℕ) → IsFound sit
 
 -- each block that a read gives is one of its values: the last acknowledged write's, or one that was issued later
 abbrev pub ReadsHold : Type 0
-ReadsHold = (site : Site) (history : History) (t : Tale) (block : ℕ) → Stands site history t → area_of site site.at.drive.0 block ≡ false → Among (history.allowed block) (last t site.at.drive.0 block)
+ReadsHold = (site : Site) (history : History) (t : Tale) → Stands site history t → HaveValues site history.allowed (last t site.at.drive.0)
 
 -- where nothing happens on the drives a history stands as it did
 abbrev pub StaysStanding : Type 0

@@ -1,13 +1,13 @@
 -- How a drive stands with its history.
-use Rattle.std.specs.Prelude.{◌≡◌, ℕ, false, List}
-use Rattle.mdv_history.specs.Below.{Identity, Tale, Among, MayLeave, Site, area_of}
+use Rattle.std.specs.Prelude.{ℕ, List}
+use Rattle.mdv_history.specs.Below.{Identity, Everywhere, Tale, Site}
 use Rattle.mdv_store_law.specs.Standing as database
-use Rattle.mdv_history.specs.History.{History, Deed, Event, history_after, MayHappen, Adds}
+use Rattle.mdv_history.specs.History.{History, Deed, Event, HaveValues, history_after, MayHappen, Adds}
 use Rattle.mdv_store_law.specs.Machine as machine
 
--- whatever a crash leaves in a block outside the database's place is one of its values
+-- whatever a crash leaves, each block outside the database's place has one of its values
 abbrev pub ValuesHold : Site → (ℕ → List (List ℕ)) → Tale → Type 0
-ValuesHold site allowed m = (block : ℕ) → area_of site site.at.drive.0 block ≡ false → (x : List ℕ) → MayLeave m site.at.drive.0 block x → Among (allowed block) x
+ValuesHold site allowed = Everywhere (λ image. HaveValues site allowed (image site.at.drive.0))
 
 -- the drive stands with the history
 pub record Stands (site : Site) (history : History) (m : Tale) : Type 0 where

@@ -1,8 +1,8 @@
 -- From what calls do at each moment to what a crash leaves then.
-use Rattle.std.proofs.Common.{◌≡◌, ◌⊎◌, inl, inr, ⊎_elim, ℕ, zero, suc, ◌+◌, ◌<◌, Bool, true, List, [], ◌∷◌, length, slice_index_or, refl, sym, ◌∙◌, ap, subst, cond, arith}
-use Rattle.std.proofs.lemmas.Bool.Decides.{nat_tests}
-use Rattle.mdv_replica.specs.Below.{Mark, Tale, last, MayLeave, IsImage, Area, KeptOutside, range, Shows, Settling, IsSettled, IsSynced, IsFixed}
-use Rattle.mdv_shelf.proofs.Blocks.{both_ways, last_may_be_left}
+use Rattle.std.proofs.Common.{◌≡◌, ◌⊎◌, inl, inr, ⊎_elim, ℕ, zero, suc, ◌+◌, ◌<◌, Bool, List, [], ◌∷◌, length, slice_index_or, refl, sym, ◌∙◌, ap, subst, cond, arith}
+use Rattle.mdv_replica.specs.Below.{Mark, Image, Leaves, Tale, last, MayLeave, IsImage, Area, KeptOutside, range, Shows, Settling, IsSettled, IsSynced, IsFixed}
+use Rattle.mdv_shelf.proofs.Blocks.{both_ways}
+use Rattle.mdv_shelf.proofs.Everywhere.{covers_one, with_last, with_last_image}
 use Rattle.mdv_shelf.proofs.Frame.{settling_one, settled_one}
 use Rattle.mdv_replica.specs.declared.forms.Gate.TheVariants.{Open}
 use Rattle.mdv_replica.specs.declared.forms.Master.{Master}
@@ -10,10 +10,7 @@ use Rattle.mdv_replica.specs.declared.replica.PlaceAt.{PlaceAt}
 use Rattle.mdv_replica.specs.declared.replica.Slot.{Slot}
 use Rattle.mdv_replica.specs.Forms.{master_text, gate_text, block_of}
 use Rattle.mdv_replica.specs.Replica.{starting, between, ending, Formatting, SlotWriting, IsSlotWritten, gate_at, body_at, head_area, slot_area, formatted_rest}
-use Rattle.mdv_replica.specs.Images.{Image, IsSame, SameOutside, Leaves, Overwrites, MayFormat, untouched, blanked, formatted, Fills, MayFill, closed, filled}
-
-covers_one : (drive at other block : ℕ) → range drive at 1 other block ≡ true → (other ≡ drive) × (block ≡ at)
-covers_one drive at other block is = (grind (arith, nat_tests), grind (arith, nat_tests))
+use Rattle.mdv_replica.specs.Images.{IsSame, SameOutside, Overwrites, MayFormat, untouched, blanked, formatted, Fills, MayFill, closed, filled}
 
 -- one that has in the only block that changed what a crash might have left before, might have been left before
 image_before : (drive at : ℕ) (t m : Tale) → KeptOutside (range drive at 1) t m → (image : Image) → IsImage m image → MayLeave t drive at (image drive at) → IsImage t image
@@ -23,18 +20,6 @@ image_before drive at t m kept image is old = record {
         let here = covers_one drive at other block inside in
         subst (λ (n : ℕ). MayLeave t n block (image n block)) (sym here.0) (subst (λ (b : ℕ). MayLeave t drive b (image drive b)) (sym here.1) old)
     | inr outside ↦ (kept other block outside).left (image other block) (is.each other block)
-  ];
-}
-
--- an image with what a read gave in an area
-abbrev with_last : Area → Tale → Image → Image
-with_last area t image drive block = cond (area drive block) (last t drive block) (image drive block)
-
-with_last_image : (area : Area) (t m : Tale) → KeptOutside area t m → (image : Image) → IsImage m image → IsImage t (with_last area t image)
-with_last_image area t m kept image is = record {
-  each = λ drive block. elim (both_ways (area drive block)) [
-    | inl inside ↦ rw inside (last_may_be_left t drive block)
-    | inr outside ↦ rw outside ((kept drive block outside).left (image drive block) (is.each drive block))
   ];
 }
 
@@ -53,10 +38,6 @@ pub leaves_more : (First Second : Image → Image → Type 0) (t u m : Tale) →
 leaves_more First Second t u m first second image is =
     let from = second image is in
     let before = first from.0 from.1 in (before.0, before.1, (from.0, before.2, from.2))
-
--- a synced drive has what a read gives
-pub image_synced : (drive : ℕ) (t : Tale) → IsSynced drive t → (image : Image) → IsImage t image → image drive ≡ last t drive
-image_synced drive t synced image is = λ i block. synced block (image drive block) (is.each drive block) i
 
 -- one block
 one_here : (drive at : ℕ) (x : List ℕ) (new : Image) → new drive at ≡ x → (k : ℕ) → k < length (x ∷ []) → new drive (at + k) ≡ slice_index_or (x ∷ []) k []

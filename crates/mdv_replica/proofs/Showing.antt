@@ -1,7 +1,7 @@
 -- What a place shows of a replica while it is written.
 use Rattle.std.proofs.Common.{◌≡◌, ◌≢◌, ◌⊎◌, inl, inr, ⊎_elim, ℕ, ◌+◌, ◌≤◌, ◌<◌, ◌^◌, false, List, [], length, sym, ◌∙◌, ap, subst, arith}
 use Rattle.std.proofs.lemmas.Bool.Decides.{nat_tests}
-use Rattle.mdv_replica.specs.Below.{Identity, Mark, Key, Place, range}
+use Rattle.mdv_replica.specs.Below.{Image, Identity, Mark, Key, Place, range}
 use Rattle.mdv_shelf.proofs.Frame.{before_range, behind_range}
 use Rattle.mdv_replica.specs.declared.forms.Gate.TheVariants.{Closed, Open}
 use Rattle.mdv_replica.specs.declared.replica.PlaceAt.{PlaceAt}
@@ -10,7 +10,7 @@ use Rattle.mdv_replica.specs.declared.replica.Slot.{Slot}
 use Rattle.mdv_replica.specs.Forms.{claim_text, gate_text, block_of, IsMaster}
 use Rattle.mdv_replica.specs.Replica.{IsHead, LiesAt, with_blocks, master_of, gate_at, body_at, slot_blocks, head_area, slot_area, claim_blocks, blank_master, formatted_blocks}
 use Rattle.mdv_replica.specs.Form.{IsReadable, IsTable, HasNoHead, formatted_head, with_slot, with_claim}
-use Rattle.mdv_replica.specs.Images.{Image, IsSame, SameOutside, Claims, MayClaim, Wipes, MayWipe, Formats, MayFormat, untouched, blanked, formatted, Fills, MayFill, closed, filled}
+use Rattle.mdv_replica.specs.Images.{IsSame, SameOutside, Claims, MayClaim, Wipes, MayWipe, Formats, MayFormat, untouched, blanked, formatted, Fills, MayFill, closed, filled}
 use Rattle.mdv_replica.specs.Laws.{FormatsShow, WipesShow, ClaimsShow, SlotsShow, Passes}
 use Rattle.mdv_replica.proofs.Heads.{no_blank_master}
 use Rattle.mdv_replica.proofs.Leaving.{leaves_weaker, leaves_settling, leaves_settled, leaves_formatting, leaves_slotting, leaves_slotted}

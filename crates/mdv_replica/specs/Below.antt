@@ -11,6 +11,7 @@ pub use Rattle.mdv_base.specs.declared.name.Key.TheVariants.{Local, Set}
 pub use Rattle.mdv_base.specs.declared.place.Place.{Place}
 pub use Rattle.mdv_shelf.specs.Area.{Area, KeptOutside, joined, range}
 pub use Rattle.mdv_shelf.specs.Calls.{Shows}
+pub use Rattle.mdv_shelf.specs.Everywhere.{Everywhere, Image, Leaves}
 pub use Rattle.mdv_shelf.specs.Moments.{Ends, Moments}
 pub use Rattle.mdv_shelf.specs.Settle.{IsFixed, IsSettled, IsSynced, Settling}
 pub use Rattle.mdv_shelf.specs.Tale.{IsImage, MayLeave, Tale, covers, last, told}

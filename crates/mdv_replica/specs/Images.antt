@@ -1,6 +1,6 @@
 -- What a crash leaves of a place that is being written, told from what one might have left before.
 use Rattle.std.specs.Prelude.{◌≡◌, ◌⊎◌, ℕ, ◌+◌, ◌<◌, false, List, [], length, slice_index_or}
-use Rattle.mdv_replica.specs.Below.{Mark, Tale, IsImage, Area, range}
+use Rattle.mdv_replica.specs.Below.{Mark, Image, Area, range}
 use Rattle.mdv_replica.specs.declared.forms.Gate.TheVariants.{Closed, Open}
 use Rattle.mdv_replica.specs.declared.forms.Master.{Master}
 use Rattle.mdv_replica.specs.declared.replica.PlaceAt.{PlaceAt}
@@ -8,19 +8,11 @@ use Rattle.mdv_replica.specs.declared.replica.Slot.{Slot}
 use Rattle.mdv_replica.specs.Forms.{gate_text, block_of}
 use Rattle.mdv_replica.specs.Replica.{gate_at, body_at, head_area, slot_area, claim_blocks, blank_master, formatted_blocks}
 
--- the blocks of all drives, as a crash may leave them
-abbrev pub Image : Type 0
-Image = ℕ → ℕ → List ℕ
-
 abbrev pub IsSame : Image → Image → Type 0
 IsSame old new = (drive block : ℕ) → new drive block ≡ old drive block
 
 abbrev pub SameOutside : Area → Image → Image → Type 0
 SameOutside area old new = (drive block : ℕ) → area drive block ≡ false → new drive block ≡ old drive block
-
--- whatever a crash leaves comes by this change from what one might have left at the start
-abbrev pub Leaves : (Image → Image → Type 0) → Tale → Tale → Type 0
-Leaves Change t m = (image : Image) → IsImage m image → (old : Image) × IsImage t old × Change old image
 
 -- these blocks are written from that one on, and no other
 pub record Overwrites (drive at : ℕ) (blocks : List (List ℕ)) (old new : Image) : Type 0 where

@@ -1,7 +1,7 @@
 -- What a place shows while it is formatted, wiped, claimed and written, whatever its records are: `counts` tells which
 -- text of a slot's body counts as a record at a place.
 use Rattle.std.specs.Prelude.{◌≡◌, ◌⊎◌, ℕ, ◌<◌, ◌^◌, Bool, true, IsTrue, List, length}
-use Rattle.mdv_replica.specs.Below.{IsBelow, Identity, Mark, Key, Place, Tale}
+use Rattle.mdv_replica.specs.Below.{Leaves, IsBelow, Identity, Mark, Key, Place, Tale}
 use Rattle.mdv_replica.specs.declared.forms.Gate.{Gate}
 use Rattle.mdv_replica.specs.declared.forms.Gate.TheVariants.{Closed, Open}
 use Rattle.mdv_replica.specs.declared.replica.PlaceAt.{PlaceAt}
@@ -10,7 +10,7 @@ use Rattle.mdv_replica.specs.declared.replica.Slot.{Slot}
 use Rattle.mdv_replica.specs.Forms.{IsMaster}
 use Rattle.mdv_replica.specs.Replica.{IsHeadOf, IsHead, LiesAt, Claiming, IsClaimed, Wiping, IsWiped, Formatting, IsFormatted, SlotWriting, IsSlotWritten, master_of, master_area, claim_area, head_area, slot_area}
 use Rattle.mdv_replica.specs.Form.{IsReadable, IsTable, HasNoHead, IsNewest, IsSpareSlot, shows, gate_of, other_slot, formatted_head, with_slot, with_claim}
-use Rattle.mdv_replica.specs.Images.{IsSame, SameOutside, Leaves}
+use Rattle.mdv_replica.specs.Images.{IsSame, SameOutside}
 
 -- four blocks spell one head at most
 abbrev pub OneHead : Type 0

@@ -4,7 +4,7 @@ use Rattle.std.proofs.lemmas.Bool.Decides.{nat_tests}
 use Rattle.mdv_run_law.specs.Below.{OutOfMemory, Head, greatest, shows, covers, IsSound, area_of, IsFound, IsReplica, Newest, IsNewestOf, Answer, Host, site_of, Memory, Kept, Stays, ArePut, IsRebooted, adopted, empty, down, lost, wanting}
 use Rattle.mdv_shelf.specs.Area.{range}
 use Rattle.mdv_shelf.proofs.Blocks.{both_ways}
-use Rattle.mdv_store_law.proofs.Frame.{newest_there, none_there}
+use Rattle.mdv_store_law.proofs.Frame.{newest_there, none_there, same_within}
 use Rattle.mdv_engine_law.specs.declared.answer.Answer.TheVariants.{Over}
 use Rattle.mdv_engine_law.specs.declared.answer.Ended.TheVariants as ended
 use Rattle.mdv_engine_law.specs.Answers.{refusing}
@@ -42,7 +42,7 @@ module _ (host : Host) where
   stays_settled : (kept next : Kept) → Settled kept → Stays kept next → Settled next
   stays_settled kept next (bare none found) stays = bare (ap (λ (m : Memory). m.opened) stays.memory ∙ none) (none_there (site_of host) kept.content next.content (λ block from to. stays.content block) found)
   stays_settled kept next (held newest opened room head is) stays =
-      held newest (ap (λ (m : Memory). m.opened) stays.memory ∙ opened) room head (newest_there (site_of host) kept.content next.content (λ block from to. stays.content block) head newest is)
+      held newest (ap (λ (m : Memory). m.opened) stays.memory ∙ opened) room head (newest_there (site_of host) kept.content next.content head (λ block from to. stays.content block) newest is)
 
   pub stays_same : (k j n m : Kept) → Same k j → Stays k n → Stays j m → Same n m
   stays_same k j n m same one other = record {
@@ -138,7 +138,8 @@ module _ (host : Host) where
 
       by : Settled kept → Settled next
       by (bare none found) = bare (ap (λ (m : Memory). m.opened) memory ∙ none) (none_there (site_of host) kept.content next.content (λ b from to. there b (of_home b from to)) found)
-      by (held newest opened room head is) = held newest (ap (λ (m : Memory). m.opened) memory ∙ opened) room head (newest_there (site_of host) kept.content next.content (λ b from to. there b (of_home b from to)) head newest is)
+      by (held newest opened room head is) = held newest (ap (λ (m : Memory). m.opened) memory ∙ opened) room head (newest_there (site_of host) kept.content next.content head
+          (same_within (site_of host) kept.content next.content (λ b from to. there b (of_home b from to)) kept.content head is.replica) newest is)
 
     pub put_same : (k j n m : Kept) → Same k j → n.memory ≡ k.memory → m.memory ≡ j.memory → ArePut place (block ∷ []) k.content n.content → ArePut place (block ∷ []) j.content m.content → Same n m
     put_same k j n m same memory memory_too put put_too = record {

@@ -4,7 +4,7 @@ use Rattle.std.proofs.lemmas.List.{reverse-append}
 use Rattle.std.proofs.lemmas.List.Elements.{Contains-append_cases, Contains-append_left, Contains-append_right}
 use Rattle.mdv_run_law.specs.Below.{Identity, Mark, IsHome, Home, Geometry, Image, Head, Slot, IsNewest, Tale, last, left_in, replies_in, Change, Table, IsSound, Version, Log, empty_log, Extends, Site, HasTable, IsFound, IsReplica, nothing, replica, History, Deed, Created, Changed, Event, changes_in, history_after_all, issued_by, told_by, IsCourse, new_history, site_of, StandsAt}
 use Rattle.mdv_store_law.specs.Log as log
-use Rattle.mdv_store_law.proofs.Covering.{last_image}
+use Rattle.mdv_shelf.proofs.Everywhere.{last_image}
 use Rattle.mdv_store_law.proofs.Lawful.{finds_hold, nothing_holds}
 use Rattle.mdv_store_law.proofs.Logs.{told_is_acknowledged}
 use Rattle.mdv_store_law.specs.Part.{IsPart}
@@ -168,4 +168,4 @@ database_is_found = record {
 pub blocks_hold : BlocksHold
 blocks_hold = λ drives home made ran t is_home is.
     let its = lives drives home made is_home ran t is.life in
-    (its, λ block out. reads_hold (site_of (host_of drives home 0)) (history_after_all (new_history (site_of (host_of drives home 0)) made) its.es) t block its.stands.stands out)
+    (its, reads_hold (site_of (host_of drives home 0)) (history_after_all (new_history (site_of (host_of drives home 0)) made) its.es) t its.stands.stands)

@@ -4,7 +4,8 @@ use Rattle.std.specs.List.{list_any}
 use Rattle.mdv_run_law.specs.Below.{Identity, Geometry, Tale, values, last, Version, Log, answered, empty_log, is_firm, IsLog, Newest, IsNewestIn, nothing, replica, History, Deed, Created, Event, history_after_all, IsCourse, told_by, ValuesHold, Host, site_of, identity_of, Memory, StandsAt, IsOfRun, Does, Knows, IsKnown}
 use Rattle.mdv_shelf.specs.Tale.{MayLeave}
 use Rattle.mdv_store_law.specs.Log as log
-use Rattle.mdv_store_law.proofs.Covering.{last_image, nothing_covers}
+use Rattle.mdv_shelf.proofs.Everywhere.{last_image}
+use Rattle.mdv_store_law.proofs.Covering.{nothing_covers}
 use Rattle.mdv_store_law.proofs.Logs.{told_acknowledges, told_firm, is_log_after_all}
 use Rattle.mdv_history.proofs.Parts.{of_database, database_after, database_course, told_of_database, database_told, told_created, issued_has}
 use Rattle.mdv_run_law.specs.Standing.{ShowsMade}
@@ -62,7 +63,7 @@ began host t = record { database = empty_log; allowed = λ block. values t (site
 
 began_values : (host : Host) (t : Tale) → ValuesHold (site_of host) (began host t).allowed t
 unfolding MayLeave
-began_values host t block out x left = left
+began_values host t image is block out = is.each (site_of host).at.drive.0 block
 
 -- where no database was open and the drive was read, such a history is known
 pub began_known : (host : Host) (memory : Memory) (t : Tale) → Knows host memory t → memory.opened ≡ None → memory.down ≡ false → IsKnown host memory (began host t) t

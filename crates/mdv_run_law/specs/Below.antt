@@ -25,7 +25,7 @@ pub use Rattle.mdv_engine_law.specs.Standing.{StandsAt, TurnMoment, Turned}
 pub use Rattle.mdv_engine_law.specs.declared.answer.Answer.{Answer}
 pub use Rattle.mdv_engine_law.specs.declared.answer.Reply.{Reply}
 pub use Rattle.mdv_engine_law.specs.declared.host.Host.{Host}
-pub use Rattle.mdv_history.specs.History.{Changed, Created, Deed, Event, HasWoken, History, IsCourse, LiesOn, MayHappen, Saw, changes_in, history_after, history_after_all}
+pub use Rattle.mdv_history.specs.History.{Changed, Created, Deed, Event, HasWoken, HaveValues, History, IsCourse, LiesOn, MayHappen, Saw, changes_in, history_after, history_after_all}
 pub use Rattle.mdv_history.specs.History.{issued_by, told_by}
 pub use Rattle.mdv_history.specs.Laws.{new_history}
 pub use Rattle.mdv_history.specs.Standing.{ValuesHold}
@@ -45,7 +45,7 @@ pub use Rattle.mdv_replica.specs.declared.replica.Head.{Head}
 pub use Rattle.mdv_replica.specs.declared.replica.Slot.{Slot}
 pub use Rattle.mdv_replica.specs.declared.replica.Slot.TheVariants.{First, Second}
 pub use Rattle.mdv_shelf.specs.Calls.{OnDrive, OnReplies, Part}
-pub use Rattle.mdv_replica.specs.Images.{Image}
+pub use Rattle.mdv_shelf.specs.Everywhere.{Everywhere, Image}
 pub use Rattle.mdv_shelf.specs.Tale.{Among, IsImage, MayLeave, Tale, covers, last, told, values}
 pub use Rattle.mdv_status.specs.Telling.{Said, left_in, one_reply, replies_in, said_in, unsaid}
 pub use Rattle.mdv_status.specs.Values.{values_reply}

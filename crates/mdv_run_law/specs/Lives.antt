@@ -1,6 +1,6 @@
 -- Lives: any number of runs on the same drives, each but the first begun on what the one before left, or a crash in it.
-use Rattle.std.specs.Prelude.{◌≡◌, ◌⊎◌, ℕ, false, List, [], ◌∷◌, ◌++◌, reverse, None, Contains}
-use Rattle.mdv_run_law.specs.Below.{IsHome, Home, Geometry, Script, Head, Slot, IsNewest, Mark, Image, Tale, Among, last, IsImage, Change, Table, Version, IsSound, restarted, AreMade, HasTable, IsFound, IsReplica, area_of, Deed, Created, Changed, changes_in, Event, history_after_all, IsCourse, new_history, Host, site_of, drive_content, StandsAt, left_in, replies_in}
+use Rattle.std.specs.Prelude.{◌≡◌, ◌⊎◌, ℕ, List, [], ◌∷◌, ◌++◌, reverse, None, Contains}
+use Rattle.mdv_run_law.specs.Below.{IsHome, Home, Geometry, Script, Head, Slot, IsNewest, Mark, Image, Tale, HaveValues, last, IsImage, Change, Table, Version, IsSound, restarted, AreMade, HasTable, IsFound, IsReplica, Deed, Created, Changed, changes_in, Event, history_after_all, IsCourse, new_history, Host, site_of, drive_content, StandsAt, left_in, replies_in}
 use Rattle.mdv_run_law.specs.Run.{HasHome}
 use Rattle.mdv_store_law.specs.Part.{IsPart}
 use Rattle.mdv_run_law.specs.Standing.{RunMoment, AreBegun, AreOfRun, AreTold, IsTold}
@@ -103,4 +103,4 @@ abbrev pub BlocksHold : Type 0
 BlocksHold =
     (drives : Geometry) (home : Home) (made : Image) (ran : List Ran) (t : Tale) → IsHome drives home → IsLife drives made ran t
     → (is : IsHistoryOf drives home made ran t)
-    × ((block : ℕ) → area_of (site_of (host_of drives home 0)) 0 block ≡ false → Among ((history_after_all (new_history (site_of (host_of drives home 0)) made) is.es).allowed block) (last t 0 block))
+    × HaveValues (site_of (host_of drives home 0)) (history_after_all (new_history (site_of (host_of drives home 0)) made) is.es).allowed (last t 0)

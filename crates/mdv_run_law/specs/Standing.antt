@@ -1,6 +1,6 @@
 -- How the drive stands with its history at each moment of a run.
 use Rattle.std.specs.Prelude.{◌≡◌, ◌≢◌, ◌⊎◌, ℕ, Bool, true, false, List, [], ◌∷◌, ◌++◌, Some, Contains}
-use Rattle.mdv_run_law.specs.Below.{Script, at_end, spent, too_long, line, Head, shows, Tale, told, IsImage, left_in, replies_in, Line, Boot, IsLine, is_firm, IsReplica, History, Deed, Created, Event, HasWoken, history_after, MayHappen, Host, site_of, identity_of, Ask, Nothing, Memory, asked_by_line, AcksBy, AcksFront, deeds, issuable, StandsAt, Does, Reached, Knows, IsKnown}
+use Rattle.mdv_run_law.specs.Below.{Script, at_end, spent, too_long, line, Head, shows, Tale, told, Everywhere, left_in, replies_in, Line, Boot, IsLine, is_firm, IsReplica, History, Deed, Created, Event, HasWoken, history_after, MayHappen, Host, site_of, identity_of, Ask, Nothing, Memory, asked_by_line, AcksBy, AcksFront, deeds, issuable, StandsAt, Does, Reached, Knows, IsKnown}
 use Rattle.mdv_store_law.specs.Machine as machine
 use Rattle.mdv_run_law.specs.Run.{IsNoCommand}
 
@@ -102,7 +102,7 @@ Goes host Come After m h = machine.Goes history_after (MayHappen (site_of host))
 -- whatever a crash leaves is a replica, with a table, of the database that a creation of this run made
 pub record ShowsMade (host : Host) (t : Tale) : Type 0 where
   pub number : ℕ
-  pub each : (image : ℕ → ℕ → List ℕ) → IsImage t image → (head : Head) × IsReplica (site_of host) (image 0) head × (shows head ≡ true) × (head.master.identity ≡ identity_of host number)
+  pub each : Everywhere (λ image. (head : Head) × IsReplica (site_of host) (image 0) head × (shows head ≡ true) × (head.master.identity ≡ identity_of host number)) t
 
 -- A moment of a run of that script that began at t: the drive stands with each history that it stood with at the start, gone on
 -- by the events of the boot and of the lines so far, in their order; each line's events begin what it asks only where it was answered

@@ -2,6 +2,7 @@ pub mod Blocks
 pub mod Counts
 pub mod Between
 pub mod Frame
+pub mod Everywhere
 pub mod Moments
 pub mod Noted
 pub mod Settled

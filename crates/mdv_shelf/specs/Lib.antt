@@ -5,6 +5,7 @@ pub mod Calls
 pub mod Between
 pub mod Area
 pub mod Settle
+pub mod Everywhere
 pub mod Story
 pub mod Shelves
 pub mod MemHistory

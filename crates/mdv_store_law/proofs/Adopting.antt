@@ -2,7 +2,6 @@
 use Rattle.std.proofs.Common.{◌≡◌, inl, inr, ⊎_elim, ℕ, ◌+◌, ◌≤◌, ◌<◌, true, false, List, [], ◌∷◌, length, refl, sym, ap, subst, None, All, arith, lit<}
 use Rattle.std.proofs.lemmas.List.Elements.{All-weaker}
 use Rattle.mdv_store_law.specs.Below.{IsBelow, Mark, record_text, Open, Head, Slot, First, Second, greatest, boot_of, IsSpareSlot, gate_of, other_slot, with_claim, IsMark, Image, Leaves, Claims, MayClaim, Tale, IsImage, last, Table}
-use Rattle.mdv_replica.proofs.Leaving.{image_synced}
 use Rattle.mdv_store_law.specs.Going.{Adopts, AdoptionsGo, drawn}
 use Rattle.mdv_store_law.specs.Log.{Version, Log, Writing, Written, IsAbove, IsNotOlder, IsNext}
 use Rattle.mdv_store_law.specs.Site.{Site, sized, IsTableAt, IsReplica, IsNewestOf}
@@ -11,7 +10,8 @@ use Rattle.mdv_store_law.specs.Steps.{Rewritten, Rewriting, Rewrites, adopted_ne
 use Rattle.mdv_store_law.proofs.Kept.{same_contents, text_claimed, text_taken}
 use Rattle.mdv_store_law.proofs.Replicas.{claimed_replica, filled_replica}
 use Rattle.mdv_store_law.proofs.Agreeing.{claim_agrees, all_below, newest_not_older}
-use Rattle.mdv_store_law.proofs.Covering.{last_image, newest_of, next_log, taken_holds, taking_holds}
+use Rattle.mdv_shelf.proofs.Everywhere.{everywhere_synced, last_image}
+use Rattle.mdv_store_law.proofs.Covering.{newest_of, next_log, taken_holds, taking_holds}
 use Rattle.mdv_store_law.proofs.Shown.{agrees_with, shown_version, its_table}
 
 spare_claimed : (head : Head) (slot : Slot) (number : ℕ) → IsSpareSlot head slot → IsSpareSlot (with_claim head number) slot
@@ -41,7 +41,7 @@ module _ (site : Site) (head : Head) (spare : Slot) (table : Table) (t : Tale) (
 
   -- what a crash might have left at the start is what was read
   replica_in : (old : Image) → IsImage t old → IsReplica site (old site.at.drive.0) head
-  replica_in old is = subst (λ (c : ℕ → List ℕ). IsReplica site c head) (sym (image_synced site.at.drive.0 t from.synced old is)) from.the.replica
+  replica_in = everywhere_synced (λ content. IsReplica site content head) site.at.drive.0 t from.synced from.the.replica
 
   on_claim_replica : (old new : Image) → IsImage t old → Claims (sized site head) mark.boot old new → IsReplica site (new site.at.drive.0) on_claim
   on_claim_replica old new is claims = claimed_replica site old new head (replica_in old is) mark.boot from.fits claims

@@ -15,7 +15,8 @@ use Rattle.mdv_store_law.proofs.Families.{contains_first}
 use Rattle.mdv_store_law.proofs.Kept.{text_taken}
 use Rattle.mdv_store_law.proofs.Logs.{tellable}
 use Rattle.mdv_store_law.proofs.Replicas.{filled_replica}
-use Rattle.mdv_store_law.proofs.Covering.{last_image, newest_of, next_log, taken_holds, taking_holds}
+use Rattle.mdv_shelf.proofs.Everywhere.{last_image}
+use Rattle.mdv_store_law.proofs.Covering.{newest_of, next_log, taken_holds, taking_holds}
 use Rattle.mdv_store_law.proofs.Shown.{shown_slot, agrees_with}
 
 -- beside the newest table's slot the other one is spare

@@ -1,8 +1,8 @@
 -- What the writing of a table leaves of a log.
 use Rattle.std.proofs.Common.{◌≡◌, ℕ, ◌≤◌, Bool, true, false, List, [], ◌∷◌, length, refl, sym, subst, Option, All, arith}
-use Rattle.mdv_store_law.specs.Below.{IsBelow, Identity, Mark, record_text, Gate, Closed, Open, Head, Slot, First, Second, text_of, IsSpare, IsSpareSlot, gate_of, other_slot, with_slot, IsMark, Image, untouched, closed, filled, KeptOutside, nowhere, Tale, IsImage, last, Change, Table}
+use Rattle.mdv_store_law.specs.Below.{IsBelow, Identity, Mark, record_text, Gate, Closed, Open, Head, Slot, First, Second, text_of, IsSpare, IsSpareSlot, gate_of, other_slot, with_slot, IsMark, Image, untouched, closed, filled, KeptOutside, nowhere, Tale, last, Change, Table}
 use Rattle.mdv_replica.proofs.Newest.{newest_stays}
-use Rattle.mdv_shelf.proofs.Blocks.{last_may_be_left}
+use Rattle.mdv_shelf.proofs.Everywhere.{everywhere_kept, last_image}
 use Rattle.mdv_store_law.specs.Log.{Log, is_firm, with_asked}
 use Rattle.mdv_store_law.specs.Site.{Site, sized, IsTableAt, IsReplica, IsNewestOf}
 use Rattle.mdv_store_law.specs.Standing.{IsOfFamily, IsAtLeast, Agrees, Holds, nothing, replica, Covers, ShowsNothing, GoesFrom, GoesOn}
@@ -10,13 +10,6 @@ use Rattle.mdv_store_law.specs.Steps.{Takes, MayTake}
 use Rattle.mdv_store_law.proofs.Kept.{KeepsText, same_contents, text_beside, text_taken}
 use Rattle.mdv_store_law.proofs.Replicas.{closed_replica, filled_replica}
 use Rattle.mdv_store_law.proofs.Agreeing.{slot_agrees, longer_agrees, of_new}
-
--- what a read gives is an image
-pub last_image : (t : Tale) → IsImage t (last t)
-last_image t = record { each = λ drive block. last_may_be_left t drive block }
-
-pub kept_image : (t m : Tale) (image : Image) → KeptOutside nowhere t m → IsImage m image → IsImage t image
-kept_image t m image kept is = record { each = λ drive block. (kept drive block refl).left (image drive block) (is.each drive block) }
 
 -- the log once this table is written, or began to be
 abbrev pub next_log : Log → Mark → Option Change → List Change → Table → Bool → Log
@@ -32,7 +25,7 @@ alone mark bytes (Open other more) below spare = spare (below other more refl)
 
 module _ (site : Site) where
   pub kept_covers : (log : Log) (t m : Tale) → KeptOutside nowhere t m → Covers site log t → Covers site log m
-  kept_covers log t m kept covers image is = covers image (kept_image t m image kept is)
+  kept_covers log t m kept covers = everywhere_kept (λ image. Holds site log (image site.at.drive.0)) t m kept covers
 
   pub kept_goes_on : (t m : Tale) → KeptOutside nowhere t m → GoesOn site t m
   kept_goes_on t m kept log covers known = record { es = []; course = tt; come = record { tells = refl; issues = tt; begins = tt }; stands = kept_covers log t m kept covers; after = tt }

@@ -1,9 +1,9 @@
 -- Standing over crashes, on new drives, and what a boot finds.
 use Rattle.std.proofs.Common.{◌≡◌, ◌⊎◌, inl, inr, ⊎_elim, ℕ, ◌+◌, ◌<◌, ◌≤◌, Bool, true, false, List, [], refl, sym, ◌∙◌, ap, subst, Option, Some, None, nat_lt, cond, slice_index, arith}
 use Rattle.std.proofs.lemmas.List.Elements.{All-nil, All-contains, All-weaker}
-use Rattle.mdv_store_law.specs.Below.{IsBelow, Mark, zero_block, blank_block, Begun, Start, IsImage, Master, Head, Slot, IsNewest, greatest, master_text, block_of, Image, Change, Table, IsSound}
-use Rattle.mdv_shelf.specs.Tale.{MayLeave, values}
+use Rattle.mdv_store_law.specs.Below.{IsBelow, Mark, zero_block, blank_block, Master, Head, Slot, IsNewest, greatest, master_text, block_of, Image, Change, Table, IsSound}
 use Rattle.mdv_shelf.proofs.Blocks.{both_ways}
+use Rattle.mdv_shelf.proofs.Everywhere.{everywhere_begun}
 use Rattle.mdv_replica.proofs.Heads.{no_blank_master}
 use Rattle.mdv_replica.proofs.Parts.{master_parts}
 use Rattle.mdv_store_law.specs.Laws.{restarted, CrashesStand, NewDrivesStand, FoundHolds, FindsHold, NothingHolds}
@@ -14,17 +14,10 @@ use Rattle.mdv_store_law.proofs.Families.{extends_more, extends_written}
 use Rattle.mdv_store_law.proofs.Logs.{told_firm}
 use Rattle.mdv_store_law.proofs.Shown.{shown_slot, none_above_newest, agrees_with, shown_version, its_table}
 
--- a tale that just began has one image
-begun_image : (start : Start) (image : Image) → IsImage (Begun start) image → (drive : ℕ) → image drive ≡ start.block drive
-unfolding MayLeave values
-begun_image start image is drive = λ i block. only block i where
-  only : (block : ℕ) → image drive block ≡ start.block drive block
-  only block = elim (is.each drive block) [ inl same ↦ same | inr none ↦ absurd none ]
-
 pub crashes_stand : CrashesStand
 crashes_stand = λ site log m image told stands is. record {
   is_log = stands.is_log;
-  covers = λ other of_other. subst (λ (c : ℕ → List ℕ). Holds site log c) (sym (begun_image (record { block = image; told = told }) other of_other site.at.drive.0)) (stands.covers image is);
+  covers = everywhere_begun (λ other. Holds site log (other site.at.drive.0)) (record { block = image; told = told }) (stands.covers image is);
 }
 
 blank_is : (sizes : List ℕ) (drive block : ℕ) → (blank_block sizes drive block ≡ block_of []) ⊎ (blank_block sizes drive block ≡ [])
@@ -39,7 +32,7 @@ no_master m is = absurd (cc (is ∙ master_parts m))
 new_stand : (site : Site) (image : Image) (told : List ℕ) → IsFound site (image site.at.drive.0) None → Stands site empty_log (restarted image told)
 new_stand site image told none = record {
   is_log = record { rising = tt; made = All-nil (λ (v : Version). AreMade site.drives v.changes v.table); descended = tt; held = λ told same. absurd (cc (same)) };
-  covers = λ other is. nothing refl (subst (λ (c : ℕ → List ℕ). IsFound site c None) (sym (begun_image (record { block = image; told = told }) other is site.at.drive.0)) none);
+  covers = everywhere_begun (λ other. Holds site empty_log (other site.at.drive.0)) (record { block = image; told = told }) (nothing refl none);
 }
 
 blank_shows : (site : Site) (sizes : List ℕ) → IsFound site (blank_block sizes site.at.drive.0) None

@@ -9,7 +9,7 @@ pub use Rattle.mdv_record.specs.Text.{record_text}
 pub use Rattle.mdv_replica.specs.Form.{IsNewest, IsNewestGate, IsReadable, IsSpare, IsSpareSlot, IsTable, boot_of, formatted_head, gate_of, greatest}
 pub use Rattle.mdv_replica.specs.Form.{is_open, other_slot, room_of, shows, text_of, with_claim, with_slot}
 pub use Rattle.mdv_replica.specs.Forms.{IsMark, IsMaster, block_of, gate_text, master_text}
-pub use Rattle.mdv_replica.specs.Images.{Claims, Fills, Formats, Image, IsSame, Leaves, MayClaim, MayFill, MayFormat, SameOutside, blanked, closed}
+pub use Rattle.mdv_replica.specs.Images.{Claims, Fills, Formats, IsSame, MayClaim, MayFill, MayFormat, SameOutside, blanked, closed}
 pub use Rattle.mdv_replica.specs.Images.{filled, formatted, untouched}
 pub use Rattle.mdv_replica.specs.Replica.{Formatting, IsFormatted, LiesAt, body_at, formatted_blocks, gate_at, master_of, slot_area, slot_blocks}
 pub use Rattle.mdv_replica.specs.Replica.{with_blocks}
@@ -21,6 +21,7 @@ pub use Rattle.mdv_replica.specs.declared.replica.PlaceAt.{PlaceAt}
 pub use Rattle.mdv_replica.specs.declared.replica.Slot.{Slot}
 pub use Rattle.mdv_replica.specs.declared.replica.Slot.TheVariants.{First, Second}
 pub use Rattle.mdv_shelf.specs.Area.{AreApart, Area, KeptOutside, nowhere, range}
+pub use Rattle.mdv_shelf.specs.Everywhere.{Everywhere, Image, Leaves, RestsOn}
 pub use Rattle.mdv_shelf.specs.MemHistory.{blank, blank_block, zero_block}
 pub use Rattle.mdv_shelf.specs.Settle.{IsSynced}
 pub use Rattle.mdv_shelf.specs.Tale.{Begun, IsImage, MayLeave, Start, Tale, last, values}

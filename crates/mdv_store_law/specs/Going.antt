@@ -1,6 +1,6 @@
 -- How a log goes on while a boot, a commit or a creation writes.
 use Rattle.std.specs.Prelude.{◌≡◌, ◌+◌, ◌<◌, ◌^◌, true, false, [], length, Option, Some, None}
-use Rattle.mdv_store_law.specs.Below.{Identity, Mark, record_text, Open, Head, Slot, First, IsSpareSlot, formatted_head, greatest, other_slot, with_slot, IsMaster, Image, Leaves, Formatting, IsFormatted, LiesAt, master_of, with_blocks, IsSynced, Tale, IsImage, last, Change, Table, IsSound}
+use Rattle.mdv_store_law.specs.Below.{Identity, Mark, record_text, Open, Head, Slot, First, IsSpareSlot, formatted_head, greatest, other_slot, with_slot, IsMaster, Everywhere, Leaves, Formatting, IsFormatted, LiesAt, master_of, with_blocks, IsSynced, Tale, last, Change, Table, IsSound}
 use Rattle.mdv_store_law.specs.Log.{Version, Log, IsLog, IsMade, IsNewestTellable, NoCreation, asks_of, is_firm}
 use Rattle.mdv_store_law.specs.Site.{Site, sized, IsNewestOf, IsTableAt, Newest}
 use Rattle.mdv_store_law.specs.Standing.{IsOpened, IsNewestIn, Anything, GoesFrom, GoesMaking, GoesOnTo, GoesOn, ShowsNothing, ShowsReplica, created_log}
@@ -93,7 +93,7 @@ pub record CreationsGo : Type 0 where
       → Leaves (MayTake site.at First first_mark table) u m → ShowsReplica site identity m
   -- in the end
   pub shows : (site : Site) (identity : Identity) (table : Table) (u v : Tale) → Creates site identity table → IsFormatted site.at (master_of site.at site.key identity) 1 u
-      → Leaves (Takes site.at First first_mark table) u v → (image : Image) → IsImage v image → IsNewestOf site (image site.at.drive.0) (created_head site identity table) (created_newest site table)
+      → Leaves (Takes site.at First first_mark table) u v → Everywhere (λ image. IsNewestOf site (image site.at.drive.0) (created_head site identity table) (created_newest site table)) v
   pub opens : (site : Site) (identity : Identity) (table : Table) (u v : Tale) → Creates site identity table → IsFormatted site.at (master_of site.at site.key identity) 1 u
       → Leaves (Takes site.at First first_mark table) u v → IsOpened site (created_newest site table) v
   pub ends : (site : Site) (identity : Identity) (table : Table) (t u v : Tale) → Creates site identity table → ShowsNothing site t → IsFormatted site.at (master_of site.at site.key identity) 1 u

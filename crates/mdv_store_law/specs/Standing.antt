@@ -1,6 +1,6 @@
 -- What a crash may leave of a database with one place, told by its log.
 use Rattle.std.specs.Prelude.{◌≡◌, ◌⊎◌, ℕ, ◌≤◌, true, false, List, [], ◌∷◌, Option, Some, None, All, Contains}
-use Rattle.mdv_store_law.specs.Below.{IsBelow, Identity, Mark, record_text, Gate, Closed, Open, Head, Slot, First, Second, greatest, shows, text_of, Image, Tale, IsImage, Change}
+use Rattle.mdv_store_law.specs.Below.{IsBelow, Identity, Mark, record_text, Gate, Closed, Open, Head, Slot, First, Second, greatest, shows, text_of, Everywhere, Tale, Change}
 use Rattle.mdv_store_law.specs.Log.{Version, Log, Adds, IsLog, IsThis, MayHappen, NoCreation, is_firm, log_after}
 use Rattle.mdv_store_law.specs.Machine as machine
 use Rattle.mdv_store_law.specs.Site.{Site, sized, IsTableAt, IsReplica, IsFound, Newest, IsNewestOf}
@@ -44,7 +44,7 @@ pub data Holds (site : Site) (log : Log) (content : ℕ → List ℕ) : Type 0 w
 
 -- whatever a crash leaves
 abbrev pub Covers : Site → Log → Tale → Type 0
-Covers site log m = (image : Image) → IsImage m image → Holds site log (image site.at.drive.0)
+Covers site log = Everywhere (λ image. Holds site log (image site.at.drive.0))
 
 -- the drives stand with the log
 pub record Stands (site : Site) (log : Log) (m : Tale) : Type 0 where
@@ -53,7 +53,7 @@ pub record Stands (site : Site) (log : Log) (m : Tale) : Type 0 where
 
 -- whatever a crash leaves, a boot finds nothing
 abbrev pub ShowsNothing : Site → Tale → Type 0
-ShowsNothing site m = (image : Image) → IsImage m image → IsFound site (image site.at.drive.0) None
+ShowsNothing site = Everywhere (λ image. IsFound site (image site.at.drive.0) None)
 
 -- a replica is readable there, of the database that the creation with this identity made
 pub record IsReplicaMade (site : Site) (identity : Identity) (content : ℕ → List ℕ) : Type 0 where
@@ -63,12 +63,12 @@ pub record IsReplicaMade (site : Site) (identity : Identity) (content : ℕ → 
 
 -- whatever a crash leaves, the place has such a replica
 abbrev pub ShowsReplica : Site → Identity → Tale → Type 0
-ShowsReplica site identity m = (image : Image) → IsImage m image → IsReplicaMade site identity (image site.at.drive.0)
+ShowsReplica site identity = Everywhere (λ image. IsReplicaMade site identity (image site.at.drive.0))
 
 -- whatever a crash leaves, the place has one and the same replica, whose newest table is this one
 pub record IsOpened (site : Site) (newest : Newest) (m : Tale) : Type 0 where
   pub head : Head
-  pub each : (image : Image) → IsImage m image → IsNewestOf site (image site.at.drive.0) head newest
+  pub each : Everywhere (λ image. IsNewestOf site (image site.at.drive.0) head newest) m
 
 -- the newest table of the log is this one, and its write was answered
 pub record IsNewestIn (newest : Newest) (log : Log) : Type 0 where

@@ -1,7 +1,7 @@
 -- What a boot, a commit and a creation write, told from what a crash might have left before.
 use Rattle.std.specs.Prelude.{◌≡◌, ◌⊎◌, ℕ, ◌+◌, ◌≤◌, true, List, length, take}
 use Rattle.std.specs.List.{concat}
-use Rattle.mdv_store_law.specs.Below.{Mark, record_text, Open, Head, PlaceAt, Slot, IsNewest, IsSpareSlot, greatest, other_slot, room_of, shows, with_claim, with_slot, Image, Leaves, Claims, MayClaim, Fills, MayFill, slot_blocks, Tale, IsImage, Table}
+use Rattle.mdv_store_law.specs.Below.{Mark, record_text, Open, Head, PlaceAt, Slot, IsNewest, IsSpareSlot, greatest, other_slot, room_of, shows, with_claim, with_slot, Image, Leaves, Claims, MayClaim, Fills, MayFill, slot_blocks, Everywhere, Tale, Table}
 use Rattle.mdv_store_law.specs.Site.{Site, IsReplica, HasTable, Newest, IsNewestOf}
 
 -- a body that begins with the record of the table, of which so many bytes count, and fits a slot of the place
@@ -67,7 +67,7 @@ pub record IsAdopted (site : Site) (content : ℕ → List ℕ) (newest : Newest
   pub mark : Mark
   pub has : HasTable site content head (other_slot newest.slot) mark newest.table
   pub is : newest ≡ adopted_newest head newest.slot newest.table
-  pub each : (image : Image) → IsImage u image → IsNewestOf site (image site.at.drive.0) (rewritten head newest.slot (greatest head + 1) (length (record_text newest.table))) newest
+  pub each : Everywhere (λ image. IsNewestOf site (image site.at.drive.0) (rewritten head newest.slot (greatest head + 1) (length (record_text newest.table))) newest) u
 
 -- what is known of an open database once the other slot took this table, under the next count
 abbrev pub next_newest : Newest → Table → Newest
