@@ -4,7 +4,8 @@
 set -eu
 here=$(cd "$(dirname "$0")" && pwd)
 top=$(cd "$here/../.." && pwd)
-metad=$top/crates/metad/out/metad
+[ "${1-}" != --proved ] || unset METAD_PROGRAM
+metad=$(realpath -m -- "${METAD_PROGRAM:-$top/crates/metad/out/metad}")
 
 if [ "${1-}" = --proved ]; then
   (cd "$top/crates/metad" && rt run -- --version)
