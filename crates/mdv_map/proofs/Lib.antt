@@ -1,0 +1,7 @@
+pub mod Copies
+pub mod Combining
+pub mod Striping
+pub mod Covering
+pub mod Joining
+pub mod Following
+pub mod Standing

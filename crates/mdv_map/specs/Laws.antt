@@ -1,0 +1,142 @@
+-- Laws of maps and of logs, whatever kind of volume a map is of.
+use Rattle.std.specs.Prelude.{◌≡◌, ◌⊎◌, ℕ, ◌+◌, ◌*◌, ◌<◌, ◌≤◌, Bool, true, false, List, [], ◌++◌, length, slice_index_or}
+use Rattle.mdv_map.specs.Below.{Among, AreApart, Begun, Image, IsImage, KeptOutside, MayLeave, Start, Tale, last, range}
+use Rattle.mdv_map.specs.Maps.{Map, HasDriveBlock, IsDisjoint, AreDisjoint, IsWithin, run_map, chain_map, mirror_map, cut_map, soft_map, stripe_map, column_at, column_of, offset_of, striped_block, AreColumns, readings, area_of_map}
+use Rattle.mdv_map.specs.Logs.{VolumeLog, AreIssued, AreLastIssued, Follows, after_issue, after_answer, after_flush, after_crash, after_boot, after_begin, opening}
+use Rattle.mdv_map.specs.Requests.{IsOff, Rewriting, AllRead, OnDrives, AllOnDisk, AreDrivesOf, AreCopiesKept}
+
+-- so many blocks of a drive
+pub record RunsLie : Type 0 where
+  pub disjoint : (drive first count : ℕ) → IsDisjoint (run_map drive first count)
+  pub apart : (drive first count other from length : ℕ) → (drive ≡ other → ⊥) ⊎ ((first + count ≤ from) ⊎ (from + length ≤ first)) → AreDisjoint (run_map drive first count) (run_map other from length)
+  pub area : (drive first count other block : ℕ) → area_of_map (run_map drive first count) other block ≡ range drive first count other block
+
+-- a concatenation
+pub record ChainsLie : Type 0 where
+  pub front : (v w : Map) (b : ℕ) → b < v.blocks → ((chain_map v w).places b ≡ v.places b) × ((chain_map v w).copies b ≡ v.copies b)
+  pub back : (v w : Map) (b : ℕ) → ((chain_map v w).places (v.blocks + b) ≡ w.places b) × ((chain_map v w).copies (v.blocks + b) ≡ w.copies b)
+  pub disjoint : (v w : Map) → IsDisjoint v → IsDisjoint w → AreDisjoint v w → IsDisjoint (chain_map v w)
+  pub apart : (v w u : Map) → AreDisjoint v u → AreDisjoint w u → AreDisjoint (chain_map v w) u
+
+-- a mirror
+pub record MirrorsLie : Type 0 where
+  pub either : (v w : Map) (b drive block : ℕ) → HasDriveBlock ((mirror_map v w).places b) drive block → HasDriveBlock (v.places b) drive block ⊎ HasDriveBlock (w.places b) drive block
+  pub disjoint : (v w : Map) → v.blocks ≤ w.blocks → IsDisjoint v → IsDisjoint w → AreDisjoint v w → IsDisjoint (mirror_map v w)
+  pub apart : (v w u : Map) → v.blocks ≤ w.blocks → AreDisjoint v u → AreDisjoint w u → AreDisjoint (mirror_map v w) u
+
+-- a volume of which only some blocks may be read
+pub record CutsLie : Type 0 where
+  pub copies : (usable : ℕ → Bool) (v : Map) (b drive block : ℕ) → HasDriveBlock ((cut_map usable v).copies b) drive block → (usable b ≡ true) × HasDriveBlock (v.copies b) drive block
+  pub disjoint : (usable : ℕ → Bool) (v : Map) → IsDisjoint v → IsDisjoint (cut_map usable v)
+
+-- a soft partition, each block of which is another one of the volume below
+pub record SoftPartitionsLie : Type 0 where
+  pub within : (pick : ℕ → ℕ) (count : ℕ) (v : Map) → ((b : ℕ) → b < count → pick b < v.blocks) → IsWithin (soft_map pick count v) v
+  pub disjoint : (pick : ℕ → ℕ) (count : ℕ) (v : Map) → ((b : ℕ) → b < count → pick b < v.blocks) → ((a b : ℕ) → a < count → b < count → pick a ≡ pick b → a ≡ b) → IsDisjoint v → IsDisjoint (soft_map pick count v)
+  -- what shares nothing with the volume below shares nothing with it
+  pub apart : (v w u : Map) → IsWithin v w → AreDisjoint w u → AreDisjoint v u
+
+-- a stripe
+pub record StripesLie : Type 0 where
+  -- a block lies in one of the columns, in one of the blocks that the stripe takes of it
+  pub column : (interlace units width b : ℕ) → 0 < interlace → 0 < width → b < units * width * interlace → column_of interlace width b < width
+  pub offset : (interlace units width b : ℕ) → 0 < interlace → 0 < width → b < units * width * interlace → offset_of interlace width b < units * interlace
+  -- and comes back from there
+  pub comes_back : (interlace width b : ℕ) → 0 < interlace → striped_block interlace width (column_of interlace width b) (offset_of interlace width b) ≡ b
+  pub disjoint : (interlace units : ℕ) (columns : List Map) → AreColumns interlace units columns → IsDisjoint (stripe_map interlace units columns)
+  pub apart : (interlace units : ℕ) (columns : List Map) (u : Map) → AreColumns interlace units columns → ((i : ℕ) → i < length columns → AreDisjoint (column_at columns i) u) → AreDisjoint (stripe_map interlace units columns) u
+
+-- the area of a map is what belongs to its blocks
+pub record AreasCover : Type 0 where
+  pub inside : (v : Map) (drive block : ℕ) → area_of_map v drive block ≡ true → (b : ℕ) × (b < v.blocks) × HasDriveBlock (v.places b) drive block
+  pub outside : (v : Map) (at count drive block : ℕ) → at + count ≤ v.blocks → area_of_map v drive block ≡ false → IsOff v at count drive block
+  pub kept : (v : Map) (at : ℕ) (news : List (List ℕ)) (t m : Tale) → at + length news ≤ v.blocks → Rewriting v at news t m → KeptOutside (area_of_map v) t m
+  pub apart : (v w : Map) → AreDisjoint v w → AreApart (area_of_map v) (area_of_map w)
+
+-- One request's blocks are among another's, as the same blocks of drives or more of them: `to` tells which of the other's each
+-- of its own is. What else belongs to the other's blocks belongs to none of its own.
+pub record IsPartOf (v : Map) (at : ℕ) (news : List (List ℕ)) (w : Map) (from : ℕ) (all : List (List ℕ)) : Type 0 where
+  pub inside : (k drive block : ℕ) → k < length all → HasDriveBlock (w.places (from + k)) drive block
+      → ((j : ℕ) × (j < length news) × HasDriveBlock (v.places (at + j)) drive block × (slice_index_or news j [] ≡ slice_index_or all k [])) ⊎ IsOff v at (length news) drive block
+  pub outside : (drive block : ℕ) → IsOff w from (length all) drive block → IsOff v at (length news) drive block
+
+-- moments of a request
+pub record RewritingsJoin : Type 0 where
+  pub still : (v : Map) (at : ℕ) (news : List (List ℕ)) (t : Tale) → Rewriting v at news t t
+  pub more : (v : Map) (at : ℕ) (news : List (List ℕ)) (t u m : Tale) → Rewriting v at news t u → Rewriting v at news u m → Rewriting v at news t m
+  -- of a part of a request they are moments of the request
+  pub parts : (v : Map) (at : ℕ) (news : List (List ℕ)) (w : Map) (from : ℕ) (all : List (List ℕ)) (t m : Tale) → IsPartOf v at news w from all → Rewriting v at news t m → Rewriting w from all t m
+  -- so it is for some blocks behind each other of a request
+  pub slice : (v : Map) (at : ℕ) (before news behind : List (List ℕ)) (t m : Tale) → IsDisjoint v → at + length (before ++ news ++ behind) ≤ v.blocks
+      → Rewriting v (at + length before) news t m → Rewriting v at (before ++ news ++ behind) t m
+  -- for blocks of a volume below a soft partition that lie one behind another there
+  pub soft : (pick : ℕ → ℕ) (count : ℕ) (v : Map) (at : ℕ) (news : List (List ℕ)) (t m : Tale)
+      → ((k : ℕ) → k < length news → pick (at + k) ≡ pick at + k) → Rewriting v (pick at) news t m → Rewriting (soft_map pick count v) at news t m
+  -- and for either side of a mirror
+  pub left : (v w : Map) (at : ℕ) (news : List (List ℕ)) (t m : Tale) → AreDisjoint v w → at + length news ≤ v.blocks → at + length news ≤ w.blocks → Rewriting v at news t m → Rewriting (mirror_map v w) at news t m
+  pub right : (v w : Map) (at : ℕ) (news : List (List ℕ)) (t m : Tale) → AreDisjoint v w → at + length news ≤ v.blocks → at + length news ≤ w.blocks → Rewriting w at news t m → Rewriting (mirror_map v w) at news t m
+
+-- a log is followed by each copy alone
+pub record FollowsEachCopy (v : Map) (log : VolumeLog) (t : Tale) : Type 0 where
+  pub reads : (b drive block : ℕ) → b < v.blocks → HasDriveBlock (v.copies b) drive block → Among (log b).reads (last t drive block)
+  pub leaves : (b drive block : ℕ) (x : List ℕ) → b < v.blocks → HasDriveBlock (v.copies b) drive block → MayLeave t drive block x → Among (log b).leaves x
+
+pub record CopiesFollow : Type 0 where
+  pub each : (v : Map) (log : VolumeLog) (t : Tale) → Follows v log t → FollowsEachCopy v log t
+  pub all : (v : Map) (log : VolumeLog) (t : Tale) → FollowsEachCopy v log t → Follows v log t
+
+-- a volume with fewer blocks or copies follows the log that the wider one followed
+abbrev pub NarrowerMapsFollow : Type 0
+NarrowerMapsFollow = (v w : Map) (log : VolumeLog) (t : Tale) → w.blocks ≤ v.blocks
+    → ((b drive block : ℕ) → b < w.blocks → HasDriveBlock (w.copies b) drive block → HasDriveBlock (v.copies b) drive block) → Follows v log t → Follows w log t
+
+-- at each moment of a request whose values were issued
+abbrev pub RewritingsFollow : Type 0
+RewritingsFollow = (v : Map) (at : ℕ) (news : List (List ℕ)) (log : VolumeLog) (t m : Tale) → IsDisjoint v → at + length news ≤ v.blocks → AreIssued log at news → Rewriting v at news t m → Follows v log t → Follows v log m
+
+-- values are issued
+pub record IssuesFollow : Type 0 where
+  pub follows : (v : Map) (at : ℕ) (blocks : List (List ℕ)) (log : VolumeLog) (t : Tale) → Follows v log t → Follows v (after_issue at blocks log) t
+  pub issued : (at : ℕ) (blocks : List (List ℕ)) (log : VolumeLog) → AreIssued (after_issue at blocks log) at blocks
+  pub newest : (at : ℕ) (blocks : List (List ℕ)) (log : VolumeLog) → AreLastIssued (after_issue at blocks log) at blocks
+
+-- a write is answered once each copy reads so
+abbrev pub AnswersFollow : Type 0
+AnswersFollow = (v : Map) (at : ℕ) (blocks : List (List ℕ)) (log : VolumeLog) (t : Tale) → AllRead v at blocks t → Follows v log t → Follows v (after_answer at blocks log) t
+
+-- blocks are on the disk
+abbrev pub FlushesFollow : Type 0
+FlushesFollow = (v : Map) (at count : ℕ) (log : VolumeLog) (t : Tale) → AllOnDisk v at count t → Follows v log t → Follows v (after_flush at count log) t
+
+-- the drives begin anew: from what a crash may leave, or from what they hold
+pub record CrashesFollow : Type 0 where
+  pub crashed : (v : Map) (log : VolumeLog) (t : Tale) (start : Start) → IsImage t start.block → Follows v log t → Follows v (after_crash log) (Begun start)
+  pub ended : (v : Map) (log : VolumeLog) (t : Tale) (start : Start) → ((drive block : ℕ) → start.block drive block ≡ last t drive block) → Follows v log t → Follows v log (Begun start)
+
+-- a boot finds one value of each block: one that a crash might have left
+pub record BootsFollow : Type 0 where
+  pub woken : (v : Map) (content : ℕ → List ℕ) (log : VolumeLog) (t : Tale) → ((image : Image) (b : ℕ) (x : List ℕ) → IsImage t image → b < v.blocks → Among (readings v image b) x → x ≡ content b)
+      → Follows v (after_boot content log) t
+  pub left : (v : Map) (log : VolumeLog) (t : Tale) (b drive block : ℕ) → b < v.blocks → HasDriveBlock (v.copies b) drive block → Follows v log t → Among (log b).leaves (last t drive block)
+
+-- logs begin, from some block on
+pub record BeginningsFollow : Type 0 where
+  pub made : (v : Map) (t : Tale) → Follows v (opening v t) t
+  pub behind : (v : Map) (from : ℕ) (log logs : VolumeLog) (t : Tale) → Follows (record v { blocks = from }) log t → Follows v logs t → Follows v (after_begin from logs log) t
+
+-- what a request knows of its blocks
+pub record RequestsStand : Type 0 where
+  -- stays while their copies are kept
+  pub reads : (v : Map) (at : ℕ) (blocks : List (List ℕ)) (t m : Tale) → AreCopiesKept v at (length blocks) t m → AllRead v at blocks t → AllRead v at blocks m
+  pub on_drives : (v : Map) (drives : List ℕ) (at count : ℕ) (t m : Tale) → AreCopiesKept v at count t m → OnDrives v drives at count t → OnDrives v drives at count m
+  pub on_disk : (v : Map) (at count : ℕ) (t m : Tale) → AreCopiesKept v at count t m → AllOnDisk v at count t → AllOnDisk v at count m
+  -- and so they are by a request for other blocks of the volume, or for another volume
+  pub beside : (v : Map) (at count from : ℕ) (news : List (List ℕ)) (t m : Tale) → IsDisjoint v → at + count ≤ v.blocks → from + length news ≤ v.blocks → (at + count ≤ from) ⊎ (from + length news ≤ at)
+      → Rewriting v from news t m → AreCopiesKept v at count t m
+  pub elsewhere : (v w : Map) (at count from : ℕ) (news : List (List ℕ)) (t m : Tale) → IsDisjoint v → AreDisjoint v w → at + count ≤ v.blocks → from + length news ≤ w.blocks
+      → Rewriting w from news t m → AreCopiesKept v at count t m
+  -- what is on all drives is on the disk
+  pub everywhere : (v : Map) (drives : List ℕ) (at count : ℕ) (t : Tale) → AreDrivesOf drives v at count → OnDrives v drives at count t → AllOnDisk v at count t
+  -- what both sides of a mirror read, the mirror reads; and a copy less reads no more
+  pub both : (v w : Map) (at : ℕ) (blocks : List (List ℕ)) (t : Tale) → AllRead v at blocks t → AllRead w at blocks t → AllRead (mirror_map v w) at blocks t
+  pub fewer : (usable : ℕ → Bool) (v : Map) (at : ℕ) (blocks : List (List ℕ)) (t : Tale) → AllRead v at blocks t → AllRead (cut_map usable v) at blocks t

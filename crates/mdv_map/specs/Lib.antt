@@ -1,0 +1,5 @@
+pub mod Below
+pub mod Maps
+pub mod Logs
+pub mod Requests
+pub mod Laws
