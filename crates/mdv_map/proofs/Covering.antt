@@ -12,16 +12,16 @@ use Rattle.mdv_map.proofs.Copies.{le_of_test, lt_of_test, same_block, same_drive
 is_there : (a b c d : ℕ) → a ≡ b → c ≡ d → a == b && c == d ≡ true
 is_there a b c d one other = grind (arith, nat_tests)
 
-one_of : (a b : Bool) → a || b ≡ true → (a ≡ true) ⊎ (b ≡ true)
+pub one_of : (a b : Bool) → a || b ≡ true → (a ≡ true) ⊎ (b ≡ true)
 one_of true b is = inl refl
 one_of false b is = inr is
 
-either_of : (a b : Bool) → (a ≡ true) ⊎ (b ≡ true) → a || b ≡ true
+pub either_of : (a b : Bool) → (a ≡ true) ⊎ (b ≡ true) → a || b ≡ true
 either_of true b is = refl
 either_of false b (inl is) = cc
 either_of false b (inr is) = is
 
-true_false : (a : Bool) → a ≡ true → a ≡ false → ⊥
+pub true_false : (a : Bool) → a ≡ true → a ≡ false → ⊥
 true_false a is is_not = cc
 
 -- the test tells what is so
@@ -91,13 +91,13 @@ same_test false false to from = refl
 in_range : (d f n o b k : ℕ) → k < n → o ≡ d → b ≡ f + k → range d f n o b ≡ true
 in_range d f n o b k lt is_drive is_block = grind (arith, nat_tests)
 
-drive_of : (d f n o b : ℕ) → range d f n o b ≡ true → d ≡ o
+pub drive_of : (d f n o b : ℕ) → range d f n o b ≡ true → d ≡ o
 drive_of d f n o b is = grind (arith, nat_tests)
 
-from_of : (d f n o b : ℕ) → range d f n o b ≡ true → f ≤ b
+pub from_of : (d f n o b : ℕ) → range d f n o b ≡ true → f ≤ b
 from_of d f n o b is = grind (arith, nat_tests)
 
-to_of : (d f n o b : ℕ) → range d f n o b ≡ true → b < f + n
+pub to_of : (d f n o b : ℕ) → range d f n o b ≡ true → b < f + n
 to_of d f n o b is = grind (arith, nat_tests)
 
 module _ (drive first count other block : ℕ) where

@@ -1,7 +1,5 @@
 -- Moments of requests, one after another and part of one another.
-use Rattle.std.proofs.Common.{◌≡◌, inl, inr, ⊎_elim, ℕ, ◌+◌, ◌<◌, ◌≤◌, List, [], ◌++◌, length, slice_index_or, refl, sym, ◌∙◌, ap, subst, arith, length-append}
-use Rattle.std.proofs.Math.ListN.{get_or-append}
-use Rattle.std.proofs.lemmas.List.{get_or-append-add}
+use Rattle.std.proofs.Common.{◌≡◌, inl, inr, ⊎_elim, ℕ, ◌+◌, ◌<◌, ◌≤◌, List, [], length, slice_index_or, refl, sym, ◌∙◌, ap, subst, arith}
 use Rattle.mdv_shelf.proofs.Frame.{kept_more}
 use Rattle.mdv_shelf.proofs.Settled.{same_block, same_kept}
 use Rattle.mdv_map.specs.Below.{IsKept, IsOldOrNew, Tale}
@@ -45,32 +43,20 @@ parts v at news w from all t m part rewriting = record {
   quiet = rewriting.quiet;
 }
 
--- a value in the middle of three lists
-in_middle : (before news behind : List (List ℕ)) (j : ℕ) → j < length news → slice_index_or news j [] ≡ slice_index_or (before ++ news ++ behind) (length before + j) []
-in_middle before news behind j lt =
-    let long = length-append before news in
-    sym (get_or-append (before ++ news) behind [] (length before + j) (omega arith) ∙ get_or-append-add before news j [])
-
-three_long : (before news behind : List (List ℕ)) → length (before ++ news ++ behind) ≡ length before + length news + length behind
-three_long before news behind = simp length-append
-
-module _ (v : Map) (at : ℕ) (before news behind : List (List ℕ)) (one : IsDisjoint v) (within : at + length (before ++ news ++ behind) ≤ v.blocks) where
-  slice_is_part : IsPartOf v (at + length before) news v at (before ++ news ++ behind)
+module _ (v : Map) (at done : ℕ) (news all : List (List ℕ)) (one : IsDisjoint v) (within : at + length all ≤ v.blocks) (room : done + length news ≤ length all)
+    (same : (k : ℕ) → k < length news → slice_index_or news k [] ≡ slice_index_or all (done + k) []) where
+  slice_is_part : IsPartOf v (at + done) news v at all
   slice_is_part = record {
-    inside = λ k drive block lt has. elim (place_among (length before) (length news) k) [
+    inside = λ k drive block lt has. elim (place_among done (length news) k) [
       | inl place ↦ inl (
         place.index,
         place.below,
         subst (λ (i : ℕ). HasDriveBlock (v.places i) drive block) (ap (λ (i : ℕ). at + i) place.is ∙ omega arith) has,
-        in_middle before news behind place.index place.below ∙ ap (λ (i : ℕ). slice_index_or (before ++ news ++ behind) i []) (sym place.is),
+        same place.index place.below ∙ ap (λ (i : ℕ). slice_index_or all i []) (sym place.is),
       )
-      | inr away ↦ inr (λ j below owned.
-          let long = three_long before news behind in
-          let same = one.apart (at + length before + j) (at + k) drive block (omega arith) (omega arith) owned has in away j below (omega arith))
+      | inr away ↦ inr (λ j below owned. let there = one.apart (at + done + j) (at + k) drive block (omega arith) (omega arith) owned has in away j below (omega arith))
     ];
-    outside = λ drive block off k lt has.
-        let long = three_long before news behind in
-        off (length before + k) (omega arith) (subst (λ (i : ℕ). HasDriveBlock (v.places i) drive block) (omega arith) has);
+    outside = λ drive block off k lt has. off (done + k) (omega arith) (subst (λ (i : ℕ). HasDriveBlock (v.places i) drive block) (omega arith) has);
   }
 
 module _ (pick : ℕ → ℕ) (count : ℕ) (v : Map) (at : ℕ) (news : List (List ℕ)) (together : (k : ℕ) → k < length news → pick (at + k) ≡ pick at + k) where
@@ -104,8 +90,7 @@ rewritings_join = record {
   still = still;
   more = more;
   parts = parts;
-  slice = λ v at before news behind t m one within rewriting.
-      parts v (at + length before) news v at (before ++ news ++ behind) t m (slice_is_part v at before news behind one within) rewriting;
+  slice = λ v at done news all t m one within room same rewriting. parts v (at + done) news v at all t m (slice_is_part v at done news all one within room same) rewriting;
   soft = λ pick count v at news t m together rewriting. parts v (pick at) news (soft_map pick count v) at news t m (soft_is_part pick count v at news together) rewriting;
   left = λ v w at news t m apart in_v in_w rewriting. parts v at news (mirror_map v w) at news t m (left_is_part v w at news apart in_v in_w) rewriting;
   right = λ v w at news t m apart in_v in_w rewriting. parts w at news (mirror_map v w) at news t m (right_is_part v w at news apart in_v in_w) rewriting;

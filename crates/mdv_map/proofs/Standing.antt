@@ -2,19 +2,19 @@
 use Rattle.std.proofs.Common.{◌⊎◌, inl, inr, ⊎_elim, ℕ, ◌+◌, ◌≤◌, Bool, List, length, sym, ◌∙◌, arith}
 use Rattle.mdv_map.specs.Below.{Tale, last}
 use Rattle.mdv_map.specs.Maps.{Map, IsDisjoint, AreDisjoint, cut_map, mirror_map}
-use Rattle.mdv_map.specs.Requests.{AllOnDisk, AllRead, AreCopiesKept, OnDrives, Rewriting}
+use Rattle.mdv_map.specs.Requests.{AllOnDisk, AllRead, AreCopiesKept, AreRead, OnDrives, Rewriting}
 use Rattle.mdv_map.specs.Laws.{RequestsStand}
 use Rattle.mdv_map.proofs.Combining.{cut_copies}
 use Rattle.mdv_map.proofs.Copies.{reading_of, copy_of, in_either}
 
 module _ (v : Map) (at : ℕ) (t m : Tale) where
-  reads_stay : (blocks : List (List ℕ)) → AreCopiesKept v at (length blocks) t m → AllRead v at blocks t → AllRead v at blocks m
-  reads_stay blocks kept all k x lt reading =
+  reads_stay : (count : ℕ) (blocks : List (List ℕ)) → AreCopiesKept v at count t m → AreRead v at count blocks t → AreRead v at count blocks m
+  reads_stay count blocks kept all k x lt reading =
       let copy = copy_of (last m) (v.copies (at + k)) x reading in
       copy.is ∙ (kept k copy.drive copy.block lt copy.has).last ∙ all k (last t copy.drive copy.block) lt (reading_of (last t) (v.copies (at + k)) copy.drive copy.block copy.has)
 
-  on_drives_stay : (drives : List ℕ) (count : ℕ) → AreCopiesKept v at count t m → OnDrives v drives at count t → OnDrives v drives at count m
-  on_drives_stay drives count kept on k drive block x lt has listed left =
+  on_drives_stay : (passes : ℕ → Bool) (count : ℕ) → AreCopiesKept v at count t m → OnDrives v passes at count t → OnDrives v passes at count m
+  on_drives_stay passes count kept on k drive block x lt has listed left =
       let same = kept k drive block lt has in on k drive block x lt has listed (same.left x left) ∙ sym same.last
 
   on_disk_stays : (count : ℕ) → AreCopiesKept v at count t m → AllOnDisk v at count t → AllOnDisk v at count m
@@ -46,12 +46,12 @@ fewer_read usable v at blocks t all k x lt reading =
 
 pub requests_stand : RequestsStand
 requests_stand = record {
-  reads = λ v at blocks t m kept all. reads_stay v at t m blocks kept all;
-  on_drives = λ v drives at count t m kept on. on_drives_stay v at t m drives count kept on;
+  reads = λ v at count blocks t m kept all. reads_stay v at t m count blocks kept all;
+  on_drives = λ v passes at count t m kept on. on_drives_stay v at t m passes count kept on;
   on_disk = λ v at count t m kept on. on_disk_stays v at t m count kept on;
   beside = λ v at count from news t m one within in_v away rewriting. kept_beside v at t m count from news one within in_v away rewriting;
   elsewhere = λ v w at count from news t m one apart within in_w rewriting. kept_elsewhere v at t m w count from news one apart within in_w rewriting;
-  everywhere = λ v drives at count t listed on k drive block x lt has left. on k drive block x lt has (listed k drive block lt has) left;
+  everywhere = λ v passes at count t listed on k drive block x lt has left. on k drive block x lt has (listed k drive block lt has) left;
   both = both_read;
   fewer = fewer_read;
 }

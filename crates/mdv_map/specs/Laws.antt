@@ -1,9 +1,9 @@
 -- Laws of maps and of logs, whatever kind of volume a map is of.
-use Rattle.std.specs.Prelude.{◌≡◌, ◌⊎◌, ℕ, ◌+◌, ◌*◌, ◌<◌, ◌≤◌, Bool, true, false, List, [], ◌++◌, length, slice_index_or}
+use Rattle.std.specs.Prelude.{◌≡◌, ◌⊎◌, ℕ, ◌+◌, ◌*◌, ◌<◌, ◌≤◌, Bool, true, false, List, [], length, slice_index_or}
 use Rattle.mdv_map.specs.Below.{Among, AreApart, Begun, Image, IsImage, KeptOutside, MayLeave, Start, Tale, last, range}
 use Rattle.mdv_map.specs.Maps.{Map, HasDriveBlock, IsDisjoint, AreDisjoint, IsWithin, run_map, chain_map, mirror_map, cut_map, soft_map, stripe_map, column_at, column_of, offset_of, striped_block, AreColumns, readings, area_of_map}
 use Rattle.mdv_map.specs.Logs.{VolumeLog, AreIssued, AreLastIssued, Follows, after_issue, after_answer, after_flush, after_crash, after_boot, after_begin, opening}
-use Rattle.mdv_map.specs.Requests.{IsOff, Rewriting, AllRead, OnDrives, AllOnDisk, AreDrivesOf, AreCopiesKept}
+use Rattle.mdv_map.specs.Requests.{IsOff, Rewriting, AreRead, AllRead, OnDrives, AllOnDisk, AreDrivesOf, AreCopiesKept}
 
 -- so many blocks of a drive
 pub record RunsLie : Type 0 where
@@ -67,8 +67,8 @@ pub record RewritingsJoin : Type 0 where
   -- of a part of a request they are moments of the request
   pub parts : (v : Map) (at : ℕ) (news : List (List ℕ)) (w : Map) (from : ℕ) (all : List (List ℕ)) (t m : Tale) → IsPartOf v at news w from all → Rewriting v at news t m → Rewriting w from all t m
   -- so it is for some blocks behind each other of a request
-  pub slice : (v : Map) (at : ℕ) (before news behind : List (List ℕ)) (t m : Tale) → IsDisjoint v → at + length (before ++ news ++ behind) ≤ v.blocks
-      → Rewriting v (at + length before) news t m → Rewriting v at (before ++ news ++ behind) t m
+  pub slice : (v : Map) (at done : ℕ) (news all : List (List ℕ)) (t m : Tale) → IsDisjoint v → at + length all ≤ v.blocks → done + length news ≤ length all
+      → ((k : ℕ) → k < length news → slice_index_or news k [] ≡ slice_index_or all (done + k) []) → Rewriting v (at + done) news t m → Rewriting v at all t m
   -- for blocks of a volume below a soft partition that lie one behind another there
   pub soft : (pick : ℕ → ℕ) (count : ℕ) (v : Map) (at : ℕ) (news : List (List ℕ)) (t m : Tale)
       → ((k : ℕ) → k < length news → pick (at + k) ≡ pick at + k) → Rewriting v (pick at) news t m → Rewriting (soft_map pick count v) at news t m
@@ -127,8 +127,8 @@ pub record BeginningsFollow : Type 0 where
 -- what a request knows of its blocks
 pub record RequestsStand : Type 0 where
   -- stays while their copies are kept
-  pub reads : (v : Map) (at : ℕ) (blocks : List (List ℕ)) (t m : Tale) → AreCopiesKept v at (length blocks) t m → AllRead v at blocks t → AllRead v at blocks m
-  pub on_drives : (v : Map) (drives : List ℕ) (at count : ℕ) (t m : Tale) → AreCopiesKept v at count t m → OnDrives v drives at count t → OnDrives v drives at count m
+  pub reads : (v : Map) (at count : ℕ) (blocks : List (List ℕ)) (t m : Tale) → AreCopiesKept v at count t m → AreRead v at count blocks t → AreRead v at count blocks m
+  pub on_drives : (v : Map) (passes : ℕ → Bool) (at count : ℕ) (t m : Tale) → AreCopiesKept v at count t m → OnDrives v passes at count t → OnDrives v passes at count m
   pub on_disk : (v : Map) (at count : ℕ) (t m : Tale) → AreCopiesKept v at count t m → AllOnDisk v at count t → AllOnDisk v at count m
   -- and so they are by a request for other blocks of the volume, or for another volume
   pub beside : (v : Map) (at count from : ℕ) (news : List (List ℕ)) (t m : Tale) → IsDisjoint v → at + count ≤ v.blocks → from + length news ≤ v.blocks → (at + count ≤ from) ⊎ (from + length news ≤ at)
@@ -136,7 +136,7 @@ pub record RequestsStand : Type 0 where
   pub elsewhere : (v w : Map) (at count from : ℕ) (news : List (List ℕ)) (t m : Tale) → IsDisjoint v → AreDisjoint v w → at + count ≤ v.blocks → from + length news ≤ w.blocks
       → Rewriting w from news t m → AreCopiesKept v at count t m
   -- what is on all drives is on the disk
-  pub everywhere : (v : Map) (drives : List ℕ) (at count : ℕ) (t : Tale) → AreDrivesOf drives v at count → OnDrives v drives at count t → AllOnDisk v at count t
+  pub everywhere : (v : Map) (passes : ℕ → Bool) (at count : ℕ) (t : Tale) → AreDrivesOf passes v at count → OnDrives v passes at count t → AllOnDisk v at count t
   -- what both sides of a mirror read, the mirror reads; and a copy less reads no more
   pub both : (v w : Map) (at : ℕ) (blocks : List (List ℕ)) (t : Tale) → AllRead v at blocks t → AllRead w at blocks t → AllRead (mirror_map v w) at blocks t
   pub fewer : (usable : ℕ → Bool) (v : Map) (at : ℕ) (blocks : List (List ℕ)) (t : Tale) → AllRead v at blocks t → AllRead (cut_map usable v) at blocks t

@@ -1,5 +1,5 @@
 -- What a request does to the blocks of a volume, and what it knows of them, whatever others do to other blocks.
-use Rattle.std.specs.Prelude.{◌≡◌, ℕ, ◌+◌, ◌<◌, List, [], length, slice_index_or, Contains}
+use Rattle.std.specs.Prelude.{◌≡◌, ℕ, ◌+◌, ◌<◌, Bool, true, List, [], length, slice_index_or}
 use Rattle.mdv_map.specs.Below.{Among, IsKept, IsOldOrNew, MayLeave, Tale, last, told}
 use Rattle.mdv_map.specs.Maps.{Map, HasDriveBlock, readings}
 
@@ -14,22 +14,25 @@ pub record Rewriting (v : Map) (at : ℕ) (news : List (List ℕ)) (t m : Tale) 
   pub outside : (drive block : ℕ) → IsOff v at (length news) drive block → IsKept t m drive block
   pub quiet : told m ≡ told t
 
--- each copy of these blocks reads so
-abbrev pub AllRead : Map → ℕ → List (List ℕ) → Tale → Type 0
-AllRead v at blocks t = (k : ℕ) (x : List ℕ) → k < length blocks → Among (readings v (last t) (at + k)) x → x ≡ slice_index_or blocks k []
+-- each copy of the first so many of these blocks reads so
+abbrev pub AreRead : Map → ℕ → ℕ → List (List ℕ) → Tale → Type 0
+AreRead v at count blocks t = (k : ℕ) (x : List ℕ) → k < count → Among (readings v (last t) (at + k)) x → x ≡ slice_index_or blocks k []
 
--- of the copies of these blocks on these drives a crash leaves only what a read gives
-abbrev pub OnDrives : Map → List ℕ → ℕ → ℕ → Tale → Type 0
-OnDrives v drives at count t =
-    (k drive block : ℕ) (x : List ℕ) → k < count → HasDriveBlock (v.copies (at + k)) drive block → Contains drives drive → MayLeave t drive block x → x ≡ last t drive block
+-- of all of them
+abbrev pub AllRead : Map → ℕ → List (List ℕ) → Tale → Type 0
+AllRead v at blocks t = AreRead v at (length blocks) blocks t
+
+-- of the copies of these blocks on the drives that pass a test a crash leaves only what a read gives
+abbrev pub OnDrives : Map → (ℕ → Bool) → ℕ → ℕ → Tale → Type 0
+OnDrives v passes at count t = (k drive block : ℕ) (x : List ℕ) → k < count → HasDriveBlock (v.copies (at + k)) drive block → passes drive ≡ true → MayLeave t drive block x → x ≡ last t drive block
 
 -- of all their copies
 abbrev pub AllOnDisk : Map → ℕ → ℕ → Tale → Type 0
 AllOnDisk v at count t = (k drive block : ℕ) (x : List ℕ) → k < count → HasDriveBlock (v.copies (at + k)) drive block → MayLeave t drive block x → x ≡ last t drive block
 
--- each copy of these blocks is on one of these drives
-abbrev pub AreDrivesOf : List ℕ → Map → ℕ → ℕ → Type 0
-AreDrivesOf drives v at count = (k drive block : ℕ) → k < count → HasDriveBlock (v.copies (at + k)) drive block → Contains drives drive
+-- the drive of each copy of these blocks passes the test
+abbrev pub AreDrivesOf : (ℕ → Bool) → Map → ℕ → ℕ → Type 0
+AreDrivesOf passes v at count = (k drive block : ℕ) → k < count → HasDriveBlock (v.copies (at + k)) drive block → passes drive ≡ true
 
 -- each copy of these blocks is kept
 abbrev pub AreCopiesKept : Map → ℕ → ℕ → Tale → Tale → Type 0
