@@ -1,0 +1,107 @@
+-- How many turns a stretch of blocks takes, and on which drives it lies.
+use Rattle.std.proofs.Common.{◌≡◌, ◌⊎◌, inl, inr, ℕ, zero, suc, ◌+◌, ◌-◌, ◌<◌, ◌≤◌, Bool, true, false, not, ◌==◌, nat_lt, if◌then◌else◌, refl, sym, ◌∙◌, ap, subst, arith}
+use Rattle.std.proofs.lemmas.Bool.Decides.{nat_tests}
+use Rattle.mdv_shelf.proofs.Blocks.{both_ways}
+use Rattle.mdv_map.proofs.Covering.{either_of, one_of}
+use Rattle.mdv_map.proofs.Copies.{le_of_test, lt_of_test}
+use Rattle.mdv_dev.specs.Below.{Map}
+use Rattle.mdv_dev.specs.Pieces.{count_to, drive_of, has_drive, is_new}
+
+same_number : (a b : ℕ) → a == b ≡ true → a ≡ b
+same_number a b is = grind (arith, nat_tests)
+
+number_test : (a b : ℕ) → a ≡ b → a == b ≡ true
+number_test a b is = grind (arith, nat_tests)
+
+pub not_false : (a : Bool) → not a ≡ false → a ≡ true
+not_false true is = refl
+not_false false is = sym is
+
+pub not_true : (a : Bool) → a ≡ true → not a ≡ false
+not_true a is = rw is
+
+pub true_not : (a : Bool) → a ≡ false → not a ≡ true
+true_not a is = rw is
+
+module _ (test : ℕ → Bool) where
+  -- where none passes the test, the count stays
+  count_still : (from to : ℕ) → from ≤ to → ((j : ℕ) → from ≤ j → j < to → test j ≡ false) → count_to test to ≡ count_to test from
+  unfolding count_to
+  count_still from zero le none = let same : zero ≡ from = omega arith in ap (count_to test) same
+  count_still from (suc n) le none = elim (both_ways (nat_lt n from)) [
+    | inl does ↦
+        let lt = lt_of_test n from does in
+        let same : suc n ≡ from = omega arith in ap (count_to test) same
+    | inr not_below ↦
+        let from_le = le_of_test n from not_below in
+        let still = count_still from n from_le (λ j above below. none j above (omega arith)) in
+        let fails = none n from_le (omega arith) in rw fails (let is : count_to test n + 0 ≡ count_to test from = omega (arith, still) in is)
+  ]
+
+  -- where the first alone passes it, the count rises by one
+  pub count_turn : (from to : ℕ) → from < to → test from ≡ true → ((j : ℕ) → from < j → j < to → test j ≡ false) → count_to test to ≡ count_to test from + 1
+  unfolding count_to
+  count_turn from to lt first none =
+      let still = count_still (suc from) to (omega arith) (λ j above below. none j (omega arith) below) in
+      still ∙ rw first refl
+
+  pub count_grows : (from more : ℕ) → count_to test from ≤ count_to test (from + more)
+  unfolding count_to
+  count_grows from zero = let same : from + zero ≡ from = omega arith in let counts = ap (count_to test) same in omega arith
+  count_grows from (suc more) =
+      let same : from + suc more ≡ suc (from + more) = omega arith in
+      let counts : count_to test (from + suc more) ≡ count_to test (from + more) + (if test (from + more) then 1 else 0) = ap (count_to test) same in
+      let before = count_grows from more in omega arith
+
+  -- one that passes is counted
+  pub count_passed : (from to : ℕ) → from < to → test from ≡ true → count_to test from + 1 ≤ count_to test to
+  unfolding count_to
+  count_passed from to lt is =
+      let next : count_to test (suc from) ≡ count_to test from + 1 = rw is refl in
+      let grows = count_grows (suc from) (to - suc from) in
+      let same : suc from + (to - suc from) ≡ to = omega arith in
+      let there = ap (count_to test) same in omega arith
+
+module _ (v : Map) (at : ℕ) where
+  -- a drive that one of the blocks lies on
+  pub has_at : (n j drive : ℕ) → j < n → drive_of (v.copies (at + j)) ≡ drive → has_drive v at n drive ≡ true
+  unfolding has_drive
+  has_at zero j drive lt is = absurd (omega arith)
+  has_at (suc n) j drive lt is = either_of (drive_of (v.copies (at + n)) == drive) (has_drive v at n drive)
+      (elim (both_ways (nat_lt j n)) [
+        | inl does ↦ inr (has_at n j drive (lt_of_test j n does) is)
+        | inr not_below ↦
+            let le = le_of_test j n not_below in
+            let same : n ≡ j = omega arith in inl (number_test (drive_of (v.copies (at + n))) drive (ap (λ (i : ℕ). drive_of (v.copies (at + i))) same ∙ is))
+      ])
+
+  -- blocks on other drives don't make it one of theirs
+  pub has_same : (n more drive : ℕ) → ((j : ℕ) → j < more → drive_of (v.copies (at + (n + j))) == drive ≡ false) → has_drive v at (n + more) drive ≡ has_drive v at n drive
+  unfolding has_drive
+  has_same n zero drive other = ap (λ (i : ℕ). has_drive v at i drive) (omega arith)
+  has_same n (suc more) drive other =
+      let same : n + suc more ≡ suc (n + more) = omega arith in
+      ap (λ (i : ℕ). has_drive v at i drive) same ∙ rw (other more (omega arith)) (has_same n more drive (λ j lt. other j (omega arith)))
+
+  -- a drive of a stretch in which the first block alone may be on a new one
+  pub has_back : (from to drive : ℕ) → from < to → ((j : ℕ) → from < j → j < to → is_new v at j ≡ false) → has_drive v at to drive ≡ true → (drive_of (v.copies (at + from)) ≡ drive) ⊎ (has_drive v at from drive ≡ true)
+  unfolding has_drive
+  has_back from zero drive lt none has = absurd (omega arith)
+  has_back from (suc n) drive lt none has = elim (one_of (drive_of (v.copies (at + n)) == drive) (has_drive v at n drive) has) [
+    | inl last ↦ elim (both_ways (nat_lt from n)) [
+      | inl does ↦
+          let below = lt_of_test from n does in
+          let seen = not_false (has_drive v at n (drive_of (v.copies (at + n)))) (none n below (omega arith)) in
+          let here = subst (λ (d : ℕ). has_drive v at n d ≡ true) (same_number (drive_of (v.copies (at + n))) drive last) seen in
+          has_back from n drive below (λ j above under. none j above (omega arith)) here
+      | inr not_below ↦
+          let le = le_of_test from n not_below in
+          let same : from ≡ n = omega arith in inl (ap (λ (i : ℕ). drive_of (v.copies (at + i))) same ∙ same_number (drive_of (v.copies (at + n))) drive last)
+    ]
+    | inr earlier ↦ elim (both_ways (nat_lt from n)) [
+      | inl does ↦ has_back from n drive (lt_of_test from n does) (λ j above under. none j above (omega arith)) earlier
+      | inr not_below ↦
+          let le = le_of_test from n not_below in
+          let same : n ≡ from = omega arith in inr (subst (λ (i : ℕ). has_drive v at i drive ≡ true) same earlier)
+    ]
+  ]

@@ -1,0 +1,7 @@
+pub mod Counting
+pub mod Lying
+pub mod Chaining
+pub mod Turning
+pub mod Slicing
+pub mod Finishing
+pub mod Requesting

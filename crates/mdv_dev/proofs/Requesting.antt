@@ -1,0 +1,97 @@
+-- Whole requests: a read, and a write with its flush.
+use Rattle.std.proofs.Common.{◌≡◌, inl, inr, ℕ, ◌+◌, ◌-◌, ◌<◌, ◌≤◌, Bool, true, false, List, [], length, Option, Result, Ok, refl, sym, ◌∙◌, ap, subst, arith}
+use Rattle.mdv_shelf.specs.Tale.{Tale}
+use Rattle.mdv_shelf.specs.Between.{MakesCalls}
+use Rattle.mdv_shelf.specs.Moments.{Ends, Moments}
+use Rattle.mdv_shelf.specs.declared.shelf.Shelf.{Ghosts}
+use Rattle.mdv_shelf.proofs.Between.{between_then}
+use Rattle.mdv_shelf.proofs.Counts.{took_more}
+use Rattle.mdv_shelf.proofs.Moments.{ends_both, ends_more, moments_end, moments_more}
+use Rattle.mdv_map.specs.Maps.{HasDriveBlock, Map}
+use Rattle.mdv_map.specs.Requests.{AllOnDisk, AllRead, AreRead, OnDrives, Rewriting}
+use Rattle.mdv_map.proofs.Covering.{true_false}
+use Rattle.mdv_map.proofs.Joining.{kept_is_old, rewritings_join}
+use Rattle.mdv_map.proofs.Standing.{requests_stand}
+use Rattle.mdv_dev.specs.Pieces.{IsOneCopy, count_to, drive_of, drives, has_drive, is_new, is_start, pieces}
+use Rattle.mdv_dev.specs.Works.{Carries, IsFinished, turns_left}
+use Rattle.mdv_dev.specs.declared.work.Work.{Work}
+use Rattle.mdv_dev.specs.declared.work.WorkKind.{WorkKind}
+use Rattle.mdv_dev.specs.declared.work.WorkKind.TheVariants.{Read, Write, Flush}
+use Rattle.mdv_dev.proofs.Counting.{has_at}
+
+-- a request of which nothing is done
+abbrev pub fresh : WorkKind → ℕ → ℕ → Work
+fresh kind at count = record { kind = kind; at = at; count = count; done = 0 }
+
+pub none_counted : (test : ℕ → Bool) (n : ℕ) → count_to test n - count_to test 0 ≡ count_to test n
+unfolding count_to
+none_counted test n = omega arith
+
+pub first_is_new : (v : Map) (at : ℕ) → is_new v at 0 ≡ true
+unfolding has_drive
+first_is_new v at = refl
+
+no_drive : (v : Map) (at drive : ℕ) → has_drive v at 0 drive ≡ false
+unfolding has_drive
+no_drive v at drive = refl
+
+-- where nothing was changed
+pub rewrites_none : (v : Map) (at : ℕ) (blocks : List (List ℕ)) (t m : Tale) → Rewriting v at [] t m → Rewriting v at blocks t m
+rewrites_none v at blocks t m calm = record {
+  inside = λ k drive block lt has. kept_is_old t m drive block _ (calm.outside drive block (λ j none owned. absurd (omega arith)));
+  outside = λ drive block off. calm.outside drive block (λ j none owned. absurd (omega arith));
+  quiet = calm.quiet;
+}
+
+pub moments_flushed : (v : Map) (at : ℕ) (blocks : List (List ℕ)) (a b c : Option Tale) → Moments (Rewriting v at blocks) a b → Moments (Rewriting v at []) b c → Moments (Rewriting v at blocks) a c
+moments_flushed v at blocks a b c first second =
+    moments_more (Rewriting v at blocks) (Rewriting v at []) (Rewriting v at blocks) a b c (λ t m one. one)
+    (λ t u m one two. rewritings_join.more v at blocks t u m one (rewrites_none v at blocks u m two)) first second
+
+-- the one copy of a block is on the first drive
+copy_drive : (v : Map) (b drive block : ℕ) → IsOneCopy v → b < v.blocks → HasDriveBlock (v.copies b) drive block → drive_of (v.copies b) ≡ drive
+copy_drive v b drive block one lt has =
+    let there = one b lt in
+    elim (rw there.2.copies at has) [ inl here ↦ ap drive_of there.2.copies ∙ sym here.0 | inr none ↦ absurd none ]
+
+module _ (v : Map) (at : ℕ) (blocks : List (List ℕ)) (one : IsOneCopy v) (within : at + length blocks ≤ v.blocks) where
+  synced_all : (t : Tale) → OnDrives v (has_drive v at (length blocks)) at (length blocks) t → AllOnDisk v at (length blocks) t
+  synced_all t on k drive block x lt has left =
+      on k drive block x lt has (has_at v at (length blocks) k drive lt (copy_drive v (at + k) drive block one (omega arith) has)) left
+
+  stays_read : (t m : Tale) → Rewriting v at [] t m → AllRead v at blocks t → AllRead v at blocks m
+  stays_read t m calm = requests_stand.reads v at (length blocks) blocks t m (λ k drive block lt has. calm.outside drive block (λ j none owned. absurd (omega arith)))
+
+  pub write_ends : (Failed Later : ℕ → Type 0) {T E U F : Type 0} (x : T) (y : U) (a b c : Option Tale) (written flushed : Work) (after last : List (List ℕ))
+      → Ends (Carries v (fresh Write at (length blocks)) blocks written after) a b → IsFinished {T = T} {E = E} v Failed (fresh Write at (length blocks)) blocks written after (Ok x)
+      → Ends (Carries v (fresh Flush at (length blocks)) after flushed last) b c → IsFinished {T = U} {E = F} v Later (fresh Flush at (length blocks)) after flushed last (Ok y)
+      → Moments (Rewriting v at []) b c → Ends (λ _ u. AllRead v at blocks u × AllOnDisk v at (length blocks) u) a c
+  write_ends Failed Later x y a b c written flushed after last first whole second synced calm =
+      let is_written : written ≡ record (fresh Write at (length blocks)) { done = length blocks } = whole.same ∙ ap (λ (n : ℕ). let w : Work = record (fresh Write at (length blocks)) { done = n } in w) whole.whole in
+      let is_flushed : flushed ≡ record (fresh Flush at (length blocks)) { done = length blocks } = synced.same ∙ ap (λ (n : ℕ). let w : Work = record (fresh Flush at (length blocks)) { done = n } in w) synced.whole in
+      let one_end = subst (λ (u : Work). Ends (Carries v (fresh Write at (length blocks)) blocks u after) a b) is_written first in
+      let other_end = subst (λ (u : Work). Ends (Carries v (fresh Flush at (length blocks)) after u last) b c) is_flushed second in
+      let both = ends_both (Carries v (fresh Flush at (length blocks)) after (record (fresh Flush at (length blocks)) { done = length blocks }) last) (Rewriting v at [])
+      (λ u m. OnDrives v (has_drive v at (length blocks)) at (length blocks) m × Rewriting v at [] u m) b c
+      (λ u m carried still. (carried (λ k drive block x lt has on left. absurd (true_false (has_drive v at 0 drive) on (no_drive v at drive))), still)) other_end (moments_end (Rewriting v at []) b c calm) in
+      ends_more (Carries v (fresh Write at (length blocks)) blocks (record (fresh Write at (length blocks)) { done = length blocks }) after) (λ u m. OnDrives v (has_drive v at (length blocks)) at (length blocks) m × Rewriting v at [] u m)
+      (λ _ u. AllRead v at blocks u × AllOnDisk v at (length blocks) u) a b c
+      (λ t u m carried done.
+      let read = subst (λ (xs : List (List ℕ)). AreRead v at (length blocks) xs u) whole.buffer (carried (λ k x lt reading. absurd (omega arith))) in
+      (stays_read u m done.1 read, synced_all m done.0))
+      one_end both
+
+-- how often it calls
+module _ {S : Type 0} (shelf : Ghosts S) (a b c : S) (v : Map) (at count : ℕ) where
+  pub calls_read : {T E : Type 0} (result : Result T E) → MakesCalls shelf a b (turns_left v (fresh Read at count)) 0 result → MakesCalls shelf a b (pieces v at count) 0 result
+  calls_read result makes = subst (λ (n : ℕ). MakesCalls shelf a b n 0 result) (none_counted (is_start v at) count) makes
+
+  module _ {T E : Type 0} (x : T) (first : MakesCalls {T = T} {E = E} shelf a b (turns_left v (fresh Write at count)) (count - 0) (Ok x)) where
+    pub calls_both : {U F : Type 0} (y : U) → MakesCalls {T = U} {E = F} shelf b c (turns_left v (fresh Flush at count)) 0 (Ok y) → MakesCalls {T = U} {E = F} shelf a c (pieces v at count + drives v at count) count (Ok y)
+    calls_both y second =
+        let one = none_counted (is_start v at) count in
+        let two = none_counted (is_new v at) count in
+        record {
+          done = took_more shelf.calls shelf.written a b c (turns_left v (fresh Write at count)) (turns_left v (fresh Flush at count)) (count - 0) 0 (pieces v at count + drives v at count) count (omega arith) (omega arith) first.done second.done;
+          any = between_then shelf.calls shelf.written a b c 1 (turns_left v (fresh Write at count)) (count - 0) 1 (turns_left v (fresh Flush at count)) 0 1 (pieces v at count + drives v at count) count (omega arith) (omega arith) (omega arith) first.any second.any;
+        }

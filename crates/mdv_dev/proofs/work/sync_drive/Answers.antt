@@ -1,0 +1,96 @@
+use Rattle.std.proofs.Common.{◌+◌, ◌-◌, ◌<◌, ◌≤◌, ◌≡◌, inl, inr, ℕ, false, [], nat_lt, Option, refl, sym, ◌∙◌, subst, arith, rules}
+use Rattle.mdv_shelf.specs.Tale.{Tale}
+use Rattle.mdv_shelf.specs.Moments.{Ends}
+use Rattle.mdv_shelf.specs.Shelves.{DriveFailed}
+use Rattle.mdv_shelf.proofs.Blocks.{both_ways}
+use Rattle.mdv_shelf.proofs.Noted.{kept_call}
+use Rattle.mdv_map.proofs.Copies.{le_of_test, lt_of_test}
+use Rattle.mdv_map.specs.Maps.{Map}
+use Rattle.mdv_map.specs.Requests.{OnDrives}
+use Rattle.mdv_dev.specs.Works.{LeavesBuffer, HasDoneOf, written_of, is_turn}
+use Rattle.mdv_dev.specs.Pieces.{IsPiece, has_drive, is_new}
+use Rattle.mdv_dev.specs.declared.piece.Piece.{Piece}
+use Rattle.mdv_dev.specs.declared.work.WorkKind.{WorkKind}
+use Rattle.mdv_dev.specs.declared.work.WorkKind.TheVariants.{Flush}
+use Rattle.mdv_dev.proofs.Lying.{drive_here, in_drive, seen_in}
+use Rattle.mdv_dev.proofs.Turning.{missed, sync_ends, sync_moments, turn_counted, turn_missed, turned}
+use Rattle.mdv_dev.proofs.work.sync_drive.Goals as goal
+
+written_none : (w : WorkKind) (n : ℕ) → w ≡ Flush → 0 ≡ written_of w n
+written_none w n is = rw is refl
+
+written_few : (w : WorkKind) (n : ℕ) → w ≡ Flush → 0 ≤ written_of w n
+written_few w n is = omega arith
+
+same_buffer : (w : WorkKind) → w ≡ Flush → LeavesBuffer w [] []
+same_buffer w is = rw is refl
+
+turn_is : (w : WorkKind) (v : Map) (at k : ℕ) → w ≡ Flush → is_turn v w at k ≡ is_new v at k
+turn_is w v at k is = rw is refl
+
+-- up to the next drive no block is on a new one
+seen_until : (v : Map) (at done count : ℕ) (piece : Piece) → IsPiece v (at + done) (count - done) piece → (end : ℕ) → ((k : ℕ) → done + piece.count ≤ k → k < end → is_new v at k ≡ false) → (j : ℕ) → done < j → j < end → is_new v at j ≡ false
+seen_until v at done count piece is end behind j above below = elim (both_ways (nat_lt j (done + piece.count))) [
+  | inl does ↦ seen_in v at done count piece is j above (lt_of_test j (done + piece.count) does)
+  | inr not ↦ behind j (le_of_test j (done + piece.count) not) below
+]
+
+done_of : (w : WorkKind) → w ≡ Flush → (v : Map) (at count done end : ℕ) (old new : Option Tale) → Ends (λ t u. OnDrives v (has_drive v at done) at count t → OnDrives v (has_drive v at end) at count u) old new
+    → Ends (λ t u. HasDoneOf w v at count done [] t → HasDoneOf w v at count end [] u) old new
+done_of w is v at count done end old new ends = rw is ends
+
+pub sync-requires : goal.sync-requires
+sync-requires g c =
+    let v = g.D.Placed.map c.args.device.now in
+    let w = c.args.work.now in
+    let within = c.requires.open.within in
+    let some = c.requires.open.some_left in
+    let there = in_drive v (w.at + w.done) (w.count - w.done) c.piece-piece.result c.piece-piece.ensures (g.S.Shelf.sizes c.args.shelf.now) c.requires.on (omega arith) in
+    let known = there.known in omega arith
+
+pub returns-in_err-sync-clause-turned : goal.returns-in_err-sync-clause-turned
+returns-in_err-sync-clause-turned g c =
+    let v = g.D.Placed.map c.args.device.now in
+    let w = c.args.work.now in
+    let some = c.piece-piece.ensures.some in
+    let here = drive_here v w.at w.done w.count c.piece-piece.result c.piece-piece.ensures w.done (omega arith) (omega arith) in
+    missed v (DriveFailed g.S.Shelf c.args.shelf.now c.sync.new.self) w [] [] c.from_residual.result (same_buffer w.kind c.requires.kind) (search rules) c.requires.open.some_left c.requires.open.begins
+    (subst (λ (d : ℕ). DriveFailed g.S.Shelf c.args.shelf.now c.sync.new.self d) (sym here) c.in_err-sync.ensures.cause.failed)
+
+pub returns-in_err-sync-clause-counted : goal.returns-in_err-sync-clause-counted
+returns-in_err-sync-clause-counted g c =
+    turn_missed g.S.Shelf c.args.shelf.now c.sync.new.self c.args.work.now c.args.work.now 0 c.sync.ensures.counted (omega arith) c.from_residual.result (search rules)
+
+pub returns-in_err-sync-clause-kept : goal.returns-in_err-sync-clause-kept
+returns-in_err-sync-clause-kept g c = kept_call g.S.Shelf _ _ c.sync.ensures.noted c.sync.ensures.keeps
+
+pub returns-clause-moments : goal.returns-clause-moments
+returns-clause-moments g c =
+    let v = g.D.Placed.map c.args.device.now in
+    let w = c.args.work.now in
+    sync_moments v w.at c.piece-piece.result.drive.0 (g.S.Shelf.tale c.args.shelf.now) (g.S.Shelf.tale c.sync.new.self) _ c.sync.ensures.syncs
+
+pub returns-clause-done : goal.returns-clause-done
+returns-clause-done g c =
+    let v = g.D.Placed.map c.args.device.now in
+    let w = c.args.work.now in
+    let seen = seen_until v w.at w.done w.count c.piece-piece.result c.piece-piece.ensures c.next_drive-work.result c.next_drive-work.ensures.seen in
+    done_of w.kind c.requires.kind v w.at w.count w.done c.next_drive-work.result (g.S.Shelf.tale c.args.shelf.now) (g.S.Shelf.tale c.sync.new.self)
+    (sync_ends v w.at w.done w.count c.piece-piece.result c.piece-piece.ensures c.requires.open.some_left c.next_drive-work.result c.next_drive-work.ensures.behind seen (g.S.Shelf.tale c.args.shelf.now) (g.S.Shelf.tale c.sync.new.self) c.in_ok-sync.ensures.syncs)
+
+pub returns-clause-turned : goal.returns-clause-turned
+returns-clause-turned g c =
+    let v = g.D.Placed.map c.args.device.now in
+    let w = c.args.work.now in
+    let some = c.piece-piece.ensures.some in
+    let behind = c.next_drive-work.ensures.behind in
+    turned v (DriveFailed g.S.Shelf c.args.shelf.now c.sync.new.self) w [] [] (same_buffer w.kind c.requires.kind) tt c.next_drive-work.result (omega arith) c.next_drive-work.ensures.until c.requires.open.begins
+    (λ j above below. turn_is w.kind v w.at j c.requires.kind ∙ seen_until v w.at w.done w.count c.piece-piece.result c.piece-piece.ensures c.next_drive-work.result c.next_drive-work.ensures.seen j above below)
+    (λ below. turn_is w.kind v w.at c.next_drive-work.result c.requires.kind ∙ c.next_drive-work.ensures.first below)
+
+pub returns-clause-counted : goal.returns-clause-counted
+returns-clause-counted g c =
+    turn_counted g.S.Shelf c.args.shelf.now c.sync.new.self c.args.work.now (record c.args.work.now { done = c.next_drive-work.result }) 0 c.sync.ensures.counted (omega arith) tt (written_none c.args.work.now.kind _ c.requires.kind)
+
+pub returns-clause-kept : goal.returns-clause-kept
+returns-clause-kept g c = kept_call g.S.Shelf _ _ c.sync.ensures.noted c.sync.ensures.keeps

@@ -1,0 +1,4 @@
+pub mod Below
+pub mod Pieces
+pub mod OneCopy
+pub mod Works

@@ -1,0 +1,104 @@
+-- Requests for blocks of a device: what one has done by now, and what a turn of it does.
+use Rattle.std.specs.Prelude.{◌≡◌, ℕ, ◌+◌, ◌-◌, ◌<◌, ◌≤◌, Bool, true, List, [], length, Result, OnOk, OnErr}
+use Rattle.mdv_shelf.specs.declared.shelf.Shelf.{Ghosts}
+use Rattle.mdv_dev.specs.Below.{AreRead, Map, OnDrives, Tale, Took, TookBetween}
+use Rattle.mdv_dev.specs.Pieces.{count_to, drive_of, has_drive, is_new, is_start}
+use Rattle.mdv_dev.specs.declared.work.Work.{Work}
+use Rattle.mdv_dev.specs.declared.work.WorkKind.{WorkKind}
+use Rattle.mdv_dev.specs.declared.work.WorkKind.TheVariants.{Read, Write, Flush}
+
+-- what a request may change
+abbrev pub news : WorkKind → List (List ℕ) → List (List ℕ)
+news Read buffer = []
+news Write buffer = buffer
+news Flush buffer = []
+
+-- how many blocks it writes of so many
+abbrev pub written_of : WorkKind → ℕ → ℕ
+written_of Read count = 0
+written_of Write count = count
+written_of Flush count = 0
+
+-- its buffer has a block for each of its own
+abbrev pub HasRoom : WorkKind → ℕ → ℕ → Type 0
+HasRoom Read count room = room ≡ count
+HasRoom Write count room = room ≡ count
+HasRoom Flush count room = Unit {0}
+
+-- whether a turn begins at its block of this number: a piece is read or written at its first block, a drive is synced at the first
+-- block on it
+abbrev pub is_turn : Map → WorkKind → ℕ → ℕ → Bool
+is_turn v Read at k = is_start v at k
+is_turn v Write at k = is_start v at k
+is_turn v Flush at k = is_new v at k
+
+-- in how many turns so many of its blocks are done
+abbrev pub turns : Map → WorkKind → ℕ → ℕ → ℕ
+turns v kind at count = count_to (is_turn v kind at) count
+
+-- What a request has done by now, told of its own blocks alone: those that are done read as the buffer, or the drives that they
+-- lie on are synced.
+abbrev pub HasDoneOf : WorkKind → Map → ℕ → ℕ → ℕ → List (List ℕ) → Tale → Type 0
+HasDoneOf Read v at count done buffer t = AreRead v at done buffer t
+HasDoneOf Write v at count done buffer t = AreRead v at done buffer t
+HasDoneOf Flush v at count done buffer t = OnDrives v (has_drive v at done) at count t
+
+abbrev pub HasDone : Map → Work → List (List ℕ) → Tale → Type 0
+HasDone v work buffer t = HasDoneOf work.kind v work.at work.count work.done buffer t
+
+-- a request with blocks left to do, at one where a turn begins
+pub record IsOpen (v : Map) (work : Work) (room : ℕ) : Type 0 where
+  pub some_left : work.done < work.count
+  pub within : work.at + work.count ≤ v.blocks
+  pub buffer : HasRoom work.kind work.count room
+  pub begins : is_turn v work.kind work.at work.done ≡ true
+
+-- a read fills the buffer; else it stays
+abbrev pub LeavesBuffer : WorkKind → List (List ℕ) → List (List ℕ) → Type 0
+LeavesBuffer Read old new = length new ≡ length old
+LeavesBuffer Write old new = new ≡ old
+LeavesBuffer Flush old new = new ≡ old
+
+-- a call failed on a drive of one of so many blocks
+abbrev pub FailedOn : (ℕ → Type 0) → Map → ℕ → ℕ → Type 0
+FailedOn Failed v at count = (k : ℕ) × (k < count) × Failed (drive_of (v.copies (at + k)))
+
+-- One turn: more is done, up to where the next one begins, or to the end. Where the call failed, which was on a drive of one of the
+-- blocks, no more is done.
+pub record IsTurned {T E : Type 0} (v : Map) (Failed : ℕ → Type 0) (old : Work) (before : List (List ℕ)) (new : Work) (after : List (List ℕ)) (result : Result T E) : Type 0 where
+  pub same : new ≡ record old { done = new.done }
+  pub buffer : LeavesBuffer old.kind before after
+  pub within : new.done ≤ old.count
+  pub begins : new.done < old.count → is_turn v old.kind old.at new.done ≡ true
+  pub rose : OnOk result ((old.done < new.done) × (turns v old.kind old.at new.done ≡ turns v old.kind old.at old.done + 1))
+  pub stayed : OnErr result ((new.done ≡ old.done) × FailedOn Failed v old.at old.count)
+
+-- all turns of it: where a call failed, some blocks may not be done
+pub record IsFinished {T E : Type 0} (v : Map) (Failed : ℕ → Type 0) (old : Work) (before : List (List ℕ)) (new : Work) (after : List (List ℕ)) (result : Result T E) : Type 0 where
+  pub same : new ≡ record old { done = new.done }
+  pub buffer : LeavesBuffer old.kind before after
+  pub whole : OnOk result (new.done ≡ old.count)
+  pub cause : OnErr result (FailedOn Failed v old.at old.count)
+
+-- how many turns are left of it
+abbrev pub turns_left : Map → Work → ℕ
+turns_left v work = turns v work.kind work.at work.count - turns v work.kind work.at work.done
+
+-- what was done stays done, and more is where more is told
+abbrev pub Carries : Map → Work → List (List ℕ) → Work → List (List ℕ) → Tale → Tale → Type 0
+Carries v old before new after t u = HasDone v old before t → HasDone v new after u
+
+-- what a turn takes: one call
+pub record IsTurnCounted {S T E : Type 0} (shelf : Ghosts S) (before now : S) (old new : Work) (result : Result T E) : Type 0 where
+  pub done : OnOk result (Took shelf.calls shelf.written before now 1 (written_of old.kind (new.done - old.done)))
+  pub any : TookBetween shelf.calls shelf.written before now 1 1 (written_of old.kind (old.count - old.done))
+
+-- blocks of a volume, one at least
+pub record IsRange (v : Map) (at count : ℕ) : Type 0 where
+  pub some : 0 < count
+  pub within : at + count ≤ v.blocks
+
+-- a write leaves its buffer, and fails only where a call failed on a drive of its blocks
+pub record IsWritten {T E : Type 0} (v : Map) (Failed : ℕ → Type 0) (at : ℕ) (before after : List (List ℕ)) (result : Result T E) : Type 0 where
+  pub same : after ≡ before
+  pub cause : OnErr result (FailedOn Failed v at (length before))
