@@ -1,11 +1,11 @@
 -- Why a change isn't made, and which changes there are.
-use Rattle.std.specs.Prelude.{◌≡◌, ◌<◌, List, Option, None, Some, Result, Ok, Err, Bool}
-use Rattle.mdv_change.specs.Below.{Refusal, DriveNo, Geometry, Table, VolId, PoolId, RaidAsked, RowAsked, MirrorAsked, SliceName}
+use Rattle.std.specs.Prelude.{ℕ, ◌≡◌, ◌<◌, List, Option, None, Some, Result, Ok, Err, Bool}
+use Rattle.mdv_change.specs.Below.{Refusal, DriveNo, Geometry, Table, VolId, PoolId, RaidAsked, RowAsked, MirrorAsked, SoftAsked, SliceName}
 use Rattle.mdv_change.specs.declared.making.ApplyFault.{ApplyFault}
 use Rattle.mdv_change.specs.declared.making.ApplyFault.TheVariants.{Refused, Memory}
 use Rattle.mdv_change.specs.Change.{refusal_of, table_after}
 use Rattle.mdv_change.specs.declared.change.Change.{Change}
-use Rattle.mdv_change.specs.declared.change.Change.TheVariants.{MakeStripe, MakeRaid, MakeMirror, Attach, AddSpares, Clear}
+use Rattle.mdv_change.specs.declared.change.Change.TheVariants.{MakeStripe, MakeRaid, MakeMirror, MakeSoft, Attach, AddRow, Grow, AddSpares, Clear}
 
 -- what refuses the change, or want of memory, which has no cause
 abbrev pub HasFault : Option Refusal → ApplyFault → Type 0
@@ -17,6 +17,7 @@ abbrev pub IsNumbered : Change → Type 0
 IsNumbered (MakeStripe v rows pool) = v.0 < 8192
 IsNumbered (MakeRaid v raid) = v.0 < 8192
 IsNumbered (MakeMirror v mirror) = v.0 < 8192
+IsNumbered (MakeSoft v asked) = v.0 < 8192
 IsNumbered (AddSpares q new slices) = q.0 < 1000
 IsNumbered _ = Unit {0}
 
@@ -29,8 +30,17 @@ raid_change v raid = MakeRaid v raid
 abbrev pub mirror_change : VolId → MirrorAsked → Change
 mirror_change v mirror = MakeMirror v mirror
 
+abbrev pub soft_change : VolId → SoftAsked → Change
+soft_change v asked = MakeSoft v asked
+
 abbrev pub attach_change : VolId → VolId → Change
 attach_change mirror sub = Attach mirror sub
+
+abbrev pub row_change : VolId → RowAsked → Change
+row_change v row = AddRow v row
+
+abbrev pub grow_change : VolId → ℕ → Change
+grow_change v blocks = Grow v blocks
 
 abbrev pub spares_change : PoolId → Bool → List SliceName → Change
 spares_change q new slices = AddSpares q new slices

@@ -5,11 +5,12 @@ pub use Rattle.mdv_base.specs.declared.name.PoolId.{PoolId}
 pub use Rattle.mdv_base.specs.declared.name.VolId.{VolId}
 pub use Rattle.mdv_base.specs.declared.refusal.Refusal.{Refusal}
 pub use Rattle.mdv_components.specs.Bases.{pool_of, volume_of}
-pub use Rattle.mdv_components.specs.Causes.{order, first_of, told}
+pub use Rattle.mdv_components.specs.Causes.{order, first_of, nothing, told}
 pub use Rattle.mdv_components.specs.Raids.{raid_condition, raid_on, raid_status}
-pub use Rattle.mdv_components.specs.Stripes.{stripe_condition, stripe_on, stripe_status}
+pub use Rattle.mdv_components.specs.Stripes.{row_on, stripe_condition, stripe_on, stripe_status}
 pub use Rattle.mdv_components.specs.declared.asked.RaidAsked.{RaidAsked}
 pub use Rattle.mdv_components.specs.declared.asked.RowAsked.{RowAsked}
+pub use Rattle.mdv_components.specs.declared.cause.Carried.{Carried}
 pub use Rattle.mdv_components.specs.declared.cause.Cause.{Cause}
 pub use Rattle.mdv_name.specs.Code.{slice_code}
 pub use Rattle.mdv_name.specs.declared.geometry.Geometry.{Geometry}
@@ -28,6 +29,11 @@ pub use Rattle.mdv_plan.specs.declared.status.VolumeStatus.{VolumeStatus}
 pub use Rattle.mdv_plan.specs.declared.table.Table.{Table}
 pub use Rattle.mdv_plan.specs.declared.volume.Volume.{Volume as OneVolume}
 pub use Rattle.mdv_plan.specs.declared.volume.VolumeKind.{VolumeKind}
+pub use Rattle.mdv_rows.specs.Adding.{add_condition, added_states, filled, rows_of, with_row}
+pub use Rattle.mdv_softs.specs.Asking.{carried_of}
+pub use Rattle.mdv_softs.specs.Growing.{grow_condition, grown, grown_room}
+pub use Rattle.mdv_softs.specs.Making.{soft_condition, soft_on, soft_room, soft_status}
+pub use Rattle.mdv_softs.specs.declared.making.SoftAsked.{SoftAsked}
 pub use Rattle.mdv_spares.specs.Pools.{pool_with, spares_condition, with_states as spare_states}
 pub use Rattle.mdv_submirrors.specs.Attaching.{attach_condition, attach_states, with_sub}
 pub use Rattle.mdv_submirrors.specs.Joining.{all_joined, noted}

@@ -2,26 +2,41 @@
 use Rattle.std.specs.Prelude.{Bool, false, List, Option, None, Some}
 use Rattle.std.specs.Option.{option_map}
 use Rattle.mdv_change.specs.Below.{Refusal, DriveNo, Geometry, Table, OneVolume, VolumeStatus, with_item, with_put}
-use Rattle.mdv_change.specs.Below.{Cause, order, first_of, told, stripe_condition, stripe_on, stripe_status, raid_condition, raid_on, raid_status}
+use Rattle.mdv_change.specs.Below.{Cause, Carried, order, first_of, nothing, told, stripe_condition, stripe_on, stripe_status, raid_condition, raid_on, raid_status}
 use Rattle.mdv_change.specs.declared.change.Change.{Change}
-use Rattle.mdv_change.specs.declared.change.Change.TheVariants.{MakeStripe, MakeRaid, MakeMirror, Attach, AddSpares, Clear, ClearAll}
+use Rattle.mdv_change.specs.declared.change.Change.TheVariants.{MakeStripe, MakeRaid, MakeMirror, MakeSoft, Attach, AddRow, Grow, AddSpares, Clear, ClearAll}
+use Rattle.mdv_change.specs.Below.{carried_of, soft_condition, soft_on, soft_room, soft_status, grow_condition, grown, grown_room}
+use Rattle.mdv_change.specs.Below.{VolId, Plan, RowAsked, row_on, add_condition, added_states, filled, rows_of, with_row}
 use Rattle.mdv_change.specs.Below.{SliceName, Pool, spares_condition, pool_with, spare_states}
 use Rattle.mdv_change.specs.Below.{mirror_condition, mirror_on, mirror_status, all_joined, noted, attach_condition, with_sub, attach_states, volume_of, changed}
 use Rattle.mdv_change.specs.Clear.{clear_condition, cleared, emptied}
+
+-- a stripe behind those of the volume, with its interlace
+abbrev pub row_behind : Plan → VolId → RowAsked → RowAsked
+row_behind p v r = filled (rows_of p v) r
 
 -- whether a cause refuses the change
 abbrev pub condition : Geometry → List DriveNo → Table → Change → Cause → Bool
 condition g drives t (MakeStripe v rows pool) = stripe_condition g drives t.plan v rows pool
 condition g drives t (MakeRaid v raid) = raid_condition g drives t.plan v raid
 condition g drives t (MakeMirror v mirror) = mirror_condition t.plan v mirror.submirrors
+condition g drives t (MakeSoft v asked) = soft_condition g drives t v asked
 condition g drives t (Attach mirror sub) = attach_condition t.plan mirror sub
+condition g drives t (AddRow v r) = add_condition g drives t.plan v (row_behind t.plan v r)
+condition g drives t (Grow v blocks) = grow_condition g t v blocks
 condition g drives t (AddSpares q new slices) = spares_condition g drives t.plan new q slices
 condition g drives t (Clear volumes pools) = clear_condition t.plan volumes pools
 condition g drives t ClearAll = λ cause. false
 
+-- what its refusal tells beside the name
+abbrev pub carried : Geometry → Table → Change → Carried
+carried g t (MakeSoft v asked) = carried_of (soft_room g t.plan asked)
+carried g t (Grow v blocks) = carried_of (grown_room g t.plan v blocks)
+carried g t _ = nothing
+
 -- why the change is refused, if it is
 abbrev pub refusal_of : Geometry → List DriveNo → Table → Change → Option Refusal
-refusal_of g drives t change = option_map told (first_of (condition g drives t change) order)
+refusal_of g drives t change = option_map (told (carried g t change)) (first_of (condition g drives t change) order)
 
 -- one volume more, with its states
 abbrev pub with_volume : OneVolume → VolumeStatus → Table → Table
@@ -48,11 +63,18 @@ with_pool q slices t =
       status = record t.status { spares = spare_states t.status.spares slices };
     }
 
+-- the volume has one stripe more, and states for its components
+abbrev pub row_added : Geometry → Table → VolId → RowAsked → Table
+row_added g t v r = with_states (added_states t.status v r) (with_changed (option_map (with_row (row_on g t.plan r)) (volume_of t.plan v)) t)
+
 abbrev pub table_after : Geometry → Table → Change → Table
 table_after g t (MakeStripe v rows pool) = with_volume (stripe_on g t.plan v rows pool) (stripe_status v rows) t
 table_after g t (MakeRaid v raid) = with_volume (raid_on g t.plan v raid) (raid_status v raid) t
 table_after g t (MakeMirror v mirror) = with_states (all_joined t.status mirror.submirrors) (with_volume (mirror_on t.plan v mirror) (mirror_status v mirror.submirrors) t)
+table_after g t (MakeSoft v asked) = with_volume (soft_on g t.plan v asked.base (soft_room g t.plan asked)) (soft_status v) t
 table_after g t (Attach mirror sub) = with_states (attach_states t.status mirror sub) (with_changed (option_map (with_sub sub) (volume_of t.plan mirror)) t)
+table_after g t (AddRow v r) = row_added g t v (row_behind t.plan v r)
+table_after g t (Grow v blocks) = with_changed (option_map (grown (grown_room g t.plan v blocks)) (volume_of t.plan v)) t
 table_after g t (AddSpares q new slices) = with_pool (pool_with g t.plan q slices) slices t
 table_after g t (Clear volumes pools) = cleared volumes pools t
 table_after g t ClearAll = emptied t

@@ -1,6 +1,7 @@
 use mdv_base::{PoolId, SliceName, VolId};
 use mdv_components::{MAX_NAMES, RaidAsked, RowAsked};
 use mdv_plan::Listed;
+use mdv_softs::SoftAsked;
 use mdv_submirrors::MirrorAsked;
 
 /// What a command asks of a table.
@@ -24,10 +25,26 @@ pub enum Change {
         volume: VolId,
         mirror: MirrorAsked,
     },
+    /// `metainit d40 -p c0t0d0s0 400b`: a soft partition, whose blocks come from the free ones of its base.
+    MakeSoft {
+        volume: VolId,
+        soft: SoftAsked,
+    },
     /// `metattach d0 d30`: one submirror more, to which the others are copied.
     Attach {
         mirror: VolId,
         sub: VolId,
+    },
+    /// `metattach d10 c0t3d0s0 c0t4d0s0 -i 32b`: one stripe more behind those of the volume. Where no interlace
+    /// is asked for it has that of the last one.
+    AddRow {
+        volume: VolId,
+        row: RowAsked,
+    },
+    /// `metattach d40 300b`: so many blocks more for a soft partition.
+    Grow {
+        volume: VolId,
+        blocks: u64,
     },
     /// `metahs -a hsp001 c0t1d0s0`: spares behind those of the pool, which is made where there is none. As a new
     /// pool, `metainit hsp001 c0t1d0s0`, it must not be there yet.

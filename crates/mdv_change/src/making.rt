@@ -3,7 +3,7 @@ ghost use Rattle.std.specs.Prelude.{◌≡◌, ◌<◌, ◌==◌, List, None, On
 ghost use Rattle.std.specs.List.{find};
 ghost use Rattle.mdv_plan.specs.Slices.{IsSound};
 ghost use Rattle.mdv_change.specs.declared.making.ApplyFault.TheVariants.{Memory};
-ghost use Rattle.mdv_change.specs.Apply.{IsApplied, IsNumbered, attach_change, clear_change, mirror_change, raid_change, spares_change, stripe_change};
+ghost use Rattle.mdv_change.specs.Apply.{IsApplied, IsNumbered, attach_change, clear_change, grow_change, mirror_change, raid_change, row_change, soft_change, spares_change, stripe_change};
 ghost use Rattle.mdv_change.specs.Below.{DriveNo, Geometry};
 ghost use Rattle.mdv_change.specs.Change.{with_changed, with_volume};
 
@@ -11,10 +11,15 @@ use crate::change::Change;
 use crate::clearing::{clear, clear_all, refuse_clear};
 use mdv_base::{DriveNo, PoolId, Refusal, SliceName, VolId};
 use mdv_components::{
-    RaidAsked, RowAsked, raid_on, raid_status, refuse_raid, refuse_stripe, stripe_on, stripe_status,
+    Carried, RaidAsked, RowAsked, raid_on, raid_status, refuse_raid, refuse_stripe, row_on,
+    stripe_on, stripe_status,
 };
 use mdv_name::Geometry;
 use mdv_plan::{Table, Volume, VolumeStatus};
+use mdv_rows::{added_states, filled, refuse_add, volume_with_row};
+use mdv_softs::{
+    SoftAsked, grown_room, refuse_grow, refuse_soft, soft_on, soft_room, soft_status, volume_grown,
+};
 use mdv_spares::{pool_with, refuse_spares, with_states};
 use mdv_submirrors::{
     MirrorAsked, all_joined, attach_states, mirror_on, mirror_status, mirror_with_sub, note_all,
@@ -61,7 +66,12 @@ pub fn apply(
             make_raid(alloc, geometry, drives, table, *volume, raid)
         }
         Change::MakeMirror { volume, mirror } => make_mirror(alloc, table, *volume, mirror),
+        Change::MakeSoft { volume, soft } => {
+            make_soft(alloc, geometry, drives, table, *volume, *soft)
+        }
         Change::Attach { mirror, sub } => attach(alloc, table, *mirror, *sub),
+        Change::AddRow { volume, row } => { add_row(alloc, geometry, drives, table, *volume, row) }
+        Change::Grow { volume, blocks } => grow(alloc, geometry, table, *volume, *blocks),
         Change::AddSpares { pool, new, spares } => {
             add_spares(
                 alloc,
@@ -98,7 +108,7 @@ fn make_stripe(
 {
     let plan = &table.plan;
     if let Some(cause) = refuse_stripe(alloc, geometry, drives, plan, volume, rows, spares)? {
-        return Err(ApplyFault::Refused(cause.refusal()));
+        return Err(ApplyFault::Refused(cause.refusal(Carried::nothing())));
     }
     let made = stripe_on(alloc, geometry, plan, volume, rows, spares)?;
     let status = stripe_status(alloc, volume, rows)?;
@@ -120,7 +130,7 @@ fn make_raid(
 {
     let plan = &table.plan;
     if let Some(cause) = refuse_raid(alloc, geometry, drives, plan, volume, raid)? {
-        return Err(ApplyFault::Refused(cause.refusal()));
+        return Err(ApplyFault::Refused(cause.refusal(Carried::nothing())));
     }
     let made = raid_on(alloc, geometry, plan, volume, raid)?;
     let status = raid_status(alloc, volume, raid)?;
@@ -139,7 +149,7 @@ fn make_mirror(
 {
     let subs = mirror.submirrors.as_slice();
     if let Some(cause) = refuse_mirror(&table.plan, volume, subs) {
-        return Err(ApplyFault::Refused(cause.refusal()));
+        return Err(ApplyFault::Refused(cause.refusal(Carried::nothing())));
     }
     let made = mirror_on(alloc, &table.plan, volume, mirror)?;
     let status = mirror_status(alloc, volume, subs)?;
@@ -149,11 +159,75 @@ fn make_mirror(
     Ok(())
 }
 
+fn make_soft(
+    alloc: Global,
+    geometry: &Geometry,
+    drives: &[DriveNo],
+    table: &mut Table,
+    volume: VolId,
+    soft: SoftAsked,
+) -> Result<(), ApplyFault>
+    requires sound { IsSound geometry.now }
+    requires number { volume.0 < 8192 }
+    ensures { IsApplied geometry.now drives.now (soft_change volume soft) table.old table.new result }
+{
+    let room = soft_room(alloc, geometry, &table.plan, soft)?;
+    if let Some(refusal) = refuse_soft(alloc, geometry, drives, table, volume, soft, &room)? {
+        return Err(ApplyFault::Refused(refusal));
+    }
+    let made = soft_on(alloc, geometry, &table.plan, volume, soft.base, room);
+    add_volume(table, made, soft_status(volume))?;
+    Ok(())
+}
+
+fn add_row(
+    alloc: Global,
+    geometry: &Geometry,
+    drives: &[DriveNo],
+    table: &mut Table,
+    volume: VolId,
+    row: &RowAsked,
+) -> Result<(), ApplyFault>
+    requires { IsSound geometry.now }
+    ensures { IsApplied geometry.now drives.now (row_change volume row.now) table.old table.new result }
+{
+    let plan = &table.plan;
+    let row = filled(alloc, plan, volume, row)?;
+    if let Some(cause) = refuse_add(alloc, geometry, drives, plan, volume, &row)? {
+        return Err(ApplyFault::Refused(cause.refusal(Carried::nothing())));
+    }
+    let made = row_on(alloc, geometry, plan, &row)?;
+    let longer = volume_with_row(alloc, plan, volume, made)?;
+    let states = added_states(alloc, &table.status, volume, &row)?;
+    replace_volume(table, longer);
+    note_all(&mut table.status.volumes, states);
+    Ok(())
+}
+
+fn grow(
+    alloc: Global,
+    geometry: &Geometry,
+    table: &mut Table,
+    volume: VolId,
+    blocks: u64,
+) -> Result<(), ApplyFault>
+    requires { IsSound geometry.now }
+    ensures { (drives : List DriveNo) → IsApplied geometry.now drives (grow_change volume blocks) table.old table.new result }
+{
+    let room = grown_room(alloc, geometry, &table.plan, volume, blocks)?;
+    if let Some(refusal) = refuse_grow(geometry, table, volume, blocks, &room) {
+        return Err(ApplyFault::Refused(refusal));
+    }
+    let grown = volume_grown(alloc, &table.plan, volume, room)?;
+    replace_volume(table, grown);
+    Ok(())
+}
+
 fn attach(alloc: Global, table: &mut Table, mirror: VolId, sub: VolId) -> Result<(), ApplyFault>
     ensures { (g : Geometry) (drives : List DriveNo) → IsApplied g drives (attach_change mirror sub) table.old table.new result }
 {
     if let Some(cause) = refuse_attach(&table.plan, mirror, sub) {
-        return Err(ApplyFault::Refused(cause.refusal()));
+        return Err(ApplyFault::Refused(cause.refusal(Carried::nothing())));
     }
     let volume = mirror_with_sub(alloc, &table.plan, mirror, sub)?;
     let states = attach_states(alloc, &table.status, mirror, sub)?;
@@ -186,7 +260,7 @@ fn add_spares(
 {
     let plan = &table.plan;
     if let Some(cause) = refuse_spares(alloc, geometry, drives, plan, new, pool, slices)? {
-        return Err(ApplyFault::Refused(cause.refusal()));
+        return Err(ApplyFault::Refused(cause.refusal(Carried::nothing())));
     }
     let made = pool_with(alloc, geometry, plan, pool, slices)?;
     let states = with_states(alloc, &table.status.spares, slices)?;
@@ -204,7 +278,7 @@ fn clear_named(
     ensures { (g : Geometry) (drives : List DriveNo) → IsApplied g drives (clear_change volumes.now pools.now) table.old table.new result }
 {
     if let Some(cause) = refuse_clear(&table.plan, volumes, pools) {
-        return Err(ApplyFault::Refused(cause.refusal()));
+        return Err(ApplyFault::Refused(cause.refusal(Carried::nothing())));
     }
     clear(alloc, table, volumes, pools)?;
     Ok(())

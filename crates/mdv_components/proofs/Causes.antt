@@ -2,7 +2,7 @@
 use Rattle.std.proofs.Common.{◌≡◌, Bool, true, false, refl, sym, ◌∙◌, ap, subst, List, [], ◌∷◌, ◌++◌, Option, None, Some, cond}
 use Rattle.std.specs.Option.{option_or, is_some}
 use Rattle.mdv_components.specs.declared.cause.Cause.{Cause}
-use Rattle.mdv_components.specs.declared.cause.Cause.TheVariants.{NoSuchVolume, NoSuchPool, NoSuchSlice, NameTaken, WrongKind, TooFew, TooMany, BadInterlace}
+use Rattle.mdv_components.specs.declared.cause.Cause.TheVariants.{NoSuchVolume, NoSuchPool, NoSuchSlice, NameTaken, WrongKind, WrongState, LastCopy, TooFew, TooMany, BadInterlace}
 use Rattle.mdv_components.specs.Causes.{first_of, order, name_causes, form_causes, use_causes, room_causes}
 
 -- the first of two lists is the first of the one, or else of the other
@@ -100,7 +100,7 @@ order_formed holds none = form_holds holds (or_first _ _ (or_rest _ _ (sym (in_o
 pub name_free : (holds : Cause → Bool) → first_of holds order ≡ None → holds NameTaken ≡ false
 name_free holds none =
     let names : first_of holds name_causes ≡ None = or_first _ _ (sym (in_order holds) ∙ none) in
-    let one = fails holds NoSuchVolume (NoSuchPool ∷ NoSuchSlice ∷ NameTaken ∷ WrongKind ∷ []) names in
-    let two = fails holds NoSuchPool (NoSuchSlice ∷ NameTaken ∷ WrongKind ∷ []) one.1 in
-    let three = fails holds NoSuchSlice (NameTaken ∷ WrongKind ∷ []) two.1 in
-    (fails holds NameTaken (WrongKind ∷ []) three.1).0
+    let one = fails holds NoSuchVolume (NoSuchPool ∷ NoSuchSlice ∷ NameTaken ∷ WrongKind ∷ WrongState ∷ LastCopy ∷ []) names in
+    let two = fails holds NoSuchPool (NoSuchSlice ∷ NameTaken ∷ WrongKind ∷ WrongState ∷ LastCopy ∷ []) one.1 in
+    let three = fails holds NoSuchSlice (NameTaken ∷ WrongKind ∷ WrongState ∷ LastCopy ∷ []) two.1 in
+    (fails holds NameTaken (WrongKind ∷ WrongState ∷ LastCopy ∷ []) three.1).0

@@ -1,6 +1,7 @@
 pub mod Bases
 pub mod Below
 pub mod Causes
+pub mod Ordered
 pub mod Raids
 pub mod Room
 pub mod Stripes

@@ -94,7 +94,8 @@ pub fn volume_of(plan: &Plan, volume: VolId) -> Option<&Volume>
     plan.volumes.find(u32::from(volume.0))
 }
 
-fn is_missing(plan: &Plan, base: Base) -> bool
+/// Whether the base is a volume that the plan doesn't have.
+pub fn is_missing(plan: &Plan, base: Base) -> bool
     ensures { result ≡ spec_is_missing plan.now base }
 {
     match base {
@@ -103,7 +104,8 @@ fn is_missing(plan: &Plan, base: Base) -> bool
     }
 }
 
-fn has_missing(plan: &Plan, bases: &[Base]) -> bool
+/// Whether one of the bases is a volume that the plan doesn't have.
+pub fn has_missing(plan: &Plan, bases: &[Base]) -> bool
     ensures { result ≡ list_any (spec_is_missing plan.now) bases.now }
 {
     bases.iter().any(|base| is_missing(plan, *base))
@@ -124,7 +126,8 @@ fn has_drive(drives: &[DriveNo], drive: DriveNo) -> bool
     drives.iter().any(|d| d.0 == drive.0)
 }
 
-fn is_foreign(geometry: &Geometry, drives: &[DriveNo], base: Base) -> bool
+/// Whether the base is a slice that isn't there, or not on one of the drives.
+pub fn is_foreign(geometry: &Geometry, drives: &[DriveNo], base: Base) -> bool
     requires { IsSound geometry.now }
     ensures { result ≡ spec_is_foreign geometry.now drives.now base }
 {
@@ -172,7 +175,8 @@ fn is_no_leaf(plan: &Plan, base: Base) -> bool
     }
 }
 
-fn has_no_leaf(plan: &Plan, bases: &[Base]) -> bool
+/// Whether one of the bases is neither a slice nor a soft partition on a slice.
+pub fn has_no_leaf(plan: &Plan, bases: &[Base]) -> bool
     ensures { result ≡ list_any (spec_is_no_leaf plan.now) bases.now }
 {
     bases.iter().any(|base| is_no_leaf(plan, *base))
@@ -190,7 +194,9 @@ fn is_slice_in_use(geometry: &Geometry, uses: &Uses, base: Base) -> bool
     }
 }
 
-fn has_slice_in_use(geometry: &Geometry, uses: &Uses, bases: &[Base]) -> bool
+/// Whether a component can't have one of the slices: another use stands in the way, or a slice that is set
+/// aside for replicas.
+pub fn has_slice_in_use(geometry: &Geometry, uses: &Uses, bases: &[Base]) -> bool
     requires { IsSound geometry.now }
     ensures { result ≡ list_any (spec_is_slice_in_use geometry.now uses.now) bases.now }
 {
@@ -208,7 +214,8 @@ fn is_volume_in_use(plan: &Plan, base: Base) -> bool
     }
 }
 
-fn has_volume_in_use(plan: &Plan, bases: &[Base]) -> bool
+/// Whether a volume uses one of the bases already.
+pub fn has_volume_in_use(plan: &Plan, bases: &[Base]) -> bool
     ensures { result ≡ list_any (spec_is_volume_in_use plan.now) bases.now }
 {
     bases.iter().any(|base| is_volume_in_use(plan, *base))
@@ -263,8 +270,8 @@ fn is_among(base: Base, bases: &[Base]) -> bool
     bases.iter().any(|other| same_volume(base, *other))
 }
 
-// Whether a volume stands among the bases twice.
-fn has_twice(bases: &[Base]) -> bool
+/// Whether a volume stands among the bases twice.
+pub fn has_twice(bases: &[Base]) -> bool
     ensures { result ≡ spec_has_twice bases.now }
 {
     let mut rest = bases;

@@ -188,7 +188,7 @@ fn okay_part(_base: Base) -> PartStatus
 }
 
 /// The states of components that are Okay, each on its own base.
-pub(crate) fn okay_parts<const MOST: usize>(
+pub fn okay_parts<const MOST: usize>(
     alloc: Global,
     bases: &[Base],
 ) -> Result<Listed<PartStatus, MOST>, AllocError>

@@ -81,7 +81,8 @@ fn form_cause(rows: &[RowAsked], bases: &[Base]) -> Option<Cause>
     None
 }
 
-fn is_empty_row(row: &RowAsked) -> bool
+/// Whether it has no component.
+pub fn is_empty_row(row: &RowAsked) -> bool
     ensures { result ≡ spec_is_empty_row row.now }
 {
     row.components.as_slice().is_empty()
@@ -99,7 +100,8 @@ fn row_interlace(row: &RowAsked) -> u64
     interlace_of(row.interlace)
 }
 
-fn is_bad_row(row: &RowAsked) -> bool
+/// Whether its interlace is outside 16 to 204800 blocks.
+pub fn is_bad_row(row: &RowAsked) -> bool
     ensures { result ≡ spec_is_bad_row row.now }
 {
     is_bad_interlace(row_interlace(row))
@@ -132,7 +134,8 @@ fn row_blocks(geometry: &Geometry, plan: &Plan, row: &RowAsked) -> u64
     used_blocks(bases.len(), row_interlace(row), least)
 }
 
-fn is_too_small(geometry: &Geometry, plan: &Plan, row: &RowAsked) -> bool
+/// Whether no block would remain.
+pub fn is_too_small(geometry: &Geometry, plan: &Plan, row: &RowAsked) -> bool
     requires { IsSound geometry.now }
     ensures { result ≡ spec_is_too_small geometry.now plan.now row.now }
 {
@@ -146,7 +149,8 @@ fn has_small_row(geometry: &Geometry, plan: &Plan, rows: &[RowAsked]) -> bool
     rows.iter().any(|row| is_too_small(geometry, plan, row))
 }
 
-fn row_on(
+/// The stripe on these components, each with as many blocks as the least one can have.
+pub fn row_on(
     alloc: Global,
     geometry: &Geometry,
     plan: &Plan,

@@ -2,7 +2,7 @@
 
 use crate::drives::*;
 use crate::facts::Fact::*;
-use crate::steps::Line::{InUse, Is, OnSpare, Soft, Told};
+use crate::steps::Line::{InUse, Is, OnSpare, Short, Soft, Told};
 use crate::steps::Step::*;
 use crate::steps::{Line, first_wrong};
 use mdv_plan::Base::{Slice, Volume};
@@ -79,6 +79,54 @@ const SUBMIRRORS: &[Line] = &[
     Is(StripeState(VOL10, WHOLE)),
     Is(Submirrors(VOL0, 3, 3, 990)),
     Is(Submirrors(VOL1, 1, 1, 19792)),
+];
+
+// No such volume is 4, a name taken 5, a slice in use 7, a soft partition over another 16. The base has 1000
+// blocks, and the slice of the replica 28000.
+const SOFTS: &[Line] = &[
+    Told(MakeSoft(5, Slice(S0), 400), 0),
+    Told(MakeSoft(6, Slice(S0), 300), 0),
+    Is(Extents(VOL6, 0, &[(402, 300)])),
+    Told(MakeSoft(9, Volume(VOL9), 10), 4),
+    Told(MakeSoft(5, Slice(S0), 10), 5),
+    Told(MakeSoft(9, Slice(S2), 10), 7),
+    Told(MakeSoft(9, Volume(VOL6), 10), 16),
+    Told(Clear(&[VOL5], &[]), 0),
+    Short(MakeSoft(9, Slice(S0), 698), 697),
+    Told(MakeSoft(9, Slice(S0), 400), 0),
+    Is(Extents(VOL9, 0, &[(1, 400)])),
+    Short(Grow(VOL6, 298), 297),
+    Told(Grow(VOL6, 297), 0),
+    Is(Extents(VOL6, 0, &[(402, 300), (703, 297)])),
+    Told(MakeSoft(10, Slice(S7), 100), 0),
+    Is(Extents(VOL10, 8208, &[(1, 100)])),
+    Told(Stripe(20, &[Volume(VOL9)], None), 0),
+    Told(MakeSoft(30, Volume(VOL20), 10), 16),
+];
+
+// A RAID-5 volume that is Initializing is 13, a volume of another kind 12.
+const SOFTS_ON_VOLUMES: &[Line] = &[
+    Told(Raid(5, &[Slice(S0), Slice(S1), Slice(S3)], None), 0),
+    Told(MakeSoft(6, Volume(VOL5), 10), 13),
+    Told(Stripe(10, &[Slice(S4)], None), 0),
+    Told(MakeSoft(6, Volume(VOL10), 100), 0),
+    Told(Grow(VOL10, 1), 12),
+    Told(Mirror(0, &[VOL10]), 11),
+    Is(Extents(VOL6, 0, &[(1, 100)])),
+];
+
+// No such volume is 4, a slice in use 7, a stripe of nothing 8, a volume in a mirror 11, a wrong interlace 25.
+const ROWS: &[Line] = &[
+    Told(Stripe(10, &[Slice(S0)], None), 0),
+    Told(AddRow(VOL9, &[Slice(S1)], None), 4),
+    Told(AddRow(VOL10, &[Slice(S0)], None), 7),
+    Told(AddRow(VOL10, &[], None), 8),
+    Told(AddRow(VOL10, &[Slice(S1)], Some(15)), 25),
+    Told(AddRow(VOL10, &[Slice(S1), Slice(S3)], None), 0),
+    Is(Rows(VOL10, 2, 3)),
+    Told(Mirror(0, &[VOL10]), 0),
+    Told(AddRow(VOL10, &[Slice(S4)], None), 11),
+    Is(Rows(VOL10, 2, 3)),
 ];
 
 // A name taken is 5, no such slice 6, a slice in use 7.
@@ -165,6 +213,24 @@ fn mirrors_are_made(rt: HostRuntime) -> Result<(), Fail> {
 #[test]
 fn submirrors_are_attached(rt: HostRuntime) -> Result<(), Fail> {
     assert_eq!(rt; first_wrong(rt.alloc(), SUBMIRRORS)?, None);
+    Ok(())
+}
+
+#[test]
+fn soft_partitions_are_made_and_grow(rt: HostRuntime) -> Result<(), Fail> {
+    assert_eq!(rt; first_wrong(rt.alloc(), SOFTS)?, None);
+    Ok(())
+}
+
+#[test]
+fn soft_partitions_lie_on_volumes(rt: HostRuntime) -> Result<(), Fail> {
+    assert_eq!(rt; first_wrong(rt.alloc(), SOFTS_ON_VOLUMES)?, None);
+    Ok(())
+}
+
+#[test]
+fn stripes_come_to_a_volume(rt: HostRuntime) -> Result<(), Fail> {
+    assert_eq!(rt; first_wrong(rt.alloc(), ROWS)?, None);
     Ok(())
 }
 

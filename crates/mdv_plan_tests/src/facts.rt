@@ -17,6 +17,10 @@ pub(crate) enum Fact {
     Pools(usize),
     /// The state of the only component of a stripe; `None` of what is no such stripe.
     StripeState(VolId, Option<State>),
+    /// So many stripes, and so many states of components.
+    Rows(VolId, usize, usize),
+    /// The start and the extents of a soft partition, each as its first block and how many.
+    Extents(VolId, u64, &'static [(u64, u64)]),
     /// So many submirrors, so many flags of them, and the blocks of a mirror.
     Submirrors(VolId, usize, usize, u64),
     /// So many spares have a state, and so many of them are available.
@@ -39,6 +43,8 @@ pub(crate) fn holds(table: &Table, fact: &Fact) -> bool {
         }
         Fact::Pools(pools) => plan.pools.as_slice().len() == pools,
         Fact::StripeState(volume, state) => component(table, volume) == state,
+        Fact::Rows(volume, rows, states) => stripes(table, volume) == Some((rows, states)),
+        Fact::Extents(volume, start, extents) => has_extents(table, volume, start, extents),
         Fact::Submirrors(volume, subs, flags, blocks) => {
             mirror(table, volume) == Some((subs, flags, blocks))
         }
@@ -80,6 +86,35 @@ fn mirror(table: &Table, volume: VolId) -> Option<(usize, usize, u64)> {
             mirror.blocks,
         )),
         _ => None,
+    }
+}
+
+fn stripes(table: &Table, volume: VolId) -> Option<(usize, usize)> {
+    let number = u32::from(volume.0);
+    let volume = table.plan.volumes.find(number)?;
+    let status = table.status.volumes.find(number)?;
+    match (&volume.kind, &status.kind) {
+        (VolumeKind::Stripe(stripe), KindStatus::Stripe(parts)) => {
+            Some((stripe.rows.as_slice().len(), parts.as_slice().len()))
+        }
+        _ => None,
+    }
+}
+
+fn has_extents(table: &Table, volume: VolId, start: u64, extents: &[(u64, u64)]) -> bool {
+    match table.plan.volumes.find(u32::from(volume.0)) {
+        Some(volume) => match &volume.kind {
+            VolumeKind::Soft(soft) => {
+                let runs = soft.extents.as_slice();
+                let same = runs
+                    .iter()
+                    .zip(extents)
+                    .all(|(run, e)| (run.at, run.blocks) == *e);
+                soft.start == start && runs.len() == extents.len() && same
+            }
+            _ => false,
+        },
+        None => false,
     }
 }
 

@@ -9,6 +9,7 @@ use mdv_change::{ApplyFault, Change, apply};
 use mdv_components::{MAX_NAMES, RaidAsked, RowAsked};
 use mdv_extent::Run;
 use mdv_plan::*;
+use mdv_softs::SoftAsked;
 use mdv_submirrors::MirrorAsked;
 use std::alloc::Global;
 use std::test::Fail;
@@ -21,6 +22,10 @@ pub(crate) enum Step {
     Raid(u8, &'static [Base], Option<PoolId>),
     Mirror(u8, &'static [VolId]),
     Attach(VolId, VolId),
+    MakeSoft(u8, Base, u64),
+    Grow(VolId, u64),
+    /// One stripe more, with this interlace.
+    AddRow(VolId, &'static [Base], Option<u64>),
     NewPool(u8, &'static [SliceName]),
     Spares(u8, &'static [SliceName]),
     Clear(&'static [VolId], &'static [PoolId]),
@@ -30,6 +35,8 @@ pub(crate) enum Step {
 pub(crate) enum Line {
     /// The change is refused by this number, or made: 0.
     Told(Step, u8),
+    /// It is refused, since there are only so many blocks.
+    Short(Step, u64),
     Is(Fact),
     /// From here on there is a soft partition on a volume.
     Soft(u8, VolId),
@@ -53,6 +60,9 @@ pub(crate) fn first_wrong(alloc: Global, lines: &[Line]) -> Result<Option<usize>
 fn is_so(alloc: Global, table: &mut Table, line: &Line) -> Result<bool, Fail> {
     match line {
         Line::Told(step, refusal) => Ok(told(alloc, table, step)? == *refusal),
+        Line::Short(step, blocks) => Ok(
+            outcome(alloc, table, step)? == Err(ApplyFault::Refused(Refusal::NoSpace(*blocks))),
+        ),
         Line::Is(fact) => Ok(holds(table, fact)),
         Line::Soft(number, base) => add_soft(alloc, table, *number, *base),
         Line::InUse(spare) => use_spare(table, *spare),
@@ -60,17 +70,20 @@ fn is_so(alloc: Global, table: &mut Table, line: &Line) -> Result<bool, Fail> {
     }
 }
 
-// The number of the refusal, or 0 where the change was made; the drive of hostA is number 0.
+// The number of the refusal, or 0 where the change was made.
 fn told(alloc: Global, table: &mut Table, step: &Step) -> Result<u8, Fail> {
+    Ok(match outcome(alloc, table, step)? {
+        Ok(()) => 0,
+        Err(ApplyFault::Refused(refusal)) => refusal.number(),
+        Err(ApplyFault::Memory) => Refusal::OutOfMemory.number(),
+    })
+}
+
+// The drive of hostA is number 0.
+fn outcome(alloc: Global, table: &mut Table, step: &Step) -> Result<Result<(), ApplyFault>, Fail> {
     let geometry = drives(alloc)?;
     let change = change_of(alloc, step)?;
-    Ok(
-        match apply(alloc, &geometry, &[DriveNo(0)], table, &change) {
-            Ok(()) => 0,
-            Err(ApplyFault::Refused(refusal)) => refusal.number(),
-            Err(ApplyFault::Memory) => Refusal::OutOfMemory.number(),
-        },
-    )
+    Ok(apply(alloc, &geometry, &[DriveNo(0)], table, &change))
 }
 
 fn change_of(alloc: Global, step: &Step) -> Result<Change, Fail>
@@ -91,6 +104,15 @@ fn change_of(alloc: Global, step: &Step) -> Result<Change, Fail>
             mirror: mirror(alloc, subs)?,
         },
         Step::Attach(mirror, sub) => Change::Attach { mirror, sub },
+        Step::MakeSoft(number, base, blocks) => Change::MakeSoft {
+            volume: volume(number),
+            soft: SoftAsked { base, blocks },
+        },
+        Step::Grow(volume, blocks) => Change::Grow { volume, blocks },
+        Step::AddRow(volume, bases, interlace) => Change::AddRow {
+            volume,
+            row: row(alloc, bases, interlace)?,
+        },
         Step::NewPool(number, slices) => Change::AddSpares {
             pool: pool(number),
             new: true,
@@ -133,13 +155,16 @@ fn one_row(
     bases: &[Base],
     interlace: Option<u64>,
 ) -> Result<Listed<RowAsked, MAX_NAMES>, Fail> {
-    let components = listed(alloc, bases)?;
     let mut rows = Listed::new(alloc);
-    rows.push(RowAsked {
-        components,
-        interlace,
-    })?;
+    rows.push(row(alloc, bases, interlace)?)?;
     Ok(rows)
+}
+
+fn row(alloc: Global, bases: &[Base], interlace: Option<u64>) -> Result<RowAsked, Fail> {
+    Ok(RowAsked {
+        components: listed(alloc, bases)?,
+        interlace,
+    })
 }
 
 fn raid(alloc: Global, bases: &[Base], spares: Option<PoolId>) -> Result<RaidAsked, Fail> {

@@ -9,13 +9,13 @@ part_blocks c = c.blocks
 abbrev pub row_blocks : Row → ℕ
 row_blocks r = min (sum_by part_blocks r.components) (2 ^ 63)
 
-abbrev pub kind_blocks : VolumeKind → ℕ
-kind_blocks (Stripe s) = min (sum_by row_blocks s.rows) (2 ^ 63)
-kind_blocks _ = 0
+abbrev pub stripe_blocks : VolumeKind → ℕ
+stripe_blocks (Stripe s) = min (sum_by row_blocks s.rows) (2 ^ 63)
+stripe_blocks _ = 0
 
 abbrev pub volume_blocks : Option OneVolume → ℕ
 volume_blocks None = 0
-volume_blocks (Some v) = kind_blocks v.kind
+volume_blocks (Some v) = stripe_blocks v.kind
 
 -- the blocks of a stripe or concatenation, all its components together
 abbrev pub blocks_of : Plan → VolId → ℕ

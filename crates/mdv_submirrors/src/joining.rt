@@ -46,7 +46,8 @@ fn kind_restated(
     }
 }
 
-pub(crate) fn status_at(status: &Status, volume: VolId) -> Option<&VolumeStatus>
+/// What is noted of the volume, found in logarithmic time.
+pub fn status_at(status: &Status, volume: VolId) -> Option<&VolumeStatus>
     ensures { option_copied result ≡ spec_status_at status.now volume }
 {
     status.volumes.find(u32::from(volume.0))

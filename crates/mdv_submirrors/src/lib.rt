@@ -8,5 +8,6 @@ mod mirrors;
 mod sizes;
 
 pub use attaching::{attach_states, mirror_with_sub, refuse_attach};
-pub use joining::{all_joined, note_all};
+pub use joining::{all_joined, note_all, status_at};
 pub use mirrors::{MirrorAsked, mirror_on, mirror_status, refuse_mirror};
+pub use sizes::{is_no_stripe, stripe_blocks};

@@ -1,7 +1,7 @@
 //! How many blocks a submirror has.
 ghost use Rattle.std.specs.Prelude.{◌≡◌, ◌≤◌, ◌^◌, min, sum_by};
 ghost use Rattle.std.specs.List.{list_any};
-ghost use Rattle.mdv_submirrors.specs.Sizes.{part_blocks, row_blocks as spec_row_blocks, kind_blocks as spec_kind_blocks, blocks_of as spec_blocks_of};
+ghost use Rattle.mdv_submirrors.specs.Sizes.{part_blocks, row_blocks as spec_row_blocks, stripe_blocks as spec_stripe_blocks, blocks_of as spec_blocks_of};
 ghost use Rattle.mdv_submirrors.specs.Sizes.{is_no_volume as spec_is_no_volume, is_stripe as spec_is_stripe, is_no_stripe as spec_is_no_stripe};
 
 use mdv_base::VolId;
@@ -38,8 +38,10 @@ fn rows_blocks(rows: &[Row]) -> u64
     blocks
 }
 
-fn kind_blocks(kind: &VolumeKind) -> u64
-    ensures { result ≡ spec_kind_blocks kind.now }
+/// The blocks of a stripe or concatenation; a volume of another kind has none here. No more than 2^63 count.
+pub fn stripe_blocks(kind: &VolumeKind) -> u64
+    ensures value { result ≡ spec_stripe_blocks kind.now }
+    ensures most { result ≤ 2 ^ 63 }
 {
     match kind {
         VolumeKind::Stripe(stripe) => rows_blocks(stripe.rows.as_slice()),
@@ -52,7 +54,7 @@ pub(crate) fn blocks_of(plan: &Plan, volume: VolId) -> u64
     ensures { result ≡ spec_blocks_of plan.now volume }
 {
     match volume_of(plan, volume) {
-        Some(volume) => kind_blocks(&volume.kind),
+        Some(volume) => stripe_blocks(&volume.kind),
         None => 0,
     }
 }
@@ -75,7 +77,8 @@ fn is_stripe(kind: &VolumeKind) -> bool
     matches!(kind, VolumeKind::Stripe(_))
 }
 
-pub(crate) fn is_no_stripe(plan: &Plan, volume: VolId) -> bool
+/// Whether the plan has no stripe or concatenation of this number.
+pub fn is_no_stripe(plan: &Plan, volume: VolId) -> bool
     ensures { result ≡ spec_is_no_stripe plan.now volume }
 {
     match volume_of(plan, volume) {

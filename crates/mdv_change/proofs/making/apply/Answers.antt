@@ -18,3 +18,8 @@ pub returns-in-Attach : goal.returns-in-Attach
 returns-in-Attach c =
     let made = c.attach.ensures c.args.geometry.now c.args.drives.now in
     subst (λ (x : Change). IsApplied c.args.geometry.now c.args.drives.now x c.args.table.now c.attach.new.table c.attach.result) (sym c.in-Attach.is) made
+
+pub returns-in-Grow : goal.returns-in-Grow
+returns-in-Grow c =
+    let made = c.grow.ensures c.args.drives.now in
+    subst (λ (x : Change). IsApplied c.args.geometry.now c.args.drives.now x c.args.table.now c.grow.new.table c.grow.result) (sym c.in-Grow.is) made

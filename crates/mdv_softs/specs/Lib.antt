@@ -1,0 +1,5 @@
+pub mod Asking
+pub mod Below
+pub mod Growing
+pub mod Making
+pub mod Room
