@@ -1,11 +1,11 @@
 -- Why a change isn't made, and which changes there are.
 use Rattle.std.specs.Prelude.{ℕ, ◌≡◌, ◌<◌, List, Option, None, Some, Result, Ok, Err, Bool}
-use Rattle.mdv_change.specs.Below.{Refusal, DriveNo, Geometry, Table, VolId, PoolId, RaidAsked, RowAsked, MirrorAsked, SoftAsked, SliceName}
+use Rattle.mdv_change.specs.Below.{Refusal, DriveNo, Geometry, Table, VolId, PoolId, RaidAsked, RowAsked, MirrorAsked, SoftAsked, SliceName, Meant}
 use Rattle.mdv_change.specs.declared.making.ApplyFault.{ApplyFault}
 use Rattle.mdv_change.specs.declared.making.ApplyFault.TheVariants.{Refused, Memory}
 use Rattle.mdv_change.specs.Change.{refusal_of, table_after}
 use Rattle.mdv_change.specs.declared.change.Change.{Change}
-use Rattle.mdv_change.specs.declared.change.Change.TheVariants.{MakeStripe, MakeRaid, MakeMirror, MakeSoft, Attach, AddRow, Grow, AddSpares, Clear}
+use Rattle.mdv_change.specs.declared.change.Change.TheVariants.{MakeStripe, MakeRaid, MakeMirror, MakeSoft, Attach, AddRow, Grow, AddSpares, DeleteSpares, EnableSpares, Clear, ClearBelow}
 
 -- what refuses the change, or want of memory, which has no cause
 abbrev pub HasFault : Option Refusal → ApplyFault → Type 0
@@ -44,6 +44,15 @@ grow_change v blocks = Grow v blocks
 
 abbrev pub spares_change : PoolId → Bool → List SliceName → Change
 spares_change q new slices = AddSpares q new slices
+
+abbrev pub delete_change : Meant → List SliceName → Change
+delete_change pools slices = DeleteSpares pools slices
+
+abbrev pub enable_change : List SliceName → Change
+enable_change slices = EnableSpares slices
+
+abbrev pub below_change : List VolId → List PoolId → Change
+below_change volumes pools = ClearBelow volumes pools
 
 abbrev pub clear_change : List VolId → List PoolId → Change
 clear_change volumes pools = Clear volumes pools

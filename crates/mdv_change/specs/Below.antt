@@ -12,6 +12,9 @@ pub use Rattle.mdv_components.specs.declared.asked.RaidAsked.{RaidAsked}
 pub use Rattle.mdv_components.specs.declared.asked.RowAsked.{RowAsked}
 pub use Rattle.mdv_components.specs.declared.cause.Carried.{Carried}
 pub use Rattle.mdv_components.specs.declared.cause.Cause.{Cause}
+pub use Rattle.mdv_base.specs.declared.state_word.StateWord.{StateWord}
+pub use Rattle.mdv_base.specs.declared.state_word.StateWord.TheVariants.{Absent}
+pub use Rattle.mdv_keys.specs.Keys.{kept}
 pub use Rattle.mdv_name.specs.Code.{slice_code}
 pub use Rattle.mdv_name.specs.declared.geometry.Geometry.{Geometry}
 pub use Rattle.mdv_plan.specs.Parents.{names_pool, names_volume}
@@ -27,6 +30,9 @@ pub use Rattle.mdv_plan.specs.declared.status.SpareUse.{SpareUse}
 pub use Rattle.mdv_plan.specs.declared.status.Status.{Status}
 pub use Rattle.mdv_plan.specs.declared.status.VolumeStatus.{VolumeStatus}
 pub use Rattle.mdv_plan.specs.declared.table.Table.{Table}
+pub use Rattle.mdv_plan.specs.declared.volume.Base.{Base}
+pub use Rattle.mdv_plan.specs.declared.volume.Component.{Component}
+pub use Rattle.mdv_plan.specs.declared.volume.Row.{Row}
 pub use Rattle.mdv_plan.specs.declared.volume.Volume.{Volume as OneVolume}
 pub use Rattle.mdv_plan.specs.declared.volume.VolumeKind.{VolumeKind}
 pub use Rattle.mdv_rows.specs.Adding.{add_condition, added_states, filled, rows_of, with_row}
@@ -34,6 +40,9 @@ pub use Rattle.mdv_softs.specs.Asking.{carried_of}
 pub use Rattle.mdv_softs.specs.Growing.{grow_condition, grown, grown_room}
 pub use Rattle.mdv_softs.specs.Making.{soft_condition, soft_on, soft_room, soft_status}
 pub use Rattle.mdv_softs.specs.declared.making.SoftAsked.{SoftAsked}
+pub use Rattle.mdv_spares.specs.Deleting.{delete_condition, spares_deleted}
+pub use Rattle.mdv_spares.specs.Enabling.{enable_condition, unbroken_word}
+pub use Rattle.mdv_spares.specs.declared.meant.Meant.{Meant}
 pub use Rattle.mdv_spares.specs.Pools.{pool_with, spares_condition, with_states as spare_states}
 pub use Rattle.mdv_submirrors.specs.Attaching.{attach_condition, attach_states, with_sub}
 pub use Rattle.mdv_submirrors.specs.Joining.{all_joined, noted}

@@ -4,12 +4,14 @@ use Rattle.std.specs.Option.{option_map}
 use Rattle.mdv_change.specs.Below.{Refusal, DriveNo, Geometry, Table, OneVolume, VolumeStatus, with_item, with_put}
 use Rattle.mdv_change.specs.Below.{Cause, Carried, order, first_of, nothing, told, stripe_condition, stripe_on, stripe_status, raid_condition, raid_on, raid_status}
 use Rattle.mdv_change.specs.declared.change.Change.{Change}
-use Rattle.mdv_change.specs.declared.change.Change.TheVariants.{MakeStripe, MakeRaid, MakeMirror, MakeSoft, Attach, AddRow, Grow, AddSpares, Clear, ClearAll}
+use Rattle.mdv_change.specs.declared.change.Change.TheVariants.{MakeStripe, MakeRaid, MakeMirror, MakeSoft, Attach, AddRow, Grow, AddSpares, DeleteSpares, EnableSpares, Clear, ClearBelow, ClearAll}
 use Rattle.mdv_change.specs.Below.{carried_of, soft_condition, soft_on, soft_room, soft_status, grow_condition, grown, grown_room}
 use Rattle.mdv_change.specs.Below.{VolId, Plan, RowAsked, row_on, add_condition, added_states, filled, rows_of, with_row}
 use Rattle.mdv_change.specs.Below.{SliceName, Pool, spares_condition, pool_with, spare_states}
 use Rattle.mdv_change.specs.Below.{mirror_condition, mirror_on, mirror_status, all_joined, noted, attach_condition, with_sub, attach_states, volume_of, changed}
-use Rattle.mdv_change.specs.Clear.{clear_condition, cleared, emptied}
+use Rattle.mdv_change.specs.Below.{StateWord, Absent, delete_condition, spares_deleted, enable_condition, unbroken_word}
+use Rattle.mdv_change.specs.Clear.{clear_condition, cleared, emptied, given_back}
+use Rattle.mdv_change.specs.Levels.{with_levels}
 
 -- a stripe behind those of the volume, with its interlace
 abbrev pub row_behind : Plan → VolId → RowAsked → RowAsked
@@ -25,13 +27,22 @@ condition g drives t (Attach mirror sub) = attach_condition t.plan mirror sub
 condition g drives t (AddRow v r) = add_condition g drives t.plan v (row_behind t.plan v r)
 condition g drives t (Grow v blocks) = grow_condition g t v blocks
 condition g drives t (AddSpares q new slices) = spares_condition g drives t.plan new q slices
+condition g drives t (DeleteSpares pools slices) = delete_condition g drives t pools slices
+condition g drives t (EnableSpares slices) = enable_condition g drives t.status.spares slices
 condition g drives t (Clear volumes pools) = clear_condition t.plan volumes pools
+condition g drives t (ClearBelow volumes pools) = clear_condition t.plan (with_levels t.plan volumes) pools
 condition g drives t ClearAll = λ cause. false
+
+-- a state that is told
+abbrev pub of_state : StateWord → Carried
+of_state state = record { state = state; blocks = 0 }
 
 -- what its refusal tells beside the name
 abbrev pub carried : Geometry → Table → Change → Carried
 carried g t (MakeSoft v asked) = carried_of (soft_room g t.plan asked)
 carried g t (Grow v blocks) = carried_of (grown_room g t.plan v blocks)
+carried g t (DeleteSpares pools slices) = of_state Absent
+carried g t (EnableSpares slices) = of_state (unbroken_word t.status.spares slices)
 carried g t _ = nothing
 
 -- why the change is refused, if it is
@@ -67,6 +78,10 @@ with_pool q slices t =
 abbrev pub row_added : Geometry → Table → VolId → RowAsked → Table
 row_added g t v r = with_states (added_states t.status v r) (with_changed (option_map (with_row (row_on g t.plan r)) (volume_of t.plan v)) t)
 
+-- these spares are Available
+abbrev pub spares_enabled : List SliceName → Table → Table
+spares_enabled slices t = record t { status = record t.status { spares = given_back t.status.spares slices } }
+
 abbrev pub table_after : Geometry → Table → Change → Table
 table_after g t (MakeStripe v rows pool) = with_volume (stripe_on g t.plan v rows pool) (stripe_status v rows) t
 table_after g t (MakeRaid v raid) = with_volume (raid_on g t.plan v raid) (raid_status v raid) t
@@ -76,5 +91,8 @@ table_after g t (Attach mirror sub) = with_states (attach_states t.status mirror
 table_after g t (AddRow v r) = row_added g t v (row_behind t.plan v r)
 table_after g t (Grow v blocks) = with_changed (option_map (grown (grown_room g t.plan v blocks)) (volume_of t.plan v)) t
 table_after g t (AddSpares q new slices) = with_pool (pool_with g t.plan q slices) slices t
+table_after g t (DeleteSpares pools slices) = spares_deleted pools slices t
+table_after g t (EnableSpares slices) = spares_enabled slices t
 table_after g t (Clear volumes pools) = cleared volumes pools t
+table_after g t (ClearBelow volumes pools) = cleared (with_levels t.plan volumes) pools t
 table_after g t ClearAll = emptied t

@@ -1,8 +1,8 @@
 -- The clearing of volumes and pools: what refuses it, and what is left.
-use Rattle.std.specs.Prelude.{ℕ, Bool, false, not, ◌==◌, ◌&&◌, ◌||◌, List, [], ◌∷◌, map, filter, Option, None, Some, is_some, if◌then◌else◌}
+use Rattle.std.specs.Prelude.{ℕ, Bool, false, not, ◌==◌, ◌&&◌, ◌||◌, List, [], ◌∷◌, map, Option, None, Some, is_some, if◌then◌else◌}
 use Rattle.std.specs.List.{find, fold, flat_map, list_any}
 use Rattle.mdv_change.specs.Below.{VolId, PoolId, SliceName, Plan, Pool, Spare, Status, Table, OneVolume, VolumeKind, VolumeStatus, KindStatus, PartStatus, SpareStatus, SpareUse}
-use Rattle.mdv_change.specs.Below.{volume_of, pool_of, names_volume, names_pool, same_slice, slice_code, changed, Cause}
+use Rattle.mdv_change.specs.Below.{volume_of, pool_of, names_volume, names_pool, same_slice, slice_code, changed, kept, Cause}
 use Rattle.mdv_components.specs.declared.cause.Cause.TheVariants.{NoSuchVolume, NoSuchPool, HasParent}
 use Rattle.mdv_plan.specs.declared.status.KindStatus.TheVariants.{Stripe, Mirror, Raid, Soft}
 use Rattle.mdv_plan.specs.declared.status.SpareState.TheVariants.{Available}
@@ -33,10 +33,6 @@ clear_condition p volumes pools NoSuchVolume = list_any (is_no_volume p) volumes
 clear_condition p volumes pools NoSuchPool = list_any (is_no_pool p) pools
 clear_condition p volumes pools HasParent = list_any (is_left_with volumes pools) p.volumes
 clear_condition p volumes pools _ = false
-
--- the values whose keys aren't among those that go
-abbrev pub kept : {T : Type 0} → (T → ℕ) → List ℕ → List T → List T
-kept key gone xs = filter (λ x. not (list_any (λ k. key x == k) gone)) xs
 
 abbrev pub spare_used : Option SpareUse → List SliceName
 spare_used None = []

@@ -2,3 +2,4 @@ pub mod Apply
 pub mod Below
 pub mod Change
 pub mod Clear
+pub mod Levels

@@ -2,6 +2,7 @@ use mdv_base::{PoolId, SliceName, VolId};
 use mdv_components::{MAX_NAMES, RaidAsked, RowAsked};
 use mdv_plan::Listed;
 use mdv_softs::SoftAsked;
+use mdv_spares::Meant;
 use mdv_submirrors::MirrorAsked;
 
 /// What a command asks of a table.
@@ -53,9 +54,23 @@ pub enum Change {
         new: bool,
         spares: Listed<SliceName, MAX_NAMES>,
     },
+    /// `metahs -d hsp001 c0t1d0s0`: spares leave the pools that are meant.
+    DeleteSpares {
+        pools: Meant,
+        spares: Listed<SliceName, MAX_NAMES>,
+    },
+    /// `metahs -e c0t1d0s0`: spares that were Broken are Available again.
+    EnableSpares {
+        spares: Listed<SliceName, MAX_NAMES>,
+    },
     /// `metaclear d10 hsp001`: these volumes and pools go, all or none. A use by a volume that goes too
     /// doesn't keep one.
     Clear {
+        volumes: Listed<VolId, MAX_NAMES>,
+        pools: Listed<PoolId, MAX_NAMES>,
+    },
+    /// `metaclear -r d10`: the same, and each volume below them goes too that nothing else uses.
+    ClearBelow {
         volumes: Listed<VolId, MAX_NAMES>,
         pools: Listed<PoolId, MAX_NAMES>,
     },

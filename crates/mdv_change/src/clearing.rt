@@ -4,13 +4,14 @@ ghost use Rattle.std.specs.List.{flat_map, list_any};
 ghost use Rattle.mdv_change.specs.Below.{first_of, names_pool, names_volume, order};
 ghost use Rattle.mdv_change.specs.Clear.{clear_condition, is_no_volume as spec_is_no_volume, is_no_pool as spec_is_no_pool};
 ghost use Rattle.mdv_change.specs.Clear.{is_named as spec_is_named, is_named_pool as spec_is_named_pool, uses_one as spec_uses_one, is_left_with as spec_is_left_with};
-ghost use Rattle.mdv_change.specs.Clear.{kept, part_spare, parts_of as spec_parts_of, used_spares as spec_used_spares, available as spec_available, given_back};
+ghost use Rattle.mdv_change.specs.Clear.{part_spare, parts_of as spec_parts_of, used_spares as spec_used_spares, available as spec_available, given_back};
 ghost use Rattle.mdv_change.specs.Clear.{has_spare as spec_has_spare, is_kept_with as spec_is_kept_with, is_kept_spare as spec_is_kept_spare};
 ghost use Rattle.mdv_change.specs.Clear.{lost_spare as spec_lost_spare, lost_of as spec_lost_of, lost_spares as spec_lost_spares, spares_under as spec_spares_under};
 ghost use Rattle.mdv_change.specs.Clear.{volume_key, pool_key, cleared, emptied};
 
 use mdv_base::{PoolId, SliceName, VolId};
 use mdv_components::{Cause, pool_of, volume_of};
+use mdv_keys::remove_all;
 use mdv_plan::{
     Keyed, KindStatus, PartStatus, Plan, Pool, Sorted, Spare, SpareState, SpareStatus, Status,
     Table, Volume, VolumeKind, names_pool, names_volume, same_slice,
@@ -57,7 +58,7 @@ fn has_no_pool(plan: &Plan, pools: &[PoolId]) -> bool
     pools.iter().any(|pool| is_no_pool(plan, *pool))
 }
 
-fn is_named(volumes: &[VolId], volume: VolId) -> bool
+pub(crate) fn is_named(volumes: &[VolId], volume: VolId) -> bool
     ensures { result ≡ spec_is_named volumes.now volume }
 {
     volumes.iter().any(|named| named.0 == volume.0)
@@ -154,14 +155,6 @@ fn pool_keys(alloc: Global, pools: &[PoolId]) -> Result<Vec<u32>, AllocError>
     Ok(keys)
 }
 
-fn remove_all<T: Keyed + Drop, const LIMIT: usize>(values: &mut Sorted<T, LIMIT>, keys: &[u32])
-    ensures { values.new ≡ kept T.key keys.now values.old }
-{
-    for key in keys {
-        values.remove(*key);
-    }
-}
-
 fn parts_of(kind: &KindStatus) -> &[PartStatus]
     ensures { result.now ≡ spec_parts_of kind.now }
 {
@@ -216,7 +209,10 @@ fn available(slice: SliceName) -> SpareStatus
     }
 }
 
-fn give_back<const LIMIT: usize>(spares: &mut Sorted<SpareStatus, LIMIT>, slices: &[SliceName])
+pub(crate) fn give_back<const LIMIT: usize>(
+    spares: &mut Sorted<SpareStatus, LIMIT>,
+    slices: &[SliceName],
+)
     ensures { spares.new ≡ given_back spares.old slices.now }
 {
     for slice in slices {

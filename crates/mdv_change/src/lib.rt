@@ -3,7 +3,9 @@
 
 mod change;
 mod clearing;
+mod levels;
 mod making;
+mod pooling;
 
 pub use change::Change;
 pub use making::{ApplyFault, apply};

@@ -3,12 +3,14 @@ ghost use Rattle.std.specs.Prelude.{◌≡◌, ◌<◌, ◌==◌, List, None, On
 ghost use Rattle.std.specs.List.{find};
 ghost use Rattle.mdv_plan.specs.Slices.{IsSound};
 ghost use Rattle.mdv_change.specs.declared.making.ApplyFault.TheVariants.{Memory};
-ghost use Rattle.mdv_change.specs.Apply.{IsApplied, IsNumbered, attach_change, clear_change, grow_change, mirror_change, raid_change, row_change, soft_change, spares_change, stripe_change};
+ghost use Rattle.mdv_change.specs.Apply.{IsApplied, IsNumbered, attach_change, below_change, clear_change, grow_change, mirror_change, raid_change, row_change, soft_change, spares_change, stripe_change};
 ghost use Rattle.mdv_change.specs.Below.{DriveNo, Geometry};
 ghost use Rattle.mdv_change.specs.Change.{with_changed, with_volume};
 
 use crate::change::Change;
 use crate::clearing::{clear, clear_all, refuse_clear};
+use crate::levels::with_levels;
+use crate::pooling::{delete_spares, enable_spares};
 use mdv_base::{DriveNo, PoolId, Refusal, SliceName, VolId};
 use mdv_components::{
     Carried, RaidAsked, RowAsked, raid_on, raid_status, refuse_raid, refuse_stripe, row_on,
@@ -82,6 +84,15 @@ pub fn apply(
                 *pool,
                 spares.as_slice(),
             )
+        }
+        Change::DeleteSpares { pools, spares } => {
+            delete_spares(alloc, geometry, drives, table, *pools, spares.as_slice())
+        }
+        Change::EnableSpares { spares } => {
+            enable_spares(alloc, geometry, drives, table, spares.as_slice())
+        }
+        Change::ClearBelow { volumes, pools } => {
+            clear_below(alloc, table, volumes.as_slice(), pools.as_slice())
         }
         Change::Clear { volumes, pools } => {
             clear_named(alloc, table, volumes.as_slice(), pools.as_slice())
@@ -281,6 +292,22 @@ fn clear_named(
         return Err(ApplyFault::Refused(cause.refusal(Carried::nothing())));
     }
     clear(alloc, table, volumes, pools)?;
+    Ok(())
+}
+
+fn clear_below(
+    alloc: Global,
+    table: &mut Table,
+    volumes: &[VolId],
+    pools: &[PoolId],
+) -> Result<(), ApplyFault>
+    ensures { (g : Geometry) (drives : List DriveNo) → IsApplied g drives (below_change volumes.now pools.now) table.old table.new result }
+{
+    let all = with_levels(alloc, &table.plan, volumes)?;
+    if let Some(cause) = refuse_clear(&table.plan, all.as_slice(), pools) {
+        return Err(ApplyFault::Refused(cause.refusal(Carried::nothing())));
+    }
+    clear(alloc, table, all.as_slice(), pools)?;
     Ok(())
 }
 

@@ -2,11 +2,12 @@
 
 use crate::drives::*;
 use crate::facts::Fact::*;
-use crate::steps::Line::{InUse, Is, OnSpare, Short, Soft, Told};
+use crate::steps::Line::{Broken, InUse, Is, OnSpare, Short, Soft, Told};
 use crate::steps::Step::*;
 use crate::steps::{Line, first_wrong};
 use mdv_plan::Base::{Slice, Volume};
 use mdv_plan::{Resync, SpareState, State};
+use mdv_spares::Meant::{All, One};
 use std::test::Fail;
 
 const OKAY: Option<State> = Some(State::Okay);
@@ -180,6 +181,39 @@ const CLEARED: &[Line] = &[
     Is(Pools(0)),
 ];
 
+// No such slice is 6, a spare that isn't in the pool, or isn't Broken, 13, no such pool 26, a spare in use 27.
+const SPARES_LEAVE: &[Line] = &[
+    Told(NewPool(1, &[S0, S1]), 0),
+    Told(NewPool(2, &[S0]), 0),
+    InUse(S1),
+    Told(DeleteSpares(One(HSP9), &[S0]), 26),
+    Told(DeleteSpares(One(HSP1), &[OTHER]), 6),
+    Told(DeleteSpares(One(HSP2), &[S1]), 13),
+    Told(DeleteSpares(One(HSP1), &[S1]), 27),
+    Told(DeleteSpares(One(HSP2), &[S0]), 0),
+    Is(SpareStates(2, 1)),
+    Told(DeleteSpares(All, &[S0]), 0),
+    Is(SpareStates(1, 0)),
+    Told(EnableSpares(&[S1]), 13),
+    Broken(S1),
+    Told(EnableSpares(&[S1]), 0),
+    Is(SpareStates(1, 1)),
+];
+
+// A base that another soft partition has stays.
+const CLEARED_BELOW: &[Line] = &[
+    Told(MakeSoft(5, Slice(S0), 100), 0),
+    Told(Stripe(10, &[Volume(VOL5)], None), 0),
+    Told(Mirror(0, &[VOL10]), 0),
+    Told(Stripe(20, &[Slice(S1)], None), 0),
+    Told(MakeSoft(6, Volume(VOL20), 100), 0),
+    Told(MakeSoft(9, Volume(VOL20), 100), 0),
+    Told(ClearBelow(&[VOL0, VOL6]), 0),
+    Is(Volumes(2, 2)),
+    Told(ClearBelow(&[VOL9]), 0),
+    Is(Volumes(0, 0)),
+];
+
 const ALL_CLEARED: &[Line] = &[
     Told(NewPool(1, &[S7]), 0),
     Told(NewPool(2, &[S7]), 0),
@@ -249,6 +283,18 @@ fn a_spare_keeps_its_state(rt: HostRuntime) -> Result<(), Fail> {
 #[test]
 fn volumes_and_pools_are_cleared(rt: HostRuntime) -> Result<(), Fail> {
     assert_eq!(rt; first_wrong(rt.alloc(), CLEARED)?, None);
+    Ok(())
+}
+
+#[test]
+fn spares_leave_pools(rt: HostRuntime) -> Result<(), Fail> {
+    assert_eq!(rt; first_wrong(rt.alloc(), SPARES_LEAVE)?, None);
+    Ok(())
+}
+
+#[test]
+fn volumes_below_are_cleared(rt: HostRuntime) -> Result<(), Fail> {
+    assert_eq!(rt; first_wrong(rt.alloc(), CLEARED_BELOW)?, None);
     Ok(())
 }
 

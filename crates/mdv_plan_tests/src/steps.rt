@@ -10,6 +10,7 @@ use mdv_components::{MAX_NAMES, RaidAsked, RowAsked};
 use mdv_extent::Run;
 use mdv_plan::*;
 use mdv_softs::SoftAsked;
+use mdv_spares::Meant;
 use mdv_submirrors::MirrorAsked;
 use std::alloc::Global;
 use std::test::Fail;
@@ -28,7 +29,11 @@ pub(crate) enum Step {
     AddRow(VolId, &'static [Base], Option<u64>),
     NewPool(u8, &'static [SliceName]),
     Spares(u8, &'static [SliceName]),
+    DeleteSpares(Meant, &'static [SliceName]),
+    EnableSpares(&'static [SliceName]),
     Clear(&'static [VolId], &'static [PoolId]),
+    /// And what lies below the volumes.
+    ClearBelow(&'static [VolId]),
     ClearAll,
 }
 
@@ -42,6 +47,8 @@ pub(crate) enum Line {
     Soft(u8, VolId),
     /// From here on the spare is in use.
     InUse(SliceName),
+    /// From here on the spare is broken.
+    Broken(SliceName),
     /// From here on the only column of a RAID-5 volume lies on the spare.
     OnSpare(u8, SliceName),
 }
@@ -65,7 +72,8 @@ fn is_so(alloc: Global, table: &mut Table, line: &Line) -> Result<bool, Fail> {
         ),
         Line::Is(fact) => Ok(holds(table, fact)),
         Line::Soft(number, base) => add_soft(alloc, table, *number, *base),
-        Line::InUse(spare) => use_spare(table, *spare),
+        Line::InUse(spare) => note_spare(table, *spare, SpareState::InUse),
+        Line::Broken(spare) => note_spare(table, *spare, SpareState::Broken),
         Line::OnSpare(number, spare) => lay_on_spare(alloc, table, *number, *spare),
     }
 }
@@ -122,6 +130,17 @@ fn change_of(alloc: Global, step: &Step) -> Result<Change, Fail>
             pool: pool(number),
             new: false,
             spares: listed(alloc, slices)?,
+        },
+        Step::DeleteSpares(pools, slices) => Change::DeleteSpares {
+            pools,
+            spares: listed(alloc, slices)?,
+        },
+        Step::EnableSpares(slices) => Change::EnableSpares {
+            spares: listed(alloc, slices)?,
+        },
+        Step::ClearBelow(volumes) => Change::ClearBelow {
+            volumes: listed(alloc, volumes)?,
+            pools: Listed::new(alloc),
         },
         Step::Clear(volumes, pools) => Change::Clear {
             volumes: listed(alloc, volumes)?,
@@ -198,8 +217,7 @@ fn add_soft(alloc: Global, table: &mut Table, number: u8, base: VolId) -> Result
     Ok(true)
 }
 
-fn use_spare(table: &mut Table, slice: SliceName) -> Result<bool, Fail> {
-    let state = SpareState::InUse;
+fn note_spare(table: &mut Table, slice: SliceName, state: SpareState) -> Result<bool, Fail> {
     table.status.spares.put(SpareStatus { slice, state })?;
     Ok(true)
 }

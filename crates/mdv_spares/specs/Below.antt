@@ -5,7 +5,8 @@ pub use Rattle.mdv_base.specs.declared.name.PoolId.{PoolId}
 pub use Rattle.mdv_components.specs.Bases.{has_meeting, is_foreign, pool_of}
 pub use Rattle.mdv_components.specs.Room.{room_of, start_of}
 pub use Rattle.mdv_components.specs.declared.cause.Cause.{Cause}
-pub use Rattle.mdv_components.specs.declared.cause.Cause.TheVariants.{NoSuchSlice, NameTaken, TooMany, SliceInUse, TooSmall}
+pub use Rattle.mdv_components.specs.declared.cause.Cause.TheVariants.{NoSuchPool, NoSuchSlice, NameTaken, WrongState, TooMany, SliceInUse, SpareInUse, TooSmall}
+pub use Rattle.mdv_keys.specs.Keys.{kept, replaced}
 pub use Rattle.mdv_name.specs.Code.{slice_code}
 pub use Rattle.mdv_name.specs.declared.geometry.Geometry.{Geometry}
 pub use Rattle.mdv_plan.specs.Slices.{clashes, meets_db}
@@ -15,8 +16,10 @@ pub use Rattle.mdv_plan.specs.declared.clash.Asked.TheVariants.{OneSpare}
 pub use Rattle.mdv_plan.specs.declared.plan.Plan.{Plan}
 pub use Rattle.mdv_plan.specs.declared.pool.Pool.{Pool}
 pub use Rattle.mdv_plan.specs.declared.pool.Spare.{Spare}
-pub use Rattle.mdv_plan.specs.declared.status.SpareState.TheVariants.{Available}
+pub use Rattle.mdv_plan.specs.declared.status.SpareState.{SpareState}
+pub use Rattle.mdv_plan.specs.declared.status.SpareState.TheVariants.{Available, InUse, Broken}
 pub use Rattle.mdv_plan.specs.declared.status.SpareStatus.{SpareStatus}
+pub use Rattle.mdv_plan.specs.declared.table.Table.{Table}
 pub use Rattle.mdv_plan.specs.declared.uses.SliceUse.{SliceUse}
 pub use Rattle.mdv_plan.specs.declared.volume.Base.{Base}
 pub use Rattle.mdv_plan.specs.declared.volume.Base.TheVariants.{Slice}

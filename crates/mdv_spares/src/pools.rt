@@ -54,7 +54,7 @@ fn slice_base(slice: SliceName) -> Base
     Base::Slice(slice)
 }
 
-fn slice_bases(alloc: Global, slices: &[SliceName]) -> Result<Vec<Base>, AllocError>
+pub(crate) fn slice_bases(alloc: Global, slices: &[SliceName]) -> Result<Vec<Base>, AllocError>
     ensures { IfOk result (λ bases. bases.items ≡ map spec_slice_base slices.now) }
 {
     let mut bases = Vec::new(alloc);
@@ -74,7 +74,7 @@ fn spares_of(plan: &Plan, pool: PoolId) -> &[Spare]
     }
 }
 
-fn is_spare(spare: Spare, slice: SliceName) -> bool
+pub(crate) fn is_spare(spare: Spare, slice: SliceName) -> bool
     ensures { result ≡ spec_is_spare slice spare }
 {
     same_slice(spare.slice, slice)

@@ -7,9 +7,9 @@ use mdv_plan::{Keyed, Sorted, SpareState, SpareStatus};
 use std::alloc::{AllocError, Global};
 
 // One more than the greatest key of a spare's state.
-const KEYS: usize = 4294967296;
+pub(crate) const KEYS: usize = 4294967296;
 
-fn available(slice: SliceName) -> SpareStatus
+pub(crate) fn available(slice: SliceName) -> SpareStatus
     ensures { result ≡ spec_available slice }
 {
     SpareStatus {

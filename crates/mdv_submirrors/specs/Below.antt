@@ -3,8 +3,8 @@ pub use Rattle.mdv_base.specs.declared.name.VolId.{VolId}
 pub use Rattle.mdv_components.specs.Bases.{volume_of}
 pub use Rattle.mdv_components.specs.declared.cause.Cause.{Cause}
 pub use Rattle.mdv_components.specs.declared.cause.Cause.TheVariants.{NoSuchVolume, NameTaken, WrongKind, TooFew, TooMany, HasParent, TooSmall}
+pub use Rattle.mdv_keys.specs.Keys.{replaced}
 pub use Rattle.mdv_plan.specs.Parents.{has_parent}
-pub use Rattle.mdv_plan.specs.Sorted.{changed}
 pub use Rattle.mdv_plan.specs.declared.plan.Plan.{Plan}
 pub use Rattle.mdv_plan.specs.declared.status.KindStatus.{KindStatus}
 pub use Rattle.mdv_plan.specs.declared.status.KindStatus.TheVariants.{Mirror as MirrorKind, Stripe as StripeKind}

@@ -1,7 +1,7 @@
 -- The states of a stripe that becomes a submirror.
 use Rattle.std.specs.Prelude.{ℕ, ◌==◌, List, [], ◌∷◌, map, Option, None, Some}
 use Rattle.std.specs.List.{find}
-use Rattle.mdv_submirrors.specs.Below.{VolId, Status, VolumeStatus, KindStatus, StripeKind, PartStatus, State, Okay, Resyncing, Whole, changed}
+use Rattle.mdv_submirrors.specs.Below.{VolId, Status, VolumeStatus, KindStatus, StripeKind, PartStatus, State, Okay, Resyncing, Whole, replaced}
 
 abbrev pub kind_parts : KindStatus → List PartStatus
 kind_parts (StripeKind parts) = parts
@@ -32,5 +32,4 @@ status_key w = w.number.0
 
 -- each of these in the place of the one of its volume
 abbrev pub noted : List VolumeStatus → List VolumeStatus → List VolumeStatus
-noted statuses [] = statuses
-noted statuses (w ∷ ws) = changed status_key w (noted statuses ws)
+noted statuses ws = replaced status_key statuses ws

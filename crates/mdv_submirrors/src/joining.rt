@@ -5,6 +5,7 @@ ghost use Rattle.mdv_submirrors.specs.Joining.{with_state as spec_with_state, st
 ghost use Rattle.mdv_submirrors.specs.Below.{Resyncing, Whole};
 
 use mdv_base::VolId;
+use mdv_keys::replace_all;
 use mdv_plan::{
     KindStatus, Listed, MAX_COMPONENTS, MAX_VOLUMES, PartStatus, Resync, Sorted, State, Status,
     VolumeStatus,
@@ -106,8 +107,5 @@ fn add_copied(
 pub fn note_all(statuses: &mut Sorted<VolumeStatus, MAX_VOLUMES>, states: Vec<VolumeStatus>)
     ensures { statuses.new ≡ noted statuses.old states.items }
 {
-    let mut states = states;
-    while let Some(state) = states.pop() {
-        statuses.replace(state);
-    }
+    replace_all(statuses, states);
 }

@@ -1,6 +1,6 @@
 use Rattle.std.proofs.Common.{◌≡◌, subst, sym}
 use Rattle.mdv_change.specs.declared.change.Change.{Change}
-use Rattle.mdv_change.specs.Apply.{IsApplied, clear_change}
+use Rattle.mdv_change.specs.Apply.{IsApplied, below_change, clear_change}
 use Rattle.mdv_change.proofs.making.apply.Goals as goal
 
 pub returns-in-Clear : goal.returns-in-Clear
@@ -23,3 +23,9 @@ pub returns-in-Grow : goal.returns-in-Grow
 returns-in-Grow c =
     let made = c.grow.ensures c.args.drives.now in
     subst (λ (x : Change). IsApplied c.args.geometry.now c.args.drives.now x c.args.table.now c.grow.new.table c.grow.result) (sym c.in-Grow.is) made
+
+pub returns-in-ClearBelow : goal.returns-in-ClearBelow
+returns-in-ClearBelow c =
+    let made = c.clear_below.ensures c.args.geometry.now c.args.drives.now in
+    let same : below_change c.as_slice-in-ClearBelow.result.now c.as_slice-in-ClearBelow-2.result.now ≡ c.args.change.now = cc (c.in-ClearBelow.is, c.as_slice-in-ClearBelow.ensures.value, c.as_slice-in-ClearBelow-2.ensures.value) in
+    subst (λ (x : Change). IsApplied c.args.geometry.now c.args.drives.now x c.args.table.now c.clear_below.new.table c.clear_below.result) same made

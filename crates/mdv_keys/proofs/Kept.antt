@@ -3,7 +3,7 @@ use Rattle.std.proofs.Common.{◌≡◌, ◌<◌, ◌+◌, ◌==◌, ◌||◌, �
 use Rattle.std.specs.List.{list_any}
 use Rattle.std.proofs.lemmas.List.Folds.{list_any_more}
 use Rattle.mdv_plan.specs.Sorted.{without}
-use Rattle.mdv_change.specs.Clear.{kept}
+use Rattle.mdv_keys.specs.Keys.{kept}
 
 -- where no key goes, all stay
 pub kept_all : {T : Type 0} (key : T → ℕ) (xs : List T) → kept key [] xs ≡ xs

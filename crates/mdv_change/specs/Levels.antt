@@ -1,0 +1,50 @@
+-- The volumes that lie below others, level by level.
+use Rattle.std.specs.Prelude.{Bool, not, ◌&&◌, is_some, List, [], ◌∷◌, ◌++◌, filter, Option, None, Some}
+use Rattle.std.specs.List.{flat_map, list_any}
+use Rattle.mdv_change.specs.Below.{VolId, Plan, OneVolume, VolumeKind, Base, Component, Row, volume_of, names_volume}
+use Rattle.mdv_change.specs.Clear.{is_named}
+use Rattle.mdv_plan.specs.declared.volume.Base.TheVariants.{Slice, Volume}
+use Rattle.mdv_plan.specs.declared.volume.VolumeKind.TheVariants.{Stripe, Mirror, Raid, Soft}
+
+abbrev pub base_below : Base → List VolId
+base_below (Slice s) = []
+base_below (Volume v) = v ∷ []
+
+abbrev pub component_below : Component → List VolId
+component_below c = base_below c.on
+
+abbrev pub row_below : Row → List VolId
+row_below row = flat_map component_below row.components
+
+-- the volumes that it names
+abbrev pub kind_below : VolumeKind → List VolId
+kind_below (Stripe s) = flat_map row_below s.rows
+kind_below (Mirror m) = m.submirrors
+kind_below (Raid r) = flat_map component_below r.columns
+kind_below (Soft s) = base_below s.base
+
+abbrev pub below_at : Option OneVolume → List VolId
+below_at None = []
+below_at (Some w) = kind_below w.kind
+
+abbrev pub below_of : Plan → VolId → List VolId
+below_of p v = below_at (volume_of p v)
+
+-- another volume than these uses it
+abbrev pub uses_beside : List VolId → VolId → OneVolume → Bool
+uses_beside volumes v w = not (is_named volumes w.number) && names_volume v w.kind
+
+abbrev pub is_used_beside : Plan → List VolId → VolId → Bool
+is_used_beside p volumes v = list_any (uses_beside volumes v) p.volumes
+
+-- it isn't one of them, and only they use it
+abbrev pub falls : Plan → List VolId → VolId → Bool
+falls p volumes v = is_some (volume_of p v) && (not (is_named volumes v) && not (is_used_beside p volumes v))
+
+-- with those right below them that nothing else uses
+abbrev pub with_level : Plan → List VolId → List VolId
+with_level p volumes = volumes ++ filter (falls p volumes) (flat_map (below_of p) volumes)
+
+-- with all levels: below a soft partition may lie a mirror, below that stripes, and below these soft partitions
+abbrev pub with_levels : Plan → List VolId → List VolId
+with_levels p volumes = with_level p (with_level p (with_level p volumes))
