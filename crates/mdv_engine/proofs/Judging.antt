@@ -1,5 +1,5 @@
 -- The refusal of a creation, by what its checks found.
-use Rattle.std.proofs.Common.{◌≡◌, Bool, true, false, ◌&&◌, not, if◌then◌else◌, Option, Some, None, refl, sym, ◌∙◌, ap, subst}
+use Rattle.std.proofs.Common.{◌≡◌, Bool, ◌&&◌, not, if◌then◌else◌, Option, Some, None, sym, ◌∙◌, ap}
 use Rattle.std.specs.Prelude.{is_some, nat_lt}
 use Rattle.mdv_base.specs.declared.state_word.StateWord.TheVariants.{Down}
 use Rattle.mdv_base.specs.declared.refusal.Refusal.TheVariants.{NeedForce, NoSuchSlice, SliceInUse, TooSmall, WrongKind, WrongState}

@@ -1,14 +1,15 @@
 -- What the calls of an engine say of their answers, and of the drive in the end.
 use Rattle.mdv_engine_law.specs.Line.{Ask, deeds}
-use Rattle.std.specs.Prelude.{◌≡◌, ◌≤◌, ◌+◌, ℕ, List, Some, None, Result, Ok, Err, IfOk, IfErr, OnOk, Contains, length}
+use Rattle.std.specs.Prelude.{◌≡◌, ◌≤◌, ◌+◌, ℕ, Bool, List, Some, None, Result, Ok, Err, IfOk, IfErr, OnOk, Contains, length}
 use Rattle.mdv_shelf.specs.Between.{TookBetween}
 use Rattle.mdv_shelf.specs.Shelves.{AtEachMoment, AtEachTale, AtEnd, DriveFailed, EndsTold, MadeCalls, MadeCallsAtMost, RestsOnceTold}
 use Rattle.mdv_shelf.specs.declared.shelf.Shelf.{Ghosts}
 use Rattle.mdv_words.specs.declared.command.Command.{Command}
-use Rattle.mdv_words.specs.declared.command.Command.TheVariants.{MakeStripe}
+use Rattle.mdv_words.specs.declared.command.Command.TheVariants.{Create, MakeStripe}
 use Rattle.mdv_words.specs.declared.command.Line.TheVariants as words
 use Rattle.mdv_engine.specs.Below.{SliceName, VolId, Refusal, IoFault, KeptOutside, nowhere, IsSettled, Settling, Tale, last, Change, Table, Created, Answer, Ended, Host, Kept, Memory, kept_at, unbooted, asked_by, blocks_of, AreBlocksAt, CameTo, IsRebooted, IsPlainAnswer, BootedTo, CarryEnd, Executed, Knows, TellsFront, TurnMoment, Turned}
 use Rattle.mdv_engine_law.specs.Answers.{accepted}
+use Rattle.mdv_engine_law.specs.Commands.{IsAllowed}
 use Rattle.mdv_engine_law.specs.Refusals.{blocks_refusal}
 use Rattle.mdv_engine_law.specs.declared.answer.Reply.{Reply}
 use Rattle.mdv_engine_law.specs.declared.answer.Reply.TheVariants as reply
@@ -17,7 +18,7 @@ use Rattle.mdv_engine_law.specs.Standing.{IsAwake}
 use Rattle.mdv_engine.specs.declared.engine.Engine.{Engine}
 use Rattle.mdv_engine.specs.Counts as counts
 use Rattle.mdv_engine.specs.Counts.{IsQuietRefusal, IsUnlooked, calls_of}
-use Rattle.mdv_engine.specs.Engine.{HasBootCause, IsNextTable, IsWell}
+use Rattle.mdv_engine.specs.Engine.{HasBootCause, IsNextTable, IsWell, case_at}
 
 -- the end of a command
 abbrev pub CommandEnd : Type 0 → Engine → Command → Answer → Engine → Tale → Tale → Type 0
@@ -30,6 +31,11 @@ IsNext engine change next = IsNextTable engine.host engine.state change next
 -- the end of a stripe's making
 abbrev pub StripeEnds : {S : Type 0} → Ghosts S → S → S → Engine → VolId → SliceName → Answer → Engine → Type 0
 StripeEnds shelf from to old volume slice answer new = AtEnd shelf (CommandEnd (DriveFailed shelf from to 0) old (MakeStripe volume slice) answer new) from to
+
+-- the end of a creation that nothing refuses
+abbrev pub CreationEnds : {S : Type 0} → Ghosts S → S → S → Engine → Answer → Engine → Type 0
+CreationEnds shelf from to old answer new =
+    (slice : SliceName) (force : Bool) → IsAllowed (case_at old) (Create slice force) → AtEnd shelf (CommandEnd (DriveFailed shelf from to 0) old (Create slice force) answer new) from to
 
 -- What an answer says, whatever the shelf tells: its text is a reply's, it has its cause, a deed is accepted only where the last boot read
 -- the drive, and a creation only where no database is open; and what the engine keeps.

@@ -1,18 +1,16 @@
-ghost use Rattle.std.specs.Prelude.{◌≡◌, ◌<◌, ◌≤◌, ◌+◌, ◌^◌, Bool, false, None};
-ghost use Rattle.mdv_base.specs.declared.drive.SliceName.{SliceName};
+ghost use Rattle.std.specs.Prelude.{◌≡◌, ◌<◌, ◌≤◌, ◌+◌, ◌^◌, false, None};
 ghost use Rattle.mdv_words.specs.declared.command.Command.TheVariants.{Create};
 ghost use Rattle.mdv_history.specs.History.{Created};
 ghost use Rattle.mdv_engine.specs.Counts.{IsCommandCounted};
 ghost use Rattle.mdv_engine.specs.Engine.{IsWell, case_at};
 ghost use Rattle.mdv_shelf.specs.Shelves.{AtEachTale, AtEnd, DriveFailed, Kept};
 ghost use Rattle.mdv_engine_law.specs.Home.{IsReady};
-ghost use Rattle.mdv_engine_law.specs.Commands.{IsAllowed};
 ghost use Rattle.mdv_engine_law.specs.Line.{ToDo};
 ghost use Rattle.mdv_engine_law.specs.Refusals.{refusal_of};
 ghost use Rattle.mdv_home.specs.Placed.{IsHomeTable};
 ghost use Rattle.mdv_table.specs.Slices.{IsSound};
 ghost use Rattle.mdv_engine_law.specs.Standing.{CarryMoment};
-ghost use Rattle.mdv_engine.specs.Ends.{CommandEnd, HasAnswered};
+ghost use Rattle.mdv_engine.specs.Ends.{CommandEnd, CreationEnds, HasAnswered};
 
 use crate::engine::Engine;
 use mdv_base::{Identity, Key, Refusal, SliceName, StateWord};
@@ -87,7 +85,7 @@ impl Engine {
         requires none { self.old.state.opened ≡ None }
         requires up { self.old.state.down ≡ false }
         ensures moments { AtEachTale S.Shelf (CarryMoment self.old.host (ToDo Created) self.old.state) shelf.old shelf.new }
-        ensures end { (slice : SliceName) (force : Bool) → IsAllowed (case_at self.old) (Create slice force) → AtEnd S.Shelf (CommandEnd (DriveFailed S.Shelf shelf.old shelf.new 0) self.old (Create slice force) result self.new) shelf.old shelf.new }
+        ensures end { CreationEnds S.Shelf shelf.old shelf.new self.old result self.new }
         ensures answer { HasAnswered (DriveFailed S.Shelf shelf.old shelf.new 0) (ToDo Created) self.old result self.new }
         ensures counted { IsCommandCounted S.tale S.calls S.written shelf.old shelf.new 12 8 result }
         ensures kept { Kept S.Shelf shelf.old shelf.new }

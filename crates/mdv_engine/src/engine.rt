@@ -44,7 +44,7 @@ impl Engine {
         }
     }
 
-    /// Boots the host anew: all is forgotten but how many creations were begun. After a refusal no database is open.
+    /// Boots the host anew: all is forgotten but how many creations were begun. Where it isn't answered no database is open.
     #[tactic(auto, using(mdv_shelf::proofs::Noted::kept_more))]
     pub fn reboot<S: Shelf>(&mut self, shelf: &mut S, alloc: Global) -> Result<(), Ended>
         requires { IsReady self.old.host (S.sizes shelf.old) }

@@ -1,5 +1,5 @@
 -- What a command came to, told of the longer stretch that its reply ends.
-use Rattle.std.proofs.Common.{◌≡◌, inl, inr, ℕ, ◌+◌, ◌-◌, ◌^◌, ◌≤◌, min, List, [], ◌∷◌, ◌++◌, sym, refl, ◌∙◌, ap, subst, arith}
+use Rattle.std.proofs.Common.{◌≡◌, inl, inr, ℕ, ◌+◌, ◌-◌, ◌^◌, ◌≤◌, min, List, ◌++◌, sym, refl, ◌∙◌, ap, subst, arith}
 use Rattle.mdv_engine_law.specs.Below.{Rose, KeptOutside, nowhere, Tale, told, Command, Create, Read, Write, Line}
 use Rattle.mdv_words.specs.declared.command.Command.TheVariants.{MakeStripe}
 use Rattle.mdv_words.specs.declared.command.Line.TheVariants as words
@@ -14,7 +14,7 @@ use Rattle.mdv_engine_law.specs.declared.host.Host.{Host}
 use Rattle.mdv_engine_law.specs.Commands as came
 use Rattle.mdv_engine_law.specs.Commands.{CameTo, ComesTo, GivesUp}
 use Rattle.mdv_engine_law.specs.Line.{Memory, Kept, kept_at, drive_content, IsRebooted, adopted, empty, down, lost, spent, wanting}
-use Rattle.mdv_engine_law.specs.Replies.{CutOff, IsTold, HasAnswerCause, HasEndCause, HasReplyCause, reply_at, reply_to}
+use Rattle.mdv_engine_law.specs.Replies.{IsTold, HasAnswerCause, HasEndCause, HasReplyCause, reply_at, reply_to}
 use Rattle.mdv_engine_law.specs.Standing.{OnlyReplied, Executed}
 
 -- a count that rose within a stretch rose over the longer one

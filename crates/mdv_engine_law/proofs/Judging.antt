@@ -1,24 +1,24 @@
 -- The refusal of a creation, by where its slice lies and by what is in memory.
-use Rattle.std.proofs.Common.{◌≡◌, Bool, true, false, ◌&&◌, not, if◌then◌else◌, List, [], ◌∷◌, ◌++◌, Option, Some, None, refl, sym, ◌∙◌, ap}
+use Rattle.std.proofs.Common.{◌≡◌, Bool, ◌&&◌, not, List, [], ◌∷◌, ◌++◌, Option, refl, sym, ◌∙◌, ap}
 use Rattle.std.specs.Prelude.{is_some, nat_lt}
 use Rattle.std.proofs.lemmas.List.{append-nil}
 use Rattle.mdv_base.specs.Order.{first_refusal, where_so}
 use Rattle.mdv_name.specs.SliceIndex.{slice_at}
 use Rattle.mdv_engine_law.specs.Below.{SliceName, SliceAt, Refusal, NeedForce, NoSuchSlice, SliceInUse, TooSmall, WrongKind, WrongState, Down, Create}
-use Rattle.mdv_engine_law.specs.Refusals.{Case, held_of_creation, is_plain, refusal_of}
-use Rattle.mdv_engine_law.proofs.Ordered.{Held, first_is_told, first_told, holding}
+use Rattle.mdv_engine_law.specs.Refusals.{Case, is_plain, refusal_of}
+use Rattle.mdv_engine_law.proofs.Ordered.{Held, first_is_told, first_told}
 
 -- the first that holds
 abbrev pub told_of_creation : Option SliceAt → Bool → Bool → Bool → Bool → Option Refusal
 told_of_creation at down opened force small =
     first_told (
-      record { holds = not (is_some at); refusal = NoSuchSlice }
-      ∷ record { holds = is_plain at; refusal = WrongKind }
-      ∷ record { holds = down; refusal = WrongState Down }
-      ∷ record { holds = not opened && not force; refusal = NeedForce }
-      ∷ record { holds = opened; refusal = SliceInUse }
-      ∷ record { holds = small; refusal = TooSmall }
-      ∷ []
+    record { holds = not (is_some at); refusal = NoSuchSlice }
+    ∷ record { holds = is_plain at; refusal = WrongKind }
+    ∷ record { holds = down; refusal = WrongState Down }
+    ∷ record { holds = not opened && not force; refusal = NeedForce }
+    ∷ record { holds = opened; refusal = SliceInUse }
+    ∷ record { holds = small; refusal = TooSmall }
+    ∷ []
     )
 
 last_holds : (small : Bool) → where_so small TooSmall ≡ where_so small TooSmall ++ []

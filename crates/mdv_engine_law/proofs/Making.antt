@@ -1,5 +1,5 @@
 -- What a creation leaves of a host's history.
-use Rattle.std.proofs.Common.{◌≡◌, ◌≤◌, ℕ, false, List, [], ◌∷◌, Option, Some, None, IfSome, refl, sym, subst, arith}
+use Rattle.std.proofs.Common.{◌≡◌, ◌≤◌, ℕ, false, List, [], ◌∷◌, Option, Some, None, IfSome, refl, sym, subst}
 use Rattle.mdv_engine_law.specs.Below.{Identity, IoFault, KeptOutside, Tale, told, Table, IsCreated, created_newest, Log, IsThis, is_firm, Newest, area_of, ShowsNothing, IsOpened, IsNewestIn, Anything, GoesMaking, History, Created, Event}
 use Rattle.mdv_engine_law.specs.declared.answer.Answer.TheVariants.{Said, Over}
 use Rattle.mdv_engine_law.specs.declared.answer.Ended.TheVariants as ended

@@ -1,7 +1,6 @@
 -- Causes that are listed in the one order: the first of them that holds is the one that is told.
-use Rattle.std.proofs.Common.{◌≡◌, ℕ, Bool, true, false, ◌&&◌, not, if◌then◌else◌, List, [], ◌∷◌, ◌++◌, Option, Some, None, refl, sym, ◌∙◌, ap, subst}
-use Rattle.std.proofs.lemmas.List.{append-nil}
-use Rattle.std.specs.List.{find, list_any}
+use Rattle.std.proofs.Common.{◌≡◌, ℕ, Bool, true, false, if◌then◌else◌, List, [], ◌∷◌, ◌++◌, Option, Some, None, refl, ◌∙◌, ap}
+use Rattle.std.specs.List.{find}
 use Rattle.std.specs.Option.{option_or}
 use Rattle.mdv_base.specs.Order.{first_by, first_refusal, has_number, order, where_so}
 use Rattle.mdv_engine_law.specs.Below.{Refusal}

@@ -10,7 +10,7 @@ use Rattle.mdv_store_law.proofs.Families.{contains_first, written_firm}
 use Rattle.mdv_store_law.proofs.Frame.{frames}
 use Rattle.mdv_store_law.proofs.Parts.{part_itself}
 use Rattle.mdv_history.proofs.Values.{values_issued, issued_newest}
-use Rattle.mdv_engine_law.specs.declared.answer.Answer.TheVariants.{Said, Over}
+use Rattle.mdv_engine_law.specs.declared.answer.Answer.TheVariants.{Said}
 use Rattle.mdv_engine_law.specs.declared.answer.Outcome.TheVariants as outcome
 use Rattle.mdv_engine_law.specs.declared.host.Host.{Host}
 use Rattle.mdv_engine_law.specs.Home.{IsReady, StaysHome, site_of}

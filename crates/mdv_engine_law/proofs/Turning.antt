@@ -11,13 +11,11 @@ use Rattle.mdv_shelf.proofs.Moments.{moments_end, ends_both}
 use Rattle.mdv_engine_law.specs.declared.answer.Answer.{Answer}
 use Rattle.mdv_engine_law.specs.declared.answer.Answer.TheVariants.{Said, Over}
 use Rattle.mdv_engine_law.specs.declared.answer.Outcome.TheVariants as outcome
-use Rattle.mdv_engine_law.specs.declared.answer.Ended.{Ended}
-use Rattle.mdv_engine_law.specs.declared.answer.Ended.TheVariants as ended
 use Rattle.mdv_engine_law.specs.declared.answer.Outcome.{Outcome}
 use Rattle.mdv_engine_law.specs.declared.answer.Reply.{Reply}
 use Rattle.mdv_engine_law.specs.declared.host.Host.{Host}
 use Rattle.mdv_engine_law.specs.Line.{Ask, Nothing, ToDo, ToSee, deeds, Memory}
-use Rattle.mdv_engine_law.specs.Replies.{AcksAnswer, AcksBy, IsPlain, IsPlainAnswer, IsPlainOutcome, outcome_text, reply_at, IsAccepted, IsReply, IsReplied, IsLost, issuable, issuable_of, issued_by, ok_line, refusal_line, text_of}
+use Rattle.mdv_engine_law.specs.Replies.{AcksAnswer, AcksBy, IsPlain, IsPlainAnswer, IsPlainOutcome, outcome_text, IsAccepted, IsReply, IsReplied, IsLost, issuable, issuable_of, issued_by, ok_line, refusal_line, text_of}
 use Rattle.mdv_engine_law.specs.Standing.{Goes, Reached, Knows, IsKnown, CarryMoment, CarriedTo, CanTellAll, IsKnownAfter, IsAwake, TellMoment, TurnMoment, Turned, OnlyReplied}
 use Rattle.mdv_engine_law.proofs.Going.{goes_none, goes_more, goes_weaker}
 use Rattle.mdv_engine_law.proofs.Knowing.{knows_kept, known_kept}

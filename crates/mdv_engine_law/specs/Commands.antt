@@ -12,7 +12,7 @@ use Rattle.mdv_engine_law.specs.declared.answer.Ended.TheVariants as ended
 use Rattle.mdv_engine_law.specs.declared.host.Host.{Host}
 use Rattle.mdv_engine_law.specs.Answers.{accepted, refusing, telling}
 use Rattle.mdv_engine_law.specs.Home.{site_of, identity_of}
-use Rattle.mdv_engine_law.specs.Line.{Memory, Kept, Stays, IsCreated, IsUncreated, IsUnbegun, IsCommitted, AreBlocksAt, ArePut, MayBePut, IsRebooted, IsTurnedDown, blocks_of}
+use Rattle.mdv_engine_law.specs.Line.{Kept, Stays, IsCreated, IsUncreated, IsUnbegun, IsCommitted, AreBlocksAt, ArePut, MayBePut, IsRebooted, IsTurnedDown, blocks_of}
 use Rattle.mdv_engine_law.specs.Refusals.{Case, refusal_of}
 
 -- by what a command is judged that is carried out where this is kept

@@ -1,5 +1,5 @@
 -- Why a command is refused before anything is done: each cause by itself, and the first of them in the one order.
-use Rattle.std.specs.Prelude.{ℕ, Bool, true, false, not, ◌==◌, ◌&&◌, ◌+◌, nat_lt, List, [], ◌∷◌, ◌++◌, length, Option, None, Some, is_some}
+use Rattle.std.specs.Prelude.{ℕ, Bool, false, not, ◌==◌, ◌&&◌, ◌+◌, nat_lt, List, [], ◌∷◌, ◌++◌, length, Option, None, Some, is_some}
 use Rattle.std.specs.List.{find}
 use Rattle.mdv_base.specs.Order.{first_refusal, where_so}
 use Rattle.mdv_engine_law.specs.Below.{SliceName, VolId, Refusal, NoDatabase, NeedForce, NoSuchVolume, NoSuchSlice, SliceInUse, TooSmall, WrongKind, WrongState, OutOfRange, ReplicaFull, Down, SliceAt, record_text, Change, MakeStripe, Volume, VolumeKind, Command, Create, Read, Write, Newest}

@@ -1,10 +1,8 @@
 -- Where a volume lies: at one place, beside the replica.
-use Rattle.std.proofs.Common.{◌≡◌, ◌≢◌, inl, inr, ℕ, ◌+◌, ◌≤◌, ◌<◌, true, false, List, length, slice_index_or, Contains, sym, ◌∙◌, ap, subst, arith}
-use Rattle.std.proofs.lemmas.Bool.{cases_lt}
+use Rattle.std.proofs.Common.{◌≡◌, ◌≢◌, inl, inr, ℕ, ◌+◌, ◌≤◌, ◌<◌, true, false, Contains, sym, ◌∙◌, ap, subst, arith}
 use Rattle.std.proofs.lemmas.Bool.Decides.{nat_tests}
-use Rattle.std.proofs.lemmas.List.{get_or_default}
 use Rattle.std.proofs.lemmas.List.Elements.{All-contains}
-use Rattle.mdv_run_law.specs.Below.{SliceName, VolId, IsHome, line_of, SliceAt, SliceLine, Plan, Base, Slice, Component, Volume, VolumeKind, Stripe, IsSound, HasBlock, IsPlanOf, IsKindOf, IsComponentOn, IsWholeSlice, HasVolume, IsAscending, Site, area_of, LiesOn, Host, site_of}
+use Rattle.mdv_run_law.specs.Below.{SliceName, VolId, IsHome, line_of, SliceAt, SliceLine, Plan, Base, Slice, Component, Volume, VolumeKind, Stripe, IsSound, HasBlock, IsPlanOf, IsKindOf, IsComponentOn, IsWholeSlice, Site, area_of, LiesOn, Host, site_of}
 use Rattle.mdv_engine_law.proofs.Volumes.{one_volume}
 use Rattle.mdv_shelf.proofs.Blocks.{both_ways}
 

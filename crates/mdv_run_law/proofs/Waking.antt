@@ -1,5 +1,5 @@
 -- A line that isn't `boot` leaves it as it was whether the last boot read the drive.
-use Rattle.std.proofs.Common.{◌≡◌, inl, inr, ℕ, List, sym, ◌∙◌, ap, subst}
+use Rattle.std.proofs.Common.{◌≡◌, ℕ, List, sym, ◌∙◌, ap, subst}
 use Rattle.mdv_run_law.specs.Below.{Command, Create, MakeStripe, Read, Write, Tale, Answer, Reply, Host, Memory, Kept, kept_at, CameTo, IsExecuted, IsTold, IsReplied, Executed, IsAwake}
 use Rattle.mdv_words.specs.declared.command.Line.TheVariants as words
 use Rattle.mdv_engine_law.specs.declared.answer.Answer.TheVariants.{Said, Over}

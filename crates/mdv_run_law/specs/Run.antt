@@ -183,8 +183,8 @@ RunsFrom host stretch end (Said outcome.Ok) later kept script told status last =
 RunsFrom host stretch end (Said other) later kept script told status last = ⊥
 RunsFrom host stretch end (Ends over) later kept script told status last = RoseTo later end × Stops kept (status_at over) told status last
 
--- A whole run, from these counts to those: the boot answers from what the drive's blocks held, excused by the calls that failed until
--- then, and the script is run from there.
+-- A whole run, from these counts to those: the boot answers from what the drive's blocks held, excused by the calls that failed until the counts `booted`, and the script is run from
+-- there. No moment shows those counts, as nothing is told between the boot and the first line: the two share what failed until the first reply is told.
 pub record IsRun (host : Host) (stretch : Stretch) (start end : Counts) (content : ℕ → List ℕ) (script : Script) (told : List ℕ) (status : RunStatus) (last : Kept) : Type 0 where
   pub answer : Answer
   pub booted : Counts

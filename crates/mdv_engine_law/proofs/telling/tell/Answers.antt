@@ -1,13 +1,11 @@
-use Rattle.std.proofs.Common.{Ok, ◌≡◌, ◌∙◌, inl, inr, sym, subst, refl, take, length, ap, []}
-use Rattle.mdv_base.specs.declared.drive.Failed.{Failed}
+use Rattle.std.proofs.Common.{inl, inr, sym, subst, refl, length, ap, []}
 use Rattle.mdv_shelf.proofs.Between.{at_most_one}
 use Rattle.mdv_shelf.proofs.Counts.{took_one}
 use Rattle.mdv_shelf.proofs.Noted.{kept_call}
 use Rattle.mdv_shelf.proofs.Telling.{told_calm}
 use Rattle.mdv_engine_law.specs.Below.{Rose, OnReplies}
-use Rattle.mdv_engine_law.specs.Replies.{CutOff, IsReplied, IsTellingCounted, IsTold, outcome_text, reply_at, text_of}
+use Rattle.mdv_engine_law.specs.Replies.{IsTold, outcome_text, text_of}
 use Rattle.mdv_engine_law.specs.declared.answer.Answer.{Answer}
-use Rattle.mdv_engine_law.specs.declared.answer.Answer.TheVariants.{Said}
 use Rattle.mdv_engine_law.specs.declared.answer.Reply.TheVariants as reply
 use Rattle.mdv_engine_law.proofs.Giving.{told_whole, tells_some, telling_grew, telling_some}
 use Rattle.mdv_engine_law.proofs.telling.tell.Goals as goal

@@ -3,7 +3,7 @@ use Rattle.mdv_engine_law.specs.Line.{Nothing}
 use Rattle.mdv_shelf.proofs.Moments.{moments_weaker}
 use Rattle.mdv_shelf.proofs.Telling.{told_once}
 use Rattle.mdv_engine.specs.Below.{text_of, TellMoment, TurnMoment}
-use Rattle.mdv_engine_law.specs.Answers.{accepted, telling}
+use Rattle.mdv_engine_law.specs.Answers.{accepted}
 use Rattle.mdv_engine_law.proofs.Executing.{told_cause}
 use Rattle.mdv_engine_law.proofs.Fronts.{fronts_alone, telling_rests}
 use Rattle.mdv_engine_law.proofs.Longer.{replied_more}

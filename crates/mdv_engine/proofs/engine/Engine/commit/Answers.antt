@@ -7,7 +7,7 @@ use Rattle.mdv_engine.specs.Below.{MakeStripe, Changed, Rose, Local, place_of, P
 use Rattle.mdv_engine_law.specs.Answers.{accepted, refusing}
 use Rattle.mdv_engine_law.specs.declared.answer.Answer.TheVariants.{Over}
 use Rattle.mdv_engine_law.specs.declared.answer.Ended.TheVariants as ended
-use Rattle.mdv_engine_law.proofs.Plain.{numbers_plain, refusal_plain}
+use Rattle.mdv_engine_law.proofs.Plain.{numbers_plain}
 use Rattle.mdv_engine_law.proofs.Refusing.{opened_has}
 use Rattle.mdv_engine.specs.Ends.{HasAnswered}
 use Rattle.mdv_engine.specs.Engine.{IsTableOf}

@@ -1,4 +1,4 @@
-use Rattle.std.proofs.Common.{◌≡◌, ◌∙◌, refl, sym}
+use Rattle.std.proofs.Common.{◌∙◌, refl, sym}
 use Rattle.mdv_engine_law.specs.Commands as came
 use Rattle.mdv_engine.specs.Below.{Create}
 use Rattle.mdv_engine_law.proofs.Allowed.{allowed_none, allowed_room, allowed_up}

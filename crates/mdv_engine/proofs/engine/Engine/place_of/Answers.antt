@@ -1,5 +1,4 @@
-use Rattle.std.proofs.Common.{◌≡◌, ◌<◌, ◌≤◌, ◌+◌, Some, arith, refl, sym, ap, ◌∙◌}
-use Rattle.mdv_engine_law.specs.Refusals.{size_of}
+use Rattle.std.proofs.Common.{◌+◌, arith, refl, sym, ap, ◌∙◌}
 use Rattle.mdv_engine.specs.declared.engine.Engine.{Engine}
 use Rattle.mdv_engine.proofs.Places.{no_volume, past_its_end, volume_on, within_it}
 use Rattle.mdv_engine.proofs.engine.Engine.place_of.Goals as goal

@@ -1,4 +1,4 @@
-use Rattle.std.proofs.Common.{◌∙◌, inl, inr, ap, refl, arith}
+use Rattle.std.proofs.Common.{◌∙◌, ap, refl, arith}
 use Rattle.mdv_engine_law.specs.Commands as came
 use Rattle.mdv_engine_law.specs.Line.{ToSee}
 use Rattle.mdv_words.specs.declared.command.Command.TheVariants as command
