@@ -203,9 +203,11 @@ abbrev pub HasAnswerCause : Type 0 → Answer → Type 0
 HasAnswerCause drive (Said this) = Unit {0}
 HasAnswerCause drive (Over end) = HasEndCause drive end
 
--- The calls of a telling: one at most, by which no drive's count rose, and one where the reply was told whole, by which none rose at all.
+-- The calls of a telling: one at most, by which no drive's count rose; one where the reply was told whole, by which none rose at all; and none
+-- where the run is over.
 pub record IsTellingCounted {S : Type 0} (shelf : Ghosts S) (old new : S) (given : Reply) : Type 0 where
   pub most : MadeCallsAtMost shelf old new 1 0
   pub once : IsReplied given → MadeCalls shelf old new 1 0
+  pub silent : IsLost given → new ≡ old
   pub calm : IsReplied given → NoFewer (shelf.faults new) (shelf.faults old)
   pub drives : (drive : ℕ) → shelf.faults new (OnDrive drive) ≡ shelf.faults old (OnDrive drive)

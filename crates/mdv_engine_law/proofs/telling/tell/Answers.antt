@@ -4,11 +4,19 @@ use Rattle.mdv_shelf.proofs.Counts.{took_one}
 use Rattle.mdv_shelf.proofs.Noted.{kept_call}
 use Rattle.mdv_shelf.proofs.Telling.{told_calm}
 use Rattle.mdv_engine_law.specs.Below.{Rose, OnReplies}
-use Rattle.mdv_engine_law.specs.Replies.{IsTold, outcome_text, text_of}
+use Rattle.mdv_engine_law.specs.Replies.{IsLost, IsTold, outcome_text, reply_to, text_of}
 use Rattle.mdv_engine_law.specs.declared.answer.Answer.{Answer}
+use Rattle.mdv_engine_law.specs.declared.answer.Outcome.{Outcome}
+use Rattle.mdv_engine_law.specs.declared.answer.Outcome.TheVariants as outcome
 use Rattle.mdv_engine_law.specs.declared.answer.Reply.TheVariants as reply
 use Rattle.mdv_engine_law.proofs.Giving.{told_whole, tells_some, telling_grew, telling_some}
 use Rattle.mdv_engine_law.proofs.telling.tell.Goals as goal
+
+-- the run isn't over with what is told
+goes_on : (this : Outcome) → IsLost (reply_to this) → ⊥
+goes_on outcome.Ok lost = lost
+goes_on (outcome.Values text) lost = lost
+goes_on (outcome.Refused refusal) lost = lost
 
 -- it was told whole
 pub returns-in-Ok-clause-told : goal.returns-in-Ok-clause-told
@@ -31,6 +39,7 @@ pub returns-in-Ok-clause-counted : goal.returns-in-Ok-clause-counted
 returns-in-Ok-clause-counted g c = record {
   most = at_most_one g.B.Shelf.calls g.B.Shelf.written _ _ 0 c.give.ensures.counted;
   once = λ told. took_one g.B.Shelf.calls g.B.Shelf.written _ _ 0 c.give.ensures.counted;
+  silent = λ lost. absurd (goes_on c.in-Said.outcome (subst IsLost c.reply_to.ensures lost));
   calm = λ told. told_calm (g.B.Shelf.faults c.args.bench.now) (g.B.Shelf.faults c.give.new.bench) c.in-Ok.ensures.cause;
   drives = c.in-Ok.ensures.cause.drives;
 }
@@ -55,7 +64,7 @@ returns-in-Err-clause-answers g c =
     ([], subst (λ (a : Answer). IsTold failed a reply.Told []) (sym c.in-Said.is) (inr (record { cause = c.in-Err.ensures.cause.own.failed; given_is = refl; count = 0; front = refl })))
 
 pub returns-in-Err-clause-counted : goal.returns-in-Err-clause-counted
-returns-in-Err-clause-counted g c = record { most = at_most_one g.B.Shelf.calls g.B.Shelf.written _ _ 0 c.give.ensures.counted; once = λ on. absurd on; calm = λ on. absurd on; drives = c.in-Err.ensures.cause.drives }
+returns-in-Err-clause-counted g c = record { most = at_most_one g.B.Shelf.calls g.B.Shelf.written _ _ 0 c.give.ensures.counted; once = λ on. absurd on; silent = λ lost. absurd lost; calm = λ on. absurd on; drives = c.in-Err.ensures.cause.drives }
 
 pub returns-in-Err-clause-kept : goal.returns-in-Err-clause-kept
 returns-in-Err-clause-kept g c = kept_call g.B.Shelf _ _ c.give.ensures.noted c.give.ensures.keeps
