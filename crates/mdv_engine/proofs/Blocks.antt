@@ -1,17 +1,19 @@
 -- What a read and a write of a volume's blocks come to.
 use Rattle.mdv_engine_law.specs.Line.{Ask, ToDo}
-use Rattle.std.proofs.Common.{◌≡◌, inl, inr, ◌+◌, ℕ, Bool, true, false, List, [], ◌∷◌, Option, Some, None, Err, All, refl, sym, ap, ◌∙◌, subst, arith}
-use Rattle.mdv_engine.specs.Below.{VolId, Refusal, IoFault, OutOfMemory, Moments, Ends, IsSettled, Settling, Tale, Read, Write, Wrote, Host, IsReady, Memory, Newest, Volume, AreBlocksAt, CameTo, kept_at, IsPlain, CarriedTo, CarryMoment, Knows}
+use Rattle.std.proofs.Common.{◌≡◌, inl, inr, ◌+◌, ◌++◌, ◌&&◌, not, ℕ, Bool, true, false, List, [], ◌∷◌, Option, Some, None, Err, All, refl, sym, ap, ◌∙◌, subst, arith}
+use Rattle.mdv_engine.specs.Below.{SliceName, VolId, Create, Refusal, IoFault, OutOfMemory, Moments, Ends, IsSettled, Settling, Tale, Read, Write, Wrote, Host, IsReady, Memory, Newest, Volume, AreBlocksAt, CameTo, kept_at, IsPlain, CarriedTo, CarryMoment, Knows}
 use Rattle.std.proofs.lemmas.List.Elements.{All-cons, All-nil}
 use Rattle.std.specs.List.{find}
-use Rattle.std.specs.Prelude.{nat_lt}
+use Rattle.std.specs.Prelude.{nat_lt, is_some}
 use Rattle.mdv_base.specs.Order.{order, where_so}
-use Rattle.mdv_base.specs.declared.refusal.Refusal.TheVariants.{NoDatabase, NoSuchVolume, OutOfRange}
+use Rattle.mdv_base.specs.declared.refusal.Refusal.TheVariants.{NeedForce, NoDatabase, NoSuchSlice, NoSuchVolume, OutOfRange, SliceInUse, TooSmall, WrongKind, WrongState}
+use Rattle.mdv_engine_law.specs.Below.{Down}
+use Rattle.mdv_name.specs.SliceIndex.{slice_at}
 use Rattle.mdv_base.proofs.Order.{first_holds}
 use Rattle.mdv_shelf.proofs.Moments.{moments_end, moments_none, moments_weaker, ends_both}
 use Rattle.mdv_engine_law.specs.Commands as came
 use Rattle.mdv_engine_law.specs.Line.{Stays}
-use Rattle.mdv_engine_law.specs.Refusals.{blocks_refusal, has_number, held_of_blocks, held_past, size_of}
+use Rattle.mdv_engine_law.specs.Refusals.{Case, blocks_refusal, has_number, held_of_blocks, held_of_creation, held_past, is_plain, refusal_of, size_of}
 use Rattle.mdv_engine_law.specs.Answers.{accepted, refusing}
 use Rattle.mdv_engine_law.proofs.Keeping.{are_put, may_be_put}
 use Rattle.mdv_engine_law.proofs.Plain.{fault_plain, memory_plain, refusal_plain}
@@ -51,6 +53,29 @@ blocks_held (Some newest) volume end = past_judged (find (has_number volume) new
 
 pub blocks_judged : (opened : Option Newest) (volume : VolId) (end : ℕ) (r : Refusal) → blocks_refusal opened volume end ≡ Some r → IsJudged r
 blocks_judged opened volume end r is = first_holds IsJudged order (held_of_blocks opened volume end) r (blocks_held opened volume end) is
+
+-- and what a creation is refused for
+where_judged : (holds : Bool) (r : Refusal) → IsJudged r → All IsJudged (where_so holds r)
+where_judged true r judged = All-cons IsJudged r [] judged (All-nil IsJudged)
+where_judged false r judged = All-nil IsJudged
+
+and_judged : (holds : Bool) (r : Refusal) (rest : List Refusal) → IsJudged r → All IsJudged rest → All IsJudged (where_so holds r ++ rest)
+and_judged true r rest judged behind = All-cons IsJudged r rest judged behind
+and_judged false r rest judged behind = behind
+
+creation_held : (gone plain unread unforced used small : Bool)
+    → All IsJudged (where_so gone NoSuchSlice ++ (where_so plain WrongKind ++ (where_so unread (WrongState Down) ++ (where_so unforced NeedForce ++ (where_so used SliceInUse ++ where_so small TooSmall)))))
+creation_held gone plain unread unforced used small =
+    and_judged gone NoSuchSlice (where_so plain WrongKind ++ (where_so unread (WrongState Down) ++ (where_so unforced NeedForce ++ (where_so used SliceInUse ++ where_so small TooSmall)))) tt
+    (and_judged plain WrongKind (where_so unread (WrongState Down) ++ (where_so unforced NeedForce ++ (where_so used SliceInUse ++ where_so small TooSmall))) tt
+    (and_judged unread (WrongState Down) (where_so unforced NeedForce ++ (where_so used SliceInUse ++ where_so small TooSmall)) tt
+    (and_judged unforced NeedForce (where_so used SliceInUse ++ where_so small TooSmall) tt (and_judged used SliceInUse (where_so small TooSmall) tt (where_judged small TooSmall tt)))))
+
+pub creation_judged : (case : Case) (slice : SliceName) (force : Bool) (r : Refusal) → refusal_of case (Create slice force) ≡ Some r → IsJudged r
+creation_judged case slice force r is =
+    let at = slice_at case.host.drives.slices slice in
+    first_holds IsJudged order (held_of_creation case slice force) r
+    (creation_held (not (is_some at)) (is_plain at) case.memory.down (not (is_some case.memory.opened) && not force) (is_some case.memory.opened) (nat_lt case.host.home.blocks 8208)) is
 
 -- all is as it was
 still : (memory : Memory) (t : Tale) → Stays (kept_at memory t) (kept_at memory t)

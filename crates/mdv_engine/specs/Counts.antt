@@ -1,7 +1,8 @@
 -- How many calls on the drive a command makes, and how many blocks it writes.
-use Rattle.std.specs.Prelude.{◌≡◌, ℕ, Option, Some, None, Result, Ok, Err}
+use Rattle.std.specs.Prelude.{◌≡◌, ℕ, ◌+◌, Option, Some, None, Result, Ok, Err}
 use Rattle.mdv_base.specs.declared.refusal.Refusal.{Refusal}
 use Rattle.mdv_base.specs.declared.refusal.Refusal.TheVariants.{IoFault, OutOfMemory}
+use Rattle.mdv_base.specs.declared.name.VolId.{VolId}
 use Rattle.mdv_shelf.specs.Calls.{TookAtMost}
 use Rattle.mdv_shelf.specs.Between.{TookBetween}
 use Rattle.mdv_shelf.specs.Tale.{Tale}
@@ -31,22 +32,44 @@ blocks_of (MakeStripe volume slice) = 4096
 blocks_of (Read volume at count) = 0
 blocks_of (Write volume at block) = 1
 
+-- the calls of a command in which memory was wanting: a read has its blocks before the text of them is made, all else none
+abbrev pub wanting_calls : Command → ℕ
+wanting_calls (Create slice force) = 0
+wanting_calls (MakeStripe volume slice) = 0
+wanting_calls (Read volume at count) = 1
+wanting_calls (Write volume at block) = 0
+
+-- A command in which a call failed and that tells it, with so many calls behind it. A creation has failed in its format, which takes six
+-- calls and writes five blocks.
+abbrev pub IsFaultCounted : {S : Type 0} → (S → Option ℕ) → (S → Option ℕ) → S → S → ℕ → Command → Type 0
+IsFaultCounted calls written old new more (Create slice force) = TookBetween calls written old new (1 + more) (6 + more) 5
+IsFaultCounted calls written old new more (MakeStripe volume slice) = TookAtMost calls written old new (6 + more) 4096
+IsFaultCounted calls written old new more (Read volume at count) = TookAtMost calls written old new (1 + more) 0
+IsFaultCounted calls written old new more (Write volume at block) = TookAtMost calls written old new (2 + more) 1
+
+-- A command that the run is over with, for a call failed: a creation behind its format, a change anywhere, and no transfer of blocks.
+abbrev pub IsLossCounted : {S : Type 0} → (S → Option ℕ) → (S → Option ℕ) → S → S → Command → Type 0
+IsLossCounted calls written old new (Create slice force) = TookBetween calls written old new 7 12 8
+IsLossCounted calls written old new (MakeStripe volume slice) = TookBetween calls written old new 1 6 4096
+IsLossCounted calls written old new (Read volume at count) = ⊥
+IsLossCounted calls written old new (Write volume at block) = ⊥
+
 -- The calls of a command, by what it came to: exactly so many where it was done, and no more where one failed. Without memory
 -- nothing is written. A command that is refused for another cause does nothing at all: it doesn't even read.
-abbrev pub IsCommandCounted : {S : Type 0} → (S → Option Tale) → (S → Option ℕ) → (S → Option ℕ) → S → S → ℕ → ℕ → Answer → Type 0
-IsCommandCounted tale calls written old new count blocks (Said outcome.Ok) = TookBetween calls written old new count count blocks
-IsCommandCounted tale calls written old new count blocks (Said (outcome.Values text)) = TookBetween calls written old new count count blocks
-IsCommandCounted tale calls written old new count blocks (Said (outcome.Refused IoFault)) = TookAtMost calls written old new count blocks
-IsCommandCounted tale calls written old new count blocks (Said (outcome.Refused OutOfMemory)) = TookAtMost calls written old new count 0 × (tale new ≡ tale old)
-IsCommandCounted tale calls written old new count blocks (Said (outcome.Refused other)) = new ≡ old
-IsCommandCounted tale calls written old new count blocks (Over (ended.Lost active listed)) = TookAtMost calls written old new count blocks
-IsCommandCounted tale calls written old new count blocks (Over ended.Spent) = new ≡ old
-IsCommandCounted tale calls written old new count blocks (Over ended.Memory) = new ≡ old
+abbrev pub IsCommandCounted : {S : Type 0} → (S → Option Tale) → (S → Option ℕ) → (S → Option ℕ) → S → S → Command → Answer → Type 0
+IsCommandCounted tale calls written old new command (Said outcome.Ok) = TookBetween calls written old new (calls_of command) (calls_of command) (blocks_of command)
+IsCommandCounted tale calls written old new command (Said (outcome.Values text)) = TookBetween calls written old new (calls_of command) (calls_of command) (blocks_of command)
+IsCommandCounted tale calls written old new command (Said (outcome.Refused IoFault)) = IsFaultCounted calls written old new 0 command
+IsCommandCounted tale calls written old new command (Said (outcome.Refused OutOfMemory)) = TookAtMost calls written old new (wanting_calls command) 0 × (tale new ≡ tale old)
+IsCommandCounted tale calls written old new command (Said (outcome.Refused other)) = new ≡ old
+IsCommandCounted tale calls written old new command (Over (ended.Lost active listed)) = IsLossCounted calls written old new command
+IsCommandCounted tale calls written old new command (Over ended.Spent) = new ≡ old
+IsCommandCounted tale calls written old new command (Over ended.Memory) = new ≡ old
 
 -- the same of a read, before its answer is made
-abbrev pub HasReadCounts : {S T : Type 0} → (S → Option Tale) → (S → Option ℕ) → (S → Option ℕ) → S → S → Result T Refusal → Type 0
-HasReadCounts tale calls written old new (Ok text) = TookBetween calls written old new 1 1 0
-HasReadCounts tale calls written old new (Err refusal) = IsCommandCounted tale calls written old new 1 0 (refusing refusal)
+abbrev pub HasReadCounts : {S T : Type 0} → (S → Option Tale) → (S → Option ℕ) → (S → Option ℕ) → S → S → VolId → ℕ → ℕ → Result T Refusal → Type 0
+HasReadCounts tale calls written old new volume at count (Ok text) = TookBetween calls written old new 1 1 0
+HasReadCounts tale calls written old new volume at count (Err refusal) = IsCommandCounted tale calls written old new (Read volume at count) (refusing refusal)
 
 -- a refusal that no call on the drive came before
 abbrev pub IsUnlooked : Reply → Type 0

@@ -7,7 +7,7 @@ use Rattle.mdv_shelf.specs.declared.shelf.Shelf.{Ghosts}
 use Rattle.mdv_words.specs.declared.command.Command.{Command}
 use Rattle.mdv_words.specs.declared.command.Command.TheVariants.{Create, MakeStripe}
 use Rattle.mdv_words.specs.declared.command.Line.TheVariants as words
-use Rattle.mdv_engine.specs.Below.{SliceName, VolId, Refusal, IoFault, KeptOutside, nowhere, IsSettled, Settling, Tale, last, Change, Table, Created, Answer, Ended, Host, Kept, Memory, kept_at, unbooted, asked_by, blocks_of, AreBlocksAt, CameTo, IsRebooted, IsPlainAnswer, BootedTo, CarryEnd, Executed, Knows, TellsFront, TurnMoment, Turned}
+use Rattle.mdv_engine.specs.Below.{SliceName, VolId, Refusal, IoFault, OutOfMemory, KeptOutside, nowhere, IsSettled, Settling, Tale, last, Change, Table, Created, Answer, Ended, Host, Kept, Memory, kept_at, unbooted, asked_by, blocks_of, AreBlocksAt, CameTo, IsRebooted, IsPlainAnswer, BootedTo, CarryEnd, Executed, Knows, TellsFront, TurnMoment, Turned}
 use Rattle.mdv_engine_law.specs.Answers.{accepted}
 use Rattle.mdv_engine_law.specs.Commands.{IsAllowed}
 use Rattle.mdv_engine_law.specs.Refusals.{blocks_refusal}
@@ -17,7 +17,7 @@ use Rattle.mdv_engine_law.specs.Replies.{HasAnswerCause, HasReplyCause, IsAccept
 use Rattle.mdv_engine_law.specs.Standing.{IsAwake}
 use Rattle.mdv_engine.specs.declared.engine.Engine.{Engine}
 use Rattle.mdv_engine.specs.Counts as counts
-use Rattle.mdv_engine.specs.Counts.{IsQuietRefusal, IsUnlooked, calls_of}
+use Rattle.mdv_engine.specs.Counts.{IsFaultCounted, IsLossCounted, IsQuietRefusal, IsUnlooked, calls_of, wanting_calls}
 use Rattle.mdv_engine.specs.Engine.{HasBootCause, IsNextTable, IsWell, case_at}
 
 -- the end of a command
@@ -83,12 +83,17 @@ pub record HasOnlyReplied (drive replies : Type 0) (old : Engine) (given : Reply
   pub same : new ≡ old
 
 -- The calls of a command and of its reply: as many as the command takes, and one. A refused command writes nothing, unless a call failed, and
--- makes no call on the drive, unless memory was wanting behind it. Where the reply was told whole, none failed behind its first byte.
+-- makes no call on the drive, unless memory was wanting behind it; where a call failed it made what it makes until then. A count that is
+-- spent takes no call. Where the reply was told whole, none failed behind its first byte.
 pub record IsTurnCounted {S : Type 0} (shelf : Ghosts S) (old new : S) (command : Command) (given : Reply) : Type 0 where
   pub most : MadeCallsAtMost shelf old new (1 + calls_of command) (counts.blocks_of command)
   pub done : given ≡ reply.Ok → TookBetween shelf.calls shelf.written old new (1 + calls_of command) (1 + calls_of command) (counts.blocks_of command)
   pub unlooked : IsUnlooked given → MadeCallsAtMost shelf old new 1 0
   pub unwritten : IsQuietRefusal given → MadeCallsAtMost shelf old new (1 + calls_of command) 0
+  pub wanting : given ≡ reply.Refused OutOfMemory → MadeCallsAtMost shelf old new (1 + wanting_calls command) 0
+  pub faulted : given ≡ reply.Refused IoFault → IsFaultCounted shelf.calls shelf.written old new 1 command
+  pub lost : (active listed : ℕ) → given ≡ reply.Panic active listed → IsLossCounted shelf.calls shelf.written old new command
+  pub spent : given ≡ reply.Spent → MadeCallsAtMost shelf old new 0 0
   pub told : IsReplied given → EndsTold shelf old new
 
 -- The call of a reply alone, where the same holds.

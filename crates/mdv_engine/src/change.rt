@@ -41,7 +41,7 @@ impl Engine {
         ensures moments { AtEachTale S.Shelf (CarryMoment self.old.host (ToDo (Changed (Change.MakeStripe volume slice))) self.old.state) shelf.old shelf.new }
         ensures end { AtEnd S.Shelf (CommandEnd (DriveFailed S.Shelf shelf.old shelf.new 0) self.old (command.MakeStripe volume slice) result self.new) shelf.old shelf.new }
         ensures answer { HasAnswered (DriveFailed S.Shelf shelf.old shelf.new 0) (ToDo (Changed (Change.MakeStripe volume slice))) self.old result self.new }
-        ensures counted { IsCommandCounted S.tale S.calls S.written shelf.old shelf.new 6 4096 result }
+        ensures counted { IsCommandCounted S.tale S.calls S.written shelf.old shelf.new (command.MakeStripe volume slice) result }
         ensures kept { Kept S.Shelf shelf.old shelf.new }
     {
         let change = Change::MakeStripe { volume, slice };
@@ -78,7 +78,7 @@ impl Engine {
         ensures moments { (change : AnyChange) → IsNext self.old change next → AtEachTale S.Shelf (CarryMoment self.old.host (ToDo (Changed change)) self.old.state) shelf.old shelf.new }
         ensures end { (volume : VolId) (slice : SliceName) → IsNext self.old (Change.MakeStripe volume slice) next → StripeEnds S.Shelf shelf.old shelf.new self.old volume slice result self.new }
         ensures answer { (change : AnyChange) → HasAnswered (DriveFailed S.Shelf shelf.old shelf.new 0) (ToDo (Changed change)) self.old result self.new }
-        ensures counted { IsCommandCounted S.tale S.calls S.written shelf.old shelf.new 6 4096 result }
+        ensures counted { (volume : VolId) (slice : SliceName) → IsCommandCounted S.tale S.calls S.written shelf.old shelf.new (command.MakeStripe volume slice) result }
         ensures kept { Kept S.Shelf shelf.old shelf.new }
     {
         let at = place_at(&self.host.home);

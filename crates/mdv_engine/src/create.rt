@@ -1,4 +1,5 @@
-ghost use Rattle.std.specs.Prelude.{◌≡◌, ◌<◌, ◌≤◌, ◌+◌, ◌^◌, false, None};
+ghost use Rattle.std.specs.Prelude.{◌≡◌, ◌<◌, ◌≤◌, ◌+◌, ◌^◌, Bool, false, None};
+ghost use Rattle.mdv_base.specs.declared.drive.SliceName.{SliceName};
 ghost use Rattle.mdv_words.specs.declared.command.Command.TheVariants.{Create};
 ghost use Rattle.mdv_history.specs.History.{Created};
 ghost use Rattle.mdv_engine.specs.Counts.{IsCommandCounted};
@@ -39,7 +40,7 @@ impl Engine {
         ensures moments { AtEachTale S.Shelf (CarryMoment self.old.host (ToDo Created) self.old.state) shelf.old shelf.new }
         ensures end { AtEnd S.Shelf (CommandEnd (DriveFailed S.Shelf shelf.old shelf.new 0) self.old (Create slice force) result self.new) shelf.old shelf.new }
         ensures answer { HasAnswered (DriveFailed S.Shelf shelf.old shelf.new 0) (ToDo Created) self.old result self.new }
-        ensures counted { IsCommandCounted S.tale S.calls S.written shelf.old shelf.new 12 8 result }
+        ensures counted { IsCommandCounted S.tale S.calls S.written shelf.old shelf.new (Create slice force) result }
         ensures kept { Kept S.Shelf shelf.old shelf.new }
     {
         match self.creation_refusal(slice, force) {
@@ -87,7 +88,7 @@ impl Engine {
         ensures moments { AtEachTale S.Shelf (CarryMoment self.old.host (ToDo Created) self.old.state) shelf.old shelf.new }
         ensures end { CreationEnds S.Shelf shelf.old shelf.new self.old result self.new }
         ensures answer { HasAnswered (DriveFailed S.Shelf shelf.old shelf.new 0) (ToDo Created) self.old result self.new }
-        ensures counted { IsCommandCounted S.tale S.calls S.written shelf.old shelf.new 12 8 result }
+        ensures counted { (slice : SliceName) (force : Bool) → IsCommandCounted S.tale S.calls S.written shelf.old shelf.new (Create slice force) result }
         ensures kept { Kept S.Shelf shelf.old shelf.new }
     {
         let identity = Identity {

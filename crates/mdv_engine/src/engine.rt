@@ -6,7 +6,7 @@ ghost use Rattle.mdv_engine_law.specs.Home.{IsReady};
 ghost use Rattle.mdv_engine_law.specs.Line.{IsExecuted, asked_by, unbooted, Ask, Nothing};
 ghost use Rattle.mdv_engine_law.specs.Replies.{IsPlain};
 ghost use Rattle.mdv_engine_law.specs.Standing.{BootMoment, CarryMoment, OnlyReplied};
-ghost use Rattle.mdv_engine.specs.Counts.{IsBootedCounted, IsCommandCounted, blocks_of, calls_of};
+ghost use Rattle.mdv_engine.specs.Counts.{IsBootedCounted, IsCommandCounted};
 ghost use Rattle.mdv_engine.specs.Ends.{CarriesOut, IsBootEnd, CommandEnd, HasAnswered, HasBooted, HasBootedFrom, HasOnlyReplied, HasRebooted, HasReplied, IsReplyCounted, IsTurnCounted, LineMoments, OnlyAnswers, TurnEnd, kept_by, left_by};
 ghost use Rattle.mdv_engine.specs.Engine.{IsWell, boot_answer};
 
@@ -117,7 +117,7 @@ impl Engine {
         ensures moments { AtEachTale S.Shelf (CarryMoment self.old.host (asked_by command.now) self.old.state) shelf.old shelf.new }
         ensures end { AtEnd S.Shelf (CommandEnd (DriveFailed S.Shelf shelf.old shelf.new 0) self.old command.now result self.new) shelf.old shelf.new }
         ensures answer { HasAnswered (DriveFailed S.Shelf shelf.old shelf.new 0) (asked_by command.now) self.old result self.new }
-        ensures counted { IsCommandCounted S.tale S.calls S.written shelf.old shelf.new (calls_of command.now) (blocks_of command.now) result }
+        ensures counted { IsCommandCounted S.tale S.calls S.written shelf.old shelf.new command.now result }
         ensures kept { Kept S.Shelf shelf.old shelf.new }
     {
         match command {

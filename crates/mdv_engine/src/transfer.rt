@@ -97,7 +97,7 @@ impl Engine {
         ensures moments { AtEachTale S.Shelf (CarryMoment self.now.host (ToSee volume at count) self.now.state) shelf.old shelf.new }
         ensures end { AtEnd S.Shelf (CommandEnd (DriveFailed S.Shelf shelf.old shelf.new 0) self.now (Read volume at count) result self.now) shelf.old shelf.new }
         ensures answer { HasAnswered (DriveFailed S.Shelf shelf.old shelf.new 0) (ToSee volume at count) self.now result self.now }
-        ensures counted { IsCommandCounted S.tale S.calls S.written shelf.old shelf.new 1 0 result }
+        ensures counted { IsCommandCounted S.tale S.calls S.written shelf.old shelf.new (Read volume at count) result }
         ensures kept { Kept S.Shelf shelf.old shelf.new }
     {
         match self.values(shelf, alloc, volume, at, count) {
@@ -121,7 +121,7 @@ impl Engine {
         ensures ok { IfOk result (λ text. AreRead S.Shelf shelf.old self.now volume at count (λ blocks. text ≡ values_reply at blocks)) }
         ensures err { IfErr result (HasReadCause (DriveFailed S.Shelf shelf.old shelf.new 0) self.now.host self.now.state volume at count) }
         ensures same { S.tale shelf.new ≡ S.tale shelf.old }
-        ensures counted { HasReadCounts S.tale S.calls S.written shelf.old shelf.new result }
+        ensures counted { HasReadCounts S.tale S.calls S.written shelf.old shelf.new volume at count result }
         ensures kept { Kept S.Shelf shelf.old shelf.new }
     {
         let _first = self.place_of(volume, at, u64::from(count))?;
@@ -150,7 +150,7 @@ impl Engine {
         ensures moments { AtEachTale S.Shelf (CarryMoment self.old.host (ToDo (Wrote volume at (block.now ∷ []))) self.old.state) shelf.old shelf.new }
         ensures end { AtEnd S.Shelf (CommandEnd (DriveFailed S.Shelf shelf.old shelf.new 0) self.old (Write volume at block.now) result self.new) shelf.old shelf.new }
         ensures answer { HasAnswered (DriveFailed S.Shelf shelf.old shelf.new 0) (ToDo (Wrote volume at (block.now ∷ []))) self.old result self.new }
-        ensures counted { IsCommandCounted S.tale S.calls S.written shelf.old shelf.new 2 1 result }
+        ensures counted { IsCommandCounted S.tale S.calls S.written shelf.old shelf.new (Write volume at block.now) result }
         ensures kept { Kept S.Shelf shelf.old shelf.new }
     {
         match self.write_blocks(shelf, volume, at, &[*block]) {

@@ -16,6 +16,7 @@ use Rattle.mdv_engine.proofs.Committing.{changing_moments, committed_answer, com
 use Rattle.mdv_engine.proofs.Commits.{end_as, opened_as, opened_still, refused_carried, spent_carried}
 use Rattle.mdv_engine.proofs.Ending.{no_creation, refused_answer}
 use Rattle.mdv_engine.proofs.Parts.{commit_goes, commit_goes_to, commit_opened, commit_quiet}
+use Rattle.mdv_words.specs.declared.command.Command.TheVariants as command
 use Rattle.mdv_engine.specs.Counts.{IsCommandCounted}
 use Rattle.mdv_shelf.proofs.Between.{between_of}
 use Rattle.mdv_engine.proofs.Sites.{laid_open}
@@ -107,12 +108,12 @@ returns-in_default-clause-answer g c = λ change.
     (refused_answer failed (ToDo (Changed change)) c.args.self.now c.requires.well NoDatabase nothing_open_plain)
 
 pub returns-clause-counted : goal.returns-clause-counted
-returns-clause-counted g c =
+returns-clause-counted g c = λ volume slice.
     let calls = g.S.Shelf.calls in
     let written = g.S.Shelf.written in
     elim c.match-commit.branch [
-      | in-Ok w ↦ subst (IsCommandCounted g.S.Shelf.tale calls written _ _ 6 4096) (sym w.result-is) (between_of calls written _ _ 6 _ 6 6 4096 (omega arith) (omega arith) w.in-Ok.ensures.counted.1 w.in-Ok.ensures.counted.0)
-      | in-Err-Lost w ↦ subst (IsCommandCounted g.S.Shelf.tale calls written _ _ 6 4096) (sym w.result-is) (rw w.in-Err-Lost.field-0-is at w.in-Err-Lost.ensures.counted).at_most
-      | in-Err-TooLong w ↦ subst (IsCommandCounted g.S.Shelf.tale calls written _ _ 6 4096) (sym w.result-is) (rw w.in-Err-TooLong.field-0-is at w.in-Err-TooLong.ensures.counted)
-      | in-Err-Spent w ↦ subst (IsCommandCounted g.S.Shelf.tale calls written _ _ 6 4096) (sym w.result-is) (rw w.in-Err-Spent.field-0-is at w.in-Err-Spent.ensures.counted)
+      | in-Ok w ↦ subst (IsCommandCounted g.S.Shelf.tale calls written _ _ (command.MakeStripe volume slice)) (sym w.result-is) (between_of calls written _ _ 6 _ 6 6 4096 (omega arith) (omega arith) w.in-Ok.ensures.counted.1 w.in-Ok.ensures.counted.0)
+      | in-Err-Lost w ↦ subst (IsCommandCounted g.S.Shelf.tale calls written _ _ (command.MakeStripe volume slice)) (sym w.result-is) (rw w.in-Err-Lost.field-0-is at w.in-Err-Lost.ensures.counted)
+      | in-Err-TooLong w ↦ subst (IsCommandCounted g.S.Shelf.tale calls written _ _ (command.MakeStripe volume slice)) (sym w.result-is) (rw w.in-Err-TooLong.field-0-is at w.in-Err-TooLong.ensures.counted)
+      | in-Err-Spent w ↦ subst (IsCommandCounted g.S.Shelf.tale calls written _ _ (command.MakeStripe volume slice)) (sym w.result-is) (rw w.in-Err-Spent.field-0-is at w.in-Err-Spent.ensures.counted)
     ]

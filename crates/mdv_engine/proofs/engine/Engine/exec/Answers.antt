@@ -1,4 +1,4 @@
-use Rattle.std.proofs.Common.{◌≡◌, ◌∙◌, ap, subst, arith}
+use Rattle.std.proofs.Common.{◌≡◌, ◌∙◌, ap, subst, sym, arith}
 use Rattle.mdv_engine.specs.Below.{told, KeptOutside, nowhere, OnDrive, OnReplies, Ends, Tale, asked_by, text_of, CarriedTo, CarryMoment, TellMoment, TurnMoment}
 use Rattle.mdv_shelf.proofs.Moments.{moments_after, moments_end, moments_weaker, some_is}
 use Rattle.mdv_shelf.proofs.Telling.{rests_behind, told_behind, told_once}
@@ -10,8 +10,9 @@ use Rattle.mdv_engine_law.proofs.Longer.{replied_more}
 use Rattle.mdv_engine_law.proofs.Fronts.{fronts_then, telling_rests}
 use Rattle.mdv_engine_law.proofs.Turning.{Carried, carried_ends, turn_carry, turn_tell, turned, knows_after}
 use Rattle.mdv_engine.specs.Ends.{CarriesOut}
-use Rattle.mdv_engine.specs.Counts.{blocks_of, calls_of}
-use Rattle.mdv_engine.proofs.Counting.{command_most, done_told, quiet_told, unlooked_told, unwritten_told}
+use Rattle.mdv_engine.specs.Counts.{IsLossCounted, blocks_of, calls_of, wanting_calls}
+use Rattle.mdv_engine_law.specs.Replies.{IsLost, IsReplied}
+use Rattle.mdv_engine.proofs.Counting.{command_most, done_told, fault_then, fault_told, lost_told, none_at_most, quiet_told, spent_told, unlooked_told, unwritten_told, wanting_told}
 use Rattle.mdv_engine.proofs.engine.Engine.exec.Goals as goal
 
 pub returns-clause-moments : goal.returns-clause-moments
@@ -60,7 +61,7 @@ returns-clause-end g c = λ t is.
         turned = λ on. turned host asked old new _ t done.0 end.0 quiet answer says.plain (λ on some. says.awake on) says.free done.2.carried c.tell.result on end.2;
         knows = λ on. knows_after host asked old new _ t done.0 end.0 quiet answer done.2.carried c.tell.result on end.2;
         quiet = λ still.
-            let same = quiet_told g.B.Shelf.tale g.B.Shelf.calls g.B.Shelf.written _ _ _ _ _ answer c.tell.result _ c.tell.ensures.answers.1 still c.carry_out-answer.ensures.counted in
+            let same = quiet_told g.B.Shelf.tale g.B.Shelf.calls g.B.Shelf.written _ _ c.args.command.now _ answer c.tell.result _ c.tell.ensures.answers.1 still c.carry_out-answer.ensures.counted in
             subst (λ (x : Tale). KeptOutside nowhere x end.0) (some_is _ done.0 t done.1 (same ∙ is)) end.2.kept;
       },
     )
@@ -84,15 +85,28 @@ returns-clause-counted g c =
     let answers = c.tell.ensures.answers.1 in
     record {
       most = at_most_then g.B.Shelf.calls g.B.Shelf.written _ _ _ count 1 blocks 0 _ _ (omega arith) (omega arith)
-          (command_most g.B.Shelf.tale g.B.Shelf.calls g.B.Shelf.written _ _ count blocks c.carry_out-answer.result by) c.tell.ensures.counted.most;
+          (command_most g.B.Shelf.tale g.B.Shelf.calls g.B.Shelf.written _ _ c.args.command.now c.carry_out-answer.result by) c.tell.ensures.counted.most;
       done = λ is. between_then g.B.Shelf.calls g.B.Shelf.written _ _ _ count count blocks 1 1 0 _ _ _ (omega arith) (omega arith) (omega arith)
-          (done_told g.B.Shelf.tale g.B.Shelf.calls g.B.Shelf.written _ _ count blocks _ c.carry_out-answer.result c.tell.ensures.answers.0 (rw is at answers) by)
+          (done_told g.B.Shelf.tale g.B.Shelf.calls g.B.Shelf.written _ _ c.args.command.now _ c.carry_out-answer.result c.tell.ensures.answers.0 (rw is at answers) by)
           (between_of g.B.Shelf.calls g.B.Shelf.written _ _ 1 0 1 1 0 (omega arith) (omega arith) (omega arith) (c.tell.ensures.counted.once (rw is tt)));
       unlooked = λ is.
-          let same = unlooked_told g.B.Shelf.tale g.B.Shelf.calls g.B.Shelf.written _ _ _ _ _ c.carry_out-answer.result c.tell.result _ answers is by in
+          let same = unlooked_told g.B.Shelf.tale g.B.Shelf.calls g.B.Shelf.written _ _ c.args.command.now _ c.carry_out-answer.result c.tell.result _ answers is by in
           rw same at c.tell.ensures.counted.most;
       unwritten = λ is. at_most_then g.B.Shelf.calls g.B.Shelf.written _ _ _ count 1 0 0 _ _ (omega arith) (omega arith)
-          (unwritten_told g.B.Shelf.tale g.B.Shelf.calls g.B.Shelf.written _ _ count _ _ c.carry_out-answer.result c.tell.result _ answers is by) c.tell.ensures.counted.most;
+          (unwritten_told g.B.Shelf.tale g.B.Shelf.calls g.B.Shelf.written _ _ c.args.command.now _ c.carry_out-answer.result c.tell.result _ answers is by) c.tell.ensures.counted.most;
+      wanting = λ is. at_most_then g.B.Shelf.calls g.B.Shelf.written _ _ _ (wanting_calls c.args.command.now) 1 0 0 _ _ (omega arith) (omega arith)
+          (wanting_told g.B.Shelf.tale g.B.Shelf.calls g.B.Shelf.written _ _ c.args.command.now _ c.carry_out-answer.result c.tell.ensures.answers.0 (rw is at answers) by) c.tell.ensures.counted.most;
+      faulted = λ is. fault_then g.B.Shelf.tale g.B.Shelf.calls g.B.Shelf.written _ _ _ c.args.command.now
+          (fault_told g.B.Shelf.tale g.B.Shelf.calls g.B.Shelf.written _ _ c.args.command.now _ c.carry_out-answer.result c.tell.ensures.answers.0 (rw is at answers) by)
+          (c.tell.ensures.counted.once (subst IsReplied (sym is) tt));
+      lost = λ active listed is.
+          let same = c.tell.ensures.counted.silent (subst IsLost (sym is) tt) in
+          subst (λ (x : g.row.B.Denot). IsLossCounted g.B.Shelf.calls g.B.Shelf.written c.args.bench.now x c.args.command.now) (sym same)
+          (lost_told g.B.Shelf.tale g.B.Shelf.calls g.B.Shelf.written _ _ c.args.command.now _ c.carry_out-answer.result active listed c.tell.ensures.answers.0 (rw is at answers) by);
+      spent = λ is.
+          let same = c.tell.ensures.counted.silent (subst IsLost (sym is) tt) in
+          none_at_most g.B.Shelf.tale g.B.Shelf.calls g.B.Shelf.written _ _ 0 0
+          (same ∙ spent_told g.B.Shelf.tale g.B.Shelf.calls g.B.Shelf.written _ _ c.args.command.now _ c.carry_out-answer.result c.tell.ensures.answers.0 (rw is at answers) by);
       told = λ on. told_behind g.B.Shelf g.met.B.Shelf.telling _ _ _ c.carry_out-answer.ensures.kept.goes
           (moments_weaker (CarryMoment c.args.self.now.host (asked_by c.args.command.now) c.args.self.now.state) (λ t m. told m ≡ told t) _ _ (λ t m moment. moment.quiet) c.carry_out-answer.ensures.moments)
           (told_once g.B.Shelf _ _ c.tell.ensures.kept.goes (replied_more _ _ c.carry_out-answer.ensures.answer.plain c.tell.result on _ _ c.tell.ensures.told) (c.tell.ensures.counted.calm on));

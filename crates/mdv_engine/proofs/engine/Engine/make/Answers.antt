@@ -1,4 +1,4 @@
-use Rattle.std.proofs.Common.{◌∙◌, refl, sym}
+use Rattle.std.proofs.Common.{◌∙◌, refl, subst, sym}
 use Rattle.mdv_engine_law.specs.Commands as came
 use Rattle.mdv_engine.specs.Below.{Create}
 use Rattle.mdv_engine_law.proofs.Allowed.{allowed_none, allowed_room, allowed_up}
@@ -6,7 +6,7 @@ use Rattle.mdv_engine_law.proofs.Plain.{refusal_plain}
 use Rattle.mdv_engine_law.specs.Answers.{refusing}
 use Rattle.mdv_engine_law.specs.Line.{ToDo}
 use Rattle.mdv_history.specs.History.{Created}
-use Rattle.mdv_engine.proofs.Blocks.{moments_still, refused_carried}
+use Rattle.mdv_engine.proofs.Blocks.{IsJudged, creation_judged, moments_still, refused_carried}
 use Rattle.mdv_engine.proofs.Counting.{refused_counted}
 use Rattle.mdv_engine.proofs.Ending.{command_ends, refused_answer}
 use Rattle.mdv_engine.specs.Engine.{case_at}
@@ -35,7 +35,12 @@ pub returns-in-None-clause-end : goal.returns-in-None-clause-end
 returns-in-None-clause-end g c = c.make_database.ensures.end c.args.slice c.args.force (sym c.creation_refusal.ensures ∙ c.in-None.is)
 
 pub returns-in-Some-clause-counted : goal.returns-in-Some-clause-counted
-returns-in-Some-clause-counted g c = refused_counted g.S.Shelf.tale g.S.Shelf.calls g.S.Shelf.written _ _ 12 8 c.in-Some.refusal refl
+returns-in-Some-clause-counted g c =
+    refused_counted g.S.Shelf.tale g.S.Shelf.calls g.S.Shelf.written _ _ (Create c.args.slice c.args.force) c.in-Some.refusal
+    (λ fault. absurd (subst IsJudged fault (creation_judged (case_at c.args.self.now) c.args.slice c.args.force c.in-Some.refusal (sym c.creation_refusal.ensures ∙ c.in-Some.is)))) refl
 
 pub returns-in-Some-clause-moments : goal.returns-in-Some-clause-moments
 returns-in-Some-clause-moments g c = moments_still c.args.self.now.host (ToDo Created) c.args.self.now.state _ _ refl
+
+pub returns-in-None-clause-counted : goal.returns-in-None-clause-counted
+returns-in-None-clause-counted g c = c.make_database.ensures.counted c.args.slice c.args.force

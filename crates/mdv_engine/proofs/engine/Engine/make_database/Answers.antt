@@ -13,7 +13,6 @@ use Rattle.mdv_engine.proofs.Creating.{begun, lost_carried, lost_creation, made_
 use Rattle.mdv_engine.proofs.Parts.{create_failed, create_goes, create_goes_to, create_lost, create_opened, create_quiet, create_safe}
 use Rattle.mdv_engine.proofs.Sites.{place_is}
 use Rattle.mdv_shelf.proofs.Between.{between_of}
-use Rattle.mdv_shelf.proofs.Counts.{took_wider}
 use Rattle.mdv_engine.proofs.Counting.{refused_counted}
 use Rattle.mdv_engine.proofs.Ending.{command_ends}
 use Rattle.mdv_engine.specs.Engine.{case_at}
@@ -186,14 +185,14 @@ returns-in-Err-Memory-clause-answer g c = record {
 }
 
 pub returns-in-Ok-clause-counted : goal.returns-in-Ok-clause-counted
-returns-in-Ok-clause-counted g c = between_of g.S.Shelf.calls g.S.Shelf.written _ _ 12 8 12 12 8 (omega arith) (omega arith) (omega arith) c.in-Ok.ensures.counted
+returns-in-Ok-clause-counted g c = λ slice force. between_of g.S.Shelf.calls g.S.Shelf.written _ _ 12 8 12 12 8 (omega arith) (omega arith) (omega arith) c.in-Ok.ensures.counted
 
 pub returns-in-Err-Failed-clause-counted : goal.returns-in-Err-Failed-clause-counted
-returns-in-Err-Failed-clause-counted g c = took_wider g.S.Shelf.calls g.S.Shelf.written _ _ 6 5 12 8 (omega arith) (omega arith) (rw (c.in-Err-Failed.is ∙ ap Err c.in-Err-Failed.field-0-is) at c.create.ensures.counted).at_most
+returns-in-Err-Failed-clause-counted g c = λ slice force. (rw (c.in-Err-Failed.is ∙ ap Err c.in-Err-Failed.field-0-is) at c.create.ensures.counted)
 
 pub returns-in-Err-Lost-clause-counted : goal.returns-in-Err-Lost-clause-counted
-returns-in-Err-Lost-clause-counted g c = (rw (c.in-Err-Lost.is ∙ ap Err c.in-Err-Lost.field-0-is) at c.create.ensures.counted).at_most
+returns-in-Err-Lost-clause-counted g c = λ slice force. (rw (c.in-Err-Lost.is ∙ ap Err c.in-Err-Lost.field-0-is) at c.create.ensures.counted)
 
 pub returns-in-Err-Memory-clause-counted : goal.returns-in-Err-Memory-clause-counted
 returns-in-Err-Memory-clause-counted g c =
-    refused_counted g.S.Shelf.tale g.S.Shelf.calls g.S.Shelf.written _ _ 12 8 OutOfMemory (rw (c.in-Err-Memory.is ∙ ap Err c.in-Err-Memory.field-0-is) at c.create.ensures.counted)
+    λ slice force. refused_counted g.S.Shelf.tale g.S.Shelf.calls g.S.Shelf.written _ _ (Create slice force) OutOfMemory (λ fault. absurd (cc (fault))) (rw (c.in-Err-Memory.is ∙ ap Err c.in-Err-Memory.field-0-is) at c.create.ensures.counted)

@@ -4,7 +4,7 @@ use Rattle.mdv_words.specs.declared.command.Command.TheVariants as command
 use Rattle.mdv_engine.proofs.Commits.{refused_carried}
 use Rattle.mdv_engine.proofs.Committing.{refused_line, refused_plain}
 use Rattle.mdv_engine_law.specs.Answers.{refusing}
-use Rattle.mdv_engine.proofs.Counting.{refused_counted}
+use Rattle.mdv_engine.proofs.Counting.{none_at_most, refused_counted}
 use Rattle.mdv_engine.proofs.Ending.{command_ends, refused_answer}
 use Rattle.mdv_engine.proofs.engine.Engine.make_stripe.Goals as goal
 
@@ -25,4 +25,9 @@ returns-in-Err-clause-answer g c =
     refused_answer _ _ c.args.self.now c.requires.well c.in-Err.refusal (refused_plain c.args.self.now.host c.args.self.now.state c.args.volume c.args.slice c.in-Err.refusal c.in-Err.ensures.err)
 
 pub returns-in-Err-clause-counted : goal.returns-in-Err-clause-counted
-returns-in-Err-clause-counted g c = refused_counted g.S.Shelf.tale g.S.Shelf.calls g.S.Shelf.written _ _ 6 4096 c.in-Err.refusal refl
+returns-in-Err-clause-counted g c =
+    refused_counted g.S.Shelf.tale g.S.Shelf.calls g.S.Shelf.written _ _ (command.MakeStripe c.args.volume c.args.slice) c.in-Err.refusal
+    (λ fault. none_at_most g.S.Shelf.tale g.S.Shelf.calls g.S.Shelf.written _ _ 6 4096 refl) refl
+
+pub returns-in-Ok-clause-counted : goal.returns-in-Ok-clause-counted
+returns-in-Ok-clause-counted g c = c.commit.ensures.counted c.args.volume c.args.slice
