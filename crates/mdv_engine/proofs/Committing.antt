@@ -225,4 +225,4 @@ module _ (host : Host) (sizes : List ℕ) (ready : IsReady host sizes) (at : Pla
         (t, same ∙ start, λ known. came.refused (ReplicaFull bytes room) (of_open host memory.opened newest stripe (Some (ReplicaFull bytes room)) opened told) (refl, record { memory = refl; content = λ block. refl }))
 
     pub spent_answer : (failed : Type 0) → length (record_text next) ≤ record_room newest → 2 ^ 63 ≤ newest.mark.count + 1 → Ends (Comes failed (Over ended.Spent) memory) a b
-    spent_answer failed fits spent t start = (t, same ∙ start, λ known. came.over ended.Spent (free fits) refl (newest, opened, spent))
+    spent_answer failed fits spent t start = (t, same ∙ start, λ known. came.over ended.Spent (free fits) refl (newest, opened, spent, record { memory = refl; content = λ block. refl }))

@@ -45,8 +45,8 @@ from_state failed host old next new answer t u same end = subst (λ (m : Memory)
     from (empty ok memory none same) = empty ok memory none same
     from (down so ok memory same) = down so ok memory same
     from (lost so found panic) = lost so found panic
-    from (spent is used) = spent is used
-    from (wanting is) = wanting is
+    from (spent is used same) = spent is used same
+    from (wanting is same) = wanting is same
 
 -- what a boot leaves that found no database
 pub closed_well : (host : Host) (memory : Memory) (unread : Bool) (begun : ℕ) → memory ≡ record { opened = None; down = unread; begun = begun } → IsWell host memory × (memory.begun ≡ begun)

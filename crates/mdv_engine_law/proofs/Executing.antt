@@ -37,8 +37,8 @@ module _ (failed more : Type 0) (cause : failed → more) (host : Host) (kept ne
   rebooted_more (empty ok memory is same) = empty ok memory is same
   rebooted_more (down so ok memory same) = down (cause so) ok memory same
   rebooted_more (lost so found panic) = lost (cause so) found panic
-  rebooted_more (spent is used) = spent is used
-  rebooted_more (wanting is) = wanting is
+  rebooted_more (spent is used same) = spent is used same
+  rebooted_more (wanting is same) = wanting is same
 
   gives_up_more : (command : Command) (end : Ended) → GivesUp failed host kept command end next → GivesUp more host kept command end next
   gives_up_more (Create slice force) (ended.Lost active listed) is = (cause is.0, is.1, is.2, is.3)

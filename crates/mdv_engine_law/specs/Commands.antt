@@ -48,11 +48,12 @@ Wanting host kept (command.MakeStripe volume slice) next = (kept.memory.opened �
 Wanting host kept (Read volume at count) next = IsAllowed (case_of host kept) (Read volume at count) × Stays kept next
 Wanting host kept (Write volume at block) next = ⊥
 
--- Why the run is over with a command: the one place is lost, whose new replica is there where a creation's format was answered; or the count would reach its limit.
+-- Why the run is over with a command: the one place is lost, whose new replica is there where a creation's format was answered; or the count
+-- would reach its limit, and nothing was done.
 abbrev pub GivesUp : Type 0 → Host → Kept → Command → Ended → Kept → Type 0
 GivesUp failed host kept (Create slice force) (ended.Lost active listed) next = failed × (active ≡ 0) × (listed ≡ 1) × IsReplicaMade (site_of host) (identity_of host kept.memory.begun) next.content
 GivesUp failed host kept (command.MakeStripe volume slice) (ended.Lost active listed) next = failed × (active ≡ 0) × (listed ≡ 1)
-GivesUp failed host kept (command.MakeStripe volume slice) ended.Spent next = (newest : Newest) × (kept.memory.opened ≡ Some newest) × (2 ^ 63 ≤ newest.mark.count + 1)
+GivesUp failed host kept (command.MakeStripe volume slice) ended.Spent next = (newest : Newest) × (kept.memory.opened ≡ Some newest) × (2 ^ 63 ≤ newest.mark.count + 1) × Stays kept next
 GivesUp failed host kept command end next = ⊥
 
 -- What a command comes to, the same for all: the first cause refuses it, and nothing is done; memory is wanting; it is done; a call on the drive

@@ -137,7 +137,7 @@ pub record IsUsedUp (site : Site) (content : ℕ → List ℕ) : Type 0 where
 
 -- What a boot comes to, from what the drive's blocks hold: nothing else in memory than what it found and how many creations
 -- were begun before. Where a call on the drive failed it may be down instead, or lost, if there was a replica to adopt; want of
--- memory is free.
+-- memory is free. A boot that is spent or wants memory has written nothing.
 pub data IsRebooted (failed : Type 0) (host : Host) (kept : Kept) (answer : Answer) (next : Kept) : Type 0 where
   adopted : (newest : Newest) → answer ≡ accepted → next.memory ≡ record { opened = Some newest; down = false; begun = kept.memory.begun } → IsRewritten (site_of host) kept.content next.content newest
       → IsRebooted failed host kept answer next
@@ -145,8 +145,8 @@ pub data IsRebooted (failed : Type 0) (host : Host) (kept : Kept) (answer : Answ
       → IsRebooted failed host kept answer next
   down : failed → answer ≡ accepted → next.memory ≡ record { opened = None; down = true; begun = kept.memory.begun } → IsSame kept.content next.content → IsRebooted failed host kept answer next
   lost : failed → IsAdoptable (site_of host) kept.content → answer ≡ Over (ended.Lost 0 1) → IsRebooted failed host kept answer next
-  spent : answer ≡ Over ended.Spent → IsUsedUp (site_of host) kept.content → IsRebooted failed host kept answer next
-  wanting : answer ≡ Over ended.Memory → IsRebooted failed host kept answer next
+  spent : answer ≡ Over ended.Spent → IsUsedUp (site_of host) kept.content → IsSame kept.content next.content → IsRebooted failed host kept answer next
+  wanting : answer ≡ Over ended.Memory → IsSame kept.content next.content → IsRebooted failed host kept answer next
 
 -- the first of the causes for which it is refused
 abbrev pub IsTurnedDown : Refusal → Kept → Answer → Kept → Type 0

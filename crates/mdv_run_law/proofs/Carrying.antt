@@ -108,7 +108,7 @@ module _ (failed : Type 0) (calm : failed → ⊥) (host : Host) (sound : IsSoun
       never_done (Create slice force) ended.Spent x y z w answer is gives effect = gives
       never_done (Create slice force) ended.Memory x y z w answer is gives effect = gives
       never_done (command.MakeStripe volume slice) (ended.Lost active listed) x y z w answer is gives effect = calm gives.0
-      never_done (command.MakeStripe volume slice) ended.Spent x y z w answer is (newest, opened, high) (ok, other, also, less, made) =
+      never_done (command.MakeStripe volume slice) ended.Spent x y z w answer is (newest, opened, high, stays) (ok, other, also, less, made) =
           let count = ap (λ (x : Newest). x.mark.count) (opened_twice y.memory.opened newest other (sym (ap (λ (m : Memory). m.opened) is) ∙ opened) also) in
           absurd (omega (arith, count, high, less))
       never_done (command.MakeStripe volume slice) ended.Memory x y z w answer is gives effect = gives

@@ -35,8 +35,8 @@ module _ (failed : Type 0) (calm : failed → ⊥) (host : Host) (kept next : Ke
   booted_plain (empty ok memory none same) = ok_plain ok
   booted_plain (down so ok memory same) = absurd (calm so)
   booted_plain (lost so found panic) = absurd (calm so)
-  booted_plain (boot.spent is used) = subst IsPlainAnswer (sym is) tt
-  booted_plain (wanting is) = subst IsPlainAnswer (sym is) tt
+  booted_plain (boot.spent is used same) = subst IsPlainAnswer (sym is) tt
+  booted_plain (wanting is same) = subst IsPlainAnswer (sym is) tt
 
   effect_plain : (command : Command) → Effect host kept command answer next → IsPlainAnswer answer
   effect_plain (Create slice force) is = ok_plain is.0
@@ -314,8 +314,8 @@ module _ (host : Host) (content : ℕ → List ℕ) (has : HasHome host content)
   alike_start kept next answer enough (empty ok memory found same) = neither found found
   alike_start kept next answer enough (down so ok memory same) = absurd so
   alike_start kept next answer enough (lost so found panic) = absurd so
-  alike_start kept next answer enough (boot.spent is used) = alike_itself (site_of host) has.sound kept.content used.head used.replica used.shown
-  alike_start kept next answer enough (wanting is) = absurd (enough.not_wanting is)
+  alike_start kept next answer enough (boot.spent is used same) = alike_itself (site_of host) has.sound kept.content used.head used.replica used.shown
+  alike_start kept next answer enough (wanting is same) = absurd (enough.not_wanting is)
 
   one_start : (n m : Kept) (a b : Answer) → IsSatisfied a → IsSatisfied b → IsRebooted ⊥ host (started content) a n → IsRebooted ⊥ host (started content) b m → One host n m a b
   one_start n m a b enough enough_too first second =

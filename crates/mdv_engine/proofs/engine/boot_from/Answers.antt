@@ -1,6 +1,7 @@
 use Rattle.std.proofs.Common.{true, false, sym, subst, refl, ap, arith}
 use Rattle.mdv_engine_law.specs.declared.answer.Ended.TheVariants as ended
 use Rattle.mdv_engine.specs.Below.{Rose, PlaceAt, OnDrive, Memory, lost, spent, wanting, unbooted}
+use Rattle.mdv_engine_law.proofs.Keeping.{same_content}
 use Rattle.mdv_engine.proofs.Ending.{answered_ends, closed_well, unanswered_ends}
 use Rattle.mdv_shelf.proofs.Moments.{moments_end}
 use Rattle.mdv_engine.specs.Counts.{IsOpenedCounted}
@@ -66,14 +67,14 @@ returns-in-Lost-clause-end g c =
 pub returns-in-Spent-clause-end : goal.returns-in-Spent-clause-end
 returns-in-Spent-clause-end g c =
     unanswered_ends _ c.args.host.now (unbooted c.args.begun) (unbooted c.args.begun) ended.Spent _ _ (λ t start.
-    let end = moments_end _ _ _ c.boot.ensures.moments t start in
-    (end.0, end.1, spent refl (spent_here c.args.host.now (g.S.Shelf.sizes c.args.shelf.now) c.requires c.place_at.result c.place_at.ensures t (shown _ _ _ _ _ c.in-Spent.ensures.end t start))))
+    let end = unwritten _ _ _ _ _ c.in-Spent.ensures.end tt t start in
+    (end.0, end.1, spent refl (spent_here c.args.host.now (g.S.Shelf.sizes c.args.shelf.now) c.requires c.place_at.result c.place_at.ensures t (shown _ _ _ _ _ c.in-Spent.ensures.end t start)) (same_content t end.0 end.2)))
 
 pub returns-in-Memory-clause-end : goal.returns-in-Memory-clause-end
 returns-in-Memory-clause-end g c =
     unanswered_ends _ c.args.host.now (unbooted c.args.begun) (unbooted c.args.begun) ended.Memory _ _ (λ t start.
-    let end = moments_end _ _ _ c.boot.ensures.moments t start in
-    (end.0, end.1, wanting refl))
+    let end = unwritten _ _ _ _ _ c.in-Memory.ensures.end tt t start in
+    (end.0, end.1, wanting refl (same_content t end.0 end.2)))
 
 pub returns-in-Adopted-clause-answer : goal.returns-in-Adopted-clause-answer
 returns-in-Adopted-clause-answer g c = record { cause = tt; well = adopted_well c.args.host.now c.args.begun c.in-Adopted.database c.place_at.result c.place_at.ensures c.in-Adopted.ensures.answer.table }
