@@ -12,7 +12,7 @@ use Rattle.mdv_map.specs.Maps.{Map}
 use Rattle.mdv_map.specs.Requests.{Rewriting}
 use Rattle.mdv_map.proofs.Joining.{rewritings_join}
 use Rattle.mdv_dev.specs.Pieces.{drive_of}
-use Rattle.mdv_dev.specs.Works.{Carries, FailedOn, HasRoom, IsFinished, IsOpen, IsTurned, IsTurnCounted, LeavesBuffer, is_turn, news, turns, turns_left, written_of}
+use Rattle.mdv_dev.specs.Works.{Carries, FailedAt, HasRoom, IsFinished, IsOpen, IsTurned, IsTurnCounted, LeavesBuffer, is_turn, news, turns, turns_left, written_of}
 use Rattle.mdv_dev.specs.declared.work.Work.{Work}
 use Rattle.mdv_dev.specs.declared.work.WorkKind.{WorkKind}
 use Rattle.mdv_dev.specs.declared.work.WorkKind.TheVariants.{Read, Write, Flush}
@@ -177,7 +177,7 @@ module _ {S : Type 0} (shelf : Ghosts S) (v : Map) (before : S) (start : Work) (
       record {
         moments = gone.moments;
         done = gone.done;
-        finished = record { same = gone.same; buffer = gone.leaves; whole = whole; cause = tt };
+        finished = record { same = gone.same; buffer = gone.leaves; whole = whole; stayed = tt };
         counted = record {
           done = took;
           any = between_of shelf.calls shelf.written before now (turns_left v start) (written_of start.kind (start.count - start.done)) 1 (turns_left v start) (written_of start.kind (start.count - start.done)) (omega arith) (omega arith) (omega arith) took;
@@ -186,15 +186,19 @@ module _ {S : Type 0} (shelf : Ghosts S) (v : Map) (before : S) (start : Work) (
       }
 
   module _ {T E U F : Type 0} (e : F) (result : Result T E) (none : OnOk result ⊥) (next : S) (more : Work) (later : List (List ℕ)) where
-    fails_first : OneTurn {T = U} {E = F} shelf v before next start more buffer later (Err e) → turns v start.kind start.at start.done + 1 ≤ turns v start.kind start.at start.count → HasFinished shelf v before next start more buffer later result
-    fails_first turn many = record {
+    fails_first : OneTurn {T = U} {E = F} shelf v before next start more buffer later (Err e) → start.done < start.count → is_turn v start.kind start.at start.done ≡ true → turns v start.kind start.at start.done + 1 ≤ turns v start.kind start.at start.count → HasFinished shelf v before next start more buffer later result
+    fails_first turn left begins many = record {
       moments = turn.moments;
       done = turn.done;
       finished = record {
         same = turn.turned.same;
         buffer = turn.turned.buffer;
         whole = no_ok result (more.done ≡ start.count) none;
-        cause = on_err result (FailedOn (DriveFailed shelf before next) v start.at start.count) turn.turned.stayed.1;
+        stayed =
+            let still : more.done ≡ start.done = turn.turned.stayed.0 in
+            let same : start.done ≡ more.done = sym still in
+            on_err result ((start.done ≤ more.done) × FailedAt (DriveFailed shelf before next) v start.kind start.at start.count more.done)
+            (omega arith, subst (λ (k : ℕ). FailedAt (DriveFailed shelf before next) v start.kind start.at start.count k) same (record { below = left; begins = begins; failed = turn.turned.stayed.1 }));
       };
       counted = record {
         done = no_ok result (Took shelf.calls shelf.written before next (turns_left v start) (written_of start.kind (start.count - start.done))) none;
@@ -221,11 +225,13 @@ module _ {S : Type 0} (shelf : Ghosts S) (v : Map) (before : S) (start : Work) (
             same = turned.same;
             buffer = leaves_more start.kind buffer after later gone.leaves turned.buffer;
             whole = no_ok result (more.done ≡ start.count) none;
-            cause =
-                let failed = turned.stayed.1 in
-                let part = OnDrive (drive_of (v.copies (start.at + failed.0))) in
-                on_err result (FailedOn (DriveFailed shelf before next) v start.at start.count)
-                (failed.0, failed.1, rose_since (shelf.faults before part) (shelf.faults now part) (shelf.faults next part) (2 ^ 64 - 1) (gone.kept.keeps.no_fewer_faults part) failed.2);
+            stayed =
+                let part = OnDrive (drive_of (v.copies (start.at + work.done))) in
+                let still : more.done ≡ work.done = turned.stayed.0 in
+                let same : work.done ≡ more.done = sym still in
+                let since = rose_since (shelf.faults before part) (shelf.faults now part) (shelf.faults next part) (2 ^ 64 - 1) (gone.kept.keeps.no_fewer_faults part) turned.stayed.1 in
+                on_err result ((start.done ≤ more.done) × FailedAt (DriveFailed shelf before next) v start.kind start.at start.count more.done)
+                (omega arith, subst (λ (k : ℕ). FailedAt (DriveFailed shelf before next) v start.kind start.at start.count k) same (record { below = below; begins = gone.begins below; failed = since }));
           };
           counted = record {
             done = no_ok result (Took shelf.calls shelf.written before next (turns_left v start) (written_of start.kind (start.count - start.done))) none;
@@ -236,10 +242,10 @@ module _ {S : Type 0} (shelf : Ghosts S) (v : Map) (before : S) (start : Work) (
           kept = kept_more gone.kept turn.kept;
         }
 
-    pub ends_badly : (now : S) (work : Work) (after : List (List ℕ)) → SoFar shelf v before now start work buffer after → OneTurn {T = U} {E = F} shelf v now next work more after later (Err e) → work.done < work.count
+    pub ends_badly : (now : S) (work : Work) (after : List (List ℕ)) → SoFar shelf v before now start work buffer after → OneTurn {T = U} {E = F} shelf v now next work more after later (Err e) → work.done < work.count → is_turn v start.kind start.at start.done ≡ true
         → turns v start.kind start.at start.done + 1 ≤ turns v start.kind start.at start.count → HasFinished shelf v before next start more buffer later result
-    ends_badly now work after (inl still) turn left many =
+    ends_badly now work after (inl still) turn left begins many =
         let a = subst (λ (s : S). OneTurn {T = U} {E = F} shelf v s next work more after later (Err e)) still.same_shelf turn in
         let b = subst (λ (u : Work). OneTurn {T = U} {E = F} shelf v before next u more after later (Err e)) still.same_work a in
-        fails_first (subst (λ (xs : List (List ℕ)). OneTurn {T = U} {E = F} shelf v before next start more xs later (Err e)) still.same_buffer b) many
-    ends_badly now work after (inr gone) turn left many = fails_later now work after gone turn left
+        fails_first (subst (λ (xs : List (List ℕ)). OneTurn {T = U} {E = F} shelf v before next start more xs later (Err e)) still.same_buffer b) (subst (λ (u : Work). u.done < u.count) still.same_work left) begins many
+    ends_badly now work after (inr gone) turn left begins many = fails_later now work after gone turn left

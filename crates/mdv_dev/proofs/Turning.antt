@@ -19,7 +19,7 @@ use Rattle.mdv_map.proofs.Joining.{rewritings_join}
 use Rattle.mdv_map.proofs.Standing.{requests_stand}
 use Rattle.mdv_dev.specs.Pieces.{IsPiece, has_drive, is_new, is_start}
 use Rattle.mdv_dev.specs.Pieces as pieces
-use Rattle.mdv_dev.specs.Works.{FailedOn, IsTurned, IsTurnCounted, LeavesBuffer, is_turn, turns, written_of}
+use Rattle.mdv_dev.specs.Works.{IsTurned, IsTurnCounted, LeavesBuffer, is_turn, turns, written_of}
 use Rattle.mdv_dev.specs.declared.piece.Piece.{Piece}
 use Rattle.mdv_dev.specs.declared.work.Work.{Work}
 use Rattle.mdv_dev.proofs.Counting.{count_turn, has_back}
@@ -157,7 +157,7 @@ missed v Failed work before after result buffer none lt first cause = record {
   within = omega arith;
   begins = λ _. first;
   rose = no_ok result ((work.done < work.done) × (turns v work.kind work.at work.done ≡ turns v work.kind work.at work.done + 1)) none;
-  stayed = on_err result ((work.done ≡ work.done) × FailedOn Failed v work.at work.count) (refl, (work.done, lt, cause));
+  stayed = on_err result ((work.done ≡ work.done) × Failed (pieces.drive_of (v.copies (work.at + work.done)))) (refl, cause);
 }
 
 -- what it takes

@@ -1,5 +1,5 @@
 -- Requests for blocks of a device: what one has done by now, and what a turn of it does.
-use Rattle.std.specs.Prelude.{◌≡◌, ℕ, ◌+◌, ◌-◌, ◌<◌, ◌≤◌, Bool, true, List, [], length, Result, OnOk, OnErr}
+use Rattle.std.specs.Prelude.{◌≡◌, ◌⊎◌, ℕ, ◌+◌, ◌-◌, ◌<◌, ◌≤◌, Bool, true, List, [], length, Result, OnOk, OnErr}
 use Rattle.mdv_shelf.specs.declared.shelf.Shelf.{Ghosts}
 use Rattle.mdv_dev.specs.Below.{AreRead, Map, OnDrives, Tale, Took, TookBetween}
 use Rattle.mdv_dev.specs.Pieces.{count_to, drive_of, has_drive, is_new, is_start}
@@ -59,26 +59,27 @@ LeavesBuffer Read old new = length new ≡ length old
 LeavesBuffer Write old new = new ≡ old
 LeavesBuffer Flush old new = new ≡ old
 
--- a call failed on a drive of one of so many blocks
-abbrev pub FailedOn : (ℕ → Type 0) → Map → ℕ → ℕ → Type 0
-FailedOn Failed v at count = (k : ℕ) × (k < count) × Failed (drive_of (v.copies (at + k)))
+-- A call failed at the request's block of that number: a turn begins there, and the drive is the one that this block lies on.
+pub record FailedAt (Failed : ℕ → Type 0) (v : Map) (kind : WorkKind) (at count k : ℕ) : Type 0 where
+  pub below : k < count
+  pub begins : is_turn v kind at k ≡ true
+  pub failed : Failed (drive_of (v.copies (at + k)))
 
--- One turn: more is done, up to where the next one begins, or to the end. Where the call failed, which was on a drive of one of the
--- blocks, no more is done.
+-- One turn: more is done, up to where the next one begins, or to the end. Where its call failed, no more is done.
 pub record IsTurned {T E : Type 0} (v : Map) (Failed : ℕ → Type 0) (old : Work) (before : List (List ℕ)) (new : Work) (after : List (List ℕ)) (result : Result T E) : Type 0 where
   pub same : new ≡ record old { done = new.done }
   pub buffer : LeavesBuffer old.kind before after
   pub within : new.done ≤ old.count
   pub begins : new.done < old.count → is_turn v old.kind old.at new.done ≡ true
   pub rose : OnOk result ((old.done < new.done) × (turns v old.kind old.at new.done ≡ turns v old.kind old.at old.done + 1))
-  pub stayed : OnErr result ((new.done ≡ old.done) × FailedOn Failed v old.at old.count)
+  pub stayed : OnErr result ((new.done ≡ old.done) × Failed (drive_of (v.copies (old.at + old.done))))
 
--- all turns of it: where a call failed, some blocks may not be done
+-- All turns of it. Where a call failed, all before it stays done: it failed at the first block that isn't.
 pub record IsFinished {T E : Type 0} (v : Map) (Failed : ℕ → Type 0) (old : Work) (before : List (List ℕ)) (new : Work) (after : List (List ℕ)) (result : Result T E) : Type 0 where
   pub same : new ≡ record old { done = new.done }
   pub buffer : LeavesBuffer old.kind before after
   pub whole : OnOk result (new.done ≡ old.count)
-  pub cause : OnErr result (FailedOn Failed v old.at old.count)
+  pub stayed : OnErr result ((old.done ≤ new.done) × FailedAt Failed v old.kind old.at old.count new.done)
 
 -- how many turns are left of it
 abbrev pub turns_left : Map → Work → ℕ
@@ -101,4 +102,4 @@ pub record IsRange (v : Map) (at count : ℕ) : Type 0 where
 -- a write leaves its buffer, and fails only where a call failed on a drive of its blocks
 pub record IsWritten {T E : Type 0} (v : Map) (Failed : ℕ → Type 0) (at : ℕ) (before after : List (List ℕ)) (result : Result T E) : Type 0 where
   pub same : after ≡ before
-  pub cause : OnErr result (FailedOn Failed v at (length before))
+  pub cause : OnErr result (((k : ℕ) × FailedAt Failed v Write at (length before) k) ⊎ ((k : ℕ) × FailedAt Failed v Flush at (length before) k))

@@ -1,10 +1,10 @@
-ghost use Rattle.std.specs.Prelude.{◌≡◌, ◌+◌, ◌<◌, ◌≤◌, [], length, OnOk, OnErr};
+ghost use Rattle.std.specs.Prelude.{◌≡◌, ℕ, ◌+◌, ◌<◌, ◌≤◌, [], length, OnOk, OnErr};
 ghost use Rattle.mdv_map.specs.Maps.{IsDisjoint};
 ghost use Rattle.mdv_map.specs.Requests.{AllOnDisk, AllRead, Rewriting};
 ghost use Rattle.mdv_shelf.specs.Between.{MakesCalls};
 ghost use Rattle.mdv_shelf.specs.Shelves.{AtEachTale, AtEnd, DriveFailed, Kept};
 ghost use Rattle.mdv_dev.specs.Pieces.{IsOn, drives, pieces};
-ghost use Rattle.mdv_dev.specs.Works.{FailedOn, IsRange, IsWritten};
+ghost use Rattle.mdv_dev.specs.Works.{FailedAt, IsRange, IsWritten};
 
 use crate::{Placed, Work, WorkKind, finish};
 use mdv_base::{Block, Failed};
@@ -24,7 +24,7 @@ pub fn read_blocks<D: Placed, S: Shelf>(
     requires range { IsRange (D.map device.now) at (length out.old) }
     ensures moments { AtEachTale S.Shelf (Rewriting (D.map device.now) at []) shelf.old shelf.new }
     ensures read { OnOk result (AtEnd S.Shelf (λ _ u. AllRead (D.map device.now) at out.new u) shelf.old shelf.new) }
-    ensures cause { OnErr result (FailedOn (DriveFailed S.Shelf shelf.old shelf.new) (D.map device.now) at (length out.old)) }
+    ensures cause { OnErr result ((k : ℕ) × FailedAt (DriveFailed S.Shelf shelf.old shelf.new) (D.map device.now) WorkKind.Read at (length out.old) k) }
     ensures counted { MakesCalls S.Shelf shelf.old shelf.new (pieces (D.map device.now) at (length out.old)) 0 result }
     ensures kept { Kept S.Shelf shelf.old shelf.new }
 {

@@ -26,31 +26,31 @@ pub returns-in_err-turn-clause-moments : goal.returns-in_err-turn-clause-moments
 returns-in_err-turn-clause-moments g c =
     (let many = count_passed (is_turn (g.D.Placed.map c.args.device.now) c.args.work.now.kind c.args.work.now.at) c.args.work.now.done c.args.work.now.count c.requires.open.some_left c.requires.open.begins in
     ends_badly g.S.Shelf (g.D.Placed.map c.args.device.now) c.args.shelf.now c.args.work.now c.args.buffer.now {U = Unit {0}} {F = Failed} c.in_err-turn.field-0.0 c.from_residual.result (search rules) c.turn.new.shelf c.turn.new.work c.turn.new.buffer c.loop-work.shelf c.loop-work.work c.loop-work.buffer c.loop-work.invariant
-    (record { moments = c.turn.ensures.moments; done = c.turn.ensures.done; turned = c.in_err-turn.ensures.turned; counted = c.in_err-turn.ensures.counted; kept = c.turn.ensures.kept }) c.loop-work-test.true many).moments
+    (record { moments = c.turn.ensures.moments; done = c.turn.ensures.done; turned = c.in_err-turn.ensures.turned; counted = c.in_err-turn.ensures.counted; kept = c.turn.ensures.kept }) c.loop-work-test.true c.requires.open.begins many).moments
 
 pub returns-in_err-turn-clause-done : goal.returns-in_err-turn-clause-done
 returns-in_err-turn-clause-done g c =
     (let many = count_passed (is_turn (g.D.Placed.map c.args.device.now) c.args.work.now.kind c.args.work.now.at) c.args.work.now.done c.args.work.now.count c.requires.open.some_left c.requires.open.begins in
     ends_badly g.S.Shelf (g.D.Placed.map c.args.device.now) c.args.shelf.now c.args.work.now c.args.buffer.now {U = Unit {0}} {F = Failed} c.in_err-turn.field-0.0 c.from_residual.result (search rules) c.turn.new.shelf c.turn.new.work c.turn.new.buffer c.loop-work.shelf c.loop-work.work c.loop-work.buffer c.loop-work.invariant
-    (record { moments = c.turn.ensures.moments; done = c.turn.ensures.done; turned = c.in_err-turn.ensures.turned; counted = c.in_err-turn.ensures.counted; kept = c.turn.ensures.kept }) c.loop-work-test.true many).done
+    (record { moments = c.turn.ensures.moments; done = c.turn.ensures.done; turned = c.in_err-turn.ensures.turned; counted = c.in_err-turn.ensures.counted; kept = c.turn.ensures.kept }) c.loop-work-test.true c.requires.open.begins many).done
 
 pub returns-in_err-turn-clause-finished : goal.returns-in_err-turn-clause-finished
 returns-in_err-turn-clause-finished g c =
     (let many = count_passed (is_turn (g.D.Placed.map c.args.device.now) c.args.work.now.kind c.args.work.now.at) c.args.work.now.done c.args.work.now.count c.requires.open.some_left c.requires.open.begins in
     ends_badly g.S.Shelf (g.D.Placed.map c.args.device.now) c.args.shelf.now c.args.work.now c.args.buffer.now {U = Unit {0}} {F = Failed} c.in_err-turn.field-0.0 c.from_residual.result (search rules) c.turn.new.shelf c.turn.new.work c.turn.new.buffer c.loop-work.shelf c.loop-work.work c.loop-work.buffer c.loop-work.invariant
-    (record { moments = c.turn.ensures.moments; done = c.turn.ensures.done; turned = c.in_err-turn.ensures.turned; counted = c.in_err-turn.ensures.counted; kept = c.turn.ensures.kept }) c.loop-work-test.true many).finished
+    (record { moments = c.turn.ensures.moments; done = c.turn.ensures.done; turned = c.in_err-turn.ensures.turned; counted = c.in_err-turn.ensures.counted; kept = c.turn.ensures.kept }) c.loop-work-test.true c.requires.open.begins many).finished
 
 pub returns-in_err-turn-clause-counted : goal.returns-in_err-turn-clause-counted
 returns-in_err-turn-clause-counted g c =
     (let many = count_passed (is_turn (g.D.Placed.map c.args.device.now) c.args.work.now.kind c.args.work.now.at) c.args.work.now.done c.args.work.now.count c.requires.open.some_left c.requires.open.begins in
     ends_badly g.S.Shelf (g.D.Placed.map c.args.device.now) c.args.shelf.now c.args.work.now c.args.buffer.now {U = Unit {0}} {F = Failed} c.in_err-turn.field-0.0 c.from_residual.result (search rules) c.turn.new.shelf c.turn.new.work c.turn.new.buffer c.loop-work.shelf c.loop-work.work c.loop-work.buffer c.loop-work.invariant
-    (record { moments = c.turn.ensures.moments; done = c.turn.ensures.done; turned = c.in_err-turn.ensures.turned; counted = c.in_err-turn.ensures.counted; kept = c.turn.ensures.kept }) c.loop-work-test.true many).counted
+    (record { moments = c.turn.ensures.moments; done = c.turn.ensures.done; turned = c.in_err-turn.ensures.turned; counted = c.in_err-turn.ensures.counted; kept = c.turn.ensures.kept }) c.loop-work-test.true c.requires.open.begins many).counted
 
 pub returns-in_err-turn-clause-kept : goal.returns-in_err-turn-clause-kept
 returns-in_err-turn-clause-kept g c =
     (let many = count_passed (is_turn (g.D.Placed.map c.args.device.now) c.args.work.now.kind c.args.work.now.at) c.args.work.now.done c.args.work.now.count c.requires.open.some_left c.requires.open.begins in
     ends_badly g.S.Shelf (g.D.Placed.map c.args.device.now) c.args.shelf.now c.args.work.now c.args.buffer.now {U = Unit {0}} {F = Failed} c.in_err-turn.field-0.0 c.from_residual.result (search rules) c.turn.new.shelf c.turn.new.work c.turn.new.buffer c.loop-work.shelf c.loop-work.work c.loop-work.buffer c.loop-work.invariant
-    (record { moments = c.turn.ensures.moments; done = c.turn.ensures.done; turned = c.in_err-turn.ensures.turned; counted = c.in_err-turn.ensures.counted; kept = c.turn.ensures.kept }) c.loop-work-test.true many).kept
+    (record { moments = c.turn.ensures.moments; done = c.turn.ensures.done; turned = c.in_err-turn.ensures.turned; counted = c.in_err-turn.ensures.counted; kept = c.turn.ensures.kept }) c.loop-work-test.true c.requires.open.begins many).kept
 
 pub returns-clause-moments : goal.returns-clause-moments
 returns-clause-moments g c =
