@@ -1,5 +1,5 @@
 -- How many turns a stretch of blocks takes, and on which drives it lies.
-use Rattle.std.proofs.Common.{◌≡◌, ◌⊎◌, inl, inr, ℕ, zero, suc, ◌+◌, ◌-◌, ◌<◌, ◌≤◌, Bool, true, false, not, ◌==◌, nat_lt, if◌then◌else◌, refl, sym, ◌∙◌, ap, subst, arith}
+use Rattle.std.proofs.Common.{◌≡◌, ◌⊎◌, inl, inr, ℕ, zero, suc, ◌+◌, ◌<◌, ◌≤◌, Bool, true, false, not, ◌==◌, nat_lt, refl, sym, ◌∙◌, ap, subst, arith}
 use Rattle.std.proofs.lemmas.Bool.Decides.{nat_tests}
 use Rattle.mdv_shelf.proofs.Blocks.{both_ways}
 use Rattle.mdv_map.proofs.Covering.{either_of, one_of}
@@ -44,23 +44,6 @@ module _ (test : ℕ → Bool) where
   count_turn from to lt first none =
       let still = count_still (suc from) to (omega arith) (λ j above below. none j (omega arith) below) in
       still ∙ rw first refl
-
-  pub count_grows : (from more : ℕ) → count_to test from ≤ count_to test (from + more)
-  unfolding count_to
-  count_grows from zero = let same : from + zero ≡ from = omega arith in let counts = ap (count_to test) same in omega arith
-  count_grows from (suc more) =
-      let same : from + suc more ≡ suc (from + more) = omega arith in
-      let counts : count_to test (from + suc more) ≡ count_to test (from + more) + (if test (from + more) then 1 else 0) = ap (count_to test) same in
-      let before = count_grows from more in omega arith
-
-  -- one that passes is counted
-  pub count_passed : (from to : ℕ) → from < to → test from ≡ true → count_to test from + 1 ≤ count_to test to
-  unfolding count_to
-  count_passed from to lt is =
-      let next : count_to test (suc from) ≡ count_to test from + 1 = rw is refl in
-      let grows = count_grows (suc from) (to - suc from) in
-      let same : suc from + (to - suc from) ≡ to = omega arith in
-      let there = ap (count_to test) same in omega arith
 
 module _ (v : Map) (at : ℕ) where
   -- a drive that one of the blocks lies on

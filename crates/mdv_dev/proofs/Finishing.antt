@@ -1,10 +1,9 @@
 -- A request, turn after turn.
 use Rattle.std.proofs.Common.{◌≡◌, ◌⊎◌, inl, inr, ℕ, ◌+◌, ◌-◌, ◌^◌, ◌<◌, ◌≤◌, true, List, length, Result, Ok, Err, OnOk, min, refl, sym, ◌∙◌, ap, subst, arith}
-use Rattle.mdv_shelf.specs.Between.{MakesCalls}
 use Rattle.mdv_shelf.specs.Calls.{OnDrive, Took}
 use Rattle.mdv_shelf.specs.Shelves.{AtEachTale, AtEnd, DriveFailed, Kept}
 use Rattle.mdv_shelf.specs.declared.shelf.Shelf.{Ghosts}
-use Rattle.mdv_shelf.proofs.Between.{between_of, between_then, between_wider}
+use Rattle.mdv_shelf.proofs.Between.{between_of, between_then}
 use Rattle.mdv_shelf.proofs.Counts.{took_more}
 use Rattle.mdv_shelf.proofs.Moments.{ends_more, moments_more}
 use Rattle.mdv_shelf.proofs.Noted.{kept_more}
@@ -12,11 +11,10 @@ use Rattle.mdv_map.specs.Maps.{Map}
 use Rattle.mdv_map.specs.Requests.{Rewriting}
 use Rattle.mdv_map.proofs.Joining.{rewritings_join}
 use Rattle.mdv_dev.specs.Pieces.{drive_of}
-use Rattle.mdv_dev.specs.Works.{Carries, FailedAt, HasRoom, IsFinished, IsOpen, IsTurned, IsTurnCounted, LeavesBuffer, is_turn, news, turns, turns_left, written_of}
+use Rattle.mdv_dev.specs.Works.{Carries, FailedAt, HasRoom, IsFinished, IsOpen, IsTurned, IsTurnCounted, LeavesBuffer, MakesTurns, TookExactly, is_turn, news, turns, turns_left, written_of}
 use Rattle.mdv_dev.specs.declared.work.Work.{Work}
 use Rattle.mdv_dev.specs.declared.work.WorkKind.{WorkKind}
 use Rattle.mdv_dev.specs.declared.work.WorkKind.TheVariants.{Read, Write, Flush}
-use Rattle.mdv_dev.proofs.Counting.{count_passed}
 use Rattle.mdv_dev.proofs.Turning.{no_ok, on_err}
 
 -- one turn, from one state to the next
@@ -54,7 +52,7 @@ pub record HasFinished {S T E : Type 0} (shelf : Ghosts S) (v : Map) (before now
   pub moments : AtEachTale shelf (Rewriting v start.at (news start.kind buffer)) before now
   pub done : AtEnd shelf (Carries v start buffer work after) before now
   pub finished : IsFinished v (DriveFailed shelf before now) start buffer work after result
-  pub counted : MakesCalls shelf before now (turns_left v start) (written_of start.kind (start.count - start.done)) result
+  pub counted : MakesTurns shelf before now v start work result
   pub kept : Kept shelf before now
 
 leaves_more : (k : WorkKind) (a b c : List (List ℕ)) → LeavesBuffer k a b → LeavesBuffer k b c → LeavesBuffer k a c
@@ -164,12 +162,11 @@ module _ {S : Type 0} (shelf : Ghosts S) (v : Map) (before : S) (start : Work) (
   so_far_more {T} {E} x now next work more after later (inr gone) turn = inr (gone_more now next work more after later gone {T = T} {E = E} x turn)
 
   -- its end
-  pub ends_well : {T E : Type 0} (x : T) (now : S) (work : Work) (after : List (List ℕ)) → SoFar shelf v before now start work buffer after → start.done < start.count → work.count ≤ work.done → turns v start.kind start.at start.done + 1 ≤ turns v start.kind start.at start.count
-      → HasFinished {T = T} {E = E} shelf v before now start work buffer after (Ok x)
-  ends_well x now work after (inl still) left end many =
+  pub ends_well : {T E : Type 0} (x : T) (now : S) (work : Work) (after : List (List ℕ)) → SoFar shelf v before now start work buffer after → start.done < start.count → work.count ≤ work.done → HasFinished {T = T} {E = E} shelf v before now start work buffer after (Ok x)
+  ends_well x now work after (inl still) left end =
       let same : work.done ≡ start.done = ap (λ (u : Work). u.done) still.same_work in
       let count : work.count ≡ start.count = ap (λ (u : Work). u.count) still.same_work in absurd (omega arith)
-  ends_well x now work after (inr gone) left end many =
+  ends_well x now work after (inr gone) left end =
       let count : work.count ≡ start.count = ap (λ (u : Work). u.count) gone.same in
       let within = gone.within in
       let whole : work.done ≡ start.count = omega arith in
@@ -178,16 +175,13 @@ module _ {S : Type 0} (shelf : Ghosts S) (v : Map) (before : S) (start : Work) (
         moments = gone.moments;
         done = gone.done;
         finished = record { same = gone.same; buffer = gone.leaves; whole = whole; stayed = tt };
-        counted = record {
-          done = took;
-          any = between_of shelf.calls shelf.written before now (turns_left v start) (written_of start.kind (start.count - start.done)) 1 (turns_left v start) (written_of start.kind (start.count - start.done)) (omega arith) (omega arith) (omega arith) took;
-        };
+        counted = record { done = took; failed = tt };
         kept = gone.kept;
       }
 
   module _ {T E U F : Type 0} (e : F) (result : Result T E) (none : OnOk result ⊥) (next : S) (more : Work) (later : List (List ℕ)) where
-    fails_first : OneTurn {T = U} {E = F} shelf v before next start more buffer later (Err e) → start.done < start.count → is_turn v start.kind start.at start.done ≡ true → turns v start.kind start.at start.done + 1 ≤ turns v start.kind start.at start.count → HasFinished shelf v before next start more buffer later result
-    fails_first turn left begins many = record {
+    fails_first : OneTurn {T = U} {E = F} shelf v before next start more buffer later (Err e) → start.done < start.count → is_turn v start.kind start.at start.done ≡ true → HasFinished shelf v before next start more buffer later result
+    fails_first turn left begins = record {
       moments = turn.moments;
       done = turn.done;
       finished = record {
@@ -202,7 +196,12 @@ module _ {S : Type 0} (shelf : Ghosts S) (v : Map) (before : S) (start : Work) (
       };
       counted = record {
         done = no_ok result (Took shelf.calls shelf.written before next (turns_left v start) (written_of start.kind (start.count - start.done))) none;
-        any = between_wider shelf.calls shelf.written before next 1 1 (written_of start.kind (start.count - start.done)) 1 (turns_left v start) (written_of start.kind (start.count - start.done)) (omega arith) (omega arith) (omega arith) turn.counted.any;
+        failed =
+            let still : more.done ≡ start.done = turn.turned.stayed.0 in
+            let same = ap (turns v start.kind start.at) still in
+            let one : 1 ≡ turns v start.kind start.at more.done - turns v start.kind start.at start.done + 1 = omega arith in
+            on_err result (TookExactly shelf before next (turns v start.kind start.at more.done - turns v start.kind start.at start.done + 1) (written_of start.kind (start.count - start.done)))
+            (subst (λ (n : ℕ). TookExactly shelf before next n (written_of start.kind (start.count - start.done))) one turn.counted.any);
       };
       kept = turn.kept;
     }
@@ -214,10 +213,9 @@ module _ {S : Type 0} (shelf : Ghosts S) (v : Map) (before : S) (start : Work) (
         let below : work.done < start.count = subst (λ (u : Work). work.done < u.count) gone.same left in
         let up = gone.rose in
         let fewer = gone.fewer in
-        let passed = count_passed (is_turn v start.kind start.at) work.done start.count below (gone.begins below) in
         let blocks = written_more start.kind start.done work.done start.count (omega arith) (omega arith) in
         let took = between_of shelf.calls shelf.written before now (turns v start.kind start.at work.done - turns v start.kind start.at start.done) (written_of start.kind (work.done - start.done))
-        0 (turns v start.kind start.at work.done - turns v start.kind start.at start.done) (written_of start.kind (work.done - start.done)) (omega arith) (omega arith) (omega arith) gone.counted in
+        (turns v start.kind start.at work.done - turns v start.kind start.at start.done) (turns v start.kind start.at work.done - turns v start.kind start.at start.done) (written_of start.kind (work.done - start.done)) (omega arith) (omega arith) (omega arith) gone.counted in
         record {
           moments = moments_on now next work more after later gone turn.moments;
           done = done_on now next work more after later gone turn.done;
@@ -235,17 +233,22 @@ module _ {S : Type 0} (shelf : Ghosts S) (v : Map) (before : S) (start : Work) (
           };
           counted = record {
             done = no_ok result (Took shelf.calls shelf.written before next (turns_left v start) (written_of start.kind (start.count - start.done))) none;
-            any = between_then shelf.calls shelf.written before now next
-                0 (turns v start.kind start.at work.done - turns v start.kind start.at start.done) (written_of start.kind (work.done - start.done)) 1 1 (written_of start.kind (start.count - work.done))
-                1 (turns_left v start) (written_of start.kind (start.count - start.done)) (omega arith) (omega (arith, passed)) (omega (arith, blocks)) took counted.any;
+            failed =
+                let still : more.done ≡ work.done = turned.stayed.0 in
+                let same = ap (turns v start.kind start.at) still in
+                let calls = turns v start.kind start.at more.done - turns v start.kind start.at start.done + 1 in
+                on_err result (TookExactly shelf before next calls (written_of start.kind (start.count - start.done)))
+                (between_then shelf.calls shelf.written before now next
+                (turns v start.kind start.at work.done - turns v start.kind start.at start.done) (turns v start.kind start.at work.done - turns v start.kind start.at start.done) (written_of start.kind (work.done - start.done)) 1 1 (written_of start.kind (start.count - work.done))
+                calls calls (written_of start.kind (start.count - start.done)) (omega arith) (omega arith) (omega (arith, blocks)) took counted.any);
           };
           kept = kept_more gone.kept turn.kept;
         }
 
     pub ends_badly : (now : S) (work : Work) (after : List (List ℕ)) → SoFar shelf v before now start work buffer after → OneTurn {T = U} {E = F} shelf v now next work more after later (Err e) → work.done < work.count → is_turn v start.kind start.at start.done ≡ true
-        → turns v start.kind start.at start.done + 1 ≤ turns v start.kind start.at start.count → HasFinished shelf v before next start more buffer later result
-    ends_badly now work after (inl still) turn left begins many =
+        → HasFinished shelf v before next start more buffer later result
+    ends_badly now work after (inl still) turn left begins =
         let a = subst (λ (s : S). OneTurn {T = U} {E = F} shelf v s next work more after later (Err e)) still.same_shelf turn in
         let b = subst (λ (u : Work). OneTurn {T = U} {E = F} shelf v before next u more after later (Err e)) still.same_work a in
-        fails_first (subst (λ (xs : List (List ℕ)). OneTurn {T = U} {E = F} shelf v before next start more xs later (Err e)) still.same_buffer b) (subst (λ (u : Work). u.done < u.count) still.same_work left) begins many
-    ends_badly now work after (inr gone) turn left begins many = fails_later now work after gone turn left
+        fails_first (subst (λ (xs : List (List ℕ)). OneTurn {T = U} {E = F} shelf v before next start more xs later (Err e)) still.same_buffer b) (subst (λ (u : Work). u.done < u.count) still.same_work left) begins
+    ends_badly now work after (inr gone) turn left begins = fails_later now work after gone turn left

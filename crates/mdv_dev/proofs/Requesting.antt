@@ -1,10 +1,11 @@
 -- Whole requests: a read, and a write with its flush.
-use Rattle.std.proofs.Common.{◌≡◌, inl, inr, ℕ, ◌+◌, ◌-◌, ◌<◌, ◌≤◌, Bool, true, false, List, [], length, Option, Result, Ok, refl, sym, ◌∙◌, ap, subst, arith}
+use Rattle.std.proofs.Common.{◌≡◌, ◌⊎◌, inl, inr, ℕ, ◌+◌, ◌-◌, ◌^◌, ◌<◌, ◌≤◌, Bool, true, false, List, [], length, Option, Result, Ok, Err, OnOk, refl, sym, ◌∙◌, ap, subst, arith}
 use Rattle.mdv_shelf.specs.Tale.{Tale}
-use Rattle.mdv_shelf.specs.Between.{MakesCalls}
+use Rattle.mdv_shelf.specs.Calls.{OnDrive, Took}
+use Rattle.mdv_shelf.specs.Shelves.{DriveFailed, Kept}
 use Rattle.mdv_shelf.specs.Moments.{Ends, Moments}
 use Rattle.mdv_shelf.specs.declared.shelf.Shelf.{Ghosts}
-use Rattle.mdv_shelf.proofs.Between.{between_then}
+use Rattle.mdv_shelf.proofs.Between.{between_of, between_then}
 use Rattle.mdv_shelf.proofs.Counts.{took_more}
 use Rattle.mdv_shelf.proofs.Moments.{ends_both, ends_more, moments_end, moments_more}
 use Rattle.mdv_map.specs.Maps.{HasDriveBlock, Map}
@@ -13,11 +14,13 @@ use Rattle.mdv_map.proofs.Covering.{true_false}
 use Rattle.mdv_map.proofs.Joining.{kept_is_old, rewritings_join}
 use Rattle.mdv_map.proofs.Standing.{requests_stand}
 use Rattle.mdv_dev.specs.Pieces.{IsOneCopy, count_to, drive_of, drives, has_drive, is_new, is_start, pieces}
-use Rattle.mdv_dev.specs.Works.{Carries, IsFinished, turns_left}
+use Rattle.mdv_dev.specs.Works.{Carries, IsFinished, MakesTurns, StopsAt, TakesReads, TakesWrites, TookExactly, is_turn, turns, turns_left, written_of}
 use Rattle.mdv_dev.specs.declared.work.Work.{Work}
 use Rattle.mdv_dev.specs.declared.work.WorkKind.{WorkKind}
 use Rattle.mdv_dev.specs.declared.work.WorkKind.TheVariants.{Read, Write, Flush}
 use Rattle.mdv_dev.proofs.Counting.{has_at}
+use Rattle.mdv_dev.proofs.Finishing.{rose_since}
+use Rattle.mdv_dev.proofs.Turning.{no_ok, on_err}
 
 -- a request of which nothing is done
 abbrev pub fresh : WorkKind → ℕ → ℕ → Work
@@ -82,16 +85,56 @@ module _ (v : Map) (at : ℕ) (blocks : List (List ℕ)) (one : IsOneCopy v) (wi
       one_end both
 
 -- how often it calls
-module _ {S : Type 0} (shelf : Ghosts S) (a b c : S) (v : Map) (at count : ℕ) where
-  pub calls_read : {T E : Type 0} (result : Result T E) → MakesCalls shelf a b (turns_left v (fresh Read at count)) 0 result → MakesCalls shelf a b (pieces v at count) 0 result
-  calls_read result makes = subst (λ (n : ℕ). MakesCalls shelf a b n 0 result) (none_counted (is_start v at) count) makes
+module _ {S : Type 0} (shelf : Ghosts S) (v : Map) (at count : ℕ) where
+  -- where a turn of a request failed
+  stops : {U F : Type 0} (e : F) (kind : WorkKind) (a b : S) (new : Work) (before after : List (List ℕ)) → IsFinished {T = U} {E = F} v (DriveFailed shelf a b) (fresh kind at count) before new after (Err e)
+      → MakesTurns {T = U} {E = F} shelf a b v (fresh kind at count) new (Err e) → StopsAt shelf a b v kind at count 0 (written_of kind count)
+  stops e kind a b new before after finished makes =
+      let none = none_counted (is_turn v kind at) new.done in
+      let calls : turns v kind at new.done - turns v kind at 0 ≡ 0 + turns v kind at new.done = omega (arith, none) in
+      let blocks : count - 0 ≡ count = omega arith in
+      let exact = subst (λ (n : ℕ). TookExactly shelf a b (n + 1) (written_of kind (count - 0))) calls makes.failed in
+      (new.done, finished.stayed.1, subst (λ (n : ℕ). TookExactly shelf a b (0 + turns v kind at new.done + 1) (written_of kind n)) blocks exact)
 
-  module _ {T E : Type 0} (x : T) (first : MakesCalls {T = T} {E = E} shelf a b (turns_left v (fresh Write at count)) (count - 0) (Ok x)) where
-    pub calls_both : {U F : Type 0} (y : U) → MakesCalls {T = U} {E = F} shelf b c (turns_left v (fresh Flush at count)) 0 (Ok y) → MakesCalls {T = U} {E = F} shelf a c (pieces v at count + drives v at count) count (Ok y)
-    calls_both y second =
+  module _ (a b : S) (work : Work) (before after : List (List ℕ)) where
+    pub reads_took : {T E : Type 0} (x : T) → MakesTurns {T = T} {E = E} shelf a b v (fresh Read at count) work (Ok x) → TakesReads {T = T} {E = E} shelf a b v at count (Ok x)
+    reads_took x makes = record { done = subst (λ (n : ℕ). Took shelf.calls shelf.written a b n 0) (none_counted (is_start v at) count) makes.done; failed = tt }
+
+    module _ {T E U F : Type 0} (e : F) (result : Result T E) (none : OnOk result ⊥) where
+      pub reads_stop : IsFinished {T = U} {E = F} v (DriveFailed shelf a b) (fresh Read at count) before work after (Err e) → MakesTurns {T = U} {E = F} shelf a b v (fresh Read at count) work (Err e) → TakesReads shelf a b v at count result
+      reads_stop finished makes = record {
+        done = no_ok result (Took shelf.calls shelf.written a b (pieces v at count) 0) none;
+        failed = on_err result (StopsAt shelf a b v Read at count 0 0) (stops {U = U} {F = F} e Read a b work before after finished makes);
+      }
+
+      pub writes_stop : IsFinished {T = U} {E = F} v (DriveFailed shelf a b) (fresh Write at count) before work after (Err e) → MakesTurns {T = U} {E = F} shelf a b v (fresh Write at count) work (Err e) → TakesWrites shelf a b v at count result
+      writes_stop finished makes = record {
+        done = no_ok result (Took shelf.calls shelf.written a b (pieces v at count + drives v at count) count) none;
+        failed = on_err result (StopsAt shelf a b v Write at count 0 count ⊎ StopsAt shelf a b v Flush at count (pieces v at count) count) (inl (stops {U = U} {F = F} e Write a b work before after finished makes));
+      }
+
+  module _ (a b c : S) (written flushed : Work) (before after : List (List ℕ)) {V G : Type 0} (x : V) (first : MakesTurns {T = V} {E = G} shelf a b v (fresh Write at count) written (Ok x)) where
+    pub writes_took : {U F : Type 0} (y : U) → MakesTurns {T = U} {E = F} shelf b c v (fresh Flush at count) flushed (Ok y) → TakesWrites {T = U} {E = F} shelf a c v at count (Ok y)
+    writes_took y second =
         let one = none_counted (is_start v at) count in
         let two = none_counted (is_new v at) count in
         record {
           done = took_more shelf.calls shelf.written a b c (turns_left v (fresh Write at count)) (turns_left v (fresh Flush at count)) (count - 0) 0 (pieces v at count + drives v at count) count (omega arith) (omega arith) first.done second.done;
-          any = between_then shelf.calls shelf.written a b c 1 (turns_left v (fresh Write at count)) (count - 0) 1 (turns_left v (fresh Flush at count)) 0 1 (pieces v at count + drives v at count) count (omega arith) (omega arith) (omega arith) first.any second.any;
+          failed = tt;
+        }
+
+    pub syncs_stop : {T E U F : Type 0} (e : F) (result : Result T E) → OnOk result ⊥ → Kept shelf a b → IsFinished {T = U} {E = F} v (DriveFailed shelf b c) (fresh Flush at count) before flushed after (Err e)
+        → MakesTurns {T = U} {E = F} shelf b c v (fresh Flush at count) flushed (Err e) → TakesWrites shelf a c v at count result
+    syncs_stop {T} {E} {U} {F} e result none kept finished makes =
+        let stop = stops {U = U} {F = F} e Flush b c flushed before after finished makes in
+        let one = none_counted (is_start v at) count in
+        let part = OnDrive (drive_of (v.copies (at + stop.0))) in
+        let since = rose_since (shelf.faults a part) (shelf.faults b part) (shelf.faults c part) (2 ^ 64 - 1) (kept.keeps.no_fewer_faults part) stop.1.failed in
+        let took = between_of shelf.calls shelf.written a b (turns_left v (fresh Write at count)) (count - 0) (pieces v at count) (pieces v at count) count (omega arith) (omega arith) (omega arith) first.done in
+        let calls = pieces v at count + turns v Flush at stop.0 + 1 in
+        let both = between_then shelf.calls shelf.written a b c (pieces v at count) (pieces v at count) count (0 + turns v Flush at stop.0 + 1) (0 + turns v Flush at stop.0 + 1) 0 calls calls count (omega arith) (omega arith) (omega arith) took stop.2 in
+        let stopped : StopsAt shelf a c v Flush at count (pieces v at count) count = (stop.0, record { below = stop.1.below; begins = stop.1.begins; failed = since }, both) in
+        record {
+          done = no_ok result (Took shelf.calls shelf.written a c (pieces v at count + drives v at count) count) none;
+          failed = on_err result (StopsAt shelf a c v Write at count 0 count ⊎ StopsAt shelf a c v Flush at count (pieces v at count) count) (inr stopped);
         }

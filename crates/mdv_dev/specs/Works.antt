@@ -1,8 +1,9 @@
 -- Requests for blocks of a device: what one has done by now, and what a turn of it does.
 use Rattle.std.specs.Prelude.{◌≡◌, ◌⊎◌, ℕ, ◌+◌, ◌-◌, ◌<◌, ◌≤◌, Bool, true, List, [], length, Result, OnOk, OnErr}
+use Rattle.mdv_shelf.specs.Shelves.{DriveFailed}
 use Rattle.mdv_shelf.specs.declared.shelf.Shelf.{Ghosts}
 use Rattle.mdv_dev.specs.Below.{AreRead, Map, OnDrives, Tale, Took, TookBetween}
-use Rattle.mdv_dev.specs.Pieces.{count_to, drive_of, has_drive, is_new, is_start}
+use Rattle.mdv_dev.specs.Pieces.{count_to, drive_of, drives, has_drive, is_new, is_start, pieces}
 use Rattle.mdv_dev.specs.declared.work.Work.{Work}
 use Rattle.mdv_dev.specs.declared.work.WorkKind.{WorkKind}
 use Rattle.mdv_dev.specs.declared.work.WorkKind.TheVariants.{Read, Write, Flush}
@@ -89,17 +90,36 @@ turns_left v work = turns v work.kind work.at work.count - turns v work.kind wor
 abbrev pub Carries : Map → Work → List (List ℕ) → Work → List (List ℕ) → Tale → Tale → Type 0
 Carries v old before new after t u = HasDone v old before t → HasDone v new after u
 
+-- it took so many calls, told from both sides, and wrote no more than so many blocks
+abbrev pub TookExactly : {S : Type 0} → Ghosts S → S → S → ℕ → ℕ → Type 0
+TookExactly shelf before now calls blocks = TookBetween shelf.calls shelf.written before now calls calls blocks
+
 -- what a turn takes: one call
 pub record IsTurnCounted {S T E : Type 0} (shelf : Ghosts S) (before now : S) (old new : Work) (result : Result T E) : Type 0 where
   pub done : OnOk result (Took shelf.calls shelf.written before now 1 (written_of old.kind (new.done - old.done)))
-  pub any : TookBetween shelf.calls shelf.written before now 1 1 (written_of old.kind (old.count - old.done))
+  pub any : TookExactly shelf before now 1 (written_of old.kind (old.count - old.done))
+
+-- What a request takes: a call for each turn that is left. Where one fails, a call for each turn that it did, that one, and no other.
+pub record MakesTurns {S T E : Type 0} (shelf : Ghosts S) (before now : S) (v : Map) (old new : Work) (result : Result T E) : Type 0 where
+  pub done : OnOk result (Took shelf.calls shelf.written before now (turns_left v old) (written_of old.kind (old.count - old.done)))
+  pub failed : OnErr result (TookExactly shelf before now (turns v old.kind old.at new.done - turns v old.kind old.at old.done + 1) (written_of old.kind (old.count - old.done)))
 
 -- blocks of a volume, one at least
 pub record IsRange (v : Map) (at count : ℕ) : Type 0 where
   pub some : 0 < count
   pub within : at + count ≤ v.blocks
 
--- a write leaves its buffer, and fails only where a call failed on a drive of its blocks
-pub record IsWritten {T E : Type 0} (v : Map) (Failed : ℕ → Type 0) (at : ℕ) (before after : List (List ℕ)) (result : Result T E) : Type 0 where
-  pub same : after ≡ before
-  pub cause : OnErr result (((k : ℕ) × FailedAt Failed v Write at (length before) k) ⊎ ((k : ℕ) × FailedAt Failed v Flush at (length before) k))
+-- It stopped at the failure of a turn of that kind: it made so many calls earlier, one for each turn before it, that one, and no other.
+abbrev pub StopsAt : {S : Type 0} → Ghosts S → S → S → Map → WorkKind → ℕ → ℕ → ℕ → ℕ → Type 0
+StopsAt shelf before now v kind at count earlier blocks =
+    (k : ℕ) × FailedAt (DriveFailed shelf before now) v kind at count k × TookExactly shelf before now (earlier + turns v kind at k + 1) blocks
+
+-- a whole read: a call for each piece, up to the first that fails
+pub record TakesReads {S T E : Type 0} (shelf : Ghosts S) (before now : S) (v : Map) (at count : ℕ) (result : Result T E) : Type 0 where
+  pub done : OnOk result (Took shelf.calls shelf.written before now (pieces v at count) 0)
+  pub failed : OnErr result (StopsAt shelf before now v Read at count 0 0)
+
+-- a whole write: a call for each piece, and then one for each drive, up to the first that fails
+pub record TakesWrites {S T E : Type 0} (shelf : Ghosts S) (before now : S) (v : Map) (at count : ℕ) (result : Result T E) : Type 0 where
+  pub done : OnOk result (Took shelf.calls shelf.written before now (pieces v at count + drives v at count) count)
+  pub failed : OnErr result (StopsAt shelf before now v Write at count 0 count ⊎ StopsAt shelf before now v Flush at count (pieces v at count) count)

@@ -1,10 +1,9 @@
-ghost use Rattle.std.specs.Prelude.{◌≡◌, ℕ, ◌+◌, ◌<◌, ◌≤◌, [], length, OnOk, OnErr};
+ghost use Rattle.std.specs.Prelude.{◌≡◌, ◌+◌, ◌<◌, ◌≤◌, [], length, OnOk};
 ghost use Rattle.mdv_map.specs.Maps.{IsDisjoint};
 ghost use Rattle.mdv_map.specs.Requests.{AllOnDisk, AllRead, Rewriting};
-ghost use Rattle.mdv_shelf.specs.Between.{MakesCalls};
-ghost use Rattle.mdv_shelf.specs.Shelves.{AtEachTale, AtEnd, DriveFailed, Kept};
-ghost use Rattle.mdv_dev.specs.Pieces.{IsOn, drives, pieces};
-ghost use Rattle.mdv_dev.specs.Works.{FailedAt, IsRange, IsWritten};
+ghost use Rattle.mdv_shelf.specs.Shelves.{AtEachTale, AtEnd, Kept};
+ghost use Rattle.mdv_dev.specs.Pieces.{IsOn};
+ghost use Rattle.mdv_dev.specs.Works.{IsRange, TakesReads, TakesWrites};
 
 use crate::{Placed, Work, WorkKind, finish};
 use mdv_base::{Block, Failed};
@@ -24,8 +23,7 @@ pub fn read_blocks<D: Placed, S: Shelf>(
     requires range { IsRange (D.map device.now) at (length out.old) }
     ensures moments { AtEachTale S.Shelf (Rewriting (D.map device.now) at []) shelf.old shelf.new }
     ensures read { OnOk result (AtEnd S.Shelf (λ _ u. AllRead (D.map device.now) at out.new u) shelf.old shelf.new) }
-    ensures cause { OnErr result ((k : ℕ) × FailedAt (DriveFailed S.Shelf shelf.old shelf.new) (D.map device.now) WorkKind.Read at (length out.old) k) }
-    ensures counted { MakesCalls S.Shelf shelf.old shelf.new (pieces (D.map device.now) at (length out.old)) 0 result }
+    ensures counted { TakesReads S.Shelf shelf.old shelf.new (D.map device.now) at (length out.old) result }
     ensures kept { Kept S.Shelf shelf.old shelf.new }
 {
     let mut work = Work {
@@ -52,8 +50,8 @@ pub fn write_blocks<D: Placed, S: Shelf>(
     requires range { IsRange (D.map device.now) at (length from.old) }
     ensures moments { AtEachTale S.Shelf (Rewriting (D.map device.now) at from.old) shelf.old shelf.new }
     ensures written { OnOk result (AtEnd S.Shelf (λ _ u. AllRead (D.map device.now) at from.old u × AllOnDisk (D.map device.now) at (length from.old) u) shelf.old shelf.new) }
-    ensures left { IsWritten (D.map device.now) (DriveFailed S.Shelf shelf.old shelf.new) at from.old from.new result }
-    ensures counted { MakesCalls S.Shelf shelf.old shelf.new (pieces (D.map device.now) at (length from.old) + drives (D.map device.now) at (length from.old)) (length from.old) result }
+    ensures left { from.new ≡ from.old }
+    ensures counted { TakesWrites S.Shelf shelf.old shelf.new (D.map device.now) at (length from.old) result }
     ensures kept { Kept S.Shelf shelf.old shelf.new }
 {
     let count = from.len() as u64;

@@ -1,10 +1,9 @@
 ghost use Rattle.std.specs.Prelude.{◌≡◌, ℕ, ◌+◌, ◌-◌, ◌<◌, ◌≤◌, true, false, [], length};
 ghost use Rattle.mdv_map.specs.Maps.{IsDisjoint};
 ghost use Rattle.mdv_map.specs.Requests.{Rewriting};
-ghost use Rattle.mdv_shelf.specs.Between.{MakesCalls};
 ghost use Rattle.mdv_shelf.specs.Shelves.{AtEachTale, AtEnd, DriveFailed, Kept};
 ghost use Rattle.mdv_dev.specs.Pieces.{IsOn, has_drive, is_new};
-ghost use Rattle.mdv_dev.specs.Works.{Carries, IsFinished, IsOpen, IsTurned, IsTurnCounted, news, turns_left, written_of};
+ghost use Rattle.mdv_dev.specs.Works.{Carries, IsFinished, IsOpen, IsTurned, IsTurnCounted, MakesTurns, news};
 
 use crate::Placed;
 use mdv_base::{Block, DriveNo, Failed};
@@ -67,7 +66,7 @@ pub fn finish<D: Placed, S: Shelf>(
     ensures moments { AtEachTale S.Shelf (Rewriting (D.map device.now) work.old.at (news work.old.kind buffer.old)) shelf.old shelf.new }
     ensures done { AtEnd S.Shelf (Carries (D.map device.now) work.old buffer.old work.new buffer.new) shelf.old shelf.new }
     ensures finished { IsFinished (D.map device.now) (DriveFailed S.Shelf shelf.old shelf.new) work.old buffer.old work.new buffer.new result }
-    ensures counted { MakesCalls S.Shelf shelf.old shelf.new (turns_left (D.map device.now) work.old) (written_of work.old.kind (work.old.count - work.old.done)) result }
+    ensures counted { MakesTurns S.Shelf shelf.old shelf.new (D.map device.now) work.old work.new result }
     ensures kept { Kept S.Shelf shelf.old shelf.new }
 {
     while work.done < work.count {

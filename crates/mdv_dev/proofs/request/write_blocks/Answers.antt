@@ -1,7 +1,8 @@
-use Rattle.std.proofs.Common.{length}
+use Rattle.std.proofs.Common.{length, rules}
+use Rattle.mdv_base.specs.declared.drive.Failed.{Failed}
 use Rattle.mdv_shelf.proofs.Noted.{kept_more}
 use Rattle.mdv_shelf.specs.Shelves.{DriveFailed}
-use Rattle.mdv_dev.proofs.Requesting.{calls_both, first_is_new, moments_flushed, write_ends}
+use Rattle.mdv_dev.proofs.Requesting.{first_is_new, moments_flushed, syncs_stop, write_ends, writes_stop, writes_took}
 use Rattle.mdv_dev.proofs.request.write_blocks.Goals as goal
 
 pub finish-requires-2-clause-open : goal.finish-requires-2-clause-open
@@ -10,6 +11,16 @@ finish-requires-2-clause-open g c = record { some_left = c.requires.range.some; 
 pub returns-in_err-finish-2-clause-moments : goal.returns-in_err-finish-2-clause-moments
 returns-in_err-finish-2-clause-moments g c =
     moments_flushed (g.D.Placed.map c.args.device.now) c.args.at c.args.from.now (g.S.Shelf.tale c.args.shelf.now) (g.S.Shelf.tale c.finish.new.shelf) (g.S.Shelf.tale c.finish-2.new.shelf) c.finish.ensures.moments c.finish-2.ensures.moments
+
+pub returns-in_err-finish-clause-counted : goal.returns-in_err-finish-clause-counted
+returns-in_err-finish-clause-counted g c =
+    writes_stop g.S.Shelf (g.D.Placed.map c.args.device.now) c.args.at (length c.args.from.now) c.args.shelf.now c.finish.new.shelf c.finish.new.work c.args.from.now c.finish.new.buffer {U = Unit {0}} {F = Failed} c.in_err-finish.field-0.0 c.from_residual.result (search rules)
+    c.in_err-finish.ensures.finished c.in_err-finish.ensures.counted
+
+pub returns-in_err-finish-2-clause-counted : goal.returns-in_err-finish-2-clause-counted
+returns-in_err-finish-2-clause-counted g c =
+    syncs_stop g.S.Shelf (g.D.Placed.map c.args.device.now) c.args.at (length c.args.from.now) c.args.shelf.now c.finish.new.shelf c.finish-2.new.shelf c.finish.new.work c.finish-2.new.work c.finish.new.buffer c.finish-2.new.buffer c.in_ok-finish.field-0 c.in_ok-finish.ensures.counted
+    {U = Unit {0}} {F = Failed} c.in_err-finish-2.field-0.0 c.from_residual-in_err-finish-2.result (search rules) c.finish.ensures.kept c.in_err-finish-2.ensures.finished c.in_err-finish-2.ensures.counted
 
 pub returns-in_err-finish-2-clause-kept : goal.returns-in_err-finish-2-clause-kept
 returns-in_err-finish-2-clause-kept g c = kept_more c.finish.ensures.kept c.finish-2.ensures.kept
@@ -27,7 +38,7 @@ returns-clause-written g c =
 
 pub returns-clause-counted : goal.returns-clause-counted
 returns-clause-counted g c =
-    calls_both g.S.Shelf c.args.shelf.now c.finish.new.shelf c.finish-2.new.shelf (g.D.Placed.map c.args.device.now) c.args.at (length c.args.from.now) c.in_ok-finish.field-0 c.in_ok-finish.ensures.counted tt c.in_ok-finish-2.ensures.counted
+    writes_took g.S.Shelf (g.D.Placed.map c.args.device.now) c.args.at (length c.args.from.now) c.args.shelf.now c.finish.new.shelf c.finish-2.new.shelf c.finish.new.work c.finish-2.new.work c.finish.new.buffer c.finish-2.new.buffer c.in_ok-finish.field-0 c.in_ok-finish.ensures.counted tt c.in_ok-finish-2.ensures.counted
 
 pub returns-clause-kept : goal.returns-clause-kept
 returns-clause-kept g c = kept_more c.finish.ensures.kept c.finish-2.ensures.kept
