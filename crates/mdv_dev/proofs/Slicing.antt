@@ -1,7 +1,7 @@
 -- Blocks of a buffer that are given to a call, and those that come back.
 use Rattle.std.proofs.Common.{◌≡◌, ℕ, ◌+◌, ◌-◌, ◌<◌, ◌≤◌, List, [], ◌++◌, length, take, drop, slice_index_or, sym, ◌∙◌, ap, arith, length-take, length-drop}
 use Rattle.std.proofs.lemmas.List.{get_or-drop, get_or-take, length-take-le}
-use Rattle.std.proofs.lemmas.Slice.{take-put_mid, take-put_mid_below}
+use Rattle.std.proofs.lemmas.Slice.{drop-put_mid, take-put_mid, take-put_mid_below}
 use Rattle.std.proofs.lemmas.List.{get_or-append-add}
 use borrow.Rule.Slice.PartMut.{put_mid, same_len_mid}
 
@@ -33,3 +33,9 @@ module _ (from count : ℕ) (buffer : List (List ℕ)) (room : from + count ≤ 
 
     pub filled_long : length Filled ≡ length buffer
     filled_long = same_len_mid from (from + count - from) buffer news (long ∙ sym part_long)
+
+    pub filled_before : take from Filled ≡ take from buffer
+    filled_before = take-put_mid_below from (from + count - from) buffer news from (omega arith) (omega arith)
+
+    pub filled_behind : drop (from + count) Filled ≡ drop (from + count) buffer
+    filled_behind = drop-put_mid from (from + count - from) buffer news (from + count) (omega arith) (omega arith) (omega (arith, long))

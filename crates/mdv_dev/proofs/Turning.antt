@@ -1,5 +1,5 @@
 -- The moments and the end of a turn.
-use Rattle.std.proofs.Common.{◌≡◌, inl, inr, ℕ, ◌+◌, ◌-◌, ◌<◌, ◌≤◌, true, false, nat_lt, List, [], length, slice_index_or, Option, Some, Result, Ok, Err, OnErr, OnOk, refl, sym, ◌∙◌, ap, subst, arith}
+use Rattle.std.proofs.Common.{◌≡◌, inl, inr, ℕ, ◌+◌, ◌-◌, ◌<◌, ◌≤◌, true, false, nat_lt, List, [], length, take, drop, slice_index_or, Option, Some, Result, Ok, Err, OnErr, OnOk, refl, sym, ◌∙◌, ap, subst, arith}
 use Rattle.mdv_shelf.specs.Tale.{Tale, Then, Wrote, Tore, Synced, MayLeave, covers, last}
 use Rattle.mdv_shelf.specs.Calls.{Writes, Syncs, IsCounted, Took, and_then}
 use Rattle.mdv_shelf.specs.Moments.{Moments, Ends}
@@ -132,12 +132,14 @@ module _ (v : Map) (at done count : ℕ) (piece : Piece) (is : IsPiece v (at + d
   )
 
 -- what a turn is, at its end
-module _ (v : Map) (Failed : ℕ → Type 0) (work : Work) (before after : List (List ℕ)) (buffer : LeavesBuffer work.kind before after) where
-  pub turned : {T E : Type 0} (x : T) (end : ℕ) → work.done < end → end ≤ work.count → is_turn v work.kind work.at work.done ≡ true → ((j : ℕ) → work.done < j → j < end → is_turn v work.kind work.at j ≡ false)
+module _ (v : Map) (Failed : ℕ → Type 0) (work : Work) (before after : List (List ℕ)) (buffer : LeavesBuffer work.kind before after) (front : take work.done after ≡ take work.done before) where
+  pub turned : {T E : Type 0} (x : T) (end : ℕ) → drop end after ≡ drop end before → work.done < end → end ≤ work.count → is_turn v work.kind work.at work.done ≡ true → ((j : ℕ) → work.done < j → j < end → is_turn v work.kind work.at j ≡ false)
       → (end < work.count → is_turn v work.kind work.at end ≡ true) → IsTurned {T = T} {E = E} v Failed work before (record work { done = end }) after (Ok x)
-  turned x end lt le first none next = record {
+  turned x end behind lt le first none next = record {
     same = refl;
     buffer = buffer;
+    front = front;
+    behind = behind;
     within = le;
     begins = next;
     rose = (lt, count_turn (is_turn v work.kind work.at) work.done end lt first none);
@@ -149,11 +151,13 @@ pub no_ok : {T E : Type 0} (result : Result T E) (P : Type 0) → OnOk result �
 no_ok (Ok x) P none = absurd none
 no_ok (Err e) P none = tt
 
-pub missed : {T E : Type 0} (v : Map) (Failed : ℕ → Type 0) (work : Work) (before after : List (List ℕ)) (result : Result T E) → LeavesBuffer work.kind before after → OnOk result ⊥ → work.done < work.count → is_turn v work.kind work.at work.done ≡ true
+pub missed : {T E : Type 0} (v : Map) (Failed : ℕ → Type 0) (work : Work) (before after : List (List ℕ)) (result : Result T E) → LeavesBuffer work.kind before after → take work.done after ≡ take work.done before → OnOk result ⊥ → work.done < work.count → is_turn v work.kind work.at work.done ≡ true
     → Failed (pieces.drive_of (v.copies (work.at + work.done))) → IsTurned v Failed work before work after result
-missed v Failed work before after result buffer none lt first cause = record {
+missed v Failed work before after result buffer front none lt first cause = record {
   same = refl;
   buffer = buffer;
+  front = front;
+  behind = no_ok result (drop work.done after ≡ drop work.done before) none;
   within = omega arith;
   begins = λ _. first;
   rose = no_ok result ((work.done < work.done) × (turns v work.kind work.at work.done ≡ turns v work.kind work.at work.done + 1)) none;

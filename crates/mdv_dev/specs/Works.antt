@@ -1,5 +1,5 @@
 -- Requests for blocks of a device: what one has done by now, and what a turn of it does.
-use Rattle.std.specs.Prelude.{◌≡◌, ◌⊎◌, ℕ, ◌+◌, ◌-◌, ◌<◌, ◌≤◌, Bool, true, List, [], length, Result, OnOk, OnErr}
+use Rattle.std.specs.Prelude.{◌≡◌, ◌⊎◌, ℕ, ◌+◌, ◌-◌, ◌<◌, ◌≤◌, Bool, true, List, [], length, take, drop, Result, OnOk, OnErr}
 use Rattle.mdv_shelf.specs.Shelves.{DriveFailed}
 use Rattle.mdv_shelf.specs.declared.shelf.Shelf.{Ghosts}
 use Rattle.mdv_dev.specs.Below.{AreRead, Map, OnDrives, Tale, Took, TookBetween}
@@ -66,10 +66,13 @@ pub record FailedAt (Failed : ℕ → Type 0) (v : Map) (kind : WorkKind) (at co
   pub begins : is_turn v kind at k ≡ true
   pub failed : Failed (drive_of (v.copies (at + k)))
 
--- One turn: more is done, up to where the next one begins, or to the end. Where its call failed, no more is done.
+-- One turn: more is done, up to where the next one begins, or to the end. Where its call failed, no more is done. The buffer stays
+-- but for the blocks that it did, or tried to.
 pub record IsTurned {T E : Type 0} (v : Map) (Failed : ℕ → Type 0) (old : Work) (before : List (List ℕ)) (new : Work) (after : List (List ℕ)) (result : Result T E) : Type 0 where
   pub same : new ≡ record old { done = new.done }
   pub buffer : LeavesBuffer old.kind before after
+  pub front : take old.done after ≡ take old.done before
+  pub behind : OnOk result (drop new.done after ≡ drop new.done before)
   pub within : new.done ≤ old.count
   pub begins : new.done < old.count → is_turn v old.kind old.at new.done ≡ true
   pub rose : OnOk result ((old.done < new.done) × (turns v old.kind old.at new.done ≡ turns v old.kind old.at old.done + 1))

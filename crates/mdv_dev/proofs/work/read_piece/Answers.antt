@@ -11,7 +11,7 @@ use Rattle.mdv_dev.specs.Pieces.{is_start}
 use Rattle.mdv_dev.specs.declared.work.WorkKind.{WorkKind}
 use Rattle.mdv_dev.specs.declared.work.WorkKind.TheVariants.{Read}
 use Rattle.mdv_dev.proofs.Lying.{drive_here, in_drive, starts_in, starts_next}
-use Rattle.mdv_dev.proofs.Slicing.{filled_front, filled_long, filled_part, part_long}
+use Rattle.mdv_dev.proofs.Slicing.{filled_before, filled_behind, filled_front, filled_long, filled_part, part_long}
 use Rattle.mdv_dev.proofs.Turning.{ends_still, missed, more_read, turn_counted, turn_missed, turned}
 use Rattle.mdv_dev.proofs.work.read_piece.Goals as goal
 
@@ -45,9 +45,15 @@ pub returns-in_err-read-clause-turned : goal.returns-in_err-read-clause-turned
 returns-in_err-read-clause-turned g c =
     let v = g.D.Placed.map c.args.device.now in
     let w = c.args.work.now in
+    let count = c.piece-piece.result.count in
+    let out = c.args.out.now in
+    let news = c.read.new.out in
     let some = c.piece-piece.ensures.some in
+    let room : w.done + count ≤ length out = room_for w.kind w.count (length out) w.done count c.requires.kind c.requires.open.buffer c.requires.open.some_left c.piece-piece.ensures.within in
+    let long : length news ≡ count = c.read.auto.out ∙ part_long w.done count out room in
+    let filled = same_length w.kind _ _ c.requires.kind (filled_long w.done count out room news long) in
     let here = drive_here v w.at w.done w.count c.piece-piece.result c.piece-piece.ensures w.done (omega arith) (omega arith) in
-    missed v (DriveFailed g.S.Shelf c.args.shelf.now c.read.new.self) w c.args.out.now _ c.from_residual.result (same_length w.kind _ _ c.requires.kind (filled_long w.done c.piece-piece.result.count c.args.out.now (room_for w.kind w.count (length c.args.out.now) w.done c.piece-piece.result.count c.requires.kind c.requires.open.buffer c.requires.open.some_left c.piece-piece.ensures.within) c.read.new.out (c.read.auto.out ∙ part_long w.done c.piece-piece.result.count c.args.out.now (room_for w.kind w.count (length c.args.out.now) w.done c.piece-piece.result.count c.requires.kind c.requires.open.buffer c.requires.open.some_left c.piece-piece.ensures.within)))) (search rules) c.requires.open.some_left c.requires.open.begins
+    missed v (DriveFailed g.S.Shelf c.args.shelf.now c.read.new.self) w out _ c.from_residual.result filled (filled_before w.done count out room news long) (search rules) c.requires.open.some_left c.requires.open.begins
     (subst (λ (d : ℕ). DriveFailed g.S.Shelf c.args.shelf.now c.read.new.self d) (sym here) c.in_err-read.ensures.cause.failed)
 
 pub returns-in_err-read-clause-counted : goal.returns-in_err-read-clause-counted
@@ -77,8 +83,14 @@ returns-clause-turned g c =
     let v = g.D.Placed.map c.args.device.now in
     let w = c.args.work.now in
     let count = c.piece-piece.result.count in
+    let out = c.args.out.now in
+    let news = c.read.new.out in
     let some = c.piece-piece.ensures.some in
-    turned v (DriveFailed g.S.Shelf c.args.shelf.now c.read.new.self) w c.args.out.now _ (same_length w.kind _ _ c.requires.kind (filled_long w.done c.piece-piece.result.count c.args.out.now (room_for w.kind w.count (length c.args.out.now) w.done c.piece-piece.result.count c.requires.kind c.requires.open.buffer c.requires.open.some_left c.piece-piece.ensures.within) c.read.new.out (c.read.auto.out ∙ part_long w.done c.piece-piece.result.count c.args.out.now (room_for w.kind w.count (length c.args.out.now) w.done c.piece-piece.result.count c.requires.kind c.requires.open.buffer c.requires.open.some_left c.piece-piece.ensures.within)))) tt (w.done + count) (omega arith) (let few = c.piece-piece.ensures.within in let left = c.requires.open.some_left in omega arith) c.requires.open.begins
+    let room : w.done + count ≤ length out = room_for w.kind w.count (length out) w.done count c.requires.kind c.requires.open.buffer c.requires.open.some_left c.piece-piece.ensures.within in
+    let long : length news ≡ count = c.read.auto.out ∙ part_long w.done count out room in
+    let filled = same_length w.kind _ _ c.requires.kind (filled_long w.done count out room news long) in
+    turned v (DriveFailed g.S.Shelf c.args.shelf.now c.read.new.self) w out _ filled (filled_before w.done count out room news long) tt (w.done + count) (filled_behind w.done count out room news long)
+    (omega arith) (let few = c.piece-piece.ensures.within in let left = c.requires.open.some_left in omega arith) c.requires.open.begins
     (λ j above below. turn_is w.kind v w.at j c.requires.kind ∙ starts_in v w.at w.done w.count c.piece-piece.result c.piece-piece.ensures j above below)
     (λ below. turn_is w.kind v w.at (w.done + count) c.requires.kind ∙ starts_next v w.at w.done w.count c.piece-piece.result c.piece-piece.ensures below)
 

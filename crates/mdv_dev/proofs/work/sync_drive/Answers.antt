@@ -54,7 +54,7 @@ returns-in_err-sync-clause-turned g c =
     let w = c.args.work.now in
     let some = c.piece-piece.ensures.some in
     let here = drive_here v w.at w.done w.count c.piece-piece.result c.piece-piece.ensures w.done (omega arith) (omega arith) in
-    missed v (DriveFailed g.S.Shelf c.args.shelf.now c.sync.new.self) w [] [] c.from_residual.result (same_buffer w.kind c.requires.kind) (search rules) c.requires.open.some_left c.requires.open.begins
+    missed v (DriveFailed g.S.Shelf c.args.shelf.now c.sync.new.self) w [] [] c.from_residual.result (same_buffer w.kind c.requires.kind) refl (search rules) c.requires.open.some_left c.requires.open.begins
     (subst (λ (d : ℕ). DriveFailed g.S.Shelf c.args.shelf.now c.sync.new.self d) (sym here) c.in_err-sync.ensures.cause.failed)
 
 pub returns-in_err-sync-clause-counted : goal.returns-in_err-sync-clause-counted
@@ -84,7 +84,7 @@ returns-clause-turned g c =
     let w = c.args.work.now in
     let some = c.piece-piece.ensures.some in
     let behind = c.next_drive-work.ensures.behind in
-    turned v (DriveFailed g.S.Shelf c.args.shelf.now c.sync.new.self) w [] [] (same_buffer w.kind c.requires.kind) tt c.next_drive-work.result (omega arith) c.next_drive-work.ensures.until c.requires.open.begins
+    turned v (DriveFailed g.S.Shelf c.args.shelf.now c.sync.new.self) w [] [] (same_buffer w.kind c.requires.kind) refl tt c.next_drive-work.result refl (omega arith) c.next_drive-work.ensures.until c.requires.open.begins
     (λ j above below. turn_is w.kind v w.at j c.requires.kind ∙ seen_until v w.at w.done w.count c.piece-piece.result c.piece-piece.ensures c.next_drive-work.result c.next_drive-work.ensures.seen j above below)
     (λ below. turn_is w.kind v w.at c.next_drive-work.result c.requires.kind ∙ c.next_drive-work.ensures.first below)
 

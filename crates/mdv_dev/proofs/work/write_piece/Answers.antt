@@ -81,7 +81,7 @@ returns-in_err-write-clause-turned g c =
     let w = c.args.work.now in
     let some = c.piece-piece.ensures.some in
     let here = drive_here v w.at w.done w.count c.piece-piece.result c.piece-piece.ensures w.done (omega arith) (omega arith) in
-    missed v (DriveFailed g.S.Shelf c.args.shelf.now c.write.new.self) w c.args.from.now c.args.from.now c.from_residual.result (same_buffer w.kind c.args.from.now c.requires.kind) (search rules) c.requires.open.some_left c.requires.open.begins
+    missed v (DriveFailed g.S.Shelf c.args.shelf.now c.write.new.self) w c.args.from.now c.args.from.now c.from_residual.result (same_buffer w.kind c.args.from.now c.requires.kind) refl (search rules) c.requires.open.some_left c.requires.open.begins
     (subst (λ (d : ℕ). DriveFailed g.S.Shelf c.args.shelf.now c.write.new.self d) (sym here) c.in_err-write.ensures.cause.failed)
 
 pub returns-in_err-write-clause-counted : goal.returns-in_err-write-clause-counted
@@ -129,7 +129,7 @@ returns-clause-turned g c =
     let w = c.args.work.now in
     let count = c.piece-piece.result.count in
     let some = c.piece-piece.ensures.some in
-    turned v (DriveFailed g.S.Shelf c.args.shelf.now c.write.new.self) w c.args.from.now c.args.from.now (same_buffer w.kind c.args.from.now c.requires.kind) tt (w.done + count) (omega arith) (let few = c.piece-piece.ensures.within in let left = c.requires.open.some_left in omega arith) c.requires.open.begins
+    turned v (DriveFailed g.S.Shelf c.args.shelf.now c.write.new.self) w c.args.from.now c.args.from.now (same_buffer w.kind c.args.from.now c.requires.kind) refl tt (w.done + count) refl (omega arith) (let few = c.piece-piece.ensures.within in let left = c.requires.open.some_left in omega arith) c.requires.open.begins
     (λ j above below. turn_is w.kind v w.at j c.requires.kind ∙ starts_in v w.at w.done w.count c.piece-piece.result c.piece-piece.ensures j above below)
     (λ below. turn_is w.kind v w.at (w.done + count) c.requires.kind ∙ starts_next v w.at w.done w.count c.piece-piece.result c.piece-piece.ensures below)
 
