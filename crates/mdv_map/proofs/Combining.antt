@@ -1,10 +1,12 @@
 -- Maps made of other maps.
-use Rattle.std.proofs.Common.{◌≡◌, ◌⊎◌, inl, inr, ℕ, ◌+◌, ◌-◌, ◌<◌, ◌≤◌, Bool, true, false, nat_lt, List, sym, ◌∙◌, ap, subst, arith}
+use Rattle.std.proofs.Common.{◌≡◌, ◌⊎◌, inl, inr, ℕ, ◌+◌, ◌-◌, ◌<◌, ◌≤◌, Bool, true, false, nat_lt, List, ◌++◌, refl, sym, ◌∙◌, ap, subst, arith}
 use Rattle.std.proofs.lemmas.Bool.Decides.{nat_tests}
+use Rattle.std.proofs.lemmas.List.{map-append}
 use Rattle.mdv_shelf.proofs.Blocks.{both_ways}
-use Rattle.mdv_map.specs.Maps.{DriveBlock, Map, HasDriveBlock, IsDisjoint, AreDisjoint, run_map, chain_map, mirror_map, cut_map}
+use Rattle.mdv_map.specs.Below.{Image}
+use Rattle.mdv_map.specs.Maps.{DriveBlock, Map, HasDriveBlock, IsDisjoint, AreDisjoint, run_map, chain_map, mirror_map, cut_map, held, readings}
 use Rattle.mdv_map.specs.Laws.{ChainsLie, CutsLie, MirrorsLie, SoftPartitionsLie}
-use Rattle.mdv_map.proofs.Copies.{in_either, in_first, in_second, le_of_test, lt_of_test}
+use Rattle.mdv_map.proofs.Copies.{in_either, in_first, in_second, below_test, le_of_test, lt_of_test}
 
 -- a block of a run is one block of its drive
 pub in_run : (drive first count b other block : ℕ) → HasDriveBlock ((run_map drive first count).places b) other block → (other ≡ drive) × (block ≡ first + b)
@@ -27,9 +29,6 @@ runs_apart drive first count other from length away a b at block below above in_
       | inl elsewhere ↦ elsewhere (sym one.0 ∙ two.0)
       | inr beside ↦ elim beside [ inl before ↦ absurd (omega (arith, before, one.1, two.1)) | inr behind ↦ absurd (omega (arith, behind, one.1, two.1)) ]
     ]
-
-below_test : (b n : ℕ) → b < n → nat_lt b n ≡ true
-below_test b n lt = grind (arith, nat_tests)
 
 above_test : (b n : ℕ) → nat_lt (n + b) n ≡ false
 above_test b n = grind (arith, nat_tests)
@@ -94,6 +93,9 @@ module _ (v w : Map) where
     | inr back ↦ two back.behind b drive block back.below above (back_places drive block a back in_a) in_b
   ]
 
+  mirror_reads : (image : Image) (b : ℕ) → readings (mirror_map v w) image b ≡ readings v image b ++ readings w image b
+  mirror_reads image b = map-append (held image) (v.copies b) (w.copies b)
+
   mirror_either : (b drive block : ℕ) → HasDriveBlock ((mirror_map v w).places b) drive block → HasDriveBlock (v.places b) drive block ⊎ HasDriveBlock (w.places b) drive block
   mirror_either b drive block has = in_either (v.places b) (w.places b) drive block has
 
@@ -122,10 +124,17 @@ module _ (v w : Map) where
   ]
 
 pub chains_lie : ChainsLie
-chains_lie = record { front = chain_front; back = chain_back; disjoint = chain_disjoint; apart = chain_apart }
+chains_lie = record { front = chain_front; back = chain_back; blocks = λ v w. refl; disjoint = chain_disjoint; apart = chain_apart }
 
 pub mirrors_lie : MirrorsLie
-mirrors_lie = record { either = mirror_either; disjoint = mirror_disjoint; apart = mirror_apart }
+mirrors_lie = record {
+  reads = mirror_reads;
+  places = λ v w b. refl;
+  blocks = λ v w. refl;
+  either = mirror_either;
+  disjoint = mirror_disjoint;
+  apart = mirror_apart;
+}
 
 pub cut_copies : (usable : ℕ → Bool) (v : Map) (b drive block : ℕ) → HasDriveBlock ((cut_map usable v).copies b) drive block → (usable b ≡ true) × HasDriveBlock (v.copies b) drive block
 cut_copies usable v b drive block has = elim (both_ways (usable b)) [
@@ -136,6 +145,9 @@ cut_copies usable v b drive block has = elim (both_ways (usable b)) [
 pub cuts_lie : CutsLie
 cuts_lie = record {
   copies = cut_copies;
+  others = λ usable v b is. rw is;
+  places = λ usable v b. refl;
+  blocks = λ usable v. refl;
   disjoint = λ usable v one. record {
     apart = one.apart;
     within = λ b drive block below has. one.within b drive block below (cut_copies usable v b drive block has).1;
@@ -144,6 +156,9 @@ cuts_lie = record {
 
 pub soft_partitions_lie : SoftPartitionsLie
 soft_partitions_lie = record {
+  copies = λ pick count v b. refl;
+  places = λ pick count v b. refl;
+  blocks = λ pick count v. refl;
   within = λ pick count v picks b drive block below has. (pick b, picks b below, has);
   disjoint = λ pick count v picks one_to_one one. record {
     apart = λ a b drive block below above in_a in_b. one_to_one a b below above (one.apart (pick a) (pick b) drive block (picks a below) (picks b above) in_a in_b);

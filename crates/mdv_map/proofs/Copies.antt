@@ -31,6 +31,9 @@ lt_of_test a n is = grind (arith, nat_tests)
 pub le_of_test : (a n : ℕ) → nat_lt a n ≡ false → n ≤ a
 le_of_test a n is = grind (arith, nat_tests)
 
+pub below_test : (b n : ℕ) → b < n → nat_lt b n ≡ true
+below_test b n lt = grind (arith, nat_tests)
+
 pub same_drive : (a b c d : ℕ) → a == b && c == d ≡ true → a ≡ b
 same_drive a b c d is = grind (arith, nat_tests)
 

@@ -115,6 +115,9 @@ module _ (drive first count other block : ℕ) where
 
 pub runs_lie : RunsLie
 runs_lie = record {
+  copies = λ drive first count b. refl;
+  places = λ drive first count b. refl;
+  blocks = λ drive first count. refl;
   disjoint = run_disjoint;
   apart = runs_apart;
   area = λ drive first count other block.

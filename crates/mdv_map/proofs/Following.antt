@@ -1,13 +1,14 @@
 -- Logs that the drives follow.
-use Rattle.std.proofs.Common.{◌≡◌, inl, inr, ⊎_elim, ℕ, ◌+◌, ◌-◌, ◌<◌, ◌≤◌, ◌&&◌, ◌==◌, nat_lt, List, [], ◌∷◌, length, slice_index_or, if◌then◌else◌, refl, sym, ◌∙◌, ap, subst, arith, eq-eqb}
+use Rattle.std.proofs.Common.{◌≡◌, inl, inr, ⊎_elim, ℕ, ◌+◌, ◌-◌, ◌<◌, ◌≤◌, ◌&&◌, ◌==◌, nat_le, nat_lt, true, false, List, [], ◌∷◌, length, slice_index_or, if◌then◌else◌, refl, sym, ◌∙◌, ap, subst, arith, eq-eqb}
+use Rattle.std.proofs.lemmas.Bool.Decides.{nat_tests}
 use Rattle.mdv_shelf.proofs.Blocks.{both_ways, last_may_be_left}
 use Rattle.mdv_shelf.specs.Tale.{MayLeave, last, values}
 use Rattle.mdv_map.specs.Below.{Among, Begun, Image, IsImage, Start, Tale}
 use Rattle.mdv_map.specs.Maps.{DriveBlock, Map, HasDriveBlock, IsDisjoint, readings}
 use Rattle.mdv_map.specs.Logs.{VolumeLog, AreIssued, AreLastIssued, Follows, is_among, after_issue, after_answer, after_flush, after_crash, left_in, opening}
-use Rattle.mdv_map.specs.Requests.{AllRead, Rewriting}
+use Rattle.mdv_map.specs.Requests.{AllOnDisk, AllRead, Rewriting}
 use Rattle.mdv_map.specs.Laws.{FollowsEachCopy, CopiesFollow, NarrowerMapsFollow, RewritingsFollow, IssuesFollow, AnswersFollow, FlushesFollow, CrashesFollow, BootsFollow, BeginningsFollow}
-use Rattle.mdv_map.proofs.Copies.{reading_of, copy_of, among_first, among_second, among_at, is_among_range, lt_of_test, place_among, same_block, same_drive}
+use Rattle.mdv_map.proofs.Copies.{reading_of, copy_of, among_first, among_second, among_at, is_among_range, below_test, lt_of_test, place_among, same_block, same_drive}
 
 -- what a read gives, but for one block
 abbrev with_value : Tale → ℕ → ℕ → List ℕ → Image
@@ -96,6 +97,12 @@ in_front : (at k : ℕ) → (at + k) - at ≡ k
 in_front at k = omega arith
 
 module _ (at : ℕ) (blocks : List (List ℕ)) (log : VolumeLog) where
+  issue_reads : (k : ℕ) → k < length blocks → (after_issue at blocks log (at + k)).reads ≡ slice_index_or blocks k [] ∷ (log (at + k)).reads
+  issue_reads k lt = rw (is_among_range at (length blocks) k lt) (ap (λ (i : ℕ). slice_index_or blocks i [] ∷ (log (at + k)).reads) (in_front at k))
+
+  issue_leaves : (k : ℕ) → k < length blocks → (after_issue at blocks log (at + k)).leaves ≡ slice_index_or blocks k [] ∷ (log (at + k)).leaves
+  issue_leaves k lt = rw (is_among_range at (length blocks) k lt) (ap (λ (i : ℕ). slice_index_or blocks i [] ∷ (log (at + k)).leaves) (in_front at k))
+
   issued_now : AreIssued (after_issue at blocks log) at blocks
   issued_now k lt =
       let test = is_among_range at (length blocks) k lt in
@@ -134,14 +141,38 @@ module _ (at : ℕ) (blocks : List (List ℕ)) (log : VolumeLog) where
     ];
   }
 
+  answer_one : (k : ℕ) → k < length blocks → (after_answer at blocks log (at + k)).reads ≡ slice_index_or blocks k [] ∷ []
+  answer_one k lt = rw (is_among_range at (length blocks) k lt) (ap (λ (i : ℕ). slice_index_or blocks i [] ∷ []) (in_front at k))
+
+  answer_leaves : (b : ℕ) → (after_answer at blocks log b).leaves ≡ (log b).leaves
+  answer_leaves b = elim (both_ways (is_among at (length blocks) b)) [ inl does ↦ rw does | inr not ↦ rw not ]
+
 pub issues_follow : IssuesFollow
-issues_follow = record { follows = λ v at blocks log t follows. issue_follows at blocks log v t follows; issued = issued_now; newest = newest_now }
+issues_follow = record {
+  follows = λ v at blocks log t follows. issue_follows at blocks log v t follows;
+  issued = issued_now;
+  newest = newest_now;
+  reads = issue_reads;
+  leaves = issue_leaves;
+  others = λ at blocks log b not. rw not;
+}
 
 pub answers_follow : AnswersFollow
-answers_follow v at blocks log t all follows = answer_follows at blocks log v t all follows
+answers_follow = record {
+  follows = λ v at blocks log t all follows. answer_follows at blocks log v t all follows;
+  one = answer_one;
+  leaves = answer_leaves;
+  others = λ at blocks log b not. rw not;
+}
 
-pub flushes_follow : FlushesFollow
-flushes_follow v at count log t all follows =
+flush_same : (at count : ℕ) (log : VolumeLog) (k : ℕ) → k < count → (after_flush at count log (at + k)).leaves ≡ (log (at + k)).reads
+flush_same at count log k lt = rw (is_among_range at count k lt)
+
+flush_reads : (at count : ℕ) (log : VolumeLog) (b : ℕ) → (after_flush at count log b).reads ≡ (log b).reads
+flush_reads at count log b = elim (both_ways (is_among at count b)) [ inl does ↦ rw does | inr not ↦ rw not ]
+
+flush_follows : (v : Map) (at count : ℕ) (log : VolumeLog) (t : Tale) → AllOnDisk v at count t → Follows v log t → Follows v (after_flush at count log) t
+flush_follows v at count log t all follows =
     let each = each_copy v log t follows in
     all_copies v (after_flush at count log) t (record {
       reads = λ b drive block lt has. elim (both_ways (is_among at count b)) [
@@ -157,6 +188,14 @@ flushes_follow v at count log t all follows =
       ];
     })
 
+pub flushes_follow : FlushesFollow
+flushes_follow = record {
+  follows = flush_follows;
+  same = flush_same;
+  reads = flush_reads;
+  others = λ at count log b not. rw not;
+}
+
 -- at a start a read gives what the drives hold, and a crash leaves it
 last_begun : (start : Start) (drive block : ℕ) → last (Begun start) drive block ≡ start.block drive block
 unfolding last
@@ -169,6 +208,8 @@ left_begun start drive block x (inr none) = absurd none
 
 pub crashes_follow : CrashesFollow
 crashes_follow = record {
+  reads = λ log b. refl;
+  leaves = λ log b. refl;
   crashed = λ v log t start is_image follows.
       let each = each_copy v log t follows in
       all_copies v (after_crash log) (Begun start) (record {
@@ -194,6 +235,7 @@ boots_follow = record {
     reads = λ b x lt reading. inl (one (last t) b x (last_is_image t) lt reading);
     leaves = λ image b x is_image lt reading. inl (one image b x is_image lt reading);
   };
+  one = λ content log b. refl;
   left = λ v log t b drive block lt has follows. (each_copy v log t follows).leaves b drive block (last t drive block) lt has (last_may_be_left t drive block);
 }
 
@@ -204,20 +246,28 @@ left_of t (s ∷ ss) drive block x (inl (d, b)) left =
     among_first (values t s.drive s.block) (left_in t ss) x (subst (λ (e : ℕ). Among (values t e s.block) x) d (subst (λ (c : ℕ). Among (values t drive c) x) b left))
 left_of t (s ∷ ss) drive block x (inr rest) left = among_second (values t s.drive s.block) (left_in t ss) x (left_of t ss drive block x rest left)
 
+from_there : (b from : ℕ) → nat_lt b from ≡ false → nat_le from b ≡ true
+from_there b from not = grind (arith, nat_tests)
+
+not_below : (b from : ℕ) → from ≤ b → nat_lt b from ≡ false
+not_below b from le = grind (arith, nat_tests)
+
 pub beginnings_follow : BeginningsFollow
 beginnings_follow = record {
   made = λ v t. all_copies v (opening v t) t (record {
     reads = λ b drive block lt has. reading_of (last t) (v.copies b) drive block has;
     leaves = λ b drive block x lt has left. left_of t (v.copies b) drive block x has left;
   });
-  behind = λ v from log logs t front whole. record {
+  behind = λ v from log logs t front rest. record {
     reads = λ b x lt reading. elim (both_ways (nat_lt b from)) [
       | inl does ↦ rw does (front.reads b x (lt_of_test b from does) reading)
-      | inr not ↦ rw not (whole.reads b x lt reading)
+      | inr not ↦ let test = from_there b from not in rw not (rest.reads b x lt (rw test reading))
     ];
     leaves = λ image b x is_image lt reading. elim (both_ways (nat_lt b from)) [
       | inl does ↦ rw does (front.leaves image b x is_image (lt_of_test b from does) reading)
-      | inr not ↦ rw not (whole.leaves image b x is_image lt reading)
+      | inr not ↦ let test = from_there b from not in rw not (rest.leaves image b x is_image lt (rw test reading))
     ];
   };
+  before = λ from log logs b lt. rw (below_test b from lt);
+  beyond = λ from log logs b le. rw (not_below b from le);
 }

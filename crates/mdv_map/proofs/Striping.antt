@@ -1,5 +1,5 @@
 -- Stripes: a block lies in one block of one column.
-use Rattle.std.proofs.Common.{◌≡◌, ◌⊎◌, inl, inr, ℕ, zero, suc, ◌+◌, ◌*◌, ◌/◌, ◌%◌, ◌<◌, ◌≤◌, true, false, List, length, nat_eq, sym, ◌∙◌, ap, subst, arith}
+use Rattle.std.proofs.Common.{◌≡◌, ◌⊎◌, inl, inr, ℕ, zero, suc, ◌+◌, ◌*◌, ◌/◌, ◌%◌, ◌<◌, ◌≤◌, true, false, List, length, nat_eq, refl, sym, ◌∙◌, ap, subst, arith}
 use Rattle.std.proofs.lemmas.Bool.Decides.{nat_tests}
 use Rattle.std.proofs.lemmas.Nat.{div_below, div-mul-add, mod-mul-add, div-add-mod'}
 use Rattle.std.proofs.Math.Nat.{mul-le-mul_right}
@@ -42,6 +42,10 @@ equal a b is = grind (arith, nat_tests)
 
 different : (a b : ℕ) → nat_eq a b ≡ false → a ≡ b → ⊥
 different a b not is = grind (arith, nat_tests)
+
+some_factor : (units interlace offset : ℕ) → offset < units * interlace → 0 < interlace
+some_factor units zero offset lt = absurd (omega arith)
+some_factor units (suc interlace) offset lt = omega arith
 
 some_column : (units width interlace b : ℕ) → b < units * width * interlace → 0 < width
 some_column units zero interlace b lt = absurd (omega arith)
@@ -88,5 +92,56 @@ module _ (interlace units : ℕ) (columns : List Map) (are : AreColumns interlac
       let room = are.room (column_of interlace Width a) (offset_of interlace Width a) column (offset_below interlace units Width a are.some (wide a below) below) in
       each (column_of interlace Width a) column (offset_of interlace Width a) b drive block room above in_a in_b
 
+-- a block of a column lies in the stripe
+module _ (interlace units width column offset : ℕ) (listed : column < width) (lt : offset < units * interlace) where
+  some_block : 0 < interlace
+  some_block = some_factor units interlace offset lt
+
+  rest : offset % interlace < interlace
+  rest = rest_below offset interlace some_block
+
+  row_below : offset / interlace < units
+  row_below = quotient_below offset interlace units some_block lt
+
+  unit_below : offset / interlace * width + column < units * width
+  unit_below = row_end (offset / interlace) column width units listed row_below
+
+  block_below : striped_block interlace width column offset < units * width * interlace
+  block_below = row_end (offset / interlace * width + column) (offset % interlace) interlace (units * width) rest unit_below
+
+  unit_of : striped_block interlace width column offset / interlace ≡ offset / interlace * width + column
+  unit_of = div-mul-add (offset / interlace * width + column) interlace (offset % interlace) rest
+
+  column_back : column_of interlace width (striped_block interlace width column offset) ≡ column
+  column_back = ap (λ (u : ℕ). u % width) unit_of ∙ mod-mul-add (offset / interlace) width column listed
+
+  offset_back : offset_of interlace width (striped_block interlace width column offset) ≡ offset
+  offset_back =
+      ap (λ (u : ℕ). u / width * interlace + striped_block interlace width column offset % interlace) unit_of
+      ∙ ap (λ (r : ℕ). r * interlace + striped_block interlace width column offset % interlace) (div-mul-add (offset / interlace) width column listed)
+      ∙ ap (λ (r : ℕ). offset / interlace * interlace + r) (mod-mul-add (offset / interlace * width + column) interlace (offset % interlace) rest)
+      ∙ div-add-mod' offset interlace
+
+module _ (interlace units : ℕ) (columns : List Map) (column offset : ℕ) (listed : column < length columns) (lt : offset < units * interlace) where
+  lies_there : (stripe_map interlace units columns).places (striped_block interlace (length columns) column offset) ≡ (column_at columns column).places offset
+  lies_there =
+      ap (λ (i : ℕ). (column_at columns i).places (offset_of interlace (length columns) (striped_block interlace (length columns) column offset))) (column_back interlace units (length columns) column offset listed lt)
+      ∙ ap (column_at columns column).places (offset_back interlace units (length columns) column offset listed lt)
+
+  read_there : (stripe_map interlace units columns).copies (striped_block interlace (length columns) column offset) ≡ (column_at columns column).copies offset
+  read_there =
+      ap (λ (i : ℕ). (column_at columns i).copies (offset_of interlace (length columns) (striped_block interlace (length columns) column offset))) (column_back interlace units (length columns) column offset listed lt)
+      ∙ ap (column_at columns column).copies (offset_back interlace units (length columns) column offset listed lt)
+
 pub stripes_lie : StripesLie
-stripes_lie = record { column = column_below; offset = offset_below; comes_back = comes_back; disjoint = stripe_disjoint; apart = λ interlace units columns u are each. stripe_apart interlace units columns are u each }
+stripes_lie = record {
+  column = column_below;
+  offset = offset_below;
+  comes_back = comes_back;
+  below = λ interlace units columns column offset listed lt. block_below interlace units (length columns) column offset listed lt;
+  lies = lies_there;
+  copies = read_there;
+  blocks = λ interlace units columns. refl;
+  disjoint = stripe_disjoint;
+  apart = λ interlace units columns u are each. stripe_apart interlace units columns are u each;
+}
