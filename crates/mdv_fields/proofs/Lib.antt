@@ -1,4 +1,0 @@
-pub mod Fields
-pub mod Lists
-pub mod Placing
-pub mod Rising
