@@ -1,2 +1,3 @@
 mod Names
 pub mod Order
+pub mod Causes

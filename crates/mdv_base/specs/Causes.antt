@@ -1,15 +1,21 @@
 -- How often an object of the outside failed, and that an answer comes from a failure.
-use Rattle.std.specs.Prelude.{ℕ, ◌+◌, ◌-◌, ◌^◌, ◌<◌, ◌≤◌, min, Result, OnErr}
+use Rattle.std.specs.Prelude.{ℕ, ◌≡◌, ◌+◌, ◌-◌, ◌^◌, ◌≤◌, min, Result, OnErr, OnOk}
 
 -- a count of failures rose, or stands at its type's end, where it can't rise
 abbrev pub Rose : ℕ → ℕ → Type 0
 Rose before now = min (before + 1) (2 ^ 64 - 1) ≤ now
 
--- nothing failed
-abbrev pub IsCalm : ℕ → ℕ → Type 0
-IsCalm before now = now < min (before + 1) (2 ^ 64 - 1)
-
--- a count never falls, and a call fails only where it rose
+-- a count never falls, a call fails only where it rose, and one that is answered leaves it as it was
 pub record HasCause {T E : Type 0} (before now : ℕ) (result : Result T E) : Type 0 where
   pub later : before ≤ now
   pub failed : OnErr result (Rose before now)
+  pub calm : OnOk result (now ≡ before)
+
+-- how the calls on a part came out: some failed, or none
+pub record Failures : Type 1 where
+  pub some : Type 0
+  pub none : Type 0
+
+-- by its count before them and behind them
+abbrev pub failures_of : ℕ → ℕ → Failures
+failures_of before now = record { some = Rose before now; none = now ≡ before }

@@ -1,6 +1,7 @@
 -- What a boot leaves: its look, and its adoption.
-use Rattle.std.proofs.Common.{◌≡◌, ℕ, ◌+◌, ◌<◌, ◌≤◌, ◌^◌, List, [], slice_index_or, refl, sym, ◌∙◌, subst, Option, Some, None, Ok}
-use Rattle.mdv_database.specs.Below.{Mark, Key, Geometry, KeptOutside, nowhere, Moments, Ends, IsSynced, Tale, last, PlaceAt, Slot, IsSpareSlot, greatest, Leaves, Claims, with_blocks, Table, IsSound, Adopts, drawn, NoCreation, Site, IsFound, IsTableAt, Anything, Newest, GoesOnTo, IsOpened, ShowsNothing, IsAdopted, MayTake, Takes, Rewriting, Rewritten, Rewrites, adopted_newest}
+use Rattle.std.proofs.Common.{◌≡◌, ℕ, ◌+◌, ◌<◌, ◌≤◌, ◌^◌, List, [], length, slice_index_or, refl, sym, ◌∙◌, subst, Option, Some, None, Ok}
+use Rattle.mdv_base.proofs.Causes.{IsWithin}
+use Rattle.mdv_database.specs.Below.{Failures, record_text, Mark, Key, Geometry, KeptOutside, nowhere, Moments, Ends, IsSynced, Tale, last, PlaceAt, Slot, IsSpareSlot, greatest, Leaves, Claims, with_blocks, Table, IsSound, Adopts, drawn, NoCreation, Site, IsFound, IsTableAt, Anything, Newest, GoesOnTo, IsOpened, ShowsNothing, IsAdopted, MayTake, Takes, Rewriting, Rewritten, Rewrites, adopted_newest}
 use Rattle.mdv_shelf.proofs.Moments.{moments_after, moments_end, moments_none, moments_weaker, ends_both, ends_more}
 use Rattle.mdv_shelf.proofs.Everywhere.{image_synced}
 use Rattle.mdv_replica.proofs.Leaving.{leaves_more}
@@ -9,9 +10,11 @@ use Rattle.mdv_store_law.proofs.Covering.{kept_covers, kept_goes_on, goes_from_m
 use Rattle.mdv_database.specs.declared.database.BootEnd.{BootEnd}
 use Rattle.mdv_database.specs.declared.database.BootEnd.TheVariants.{Adopted, Empty, Down, Lost, Spent, Memory}
 use Rattle.mdv_database.specs.declared.looking.Found.{Found}
-use Rattle.mdv_database.specs.Boot.{AdoptEnds, AdoptMoment, BootAnswer, BootEnds, BootMoment, IsAdoption, RewriteEnds, RewriteMoment}
+use Rattle.mdv_database.specs.Boot.{AdoptEnds, AdoptMoment, AdoptedBy, BootAnswer, BootEnds, BootMoment, IsAdoption, RewriteEnds, RewriteMoment}
 use Rattle.mdv_database.specs.Database.{IfAdopted, IsBooted, IsBootedTo, IsCertain, IsDrawn, IsFoundIn, IsInHand, IsLookedAt, IsQuiet, IsUnwritten, site_of}
 use Rattle.mdv_database.specs.Looks.{LookEnds}
+use Rattle.mdv_database.specs.Counts.{open_slots}
+use Rattle.mdv_database.specs.Slots.{blocks_for}
 use Rattle.mdv_database.proofs.Quiet.{quiet_more, quiet_same, quiet_sized, unwritten_quiet}
 
 -- a claim, and then the table
@@ -111,24 +114,24 @@ module _ (drives : Geometry) (key : Key) (at : PlaceAt) (sizes : List ℕ) (foun
     the = subst (λ (c : ℕ → List ℕ). IsLookedAt site_there c (Some found)) (sym (same_contents at.drive.0 t u looked.unwritten)) looked.is_found;
   }
 
-  module _ (before failed : Type 0) (so : before → failed) where
-    pub adoption_answer : (answer : BootEnd) → IsAdoption before sizes at found answer → IsTableAt drives (with_blocks at found.head.master.blocks).place found.table → BootAnswer failed drives sizes at answer
+  module _ (before failures : Failures) (so : IsWithin before failures) where
+    pub adoption_answer : (answer : BootEnd) → IsAdoption before sizes at found answer → IsTableAt drives (with_blocks at found.head.master.blocks).place found.table → BootAnswer failures drives sizes at answer
     adoption_answer (Adopted newest) is table =
-        record { table = subst (λ (n : Newest). IsTableAt drives (with_blocks at n.blocks).place n.table) (sym is.is) table; laid = is.laid; cause = tt }
+        record { table = subst (λ (n : Newest). IsTableAt drives (with_blocks at n.blocks).place n.table) (sym is.1.is) table; laid = is.1.laid; cause = so.none is.0 }
     adoption_answer Empty is table = absurd is
     adoption_answer Down is table = absurd is
-    adoption_answer Lost is table = record { table = tt; laid = tt; cause = so is.0 }
-    adoption_answer Spent is table = record { table = tt; laid = tt; cause = tt }
+    adoption_answer Lost is table = record { table = tt; laid = tt; cause = so.some is.0 }
+    adoption_answer Spent is table = record { table = tt; laid = tt; cause = so.none is.0 }
     adoption_answer Memory is table = absurd is
 
     module _ (hand : IsInHand at (slice_index_or sizes at.drive.0 0) found) where
-      adoption_shown : (answer : BootEnd) (content : ℕ → List ℕ) → IsAdoption before sizes at found answer → IsLookedAt site_there content (Some found) → IsBooted failed site_there content answer
+      adoption_shown : (answer : BootEnd) (content : ℕ → List ℕ) → IsAdoption before sizes at found answer → IsLookedAt site_there content (Some found) → IsBooted failures site_there content answer
       adoption_shown (Adopted newest) content is the =
-          subst (λ (n : Newest). IsDrawn site_there content n) (sym is.is) (record { head = found.head; the = the; spare = hand.spare; tie = hand.tie; fits = is.fits; is = refl })
+          subst (λ (n : Newest). IsDrawn site_there content n) (sym is.1.is) (record { head = found.head; the = the; spare = hand.spare; tie = hand.tie; fits = is.1.fits; is = refl })
       adoption_shown Empty content is the = absurd is
       adoption_shown Down content is the = absurd is
-      adoption_shown Lost content is the = (so is.0, record { head = found.head; replica = the.replica; shown = the.shown; fits = is.1 })
-      adoption_shown Spent content is the = record { head = found.head; replica = the.replica; shown = the.shown; spent = is }
+      adoption_shown Lost content is the = (so.some is.0, record { head = found.head; replica = the.replica; shown = the.shown; fits = is.1 })
+      adoption_shown Spent content is the = record { head = found.head; replica = the.replica; shown = the.shown; spent = is.1 }
       adoption_shown Memory content is the = absurd is
 
       certain : (answer : BootEnd) (u : Tale) → IsAdoption before sizes at found answer → IfAdopted answer (λ newest. IsSynced at.drive.0 u) → IsCertain answer → IsSynced at.drive.0 u
@@ -142,8 +145,22 @@ module _ (drives : Geometry) (key : Key) (at : PlaceAt) (sizes : List ℕ) (foun
       never_empty : (answer : BootEnd) → IsAdoption before sizes at found answer → answer ≡ Empty → ⊥
       never_empty answer is same = subst (IsAdoption before sizes at found) same is
 
-      adopted_boot : (answer : BootEnd) (t u v : Tale) → IsSound drives → IsAdoption before sizes at found answer → HasLooked site_there (Some found) t u → AdoptEnds at sizes found answer u v → BootEnds failed site_there answer t v
-      adopted_boot answer t u v sound is looked ends =
+      adopted_made : (Made : ℕ → ℕ → Type 0) (answer : BootEnd) (content : ℕ → List ℕ) → IsAdoption before sizes at found answer → IsLookedAt site_there content (Some found)
+          → IfAdopted answer (λ newest. Made (11 + open_slots found.head) (3 + blocks_for (length (record_text found.table)))) → IfAdopted answer (AdoptedBy Made site_there content)
+      adopted_made Made (Adopted newest) content is the made = record {
+        head = found.head;
+        replica = the.replica;
+        shown = the.shown;
+        made = subst (λ (n : Newest). Made (11 + open_slots found.head) (3 + blocks_for (length (record_text n.table)))) (sym is.1.is) made;
+      }
+      adopted_made Made Empty content is the made = tt
+      adopted_made Made Down content is the made = tt
+      adopted_made Made Lost content is the made = tt
+      adopted_made Made Spent content is the made = tt
+      adopted_made Made Memory content is the made = tt
+
+      adopted_boot : (Made : ℕ → ℕ → Type 0) (answer : BootEnd) (t u v : Tale) → IfAdopted answer (λ newest. Made (11 + open_slots found.head) (3 + blocks_for (length (record_text found.table)))) → IsSound drives → IsAdoption before sizes at found answer → HasLooked site_there (Some found) t u → AdoptEnds at sizes found answer u v → BootEnds failures Made site_there answer t v
+      adopted_boot Made answer t u v made sound is looked ends =
           let was = found_in t u sound looked in
           record {
             shown = adoption_shown answer (last t at.drive.0) is looked.is_found;
@@ -154,11 +171,12 @@ module _ (drives : Geometry) (key : Key) (at : PlaceAt) (sizes : List ℕ) (foun
             empty = λ same. absurd (never_empty answer is same);
             goes = goes_from_more site_there Anything NoCreation [] (IsBootedTo answer) t u v looked.unwritten.kept (ends.goes drives key was);
             refuses = λ refused. subst (λ (w : Tale). KeptOutside nowhere t w) (sym (ends.refuses refused)) looked.unwritten.kept;
+            made = adopted_made Made answer (last t at.drive.0) is looked.is_found made;
           }
 
-      pub adopted_ends : (answer : BootEnd) (old mid new : Option Tale) → IsSound drives → IsAdoption before sizes at found answer → Ends (HasLooked site_there (Some found)) old mid → Ends (AdoptEnds at sizes found answer) mid new
-          → Ends (BootEnds failed site_there answer) old new
-      adopted_ends answer old mid new sound is = ends_more (HasLooked site_there (Some found)) (AdoptEnds at sizes found answer) (BootEnds failed site_there answer) old mid new (λ t u v was ends. adopted_boot answer t u v sound is was ends)
+      pub adopted_ends : (Made : ℕ → ℕ → Type 0) (answer : BootEnd) (old mid new : Option Tale) → IfAdopted answer (λ newest. Made (11 + open_slots found.head) (3 + blocks_for (length (record_text found.table)))) → IsSound drives → IsAdoption before sizes at found answer → Ends (HasLooked site_there (Some found)) old mid → Ends (AdoptEnds at sizes found answer) mid new
+          → Ends (BootEnds failures Made site_there answer) old new
+      adopted_ends Made answer old mid new made sound is = ends_more (HasLooked site_there (Some found)) (AdoptEnds at sizes found answer) (BootEnds failures Made site_there answer) old mid new (λ t u v was ends. adopted_boot Made answer t u v made sound is was ends)
 
   pub adopted_moments : (old mid new : Option Tale) → IsSound drives → Moments IsUnwritten old mid → Ends (HasLooked site_there (Some found)) old mid → Moments (AdoptMoment at sizes found) mid new → Moments (BootMoment site_there) old new
   adopted_moments old mid new sound = moments_after IsUnwritten (HasLooked site_there (Some found)) (AdoptMoment at sizes found) (BootMoment site_there) old mid new (look_moment site_there)
@@ -186,8 +204,8 @@ module _ (site : Site) (old new : Option Tale) (looked : Moments IsUnwritten old
       let after = kept_covers site log t u was.unwritten.kept covers in
       record { es = []; course = tt; come = record { tells = refl; issues = tt; begins = tt }; stands = after; after = not_firm site log u after (nothing_found t u was) }
 
-  pub empty_ends : (failed : Type 0) → Ends (LookEnds site (Ok None)) old new → Ends (BootEnds failed site Empty) old new
-  empty_ends failed ends t is =
+  pub empty_ends : (failures : Failures) (Made : ℕ → ℕ → Type 0) → Ends (LookEnds site (Ok None)) old new → Ends (BootEnds failures Made site Empty) old new
+  empty_ends failures Made ends t is =
       let end = looked_from None ends t is in (
         end.0,
         end.1,
@@ -199,12 +217,13 @@ module _ (site : Site) (old new : Option Tale) (looked : Moments IsUnwritten old
           empty = λ same. nothing_found t end.0 end.2;
           goes = empty_goes_on t end.0 end.2;
           refuses = λ refused. end.2.unwritten.kept;
+          made = tt;
         },
       )
 
   -- the look failed, or memory was wanting
-  pub down_ends : (failed : Type 0) → failed → Ends (BootEnds failed site Down) old new
-  down_ends failed so t is =
+  pub down_ends : (failures : Failures) (Made : ℕ → ℕ → Type 0) → failures.some → Ends (BootEnds failures Made site Down) old new
+  down_ends failures Made so t is =
       let end = moments_end IsUnwritten old new looked t is in (
         end.0,
         end.1,
@@ -216,11 +235,12 @@ module _ (site : Site) (old new : Option Tale) (looked : Moments IsUnwritten old
           empty = λ same. absurd (cc (same));
           goes = kept_goes_on site t end.0 end.2.kept;
           refuses = λ refused. end.2.kept;
+          made = tt;
         },
       )
 
-  pub memory_ends : (failed : Type 0) → Ends (BootEnds failed site Memory) old new
-  memory_ends failed t is =
+  pub memory_ends : (failures : Failures) (Made : ℕ → ℕ → Type 0) → Ends (BootEnds failures Made site Memory) old new
+  memory_ends failures Made t is =
       let end = moments_end IsUnwritten old new looked t is in (
         end.0,
         end.1,
@@ -232,5 +252,6 @@ module _ (site : Site) (old new : Option Tale) (looked : Moments IsUnwritten old
           empty = λ same. absurd (cc (same));
           goes = kept_goes_on site t end.0 end.2.kept;
           refuses = λ refused. end.2.kept;
+          made = tt;
         },
       )

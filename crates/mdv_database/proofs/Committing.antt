@@ -1,7 +1,7 @@
 -- What the calls of a commit lead to.
 use Rattle.std.proofs.Common.{◌≡◌, ℕ, ◌+◌, ◌<◌, ◌≤◌, ◌^◌, List, length, refl, subst, ap, Option, Result, Ok, Err, arith}
 use Rattle.mdv_record.specs.declared.record.TooLong.{TooLong}
-use Rattle.mdv_database.specs.Below.{Mark, Key, Geometry, record_text, PlaceAt, Slot, other_slot, room_of, Leaves, with_blocks, Moments, Ends, IsSynced, Tale, Change, Table, Commits, IsWithNewest, next_mark, asks_of, NoCreation, Site, Newest, GoesFrom, MayTake, Takes}
+use Rattle.mdv_database.specs.Below.{Failures, Mark, Key, Geometry, record_text, PlaceAt, Slot, other_slot, room_of, Leaves, with_blocks, Moments, Ends, IsSynced, Tale, Change, Table, Commits, IsWithNewest, next_mark, asks_of, NoCreation, Site, Newest, GoesFrom, MayTake, Takes}
 use Rattle.mdv_shelf.proofs.Moments.{moments_weaker}
 use Rattle.mdv_store_law.proofs.Committing.{commits_go}
 use Rattle.mdv_database.specs.declared.database.CommitFault.{CommitFault}
@@ -60,16 +60,16 @@ module _ (at : PlaceAt) (newest : Newest) (next : Table) (sized : PlaceAt) (slot
         )
 
 -- What a commit answers: a text that is too long is told, with both numbers, and a count that is spent where it isn't.
-module _ {T : Type 0} (failed : Type 0) (newest now : Newest) (next : Table) where
-  pub commit_too_long : (result : Result T CommitFault) → CommitAnswer failed newest now next result → room_of newest.blocks < length (record_text next)
+module _ {T : Type 0} (failures : Failures) (newest now : Newest) (next : Table) where
+  pub commit_too_long : (result : Result T CommitFault) → CommitAnswer failures newest now next result → room_of newest.blocks < length (record_text next)
       → result ≡ Err (unwritten.TooLong (record { bytes = length (record_text next); room = room_of newest.blocks }))
-  commit_too_long (Ok done) is long = absurd (omega (arith, is.1.in_room))
+  commit_too_long (Ok done) is long = absurd (omega (arith, is.2.in_room))
   commit_too_long (Err unwritten.Lost) is long = absurd (omega (arith, is.1.1.in_room))
   commit_too_long (Err (unwritten.TooLong fault)) is long = ap (λ (f : TooLong). let e : Result T CommitFault = Err (unwritten.TooLong f) in e) is.1.1
   commit_too_long (Err unwritten.Spent) is long = absurd (omega (arith, is.1.0))
 
-  pub commit_spent : (result : Result T CommitFault) → CommitAnswer failed newest now next result → length (record_text next) ≤ room_of newest.blocks → 2 ^ 63 ≤ newest.mark.count + 1 → result ≡ Err unwritten.Spent
-  commit_spent (Ok done) is fits spent = absurd (omega (arith, is.1.countable))
+  pub commit_spent : (result : Result T CommitFault) → CommitAnswer failures newest now next result → length (record_text next) ≤ room_of newest.blocks → 2 ^ 63 ≤ newest.mark.count + 1 → result ≡ Err unwritten.Spent
+  commit_spent (Ok done) is fits spent = absurd (omega (arith, is.2.countable))
   commit_spent (Err unwritten.Lost) is fits spent = absurd (omega (arith, is.1.1.countable))
   commit_spent (Err (unwritten.TooLong fault)) is fits spent = absurd (omega (arith, is.1.0))
   commit_spent (Err unwritten.Spent) is fits spent = refl

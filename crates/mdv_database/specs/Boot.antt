@@ -1,9 +1,12 @@
 -- What a boot and its adoption say: of each moment, of the end, and of their answers.
-use Rattle.std.specs.Prelude.{◌≡◌, ℕ, ◌+◌, ◌≤◌, ◌<◌, ◌^◌, List}
-use Rattle.mdv_database.specs.Below.{Mark, Key, Geometry, PlaceAt, Slot, greatest, with_blocks, Leaves, KeptOutside, nowhere, IsSynced, Tale, last, Site, IsTableAt, Newest, GoesOn, GoesOnTo, IsOpened, ShowsNothing, IsAdopted, Rewrites, Rewritten, Table, adopted_newest}
+use Rattle.std.specs.Prelude.{◌≡◌, ℕ, ◌+◌, ◌≤◌, ◌<◌, ◌^◌, true, List, length}
+use Rattle.mdv_shelf.specs.Shelves.{AtEnd, DriveFailures}
+use Rattle.mdv_database.specs.Below.{Failures, Ghosts, Head, IsReplica, record_text, shows, Mark, Key, Geometry, PlaceAt, Slot, greatest, with_blocks, Leaves, KeptOutside, nowhere, IsSynced, Tale, last, Site, IsTableAt, Newest, GoesOn, GoesOnTo, IsOpened, ShowsNothing, IsAdopted, Rewrites, Rewritten, Table, adopted_newest}
 use Rattle.mdv_database.specs.declared.database.BootEnd.{BootEnd}
 use Rattle.mdv_database.specs.declared.database.BootEnd.TheVariants as end
 use Rattle.mdv_database.specs.declared.looking.Found.{Found}
+use Rattle.mdv_database.specs.Counts.{MadeCallsBetween, open_slots}
+use Rattle.mdv_database.specs.Slots.{blocks_for}
 use Rattle.mdv_database.specs.Database.{IsQuiet, IsFoundIn, IsBooted, IsBootedTo, IsRefusal, IsCertain, IsLaid, IfAdopted, site_of}
 
 -- by each moment nothing was told, nothing done outside the place, and the log goes on without a creation or a change
@@ -11,31 +14,43 @@ pub record BootMoment (site : Site) (t m : Tale) : Type 0 where
   pub quiet : IsQuiet site.at t m
   pub goes : GoesOn site t m
 
+-- A boot that adopted a replica made eleven calls and one for each slot of it that was open, and wrote the claim, two gates and the table's text.
+pub record AdoptedBy (Made : ℕ → ℕ → Type 0) (site : Site) (content : ℕ → List ℕ) (newest : Newest) : Type 0 where
+  pub head : Head
+  pub replica : IsReplica site content head
+  pub shown : shows head ≡ true
+  pub made : Made (11 + open_slots head) (3 + blocks_for (length (record_text newest.table)))
+
 -- In the end the answer is what the blocks showed at the start, and what was found, or that nothing is there, is on the
 -- disk; the log went on to it, and what adopts nothing wrote nothing.
-pub record BootEnds (failed : Type 0) (site : Site) (answer : BootEnd) (t u : Tale) : Type 0 where
-  pub shown : IsBooted failed site (last t site.at.drive.0) answer
+pub record BootEnds (failures : Failures) (Made : ℕ → ℕ → Type 0) (site : Site) (answer : BootEnd) (t u : Tale) : Type 0 where
+  pub shown : IsBooted failures site (last t site.at.drive.0) answer
   pub synced : IsCertain answer → IsSynced site.at.drive.0 u
   pub adopted : IfAdopted answer (λ newest. IsAdopted site (last t site.at.drive.0) newest u)
   pub opened : IfAdopted answer (λ newest. IsOpened site newest u)
   pub empty : answer ≡ end.Empty → ShowsNothing site u
   pub goes : GoesOnTo site (IsBootedTo answer) t u
   pub refuses : IsRefusal answer → KeptOutside nowhere t u
+  pub made : IfAdopted answer (AdoptedBy Made site (last t site.at.drive.0))
 
--- a boot knows nothing of the drive, or is lost, only where a call failed
-abbrev pub HasBootCause : Type 0 → BootEnd → Type 0
-HasBootCause failed (end.Adopted newest) = Unit {0}
-HasBootCause failed end.Empty = Unit {0}
-HasBootCause failed end.Down = failed
-HasBootCause failed end.Lost = failed
-HasBootCause failed end.Spent = Unit {0}
-HasBootCause failed end.Memory = Unit {0}
+abbrev pub BootEndsAs : {S : Type 0} → Ghosts S → S → S → Site → BootEnd → Type 0
+BootEndsAs shelf old new site answer =
+    AtEnd shelf (BootEnds (DriveFailures shelf old new site.at.drive.0) (λ calls blocks. MadeCallsBetween shelf old new calls calls blocks) site answer) old new
+
+-- a boot knows nothing of the drive, or is lost, only where a call failed; and comes to anything else only where none did
+abbrev pub HasBootCause : Failures → BootEnd → Type 0
+HasBootCause failures (end.Adopted newest) = failures.none
+HasBootCause failures end.Empty = failures.none
+HasBootCause failures end.Down = failures.some
+HasBootCause failures end.Lost = failures.some
+HasBootCause failures end.Spent = failures.none
+HasBootCause failures end.Memory = failures.none
 
 -- whatever is known of the blocks: a database that is open has a table of these drives, and lies in its place
-pub record BootAnswer (failed : Type 0) (drives : Geometry) (sizes : List ℕ) (at : PlaceAt) (answer : BootEnd) : Type 0 where
+pub record BootAnswer (failures : Failures) (drives : Geometry) (sizes : List ℕ) (at : PlaceAt) (answer : BootEnd) : Type 0 where
   pub table : IfAdopted answer (λ newest. IsTableAt drives (with_blocks at newest.blocks).place newest.table)
   pub laid : IfAdopted answer (λ newest. IsLaid sizes at newest.blocks)
-  pub cause : HasBootCause failed answer
+  pub cause : HasBootCause failures answer
 
 -- what was found is written anew, on whichever table of drives it was found
 pub record AdoptMoment (at : PlaceAt) (sizes : List ℕ) (found : Found) (t m : Tale) : Type 0 where
@@ -55,14 +70,14 @@ pub record IsMadeOf (sizes : List ℕ) (at : PlaceAt) (found : Found) (newest : 
   pub fits : greatest found.head + 1 < 2 ^ 63
   pub laid : IsLaid sizes at newest.blocks
 
--- an adoption is spent exactly where the number to draw is none, and else lost only where a call failed
-abbrev pub IsAdoption : Type 0 → List ℕ → PlaceAt → Found → BootEnd → Type 0
-IsAdoption failed sizes at found (end.Adopted newest) = IsMadeOf sizes at found newest
-IsAdoption failed sizes at found end.Empty = ⊥
-IsAdoption failed sizes at found end.Down = ⊥
-IsAdoption failed sizes at found end.Lost = failed × (greatest found.head + 1 < 2 ^ 63)
-IsAdoption failed sizes at found end.Spent = 2 ^ 63 ≤ greatest found.head + 1
-IsAdoption failed sizes at found end.Memory = ⊥
+-- an adoption is spent exactly where the number to draw is none, and else lost exactly where a call failed
+abbrev pub IsAdoption : Failures → List ℕ → PlaceAt → Found → BootEnd → Type 0
+IsAdoption failures sizes at found (end.Adopted newest) = failures.none × IsMadeOf sizes at found newest
+IsAdoption failures sizes at found end.Empty = ⊥
+IsAdoption failures sizes at found end.Down = ⊥
+IsAdoption failures sizes at found end.Lost = failures.some × (greatest found.head + 1 < 2 ^ 63)
+IsAdoption failures sizes at found end.Spent = failures.none × (2 ^ 63 ≤ greatest found.head + 1)
+IsAdoption failures sizes at found end.Memory = ⊥
 
 -- a claim and a table are written to the place
 pub record RewriteMoment (at : PlaceAt) (slot : Slot) (mark : Mark) (table : Table) (t m : Tale) : Type 0 where

@@ -1,7 +1,7 @@
 -- What a commit says: of each moment, of the end, and of its answer.
 use Rattle.mdv_record.specs.declared.record.TooLong.{TooLong}
 use Rattle.std.specs.Prelude.{◌≡◌, ℕ, ◌+◌, ◌≤◌, ◌<◌, ◌^◌, List, length, Option, Result, Ok, Err}
-use Rattle.mdv_database.specs.Below.{Key, Geometry, record_text, PlaceAt, room_of, IsSynced, Tale, Change, Table, IsWithNewest, asks_of, NoCreation, Newest, Anything, GoesFrom, IsOpened, next_newest}
+use Rattle.mdv_database.specs.Below.{Failures, Key, Geometry, record_text, PlaceAt, room_of, IsSynced, Tale, Change, Table, IsWithNewest, asks_of, NoCreation, Newest, Anything, GoesFrom, IsOpened, next_newest}
 use Rattle.mdv_database.specs.declared.database.CommitFault.{CommitFault}
 use Rattle.mdv_database.specs.declared.database.CommitFault.TheVariants as unwritten
 use Rattle.mdv_database.specs.Database.{IsQuiet, MayCommit, IsCommitted, site_of}
@@ -32,12 +32,12 @@ abbrev pub IsOver : ℕ → ℕ → TooLong → Type 0
 IsOver room bytes fault = (room < bytes) × (fault ≡ record { bytes = bytes; room = room })
 
 -- a text that is too long is told before a count that is spent; what fits is lost only where a call failed
-abbrev pub HasCommitCause : Type 0 → Newest → Table → CommitFault → Type 0
-HasCommitCause failed newest next unwritten.Lost = failed × IsCommittable newest next
-HasCommitCause failed newest next (unwritten.TooLong fault) = IsOver (room_of newest.blocks) (length (record_text next)) fault
-HasCommitCause failed newest next unwritten.Spent = (length (record_text next) ≤ room_of newest.blocks) × (2 ^ 63 ≤ newest.mark.count + 1)
+abbrev pub HasCommitCause : Failures → Newest → Table → CommitFault → Type 0
+HasCommitCause failures newest next unwritten.Lost = failures.some × IsCommittable newest next
+HasCommitCause failures newest next (unwritten.TooLong fault) = IsOver (room_of newest.blocks) (length (record_text next)) fault
+HasCommitCause failures newest next unwritten.Spent = (length (record_text next) ≤ room_of newest.blocks) × (2 ^ 63 ≤ newest.mark.count + 1)
 
--- the database goes on from the next table, or stays as it was
-abbrev pub CommitAnswer : {T : Type 0} → Type 0 → Newest → Newest → Table → Result T CommitFault → Type 0
-CommitAnswer failed newest now next (Ok done) = (now ≡ next_newest newest next) × IsCommittable newest next
-CommitAnswer failed newest now next (Err fault) = (now ≡ newest) × HasCommitCause failed newest next fault
+-- the database goes on from the next table, where no call failed, or stays as it was
+abbrev pub CommitAnswer : {T : Type 0} → Failures → Newest → Newest → Table → Result T CommitFault → Type 0
+CommitAnswer failures newest now next (Ok done) = failures.none × (now ≡ next_newest newest next) × IsCommittable newest next
+CommitAnswer failures newest now next (Err fault) = (now ≡ newest) × HasCommitCause failures newest next fault

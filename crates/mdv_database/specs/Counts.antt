@@ -2,7 +2,7 @@
 use Rattle.std.specs.Prelude.{◌≡◌, ℕ, ◌+◌, ◌≤◌, Option, Some, None, Result, Ok, Err}
 use Rattle.mdv_shelf.specs.Between.{TookBetween}
 use Rattle.mdv_shelf.specs.Shelves.{MadeCalls}
-use Rattle.mdv_database.specs.Below.{Ghosts}
+use Rattle.mdv_database.specs.Below.{Gate, Closed, Open, Ghosts, Head}
 use Rattle.mdv_database.specs.declared.database.BootEnd.{BootEnd}
 use Rattle.mdv_database.specs.declared.database.BootEnd.TheVariants as end
 use Rattle.mdv_database.specs.declared.database.CreateFault.{CreateFault}
@@ -26,19 +26,46 @@ if_found count (Ok (Some found)) = count
 if_found count (Ok None) = 0
 if_found count (Err fault) = 0
 
--- a look reads the drive's first block and syncs the drive, unless a call fails; where it finds a table it has read the head and a slot
-abbrev pub looked : Result (Option Found) ReadFault → ℕ
-looked (Ok (Some found)) = 4
-looked (Ok None) = 2
-looked (Err Failed) = 1
-looked (Err Memory) = 2
+-- one read of a slot whose gate is open, and none of another
+abbrev pub reads_of : Gate → ℕ
+reads_of Closed = 0
+reads_of (Open mark bytes) = 1
 
--- one call at least, where the slot has a table
-abbrev pub if_kept : {E : Type 0} → Result Held E → ℕ
-if_kept (Ok (Kept table)) = 1
-if_kept (Ok Nothing) = 0
-if_kept (Ok Other) = 0
-if_kept (Err fault) = 0
+-- how many slots of a replica are open
+abbrev pub open_slots : Head → ℕ
+open_slots head = reads_of head.first + reads_of head.second
+
+-- an open slot is read, unless its text has no room there, or a call fails
+abbrev pub if_held : {E : Type 0} → Gate → Result Held E → ℕ
+if_held gate (Ok Nothing) = reads_of gate
+if_held gate (Ok (Kept table)) = reads_of gate
+if_held gate (Ok Other) = 0
+if_held gate (Err fault) = 0
+
+-- where a table was found, behind so many calls, each open slot was read once
+abbrev pub least_found : {E : Type 0} → ℕ → Result (Option Found) E → ℕ
+least_found before (Ok (Some found)) = before + open_slots found.head
+least_found before (Ok None) = 0
+least_found before (Err fault) = 0
+
+abbrev pub most_found : {E : Type 0} → ℕ → Result (Option Found) E → ℕ
+most_found before (Ok (Some found)) = before + open_slots found.head
+most_found before (Ok None) = before + 2
+most_found before (Err fault) = before + 2
+
+-- a look reads the drive's first block, syncs the drive, and reads the head and each open slot; where it finds none it makes
+-- no more than it would for two, and two at least, unless a call fails
+abbrev pub least_looked : Result (Option Found) ReadFault → ℕ
+least_looked (Ok (Some found)) = 3 + open_slots found.head
+least_looked (Ok None) = 2
+least_looked (Err Failed) = 1
+least_looked (Err Memory) = 2
+
+abbrev pub most_looked : Result (Option Found) ReadFault → ℕ
+most_looked (Ok (Some found)) = 3 + open_slots found.head
+most_looked (Ok None) = 5
+most_looked (Err Failed) = 5
+most_looked (Err Memory) = 5
 
 -- A table that is written anew takes eight calls, the claim's and the slot's; where one failed one at least and no more,
 -- and none where the number is spent.

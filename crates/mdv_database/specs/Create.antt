@@ -1,6 +1,6 @@
 -- What a creation says: of each moment, of the end, and of its answer.
 use Rattle.std.specs.Prelude.{◌≡◌, ℕ, List, Result, Ok, Err, OnOk}
-use Rattle.mdv_database.specs.Below.{Identity, Key, Geometry, PlaceAt, IsSynced, Tale, IsPlaceOf, IsTableAt, Newest, Anything, GoesMaking, ShowsNothing, ShowsReplica}
+use Rattle.mdv_database.specs.Below.{Failures, Identity, Key, Geometry, PlaceAt, IsSynced, Tale, IsPlaceOf, IsTableAt, Newest, Anything, GoesMaking, ShowsNothing, ShowsReplica}
 use Rattle.mdv_database.specs.declared.database.CreateFault.{CreateFault}
 use Rattle.mdv_database.specs.declared.database.CreateFault.TheVariants as unmade
 use Rattle.mdv_database.specs.Database.{IsQuiet, IsSafe, IsCreatedTo, first_newest, site_of}
@@ -28,9 +28,9 @@ pub record IsMadeAt (at : PlaceAt) (newest : Newest) : Type 0 where
   pub is : newest ≡ first_newest at
   pub table : OnEach at (λ drives. IsTableAt drives at.place newest.table)
 
--- a creation fails where a call failed, or for want of memory
-abbrev pub CreateAnswer : Type 0 → PlaceAt → Result Newest CreateFault → Type 0
-CreateAnswer failed at (Ok newest) = IsMadeAt at newest
-CreateAnswer failed at (Err unmade.Failed) = failed
-CreateAnswer failed at (Err unmade.Lost) = failed
-CreateAnswer failed at (Err unmade.Memory) = Unit {0}
+-- a creation is done where no call failed, and fails where one did, or for want of memory
+abbrev pub CreateAnswer : Failures → PlaceAt → Result Newest CreateFault → Type 0
+CreateAnswer failures at (Ok newest) = failures.none × IsMadeAt at newest
+CreateAnswer failures at (Err unmade.Failed) = failures.some
+CreateAnswer failures at (Err unmade.Lost) = failures.some
+CreateAnswer failures at (Err unmade.Memory) = failures.none

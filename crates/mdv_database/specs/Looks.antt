@@ -1,24 +1,26 @@
 -- What the reads of a place answer, and what they leave.
-use Rattle.std.specs.Prelude.{◌≡◌, ℕ, List, slice_index_or, Option, Some, Result, IfOk, IfErr, IfSome, OnOk}
-use Rattle.mdv_database.specs.Below.{Geometry, Head, PlaceAt, IsHead, with_blocks, Ghosts, IsSynced, Tale, last, Site, IsTableAt}
+use Rattle.std.specs.Prelude.{◌≡◌, ℕ, true, List, slice_index_or, Option, Some, Result, IfOk, IfErr, IfSome, OnOk}
+use Rattle.mdv_database.specs.Below.{Failures, Geometry, Head, PlaceAt, IsHead, with_blocks, shows, Ghosts, IsSynced, Tale, last, Site, IsTableAt}
 use Rattle.mdv_database.specs.declared.body.ReadFault.{ReadFault}
 use Rattle.mdv_database.specs.declared.looking.Found.{Found}
 use Rattle.mdv_database.specs.Database.{IsInHand, IsLookedAt}
 use Rattle.mdv_database.specs.Slots.{HasReadCause}
 
--- what is answered is such a thing, and a read that isn't answered has its cause
-pub record ReadAnswer {T : Type 0} (failed : Type 0) (Is : T → Type 0) (result : Result T ReadFault) : Type 0 where
+-- what is answered is such a thing, and no call failed; and a read that isn't answered has its cause
+pub record ReadAnswer {T : Type 0} (failures : Failures) (Is : T → Type 0) (result : Result T ReadFault) : Type 0 where
   pub is : IfOk result Is
-  pub cause : IfErr result (HasReadCause failed)
+  pub calm : OnOk result failures.none
+  pub cause : IfErr result (HasReadCause failures)
 
 -- nothing is done, and Q holds of all that was done before
 pub record OnlyReads {S : Type 0} (shelf : Ghosts S) (Q : Tale → Type 0) (old new : S) : Type 0 where
   pub same : shelf.tale new ≡ shelf.tale old
   pub gave : (t : Tale) → shelf.tale old ≡ Some t → Q t
 
--- what was found of a replica lies at the place, and its table is one of these drives
+-- what was found of a replica lies at the place, its head shows a table, and the table is one of these drives
 pub record IsFoundAt (drives : Geometry) (sizes : List ℕ) (at : PlaceAt) (found : Found) : Type 0 where
   pub in_hand : IsInHand at (slice_index_or sizes at.drive.0 0) found
+  pub shown : shows found.head ≡ true
   pub table : IsTableAt drives (with_blocks at found.head.master.blocks).place found.table
 
 -- the head that the contents spell at the place, or none

@@ -1,6 +1,6 @@
 -- What the slots of a replica have, as a boot reads it.
 use Rattle.std.specs.Prelude.{◌≡◌, ℕ, ◌+◌, ◌/◌, ◌≤◌, max, List, length, Option, Some, None}
-use Rattle.mdv_database.specs.Below.{Mark, Geometry, record_text, Gate, Closed, Open, PlaceAt, Head, Slot, First, Second, SlotFits, gate_of, other_slot, room_of, text_of, with_blocks, Table, IsTableAt, IsRecordAt}
+use Rattle.mdv_database.specs.Below.{Failures, Mark, Geometry, record_text, Gate, Closed, Open, PlaceAt, Head, Slot, First, Second, SlotFits, gate_of, other_slot, room_of, text_of, with_blocks, Table, IsTableAt, IsRecordAt}
 use Rattle.mdv_database.specs.declared.body.ReadFault.{ReadFault}
 use Rattle.mdv_database.specs.declared.body.ReadFault.TheVariants.{Failed, Memory}
 use Rattle.mdv_database.specs.declared.looking.Found.{Found}
@@ -54,7 +54,7 @@ IsTableOf g at head content (Some found) =
     (found.head ≡ head) × IsTableAt g (with_blocks at head.master.blocks).place found.table × AreHeld g (with_blocks at head.master.blocks) head found.spare content (Some found.table)
 IsTableOf g at head content None = BothFit g (with_blocks at head.master.blocks) head content → ⊥
 
--- a read fails where a call failed, or for want of memory
-abbrev pub HasReadCause : Type 0 → ReadFault → Type 0
-HasReadCause failed Failed = failed
-HasReadCause failed Memory = Unit {0}
+-- a read fails where a call failed, or for want of memory, where none did
+abbrev pub HasReadCause : Failures → ReadFault → Type 0
+HasReadCause failures Failed = failures.some
+HasReadCause failures Memory = failures.none

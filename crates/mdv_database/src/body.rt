@@ -3,7 +3,7 @@ ghost use Rattle.std.specs.Prelude.{◌≡◌, ◌↔◌, ◌<◌, ◌≤◌, �
 ghost use Rattle.std.specs.List.{flat_map};
 ghost use Rattle.mdv_base.specs.Causes.{HasCause};
 ghost use Rattle.mdv_shelf.specs.Calls.{OnDrive};
-ghost use Rattle.mdv_shelf.specs.Shelves.{AtEachTale, AtEnd, DriveFailed, Kept};
+ghost use Rattle.mdv_shelf.specs.Shelves.{AtEachTale, AtEnd, DriveFailures, Kept};
 ghost use Rattle.mdv_shelf.specs.Tale.{last};
 ghost use Rattle.mdv_shelf.specs.Between.{MakesCalls};
 ghost use Rattle.mdv_replica.specs.Forms.{IsMark};
@@ -84,7 +84,7 @@ impl Body {
         requires placed { IsPlaced (S.sizes shelf.old) at }
         requires whole { self.old ≡ spec_slot_blocks at.place.blocks }
         ensures whole { self.new ≡ self.old }
-        ensures answer { ReadAnswer (DriveFailed S.Shelf shelf.old shelf.new at.drive.0) (λ found. IfSome found (IsFitting drives.now at)) result }
+        ensures answer { ReadAnswer (DriveFailures S.Shelf shelf.old shelf.new at.drive.0) (λ found. IfSome found (IsFitting drives.now at)) result }
         ensures reads { OnlyReads S.Shelf (λ t. IfOk result (IsRead drives.now at slot bytes (last t at.drive.0))) shelf.old shelf.new }
         ensures counted { MadeCallsBetween S.Shelf shelf.old shelf.new (if_found 1 result) 1 0 }
         ensures kept { Kept S.Shelf shelf.old shelf.new }
@@ -155,7 +155,7 @@ fn read_table<S: Shelf>(
     requires placed { IsPlaced (S.sizes shelf.old) at }
     requires count { length body.old ≡ spec_blocks_for bytes }
     requires in_slot { length body.old ≤ spec_slot_blocks at.place.blocks }
-    ensures answer { ReadAnswer (DriveFailed S.Shelf shelf.old shelf.new at.drive.0) (λ found. IfSome found (IsFitting drives.now at)) result }
+    ensures answer { ReadAnswer (DriveFailures S.Shelf shelf.old shelf.new at.drive.0) (λ found. IfSome found (IsFitting drives.now at)) result }
     ensures reads { OnlyReads S.Shelf (λ t. IfOk result (IsRead drives.now at slot bytes (last t at.drive.0))) shelf.old shelf.new }
     ensures counted { MadeCallsBetween S.Shelf shelf.old shelf.new (if_found 1 result) 1 0 }
     ensures kept { Kept S.Shelf shelf.old shelf.new }

@@ -2,7 +2,7 @@ ghost use Rattle.std.specs.Prelude.{◌≡◌, ◌<◌, ◌≤◌, ◌+◌, ◌^
 ghost use Rattle.mdv_name.specs.declared.geometry.Geometry.{Geometry as Drives};
 ghost use Rattle.mdv_record.specs.Text.{record_text};
 ghost use Rattle.mdv_shelf.specs.Calls.{OnDrive};
-ghost use Rattle.mdv_shelf.specs.Shelves.{AtEachTale, AtEnd, DriveFailed, Kept};
+ghost use Rattle.mdv_shelf.specs.Shelves.{AtEachTale, AtEnd, DriveFailures, Kept};
 ghost use Rattle.mdv_shelf.specs.Between.{MakesCalls};
 ghost use Rattle.mdv_replica.specs.Form.{room_of};
 ghost use Rattle.mdv_replica.specs.Forms.{IsMark};
@@ -10,7 +10,7 @@ ghost use Rattle.mdv_replica.specs.Replica.{IsPlaced, slot_blocks};
 ghost use Rattle.mdv_table.specs.Slices.{IsSound};
 ghost use Rattle.mdv_table.specs.Table.{IsPlaceOf};
 ghost use Rattle.mdv_store_law.specs.Site.{IsTableAt};
-ghost use Rattle.mdv_database.specs.Boot.{AdoptEnds, AdoptMoment, BootAnswer, BootEnds, BootMoment, IsAdoption, RewriteEnds, RewriteMoment};
+ghost use Rattle.mdv_database.specs.Boot.{AdoptEnds, AdoptMoment, BootAnswer, BootEndsAs, BootMoment, IsAdoption, RewriteEnds, RewriteMoment};
 ghost use Rattle.mdv_database.specs.Commit.{CommitAnswer, CommitDone, CommitMoment, IsOver};
 ghost use Rattle.mdv_database.specs.Counts.{IsAdoptionCounted, IsBootCounted, IsCommitCounted, IsCreationCounted};
 ghost use Rattle.mdv_database.specs.Create.{CreateAnswer, CreateEnds, CreateMoment};
@@ -121,9 +121,9 @@ pub fn boot<S: Shelf>(
 ) -> BootEnd
     requires sound { IsSound drives.now }
     requires on_drive { IsOnDrive (S.sizes shelf.old) at }
-    ensures answer { BootAnswer (DriveFailed S.Shelf shelf.old shelf.new at.drive.0) drives.now (S.sizes shelf.old) at result }
+    ensures answer { BootAnswer (DriveFailures S.Shelf shelf.old shelf.new at.drive.0) drives.now (S.sizes shelf.old) at result }
     ensures moments { AtEachTale S.Shelf (BootMoment (site_of drives.now key.now at (S.sizes shelf.old))) shelf.old shelf.new }
-    ensures end { AtEnd S.Shelf (BootEnds (DriveFailed S.Shelf shelf.old shelf.new at.drive.0) (site_of drives.now key.now at (S.sizes shelf.old)) result) shelf.old shelf.new }
+    ensures end { BootEndsAs S.Shelf shelf.old shelf.new (site_of drives.now key.now at (S.sizes shelf.old)) result }
     ensures counted { IsBootCounted S.Shelf shelf.old shelf.new result }
     ensures kept { Kept S.Shelf shelf.old shelf.new }
 {
@@ -140,7 +140,7 @@ pub fn boot<S: Shelf>(
 fn adopt<S: Shelf>(shelf: &mut S, at: PlaceAt, found: Found) -> BootEnd
     requires on_drive { IsOnDrive (S.sizes shelf.old) at }
     requires in_hand { IsInHand at (slice_index_or (S.sizes shelf.old) at.drive.0 0) found }
-    ensures answer { IsAdoption (DriveFailed S.Shelf shelf.old shelf.new at.drive.0) (S.sizes shelf.old) at found result }
+    ensures answer { IsAdoption (DriveFailures S.Shelf shelf.old shelf.new at.drive.0) (S.sizes shelf.old) at found result }
     ensures moments { AtEachTale S.Shelf (AdoptMoment at (S.sizes shelf.old) found) shelf.old shelf.new }
     ensures end { AtEnd S.Shelf (AdoptEnds at (S.sizes shelf.old) found result) shelf.old shelf.new }
     ensures counted { IsAdoptionCounted S.Shelf shelf.old shelf.new (3 + blocks_for (length (record_text found.table))) result }
@@ -210,7 +210,7 @@ pub fn create<S: Shelf>(
 ) -> Result<Database, CreateFault>
     requires placed { IsPlaced (S.sizes shelf.old) at }
     requires length { at.place.blocks ≤ 8192 }
-    ensures answer { CreateAnswer (DriveFailed S.Shelf shelf.old shelf.new at.drive.0) at result }
+    ensures answer { CreateAnswer (DriveFailures S.Shelf shelf.old shelf.new at.drive.0) at result }
     ensures moments { AtEachTale S.Shelf (CreateMoment at key.now (S.sizes shelf.old) identity) shelf.old shelf.new }
     ensures end { AtEnd S.Shelf (CreateEnds at key.now (S.sizes shelf.old) identity result) shelf.old shelf.new }
     ensures counted { IsCreationCounted S.Shelf shelf.old shelf.new result }
@@ -262,7 +262,7 @@ impl Database {
         next: Table,
     ) -> Result<(), CommitFault>
         requires { IsLaid (S.sizes shelf.old) at self.old.blocks }
-        ensures answer { CommitAnswer (DriveFailed S.Shelf shelf.old shelf.new at.drive.0) self.old self.new next result }
+        ensures answer { CommitAnswer (DriveFailures S.Shelf shelf.old shelf.new at.drive.0) self.old self.new next result }
         ensures moments { AtEachTale S.Shelf (CommitMoment at (S.sizes shelf.old) self.old next) shelf.old shelf.new }
         ensures end { OnOk result (AtEnd S.Shelf (CommitDone at (S.sizes shelf.old) self.old next) shelf.old shelf.new) }
         ensures counted { IsCommitCounted S.Shelf shelf.old shelf.new (length (record_text next)) result }

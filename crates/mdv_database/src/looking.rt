@@ -2,12 +2,12 @@
 ghost use Rattle.std.specs.Prelude.{◌≡◌, true, slice_index_or, IfOk, IfSome};
 ghost use Rattle.mdv_base.specs.Causes.{HasCause};
 ghost use Rattle.mdv_shelf.specs.Calls.{OnDrive};
-ghost use Rattle.mdv_shelf.specs.Shelves.{AtEachTale, AtEnd, DriveFailed, Kept};
+ghost use Rattle.mdv_shelf.specs.Shelves.{AtEachTale, AtEnd, DriveFailures, Kept};
 ghost use Rattle.mdv_shelf.specs.Tale.{last};
 ghost use Rattle.mdv_replica.specs.Form.{IsSpareSlot, shows};
 ghost use Rattle.mdv_replica.specs.Replica.{IsFormed, IsPlaced, slot_blocks};
 ghost use Rattle.mdv_table.specs.Slices.{IsSound};
-ghost use Rattle.mdv_database.specs.Counts.{MadeCallsBetween, if_found, if_kept, looked};
+ghost use Rattle.mdv_database.specs.Counts.{MadeCallsBetween, if_found, if_held, least_found, least_looked, most_found, most_looked, open_slots, reads_of};
 ghost use Rattle.mdv_database.specs.Database.{IsLookedAt, IsOnDrive, IsUnwritten, site_of};
 ghost use Rattle.mdv_database.specs.Looks.{IsFoundAt, IsHeadThere, LookEnds, OnlyReads, ReadAnswer};
 ghost use Rattle.mdv_database.specs.Slots.{AreHeld, IfKept, IsFitting, IsHeld, IsTableOf};
@@ -50,10 +50,10 @@ pub(crate) fn look<S: Shelf>(
 ) -> Result<Option<Found>, ReadFault>
     requires sound { IsSound drives.now }
     requires on_drive { IsOnDrive (S.sizes shelf.old) at }
-    ensures answer { ReadAnswer (DriveFailed S.Shelf shelf.old shelf.new at.drive.0) (λ seen. IfSome seen (IsFoundAt drives.now (S.sizes shelf.old) at)) result }
+    ensures answer { ReadAnswer (DriveFailures S.Shelf shelf.old shelf.new at.drive.0) (λ seen. IfSome seen (IsFoundAt drives.now (S.sizes shelf.old) at)) result }
     ensures moments { AtEachTale S.Shelf IsUnwritten shelf.old shelf.new }
     ensures end { AtEnd S.Shelf (LookEnds (site_of drives.now key.now at (S.sizes shelf.old)) result) shelf.old shelf.new }
-    ensures counted { MadeCallsBetween S.Shelf shelf.old shelf.new (looked result) 5 0 }
+    ensures counted { MadeCallsBetween S.Shelf shelf.old shelf.new (least_looked result) (most_looked result) 0 }
     ensures kept { Kept S.Shelf shelf.old shelf.new }
 {
     let mut first = [ZERO_BLOCK];
@@ -78,9 +78,9 @@ fn find<S: Shelf>(
 ) -> Result<Option<Found>, ReadFault>
     requires sound { IsSound drives.now }
     requires on_drive { IsOnDrive (S.sizes shelf.old) at }
-    ensures answer { ReadAnswer (DriveFailed S.Shelf shelf.old shelf.new at.drive.0) (λ seen. IfSome seen (IsFoundAt drives.now (S.sizes shelf.old) at)) result }
+    ensures answer { ReadAnswer (DriveFailures S.Shelf shelf.old shelf.new at.drive.0) (λ seen. IfSome seen (IsFoundAt drives.now (S.sizes shelf.old) at)) result }
     ensures reads { OnlyReads S.Shelf (λ t. IfOk result (IsLookedAt (site_of drives.now key.now at (S.sizes shelf.old)) (last t at.drive.0))) shelf.old shelf.new }
-    ensures counted { MadeCallsBetween S.Shelf shelf.old shelf.new (if_found 2 result) 3 0 }
+    ensures counted { MadeCallsBetween S.Shelf shelf.old shelf.new (least_found 1 result) (most_found 1 result) 0 }
     ensures kept { Kept S.Shelf shelf.old shelf.new }
 {
     match head_at(shelf, at) {
@@ -126,9 +126,9 @@ fn find_table<S: Shelf>(
     requires on_drive { IsOnDrive (S.sizes shelf.old) at }
     requires form { IsFormed at (slice_index_or (S.sizes shelf.old) at.drive.0 0) head }
     requires shown { shows head ≡ true }
-    ensures answer { ReadAnswer (DriveFailed S.Shelf shelf.old shelf.new at.drive.0) (λ seen. IfSome seen (IsFoundAt drives.now (S.sizes shelf.old) at)) result }
+    ensures answer { ReadAnswer (DriveFailures S.Shelf shelf.old shelf.new at.drive.0) (λ seen. IfSome seen (IsFoundAt drives.now (S.sizes shelf.old) at)) result }
     ensures reads { OnlyReads S.Shelf (λ t. IfOk result (IsTableOf drives.now at head (last t at.drive.0))) shelf.old shelf.new }
-    ensures counted { MadeCallsBetween S.Shelf shelf.old shelf.new (if_found 1 result) 2 0 }
+    ensures counted { MadeCallsBetween S.Shelf shelf.old shelf.new (least_found 0 result) (most_found 0 result) 0 }
     ensures kept { Kept S.Shelf shelf.old shelf.new }
 {
     let sized = at_length(at, head.master.blocks);
@@ -163,9 +163,9 @@ fn newest_table<S: Shelf>(
     requires shown { shows head.now ≡ true }
     requires spare { IsSpareSlot head.now spare }
     ensures whole { body.new ≡ body.old }
-    ensures answer { ReadAnswer (DriveFailed S.Shelf shelf.old shelf.new at.drive.0) (λ found. IfSome found (IsFitting drives.now at)) result }
+    ensures answer { ReadAnswer (DriveFailures S.Shelf shelf.old shelf.new at.drive.0) (λ found. IfSome found (IsFitting drives.now at)) result }
     ensures reads { OnlyReads S.Shelf (λ t. IfOk result (AreHeld drives.now at head.now spare (last t at.drive.0))) shelf.old shelf.new }
-    ensures counted { MadeCallsBetween S.Shelf shelf.old shelf.new (if_found 1 result) 2 0 }
+    ensures counted { MadeCallsBetween S.Shelf shelf.old shelf.new (if_found (open_slots head.now) result) (open_slots head.now) 0 }
     ensures kept { Kept S.Shelf shelf.old shelf.new }
 {
     let older = read_slot(
@@ -208,9 +208,9 @@ fn read_slot<S: Shelf>(
     requires placed { IsPlaced (S.sizes shelf.old) at }
     requires whole { body.old ≡ slot_blocks at.place.blocks }
     ensures whole { body.new ≡ body.old }
-    ensures answer { ReadAnswer (DriveFailed S.Shelf shelf.old shelf.new at.drive.0) (λ held. IfKept held (IsFitting drives.now at)) result }
+    ensures answer { ReadAnswer (DriveFailures S.Shelf shelf.old shelf.new at.drive.0) (λ held. IfKept held (IsFitting drives.now at)) result }
     ensures reads { OnlyReads S.Shelf (λ t. IfOk result (IsHeld drives.now at slot gate (last t at.drive.0))) shelf.old shelf.new }
-    ensures counted { MadeCallsBetween S.Shelf shelf.old shelf.new (if_kept result) 1 0 }
+    ensures counted { MadeCallsBetween S.Shelf shelf.old shelf.new (if_held gate result) (reads_of gate) 0 }
     ensures kept { Kept S.Shelf shelf.old shelf.new }
 {
     match gate {

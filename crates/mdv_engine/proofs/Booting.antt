@@ -1,7 +1,7 @@
 -- What a boot of the host's database leaves, told of the host.
 use Rattle.std.proofs.Common.{◌≡◌, ℕ, false, List, Option, Some, None, refl, sym, subst, ap, ◌∙◌}
 use Rattle.mdv_store_law.specs.Adoptable.{IsAdoptable}
-use Rattle.mdv_engine.specs.Below.{place_of, PlaceAt, with_blocks, other_slot, KeptOutside, nowhere, Moments, Ends, IsSynced, Tale, last, is_firm, Site, Newest, IsFound, IsTableAt, GoesOn, GoesOnTo, IsNewestIn, IsOpened, ShowsNothing, IsAdopted, IsDrawn, IsQuiet, IsSpent, Host, IsReady, site_of, Memory, IsRebooted, IsUsedUp, adopted, empty, down, kept_at, unbooted, BootMoment, BootedTo}
+use Rattle.mdv_engine.specs.Below.{Failures, place_of, PlaceAt, with_blocks, other_slot, KeptOutside, nowhere, Moments, Ends, IsSynced, Tale, last, is_firm, Site, Newest, IsFound, IsTableAt, GoesOn, GoesOnTo, IsNewestIn, IsOpened, ShowsNothing, IsAdopted, IsDrawn, IsQuiet, IsSpent, Host, IsReady, site_of, Memory, IsRebooted, IsUsedUp, adopted, empty, down, kept_at, unbooted, BootMoment, BootedTo}
 use Rattle.mdv_shelf.proofs.Moments.{moments_both, moments_weaker, moments_end, ends_both}
 use Rattle.mdv_engine_law.specs.Answers.{accepted}
 use Rattle.mdv_engine_law.proofs.Booting.{boot_moment, booted, booted_adopted, booted_down, booted_empty, unread}
@@ -23,13 +23,13 @@ module _ (host : Host) (sizes : List ℕ) (ready : IsReady host sizes) (at : Pla
 
   -- a boot that adopted a replica
   module _ (begun : ℕ) (newest : Newest) (a b : Option Tale) where
-    pub adopted_rebooted : (failed : Type 0) → Moments (IsQuiet at) a b → ((t : Tale) → a ≡ Some t → IsDrawn site (last t at.drive.0) newest) → Ends (λ t u. IsAdopted site (last t at.drive.0) newest u × IsOpened site newest u) a b
-        → Ends (λ t u. (old new : Memory) → old.begun ≡ begun → new ≡ booted (Some newest) begun → IsRebooted failed host (kept_at old t) accepted (kept_at new u)) a b
-    adopted_rebooted failed quiet drawn is t start =
+    pub adopted_rebooted : (failures : Failures) → failures.none → Moments (IsQuiet at) a b → ((t : Tale) → a ≡ Some t → IsDrawn site (last t at.drive.0) newest) → Ends (λ t u. IsAdopted site (last t at.drive.0) newest u × IsOpened site newest u) a b
+        → Ends (λ t u. (old new : Memory) → old.begun ≡ begun → new ≡ booted (Some newest) begun → IsRebooted failures host (kept_at old t) accepted (kept_at new u)) a b
+    adopted_rebooted failures calm quiet drawn is t start =
         let end = ends_both (λ t u. IsAdopted site (last t at.drive.0) newest u × IsOpened site newest u) (IsQuiet at) (λ t u. IsAdopted site (last t at.drive.0) newest u × IsQuiet at t u) a b (λ t u q s. (q.0, s)) is (moments_end (IsQuiet at) a b quiet) t start in
         let of = to_host (λ s. IsDrawn s (last t s.at.drive.0) newest) (drawn t start) in
         let by = to_host (λ s. IsAdopted s (last t s.at.drive.0) newest end.0) end.2.0 in
-        (end.0, end.1, λ old new same now. adopted newest refl (now ∙ ap (λ (n : ℕ). booted (Some newest) n) (sym same)) (rewritten_newest host old new t end.0 newest of.head (other_slot newest.slot) newest.table (quiet_here host sizes ready at at_is t end.0 end.2.1) of.tie of.the of.fits by))
+        (end.0, end.1, λ old new same now. adopted calm newest refl (now ∙ ap (λ (n : ℕ). booted (Some newest) n) (sym same)) (rewritten_newest host old new t end.0 newest of.head (other_slot newest.slot) newest.table (quiet_here host sizes ready at at_is t end.0 end.2.1) of.tie of.the of.fits by))
 
     pub adopted_booted : Moments (IsQuiet at) a b → Ends (λ t u. IsAdopted site (last t at.drive.0) newest u × IsOpened site newest u) a b → Ends (λ t u. IsSynced at.drive.0 u) a b → Ends (GoesOnTo site (IsNewestIn newest)) a b
         → Ends (BootedTo host (booted (Some newest) begun)) a b
@@ -41,11 +41,11 @@ module _ (host : Host) (sizes : List ℕ) (ready : IsReady host sizes) (at : Pla
 
   -- one that found nothing
   module _ (begun : ℕ) (a b : Option Tale) where
-    pub empty_rebooted : (failed : Type 0) → ((t : Tale) → a ≡ Some t → IsFound site (last t at.drive.0) None) → Ends (KeptOutside nowhere) a b
-        → Ends (λ t u. (old new : Memory) → old.begun ≡ begun → new ≡ unbooted begun → IsRebooted failed host (kept_at old t) accepted (kept_at new u)) a b
-    empty_rebooted failed found kept t start =
+    pub empty_rebooted : (failures : Failures) → failures.none → ((t : Tale) → a ≡ Some t → IsFound site (last t at.drive.0) None) → Ends (KeptOutside nowhere) a b
+        → Ends (λ t u. (old new : Memory) → old.begun ≡ begun → new ≡ unbooted begun → IsRebooted failures host (kept_at old t) accepted (kept_at new u)) a b
+    empty_rebooted failures calm found kept t start =
         let end = kept t start in
-        (end.0, end.1, λ old new same now. empty refl (now ∙ ap unbooted (sym same)) (to_host (λ s. IsFound s (last t s.at.drive.0) None) (found t start)) (same_content t end.0 end.2))
+        (end.0, end.1, λ old new same now. empty calm refl (now ∙ ap unbooted (sym same)) (to_host (λ s. IsFound s (last t s.at.drive.0) None) (found t start)) (same_content t end.0 end.2))
 
     pub empty_booted : Moments (IsQuiet at) a b → Ends (λ t u. IsSynced at.drive.0 u) a b → Ends (λ t u. ShowsNothing site u) a b → Ends (GoesOnTo site (λ lg. is_firm lg ≡ false)) a b
         → Ends (BootedTo host (unbooted begun)) a b
@@ -56,9 +56,9 @@ module _ (host : Host) (sizes : List ℕ) (ready : IsReady host sizes) (at : Pla
         (ends_both (λ t u. ShowsNothing site u) (GoesOnTo site (λ lg. is_firm lg ≡ false)) (λ t u. ShowsNothing site u × GoesOnTo site (λ lg. is_firm lg ≡ false) t u) a b (λ t u q s. (q, s)) nothing goes)
 
     -- one that couldn't read the drive
-    pub down_rebooted : (failed : Type 0) → failed → Ends (KeptOutside nowhere) a b
-        → Ends (λ t u. (old new : Memory) → old.begun ≡ begun → new ≡ unread begun → IsRebooted failed host (kept_at old t) accepted (kept_at new u)) a b
-    down_rebooted failed so kept t start =
+    pub down_rebooted : (failures : Failures) → failures.some → Ends (KeptOutside nowhere) a b
+        → Ends (λ t u. (old new : Memory) → old.begun ≡ begun → new ≡ unread begun → IsRebooted failures host (kept_at old t) accepted (kept_at new u)) a b
+    down_rebooted failures so kept t start =
         let end = kept t start in
         (end.0, end.1, λ old new same now. down so refl (now ∙ ap unread (sym same)) (same_content t end.0 end.2))
 

@@ -1,7 +1,7 @@
 -- What a commit of the open database answers and leaves, told of the host, by the answer of the database.
 use Rattle.mdv_engine_law.specs.Line.{ToDo}
 use Rattle.std.proofs.Common.{◌≡◌, Option, Some, refl, sym, subst, ap, ◌∙◌}
-use Rattle.mdv_engine.specs.Below.{VolId, SliceName, CameTo, Refusal, Ends, Tale, Change, Newest, Changed, Answer, Host, Memory, kept_at, CarriedTo, CarryEnd, Knows}
+use Rattle.mdv_engine.specs.Below.{Failures, VolId, SliceName, CameTo, Refusal, Ends, Tale, Change, Newest, Changed, Answer, Host, Memory, kept_at, CarriedTo, CarryEnd, Knows}
 use Rattle.mdv_shelf.proofs.Moments.{ends_both}
 use Rattle.mdv_table.specs.declared.change.Change.TheVariants as change
 use Rattle.mdv_words.specs.declared.command.Command.TheVariants.{MakeStripe}
@@ -20,24 +20,24 @@ opened_still old memory same n m is opened = opened_as old memory same n m is �
 
 module _ (host : Host) (memory : Memory) (volume : VolId) (slice : SliceName) where
   module _ (a b : Option Tale) (answer result : Answer) (result_is : result ≡ answer) (after real : Memory) (real_is : real ≡ after) where
-    abbrev Committed : Type 0 → Answer → Memory → Type 0
-    Committed failed answer after = Ends (λ t u. Knows host memory t → CameTo failed host (kept_at memory t) (MakeStripe volume slice) answer (kept_at after u)) a b
+    abbrev Committed : Failures → Answer → Memory → Type 0
+    Committed failures answer after = Ends (λ t u. Knows host memory t → CameTo failures host (kept_at memory t) (MakeStripe volume slice) answer (kept_at after u)) a b
 
     abbrev Carried : Answer → Memory → Type 0
     Carried answer after = Ends (CarriedTo host (ToDo (Changed (change.MakeStripe volume slice))) memory answer after) a b
 
     -- what the commit answers, and leaves in memory
-    commit_as : (failed : Type 0) → Committed failed answer after → Committed failed result real
-    commit_as failed is = subst (λ (x : Answer). Committed failed x real) (sym result_is) (subst (λ (m : Memory). Committed failed answer m) (sym real_is) is)
+    commit_as : (failures : Failures) → Committed failures answer after → Committed failures result real
+    commit_as failures is = subst (λ (x : Answer). Committed failures x real) (sym result_is) (subst (λ (m : Memory). Committed failures answer m) (sym real_is) is)
 
     carried_as : Carried answer after → Carried result real
     carried_as is = subst (λ (x : Answer). Carried x real) (sym result_is) (subst (λ (m : Memory). Carried answer m) (sym real_is) is)
 
-    pub end_as : (failed : Type 0) → Committed failed answer after → Carried answer after → Ends (CarryEnd (λ kept x next. CameTo failed host kept (MakeStripe volume slice) x next) host (ToDo (Changed (change.MakeStripe volume slice))) memory result real) a b
-    end_as failed is carried =
-        ends_both (λ t u. Knows host memory t → CameTo failed host (kept_at memory t) (MakeStripe volume slice) result (kept_at real u)) (CarriedTo host (ToDo (Changed (change.MakeStripe volume slice))) memory result real)
-        (CarryEnd (λ kept x next. CameTo failed host kept (MakeStripe volume slice) x next) host (ToDo (Changed (change.MakeStripe volume slice))) memory result real) a b
-        (λ t u one two. record { answered = one; carried = two }) (commit_as failed is) (carried_as carried)
+    pub end_as : (failures : Failures) → Committed failures answer after → Carried answer after → Ends (CarryEnd (λ kept x next. CameTo failures host kept (MakeStripe volume slice) x next) host (ToDo (Changed (change.MakeStripe volume slice))) memory result real) a b
+    end_as failures is carried =
+        ends_both (λ t u. Knows host memory t → CameTo failures host (kept_at memory t) (MakeStripe volume slice) result (kept_at real u)) (CarriedTo host (ToDo (Changed (change.MakeStripe volume slice))) memory result real)
+        (CarryEnd (λ kept x next. CameTo failures host kept (MakeStripe volume slice) x next) host (ToDo (Changed (change.MakeStripe volume slice))) memory result real) a b
+        (λ t u one two. record { answered = one; carried = two }) (commit_as failures is) (carried_as carried)
 
 -- nothing was done
 module _ (host : Host) (memory : Memory) (change : Change) (a b : Option Tale) (same : b ≡ a) where

@@ -1,7 +1,7 @@
 -- What a commit of the host's next table leaves, told of the host.
 use Rattle.mdv_engine_law.specs.Line.{ToDo}
 use Rattle.std.proofs.Common.{◌≡◌, ◌≤◌, ◌<◌, ◌+◌, ◌^◌, ◌++◌, inl, inr, ℕ, Bool, true, false, List, [], ◌∷◌, length, Option, Some, None, refl, sym, subst, ap, ◌∙◌, arith}
-use Rattle.mdv_engine.specs.Below.{VolId, SliceName, Refusal, ReplicaFull, OutOfMemory, place_of, Geometry, record_text, PlaceAt, Moments, Ends, Tale, Change, MakeStripe, Table, IsOfGeometry, IsWithNewest, Log, IsMade, NoCreation, Site, Newest, Anything, GoesFrom, IsOpened, next_newest, Changed, IsCommitted, IsQuiet, MayCommit, Answer, Host, IsReady, site_of, Memory, CameTo, Answer, kept_at, record_room, IsPlain, CarriedTo, CarryMoment, Knows}
+use Rattle.mdv_engine.specs.Below.{Failures, VolId, SliceName, Refusal, ReplicaFull, OutOfMemory, place_of, Geometry, record_text, PlaceAt, Moments, Ends, Tale, Change, MakeStripe, Table, IsOfGeometry, IsWithNewest, Log, IsMade, NoCreation, Site, Newest, Anything, GoesFrom, IsOpened, next_newest, Changed, IsCommitted, IsQuiet, MayCommit, Answer, Host, IsReady, site_of, Memory, CameTo, Answer, kept_at, record_room, IsPlain, CarriedTo, CarryMoment, Knows}
 use Rattle.mdv_shelf.proofs.Moments.{moments_both, moments_weaker, moments_end, some_is, ends_both}
 use Rattle.mdv_words.specs.declared.command.Command.TheVariants as command
 use Rattle.mdv_engine_law.specs.Answers.{accepted, refusing}
@@ -99,9 +99,9 @@ may_want host memory newest opened change = inr (λ none. absurd (cc (opened, no
 
 -- a change that is refused before anything is done
 module _ (host : Host) (memory : Memory) (volume : VolId) (slice : SliceName) where
-  pub refused_line : (failed : Type 0) (t : Tale) (r : Refusal) → HasChangeCause host memory (MakeStripe volume slice) r → CameTo failed host (kept_at memory t) (command.MakeStripe volume slice) (refusing r) (kept_at memory t)
-  refused_line failed t r (inl is) = came.refused r is (refl, record { memory = refl; content = λ block. refl })
-  refused_line failed t r (inr (some, want)) = came.wanting (ap refusing want) (some, record { memory = refl; content = λ block. refl })
+  pub refused_line : (failures : Failures) → failures.none → (t : Tale) (r : Refusal) → HasChangeCause host memory (MakeStripe volume slice) r → CameTo failures host (kept_at memory t) (command.MakeStripe volume slice) (refusing r) (kept_at memory t)
+  refused_line failures calm t r (inl is) = came.refused calm r is (refl, record { memory = refl; content = λ block. refl })
+  refused_line failures calm t r (inr (some, want)) = came.wanting calm (ap refusing want) (some, record { memory = refl; content = λ block. refl })
 
   pub refused_plain : (r : Refusal) → HasChangeCause host memory (MakeStripe volume slice) r → IsPlain r
   refused_plain r (inl is) = refusal_plain (record { host = host; memory = memory }) (command.MakeStripe volume slice) r is
@@ -181,8 +181,8 @@ module _ (host : Host) (sizes : List ℕ) (ready : IsReady host sizes) (at : Pla
   abbrev after_it : Memory
   after_it = record memory { opened = Some (next_newest newest next) }
 
-  abbrev Comes : Type 0 → Answer → Memory → Tale → Tale → Type 0
-  Comes failed answer after t u = Knows host memory t → CameTo failed host (kept_at memory t) (command.MakeStripe volume slice) answer (kept_at after u)
+  abbrev Comes : Failures → Answer → Memory → Tale → Tale → Type 0
+  Comes failures answer after t u = Knows host memory t → CameTo failures host (kept_at memory t) (command.MakeStripe volume slice) answer (kept_at after u)
 
   length_is : length (record_text next) ≡ bytes_after host newest stripe
   length_is = ap (λ (t : Table). length (record_text t)) changed_is.is
@@ -198,9 +198,9 @@ module _ (host : Host) (sizes : List ℕ) (ready : IsReady host sizes) (at : Pla
     opens_so : (t u : Tale) → OpensHere t u → Knows host memory t → IsOpened (site_of host) (next_newest newest next) u
     opens_so = opens_here host sizes ready at at_is memory stripe next newest opened changed_is placed a b quiet
 
-    pub committed_answer : (failed : Type 0) → newest.mark.count + 1 < 2 ^ 63 → Ends OpensHere a b → Ends (Comes failed accepted after_it) a b
-    committed_answer failed less opens = ends_both (IsQuiet at) OpensHere (Comes failed accepted after_it) a b
-        (λ t u q o. λ known. came.done (free fits) (
+    pub committed_answer : (failures : Failures) → failures.none → newest.mark.count + 1 < 2 ^ 63 → Ends OpensHere a b → Ends (Comes failures accepted after_it) a b
+    committed_answer failures calm less opens = ends_both (IsQuiet at) OpensHere (Comes failures accepted after_it) a b
+        (λ t u q o. λ known. came.done calm (free fits) (
           refl,
           newest,
           opened,
@@ -210,19 +210,19 @@ module _ (host : Host) (sizes : List ℕ) (ready : IsReady host sizes) (at : Pla
         (moments_end (IsQuiet at) a b quiet) opens
 
     -- a call on the drive failed
-    pub lost_answer : (failed : Type 0) (after : Memory) → failed → Ends (Comes failed (Over (ended.Lost 0 1)) after) a b
-    lost_answer failed after so t start = (let end = quiet t start in (end.0, end.1, λ known. came.over (ended.Lost 0 1) (free fits) refl (so, refl, refl)))
+    pub lost_answer : (failures : Failures) (after : Memory) → failures.some → Ends (Comes failures (Over (ended.Lost 0 1)) after) a b
+    lost_answer failures after so t start = (let end = quiet t start in (end.0, end.1, λ known. came.over (ended.Lost 0 1) (free fits) refl (so, refl, refl)))
 
   -- nothing was done: the text is too long, or the count would reach its limit
   module _ (a b : Option Tale) (same : b ≡ a) where
     full_is : (bytes room : ℕ) → bytes ≡ length (record_text next) → room ≡ record_room newest → ReplicaFull (bytes_after host newest stripe) (record_room newest) ≡ ReplicaFull bytes room
     full_is bytes room bytes_are room_is = λ i. ReplicaFull (sym (bytes_are ∙ length_is) i) (sym room_is i)
 
-    pub long_answer : (failed : Type 0) (bytes room : ℕ) → record_room newest < length (record_text next) → bytes ≡ length (record_text next) → room ≡ record_room newest → Ends (Comes failed (refusing (ReplicaFull bytes room)) memory) a b
-    long_answer failed bytes room long bytes_are room_is t start =
+    pub long_answer : (failures : Failures) → failures.none → (bytes room : ℕ) → record_room newest < length (record_text next) → bytes ≡ length (record_text next) → room ≡ record_room newest → Ends (Comes failures (refusing (ReplicaFull bytes room)) memory) a b
+    long_answer failures calm bytes room long bytes_are room_is t start =
         let behind : record_room newest < bytes_after host newest stripe = (let is = length_is in omega arith) in
         let told : change_refusal host (Some newest) stripe ≡ Some (ReplicaFull bytes room) = change_long host newest stripe changed_is.allowed behind ∙ ap (λ (r : Refusal). Some r) (full_is bytes room bytes_are room_is) in
-        (t, same ∙ start, λ known. came.refused (ReplicaFull bytes room) (of_open host memory.opened newest stripe (Some (ReplicaFull bytes room)) opened told) (refl, record { memory = refl; content = λ block. refl }))
+        (t, same ∙ start, λ known. came.refused calm (ReplicaFull bytes room) (of_open host memory.opened newest stripe (Some (ReplicaFull bytes room)) opened told) (refl, record { memory = refl; content = λ block. refl }))
 
-    pub spent_answer : (failed : Type 0) → length (record_text next) ≤ record_room newest → 2 ^ 63 ≤ newest.mark.count + 1 → Ends (Comes failed (Over ended.Spent) memory) a b
-    spent_answer failed fits spent t start = (t, same ∙ start, λ known. came.over ended.Spent (free fits) refl (newest, opened, spent, record { memory = refl; content = λ block. refl }))
+    pub spent_answer : (failures : Failures) → failures.none → length (record_text next) ≤ record_room newest → 2 ^ 63 ≤ newest.mark.count + 1 → Ends (Comes failures (Over ended.Spent) memory) a b
+    spent_answer failures calm fits spent t start = (t, same ∙ start, λ known. came.over ended.Spent (free fits) refl (calm, newest, opened, spent, record { memory = refl; content = λ block. refl }))

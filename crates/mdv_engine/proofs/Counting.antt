@@ -4,7 +4,7 @@ use Rattle.mdv_shelf.specs.Calls.{Took, TookAtMost}
 use Rattle.mdv_shelf.specs.Between.{TookBetween}
 use Rattle.mdv_shelf.proofs.Between.{between_none, between_of, between_then}
 use Rattle.mdv_shelf.proofs.Counts.{at_most_then, took_at_most, took_wider}
-use Rattle.mdv_engine.specs.Below.{Refusal, IoFault, OutOfMemory, VolId, Tale, Answer, Host, Memory}
+use Rattle.mdv_engine.specs.Below.{Failures, Refusal, IoFault, OutOfMemory, VolId, Tale, Answer, Host, Memory}
 use Rattle.mdv_words.specs.declared.command.Command.{Command}
 use Rattle.mdv_words.specs.declared.command.Command.TheVariants.{Create, MakeStripe, Read, Write}
 use Rattle.mdv_engine_law.specs.Answers.{refusing}
@@ -42,7 +42,7 @@ module _ {S : Type 0} (tale : S → Option Tale) (calls written : S → Option �
   -- the calls of a telling behind a command in which a call failed
   pub fault_then : (a b c : S) (command : Command) → IsFaultCounted calls written a b 0 command → Took calls written b c 1 0 → IsFaultCounted calls written a c 1 command
   fault_then a b c (Create slice force) took told = between_then calls written a b c 1 6 5 1 1 0 2 7 5 (omega arith) (omega arith) (omega arith) took (between_of calls written b c 1 0 1 1 0 (omega arith) (omega arith) (omega arith) told)
-  fault_then a b c (MakeStripe volume slice) took told = at_most_then calls written a b c 6 1 4096 0 7 4096 (omega arith) (omega arith) took (took_at_most calls written b c 1 0 1 0 (omega arith) (omega arith) told)
+  fault_then a b c (MakeStripe volume slice) took told = absurd took
   fault_then a b c (Read volume at count) took told = at_most_then calls written a b c 1 1 0 0 2 0 (omega arith) (omega arith) took (took_at_most calls written b c 1 0 1 0 (omega arith) (omega arith) told)
   fault_then a b c (Write volume at block) took told = at_most_then calls written a b c 2 1 1 0 3 1 (omega arith) (omega arith) took (took_at_most calls written b c 1 0 1 0 (omega arith) (omega arith) told)
 
@@ -54,14 +54,14 @@ module _ {S : Type 0} (tale : S → Option Tale) (calls written : S → Option �
     refused_counted command other fault same = same
 
     -- blocks that aren't read or written
-    pub blocks_counted : (command : Command) (failed : Type 0) (host : Host) (memory : Memory) (volume : VolId) (at n : ℕ) (refusal : Refusal) → HasBlocksCause failed host memory volume at n refusal
+    pub blocks_counted : (command : Command) (failures : Failures) (host : Host) (memory : Memory) (volume : VolId) (at n : ℕ) (refusal : Refusal) → HasBlocksCause failures host memory volume at n refusal
         → (blocks_refusal memory.opened volume (at + n) ≡ Some refusal → new ≡ old) → IsFaultCounted calls written old new 0 command → IsCommandCounted tale calls written old new command (refusing refusal)
-    blocks_counted command failed host memory volume at n refusal (inl is) none took = refused_counted command refusal (λ fault. took) (none is)
-    blocks_counted command failed host memory volume at n refusal (inr (so, has, fault)) none took = subst (λ (x : Refusal). IsCommandCounted tale calls written old new command (refusing x)) (sym fault) took
+    blocks_counted command failures host memory volume at n refusal (inl is) none took = refused_counted command refusal (λ fault. took) (none is.1)
+    blocks_counted command failures host memory volume at n refusal (inr (so, has, fault)) none took = subst (λ (x : Refusal). IsCommandCounted tale calls written old new command (refusing x)) (sym fault) took
 
     fault_most : (command : Command) → IsFaultCounted calls written old new 0 command → TookAtMost calls written old new (calls_of command) (blocks_of command)
     fault_most (Create slice force) took = took_wider calls written old new 6 5 12 8 (omega arith) (omega arith) took.at_most
-    fault_most (MakeStripe volume slice) took = took
+    fault_most (MakeStripe volume slice) took = absurd took
     fault_most (Read volume at count) took = took
     fault_most (Write volume at block) took = took
 

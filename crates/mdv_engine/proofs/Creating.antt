@@ -2,7 +2,7 @@
 use Rattle.mdv_engine_law.specs.Line.{ToDo}
 use Rattle.mdv_engine_law.specs.Commands as came
 use Rattle.std.proofs.Common.{◌≡◌, ◌≤◌, ◌+◌, ℕ, Bool, false, List, Option, Some, None, refl, subst, ap, ◌∙◌}
-use Rattle.mdv_engine.specs.Below.{SliceName, Create, Identity, IoFault, OutOfMemory, place_of, PlaceAt, Moments, Ends, Tale, IsCreated, Log, is_firm, Site, Newest, Anything, GoesMaking, IsOpened, ShowsNothing, Created, IsQuiet, IsSafe, first_newest, first_table, Host, IsReady, site_of, identity_of, Memory, CameTo, IsAllowed, kept_at, CarriedTo, CarryMoment, Knows}
+use Rattle.mdv_engine.specs.Below.{Failures, SliceName, Create, Identity, IoFault, OutOfMemory, place_of, PlaceAt, Moments, Ends, Tale, IsCreated, Log, is_firm, Site, Newest, Anything, GoesMaking, IsOpened, ShowsNothing, Created, IsQuiet, IsSafe, first_newest, first_table, Host, IsReady, site_of, identity_of, Memory, CameTo, IsAllowed, kept_at, CarriedTo, CarryMoment, Knows}
 use Rattle.mdv_shelf.proofs.Moments.{moments_both, moments_weaker, moments_end, ends_both}
 use Rattle.mdv_engine_law.specs.Answers.{accepted, refusing}
 use Rattle.mdv_engine_law.specs.declared.answer.Answer.TheVariants.{Over}
@@ -46,9 +46,9 @@ module _ (host : Host) (sizes : List ℕ) (ready : IsReady host sizes) (at : Pla
 
   -- it was made
   module _ (slice : SliceName) (force : Bool) (free : IsAllowed (record { host = host; memory = memory }) (Create slice force)) (safe : Ends (λ t u. IsSafe site identity u) a b) where
-    pub made_creation : (failed : Type 0) (next : Memory) → next ≡ with_new host memory → Ends (λ t u. Knows host memory t → CameTo failed host (kept_at memory t) (Create slice force) accepted (kept_at next u)) a b
-    made_creation failed next next_is = ends_both (IsQuiet at) (λ t u. IsSafe site identity u) _ a b
-        (λ t u q s. λ known. came.done free (
+    pub made_creation : (failures : Failures) → failures.none → (next : Memory) → next ≡ with_new host memory → Ends (λ t u. Knows host memory t → CameTo failures host (kept_at memory t) (Create slice force) accepted (kept_at next u)) a b
+    made_creation failures calm next next_is = ends_both (IsQuiet at) (λ t u. IsSafe site identity u) _ a b
+        (λ t u q s. λ known. came.done calm free (
           refl,
           created host memory next t u (first_table (site_of host).at.place) room (quiet_here host sizes ready at at_is t u q) next_is refl refl (to_host (λ x. IsSafe x identity u) s),
         ))
@@ -69,8 +69,8 @@ module _ (host : Host) (sizes : List ℕ) (ready : IsReady host sizes) (at : Pla
 
   -- its format failed
   module _ (nothing : Ends (λ t u. ShowsNothing site t → ShowsNothing site u) a b) where
-    pub unmade_creation : (slice : SliceName) (force : Bool) → IsAllowed (record { host = host; memory = memory }) (Create slice force) → (failed : Type 0) → failed → Ends (λ t u. Knows host memory t → CameTo failed host (kept_at memory t) (Create slice force) (refusing IoFault) (kept_at (begun memory) u)) a b
-    unmade_creation slice force free failed so = ends_both (IsQuiet at) (λ t u. ShowsNothing site t → ShowsNothing site u) _ a b
+    pub unmade_creation : (slice : SliceName) (force : Bool) → IsAllowed (record { host = host; memory = memory }) (Create slice force) → (failures : Failures) → failures.some → Ends (λ t u. Knows host memory t → CameTo failures host (kept_at memory t) (Create slice force) (refusing IoFault) (kept_at (begun memory) u)) a b
+    unmade_creation slice force free failures so = ends_both (IsQuiet at) (λ t u. ShowsNothing site t → ShowsNothing site u) _ a b
         (λ t u q n. λ known. came.faulted so free refl (uncreated host memory (begun memory) t u (quiet_here host sizes ready at at_is t u q) refl (to_host (λ s. ShowsNothing s t → ShowsNothing s u) n (known.nothing none up))))
         (moments_end (IsQuiet at) a b quiet) nothing
 
@@ -82,9 +82,9 @@ module _ (host : Host) (sizes : List ℕ) (ready : IsReady host sizes) (at : Pla
         (ends_both (λ t u. ShowsNothing site t → ShowsNothing site u) (Goes (λ lg. is_firm lg ≡ false)) (λ t u. (ShowsNothing site t → ShowsNothing site u) × Goes (λ lg. is_firm lg ≡ false) t u) a b (λ t u o g. (o, g)) nothing goes)
 
   -- the write of its table failed
-  pub lost_creation : (slice : SliceName) (force : Bool) → IsAllowed (record { host = host; memory = memory }) (Create slice force) → (failed : Type 0) → failed → Ends (λ _ u. ShowsReplica site identity u) a b → Ends (λ t u. Knows host memory t → CameTo failed host (kept_at memory t) (Create slice force) (Over (ended.Lost 0 1)) (kept_at (begun memory) u)) a b
-  lost_creation slice force free failed so shows =
-      ends_both (IsQuiet at) (λ _ u. ShowsReplica site identity u) (λ t u. Knows host memory t → CameTo failed host (kept_at memory t) (Create slice force) (Over (ended.Lost 0 1)) (kept_at (begun memory) u)) a b
+  pub lost_creation : (slice : SliceName) (force : Bool) → IsAllowed (record { host = host; memory = memory }) (Create slice force) → (failures : Failures) → failures.some → Ends (λ _ u. ShowsReplica site identity u) a b → Ends (λ t u. Knows host memory t → CameTo failures host (kept_at memory t) (Create slice force) (Over (ended.Lost 0 1)) (kept_at (begun memory) u)) a b
+  lost_creation slice force free failures so shows =
+      ends_both (IsQuiet at) (λ _ u. ShowsReplica site identity u) (λ t u. Knows host memory t → CameTo failures host (kept_at memory t) (Create slice force) (Over (ended.Lost 0 1)) (kept_at (begun memory) u)) a b
       (λ t u q s known. came.over (ended.Lost 0 1) free refl (so, refl, refl, to_host (λ x. ShowsReplica x identity u) s (last u) (last_image u)))
       (moments_end (IsQuiet at) a b quiet) shows
 
@@ -96,8 +96,8 @@ module _ (host : Host) (sizes : List ℕ) (ready : IsReady host sizes) (at : Pla
 
 -- memory was wanting
 module _ (host : Host) (memory : Memory) (a b : Option Tale) (same : b ≡ a) where
-  pub unbegun_creation : (slice : SliceName) (force : Bool) → IsAllowed (record { host = host; memory = memory }) (Create slice force) → (failed : Type 0) → Ends (λ t u. Knows host memory t → CameTo failed host (kept_at memory t) (Create slice force) (refusing OutOfMemory) (kept_at (begun memory) u)) a b
-  unbegun_creation slice force free failed t start = (t, same ∙ start, λ known. came.wanting refl (free, record { memory = refl; content = λ block. refl }))
+  pub unbegun_creation : (slice : SliceName) (force : Bool) → IsAllowed (record { host = host; memory = memory }) (Create slice force) → (failures : Failures) → failures.none → Ends (λ t u. Knows host memory t → CameTo failures host (kept_at memory t) (Create slice force) (refusing OutOfMemory) (kept_at (begun memory) u)) a b
+  unbegun_creation slice force free failures calm t start = (t, same ∙ start, λ known. came.wanting calm refl (free, record { memory = refl; content = λ block. refl }))
 
   pub unbegun_carried : Ends (CarriedTo host (ToDo Created) memory (refusing OutOfMemory) (begun memory)) a b
   unbegun_carried t start = (t, same ∙ start, refused_still host (ToDo Created) memory (begun memory) t refl refl OutOfMemory)

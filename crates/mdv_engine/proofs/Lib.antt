@@ -9,3 +9,4 @@ pub mod Counting
 pub mod Ending
 mod Parts
 mod Judging
+pub mod Judged

@@ -1,11 +1,11 @@
 -- What a boot, a creation and a commit of the database say, part by part.
 use Rattle.std.proofs.Common.{◌≡◌, ℕ, List, Option, Some, Ok, Err, Result, sym, subst}
-use Rattle.mdv_engine.specs.Below.{Identity, PlaceAt, KeptOutside, nowhere, Moments, Ends, IsSynced, Tale, last, IsPlaceOf, Geometry, Key, Change, Table, NoCreation, asks_of, Anything, Site, Newest, GoesFrom, GoesMaking, GoesOn, GoesOnTo, IsOpened, IsWithNewest, ShowsNothing, IsAdopted, IsQuiet, IsSafe, IsCommitted, MayCommit, first_newest, first_table, next_newest}
+use Rattle.mdv_engine.specs.Below.{Failures, Identity, PlaceAt, KeptOutside, nowhere, Moments, Ends, IsSynced, Tale, last, IsPlaceOf, Geometry, Key, Change, Table, NoCreation, asks_of, Anything, Site, Newest, GoesFrom, GoesMaking, GoesOn, GoesOnTo, IsOpened, IsWithNewest, ShowsNothing, IsAdopted, IsQuiet, IsSafe, IsCommitted, MayCommit, first_newest, first_table, next_newest}
 use Rattle.mdv_store_law.specs.Going.{created_head}
 use Rattle.mdv_store_law.specs.Standing.{ShowsReplica}
 use Rattle.mdv_shelf.proofs.Moments.{moments_weaker}
-use Rattle.mdv_database.specs.Database.{IsBooted, IsBootedTo, IsCertain, IsCreatedTo, IsRefusal, site_of}
-use Rattle.mdv_database.specs.Boot.{BootMoment, BootEnds}
+use Rattle.mdv_database.specs.Database.{IfAdopted, IsBooted, IsBootedTo, IsCertain, IsCreatedTo, IsRefusal, site_of}
+use Rattle.mdv_database.specs.Boot.{AdoptedBy, BootMoment, BootEnds}
 use Rattle.mdv_database.specs.Commit.{CommitMoment, CommitDone}
 use Rattle.mdv_database.specs.Create.{CreateMoment, CreateEnds}
 use Rattle.mdv_database.specs.declared.database.BootEnd.{BootEnd}
@@ -24,25 +24,28 @@ module _ (site : Site) (a b : Option Tale) where
   pub boot_goes : Moments (BootMoment site) a b → Moments (GoesOn site) a b
   boot_goes moments = moments_weaker (BootMoment site) (GoesOn site) a b (λ t m is. is.goes) moments
 
-  module _ (failed : Type 0) (answer : BootEnd) (ends : Ends (BootEnds failed site answer) a b) where
-    pub shown : (t : Tale) → a ≡ Some t → IsBooted failed site (last t site.at.drive.0) answer
+  module _ (failures : Failures) (Made : ℕ → ℕ → Type 0) (answer : BootEnd) (ends : Ends (BootEnds failures Made site answer) a b) where
+    pub shown : (t : Tale) → a ≡ Some t → IsBooted failures site (last t site.at.drive.0) answer
     shown t is = (ends t is).2.shown
 
+    pub made_by : (t : Tale) → a ≡ Some t → IfAdopted answer (AdoptedBy Made site (last t site.at.drive.0))
+    made_by t is = (ends t is).2.made
+
     pub synced : IsCertain answer → Ends (λ _ u. IsSynced site.at.drive.0 u) a b
-    synced certain = ends_of (BootEnds failed site answer) (λ _ u. IsSynced site.at.drive.0 u) a b (λ t u is. is.synced certain) ends
+    synced certain = ends_of (BootEnds failures Made site answer) (λ _ u. IsSynced site.at.drive.0 u) a b (λ t u is. is.synced certain) ends
 
     pub goes_to : Ends (GoesOnTo site (IsBootedTo answer)) a b
-    goes_to = ends_of (BootEnds failed site answer) (GoesOnTo site (IsBootedTo answer)) a b (λ t u is. is.goes) ends
+    goes_to = ends_of (BootEnds failures Made site answer) (GoesOnTo site (IsBootedTo answer)) a b (λ t u is. is.goes) ends
 
     pub unwritten : IsRefusal answer → Ends (KeptOutside nowhere) a b
-    unwritten refusal = ends_of (BootEnds failed site answer) (KeptOutside nowhere) a b (λ t u is. is.refuses refusal) ends
+    unwritten refusal = ends_of (BootEnds failures Made site answer) (KeptOutside nowhere) a b (λ t u is. is.refuses refusal) ends
 
     pub shows_nothing : answer ≡ end.Empty → Ends (λ _ u. ShowsNothing site u) a b
-    shows_nothing empty = ends_of (BootEnds failed site answer) (λ _ u. ShowsNothing site u) a b (λ t u is. is.empty empty) ends
+    shows_nothing empty = ends_of (BootEnds failures Made site answer) (λ _ u. ShowsNothing site u) a b (λ t u is. is.empty empty) ends
 
-  pub adopted_there : (failed : Type 0) (newest : Newest) → Ends (BootEnds failed site (end.Adopted newest)) a b → Ends (λ t u. IsAdopted site (last t site.at.drive.0) newest u × IsOpened site newest u) a b
-  adopted_there failed newest ends =
-      ends_of (BootEnds failed site (end.Adopted newest)) (λ t u. IsAdopted site (last t site.at.drive.0) newest u × IsOpened site newest u) a b (λ t u is. (is.adopted, is.opened)) ends
+  pub adopted_there : (failures : Failures) (Made : ℕ → ℕ → Type 0) (newest : Newest) → Ends (BootEnds failures Made site (end.Adopted newest)) a b → Ends (λ t u. IsAdopted site (last t site.at.drive.0) newest u × IsOpened site newest u) a b
+  adopted_there failures Made newest ends =
+      ends_of (BootEnds failures Made site (end.Adopted newest)) (λ t u. IsAdopted site (last t site.at.drive.0) newest u × IsOpened site newest u) a b (λ t u is. (is.adopted, is.opened)) ends
 
 -- a creation
 module _ (at : PlaceAt) (key : Key) (sizes : List ℕ) (identity : Identity) (a b : Option Tale) where
@@ -62,7 +65,7 @@ module _ (at : PlaceAt) (key : Key) (sizes : List ℕ) (identity : Identity) (a 
         ends_of (CreateEnds at key sizes identity result) (λ t u. ShowsNothing (there drives) t → GoesMaking (there drives) identity (IsCreatedTo (there drives) identity result) t u) a b (λ t u is. is.goes drives has) ends
 
     pub create_failed : result ≡ Err unmade.Failed → (drives : Geometry) → Ends (λ t u. ShowsNothing (there drives) t → ShowsNothing (there drives) u) a b
-    create_failed failed drives = ends_of (CreateEnds at key sizes identity result) (λ t u. ShowsNothing (there drives) t → ShowsNothing (there drives) u) a b (λ t u is. is.failed failed drives) ends
+    create_failed failures drives = ends_of (CreateEnds at key sizes identity result) (λ t u. ShowsNothing (there drives) t → ShowsNothing (there drives) u) a b (λ t u is. is.failed failures drives) ends
 
     pub create_lost : result ≡ Err unmade.Lost → (drives : Geometry) → IsPlaceOf drives at.place → Ends (λ _ u. ShowsReplica (there drives) identity u) a b
     create_lost lost drives has = ends_of (CreateEnds at key sizes identity result) (λ _ u. ShowsReplica (there drives) identity u) a b (λ t u is. is.lost lost drives has) ends

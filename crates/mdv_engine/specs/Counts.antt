@@ -1,5 +1,5 @@
 -- How many calls on the drive a command makes, and how many blocks it writes.
-use Rattle.std.specs.Prelude.{◌≡◌, ℕ, ◌+◌, Option, Some, None, Result, Ok, Err}
+use Rattle.std.specs.Prelude.{◌≡◌, ℕ, ◌+◌, Bool, true, false, Option, Some, None, Result, Ok, Err}
 use Rattle.mdv_base.specs.declared.refusal.Refusal.{Refusal}
 use Rattle.mdv_base.specs.declared.refusal.Refusal.TheVariants.{IoFault, OutOfMemory}
 use Rattle.mdv_base.specs.declared.name.VolId.{VolId}
@@ -40,10 +40,10 @@ wanting_calls (Read volume at count) = 1
 wanting_calls (Write volume at block) = 0
 
 -- A command in which a call failed and that tells it, with so many calls behind it. A creation has failed in its format, which takes six
--- calls and writes five blocks.
+-- calls and writes five blocks; a change ends the run instead.
 abbrev pub IsFaultCounted : {S : Type 0} → (S → Option ℕ) → (S → Option ℕ) → S → S → ℕ → Command → Type 0
 IsFaultCounted calls written old new more (Create slice force) = TookBetween calls written old new (1 + more) (6 + more) 5
-IsFaultCounted calls written old new more (MakeStripe volume slice) = TookAtMost calls written old new (6 + more) 4096
+IsFaultCounted calls written old new more (MakeStripe volume slice) = ⊥
 IsFaultCounted calls written old new more (Read volume at count) = TookAtMost calls written old new (1 + more) 0
 IsFaultCounted calls written old new more (Write volume at block) = TookAtMost calls written old new (2 + more) 1
 
@@ -92,14 +92,18 @@ IsQuietRefusal reply.Spent = ⊥
 IsQuietRefusal reply.NoMemory = ⊥
 IsQuietRefusal reply.Told = ⊥
 
--- A boot that opened a database took twelve calls or thirteen, one that found none or was down at most five, and wrote nothing
--- then; no more than these where it is lost, or ends for another reason.
-abbrev pub IsOpenedCounted : {S : Type 0} → (S → Option ℕ) → (S → Option ℕ) → S → S → Option Newest → Type 0
-IsOpenedCounted calls written old new (Some newest) = TookBetween calls written old new 12 13 4097
-IsOpenedCounted calls written old new None = TookBetween calls written old new 1 5 0
+-- A boot that opened a database took twelve calls or thirteen; one that found none two to five, unless it was down, and wrote nothing
+-- then. One that is lost had looked at the drive, and so had one that ends for another reason.
+abbrev pub IsOpenedCounted : {S : Type 0} → (S → Option ℕ) → (S → Option ℕ) → S → S → Option Newest → Bool → Type 0
+IsOpenedCounted calls written old new (Some newest) unread = TookBetween calls written old new 12 13 4097
+IsOpenedCounted calls written old new None false = TookBetween calls written old new 2 5 0
+IsOpenedCounted calls written old new None true = TookBetween calls written old new 1 5 0
+
+abbrev pub IsUpCounted : {S : Type 0} → (S → Option ℕ) → (S → Option ℕ) → S → S → Memory → Type 0
+IsUpCounted calls written old new memory = IsOpenedCounted calls written old new memory.opened memory.down
 
 abbrev pub IsBootedCounted : {S : Type 0} → (S → Option ℕ) → (S → Option ℕ) → S → S → Answer → Memory → Type 0
-IsBootedCounted calls written old new (Said this) memory = IsOpenedCounted calls written old new memory.opened
-IsBootedCounted calls written old new (Over (ended.Lost active listed)) memory = TookAtMost calls written old new 13 4097
-IsBootedCounted calls written old new (Over ended.Spent) memory = TookAtMost calls written old new 5 0
-IsBootedCounted calls written old new (Over ended.Memory) memory = TookAtMost calls written old new 5 0
+IsBootedCounted calls written old new (Said this) memory = IsUpCounted calls written old new memory
+IsBootedCounted calls written old new (Over (ended.Lost active listed)) memory = TookBetween calls written old new 5 13 4097
+IsBootedCounted calls written old new (Over ended.Spent) memory = TookBetween calls written old new 4 5 0
+IsBootedCounted calls written old new (Over ended.Memory) memory = TookBetween calls written old new 2 5 0

@@ -1,19 +1,23 @@
 -- What the calls of an engine say of their answers, and of the drive in the end.
 use Rattle.mdv_engine_law.specs.Line.{Ask, deeds}
-use Rattle.std.specs.Prelude.{◌≡◌, ◌≤◌, ◌+◌, ℕ, Bool, List, Some, None, Result, Ok, Err, IfOk, IfErr, OnOk, Contains, length}
+use Rattle.std.specs.Prelude.{◌≡◌, ◌≤◌, ◌+◌, ℕ, Bool, List, Some, None, Result, Ok, Err, IfOk, IfErr, IfSome, OnOk, Contains, length}
 use Rattle.mdv_shelf.specs.Between.{TookBetween}
-use Rattle.mdv_shelf.specs.Shelves.{AtEachMoment, AtEachTale, AtEnd, DriveFailed, EndsTold, MadeCalls, MadeCallsAtMost, RestsOnceTold}
+use Rattle.mdv_shelf.specs.Shelves.{AtEachMoment, AtEachTale, AtEnd, DriveFailures, EndsTold, MadeCalls, MadeCallsAtMost, RestsOnceTold}
 use Rattle.mdv_shelf.specs.declared.shelf.Shelf.{Ghosts}
 use Rattle.mdv_words.specs.declared.command.Command.{Command}
 use Rattle.mdv_words.specs.declared.command.Command.TheVariants.{Create, MakeStripe}
 use Rattle.mdv_words.specs.declared.command.Line.TheVariants as words
-use Rattle.mdv_engine.specs.Below.{SliceName, VolId, Refusal, IoFault, OutOfMemory, KeptOutside, nowhere, IsSettled, Settling, Tale, last, Change, Table, Created, Answer, Ended, Host, Kept, Memory, kept_at, unbooted, asked_by, blocks_of, AreBlocksAt, CameTo, IsRebooted, IsPlainAnswer, BootedTo, CarryEnd, Executed, Knows, TellsFront, TurnMoment, Turned}
+use Rattle.mdv_engine.specs.Below.{Failures, site_of, SliceName, VolId, Refusal, IoFault, OutOfMemory, KeptOutside, nowhere, IsSettled, Settling, Tale, last, Change, Table, Created, Answer, Ended, Host, Kept, Memory, kept_at, unbooted, asked_by, blocks_of, AreBlocksAt, CameTo, IsRebooted, IsPlainAnswer, BootedTo, CarryEnd, Executed, Knows, TellsFront, TurnMoment, Turned}
+use Rattle.mdv_database.specs.Boot.{AdoptedBy}
+use Rattle.mdv_database.specs.Counts.{MadeCallsBetween}
+use Rattle.mdv_engine_law.specs.Line.{drive_content}
 use Rattle.mdv_engine_law.specs.Answers.{accepted}
 use Rattle.mdv_engine_law.specs.Commands.{IsAllowed}
 use Rattle.mdv_engine_law.specs.Refusals.{blocks_refusal}
+use Rattle.mdv_engine_law.specs.declared.answer.Outcome.{Outcome}
 use Rattle.mdv_engine_law.specs.declared.answer.Reply.{Reply}
 use Rattle.mdv_engine_law.specs.declared.answer.Reply.TheVariants as reply
-use Rattle.mdv_engine_law.specs.Replies.{HasAnswerCause, HasReplyCause, IsAccepted, IsLost, IsReplied}
+use Rattle.mdv_engine_law.specs.Replies.{HasAnswerCause, HasCommandCause, IsAccepted, IsLost, IsReplied, IsReplyTo}
 use Rattle.mdv_engine_law.specs.Standing.{IsAwake}
 use Rattle.mdv_engine.specs.declared.engine.Engine.{Engine}
 use Rattle.mdv_engine.specs.Counts as counts
@@ -21,8 +25,8 @@ use Rattle.mdv_engine.specs.Counts.{IsFaultCounted, IsLossCounted, IsQuietRefusa
 use Rattle.mdv_engine.specs.Engine.{HasBootCause, IsNextTable, IsWell, case_at}
 
 -- the end of a command
-abbrev pub CommandEnd : Type 0 → Engine → Command → Answer → Engine → Tale → Tale → Type 0
-CommandEnd failed old command answer new t u = CarryEnd (λ kept a next. CameTo failed old.host kept command a next) old.host (asked_by command) old.state answer new.state t u
+abbrev pub CommandEnd : Failures → Engine → Command → Answer → Engine → Tale → Tale → Type 0
+CommandEnd failures old command answer new t u = CarryEnd (λ kept a next. CameTo failures old.host kept command a next) old.host (asked_by command) old.state answer new.state t u
 
 -- the table that the change makes of the engine's
 abbrev pub IsNext : Engine → Change → Table → Type 0
@@ -30,18 +34,18 @@ IsNext engine change next = IsNextTable engine.host engine.state change next
 
 -- the end of a stripe's making
 abbrev pub StripeEnds : {S : Type 0} → Ghosts S → S → S → Engine → VolId → SliceName → Answer → Engine → Type 0
-StripeEnds shelf from to old volume slice answer new = AtEnd shelf (CommandEnd (DriveFailed shelf from to 0) old (MakeStripe volume slice) answer new) from to
+StripeEnds shelf from to old volume slice answer new = AtEnd shelf (CommandEnd (DriveFailures shelf from to 0) old (MakeStripe volume slice) answer new) from to
 
 -- the end of a creation that nothing refuses
 abbrev pub CreationEnds : {S : Type 0} → Ghosts S → S → S → Engine → Answer → Engine → Type 0
 CreationEnds shelf from to old answer new =
-    (slice : SliceName) (force : Bool) → IsAllowed (case_at old) (Create slice force) → AtEnd shelf (CommandEnd (DriveFailed shelf from to 0) old (Create slice force) answer new) from to
+    (slice : SliceName) (force : Bool) → IsAllowed (case_at old) (Create slice force) → AtEnd shelf (CommandEnd (DriveFailures shelf from to 0) old (Create slice force) answer new) from to
 
 -- What an answer says, whatever the shelf tells: its text is a reply's, it has its cause, a deed is accepted only where the last boot read
 -- the drive, and a creation only where no database is open; and what the engine keeps.
-pub record HasAnswered (failed : Type 0) (ask : Ask) (old : Engine) (answer : Answer) (new : Engine) : Type 0 where
+pub record HasAnswered (failures : Failures) (ask : Ask) (old : Engine) (answer : Answer) (new : Engine) : Type 0 where
   pub plain : IsPlainAnswer answer
-  pub cause : HasAnswerCause failed answer
+  pub cause : HasAnswerCause failures answer
   pub awake : IsAccepted answer → IsAwake old.state
   pub free : IsAccepted answer → Contains (deeds ask) Created → old.state.opened ≡ None
   pub host : new.host ≡ old.host
@@ -49,37 +53,38 @@ pub record HasAnswered (failed : Type 0) (ask : Ask) (old : Engine) (answer : An
   pub begun : new.state.begun ≤ old.state.begun + 1
 
 -- Each moment of a line: how the drive stands, what was told of its reply by then, and that from the first byte of that on the drives are at rest.
-pub record LineMoments {S : Type 0} (shelf : Ghosts S) (host : Host) (ask : Ask) (old : Memory) (Comes : Type 0 → Kept → Answer → Kept → Type 0) (from to : S) : Type 0 where
+pub record LineMoments {S : Type 0} (shelf : Ghosts S) (host : Host) (ask : Ask) (old : Memory) (Comes : Failures → Kept → Answer → Kept → Type 0) (from to : S) : Type 0 where
   pub each : AtEachTale shelf (TurnMoment host ask old) from to
   pub fronts : AtEachMoment shelf (λ t m. Knows host old t.tale → TellsFront Comes old t m) from to
   pub rests : RestsOnceTold shelf from to
 
 -- what a command comes to
-abbrev pub CarriesOut : Host → Command → Type 0 → Kept → Answer → Kept → Type 0
-CarriesOut host command failed kept answer next = CameTo failed host kept command answer next
+abbrev pub CarriesOut : Host → Command → Failures → Kept → Answer → Kept → Type 0
+CarriesOut host command failures kept answer next = CameTo failures host kept command answer next
 
--- this answer, and all else as it was
-abbrev pub OnlyAnswers : Answer → Type 0 → Kept → Answer → Kept → Type 0
-OnlyAnswers this failed kept answer next = (answer ≡ this) × (next ≡ kept)
+-- this answer, with no call on the drive that failed, and all else as it was
+abbrev pub OnlyAnswers : Answer → Failures → Kept → Answer → Kept → Type 0
+OnlyAnswers this failures kept answer next = failures.none × (answer ≡ this) × (next ≡ kept)
 
 -- The end of a command and its reply: what it came to, what it led to, what is known where the run isn't lost; and a refusal behind which
 -- nothing was written.
-pub record TurnEnd (drive replies : Type 0) (old : Engine) (command : Command) (given : Reply) (new : Engine) (t u : Tale) : Type 0 where
+pub record TurnEnd (drive : Failures) (replies : Type 0) (old : Engine) (command : Command) (given : Reply) (new : Engine) (t u : Tale) : Type 0 where
   pub answered : Knows old.host old.state t → Executed drive replies old.host (words.Command command) old.state new.state given t u
   pub turned : IsReplied given → Turned old.host (asked_by command) old.state new.state t u
   pub knows : (IsLost given → ⊥) → Knows old.host old.state t → Knows old.host new.state u
   pub quiet : IsQuietRefusal given → KeptOutside nowhere t u
 
--- a reply has its cause, and what the engine keeps
-pub record HasReplied (drive replies : Type 0) (old : Engine) (given : Reply) (new : Engine) : Type 0 where
-  pub cause : HasReplyCause drive replies given
+-- a reply to a command has its cause, and what the engine keeps
+pub record HasReplied (drive : Failures) (replies : Type 0) (old : Engine) (given : Reply) (new : Engine) : Type 0 where
+  pub cause : HasCommandCause drive replies given
   pub host : new.host ≡ old.host
   pub well : IsWell old.host new.state
   pub begun : new.state.begun ≤ old.state.begun + 1
 
--- and the engine is as it was
-pub record HasOnlyReplied (drive replies : Type 0) (old : Engine) (given : Reply) (new : Engine) : Type 0 where
-  pub cause : HasReplyCause drive replies given
+-- so has one that is only told, by which no call on the drive failed, and the engine is as it was
+pub record HasOnlyReplied (drive : Failures) (replies : Type 0) (said : Outcome) (old : Engine) (given : Reply) (new : Engine) : Type 0 where
+  pub cause : IsReplyTo replies said given
+  pub calm : drive.none
   pub same : new ≡ old
 
 -- The calls of a command and of its reply: as many as the command takes, and one. A refused command writes nothing, unless a call failed, and
@@ -110,35 +115,40 @@ abbrev pub left_by : Result Engine Ended → Memory
 left_by (Ok engine) = engine.state
 left_by (Err end) = unbooted 0
 
--- the end of a boot: what it came to; and where it was answered, what is known
-pub record IsBootEnd (failed : Type 0) (host : Host) (old : Memory) (answer : Answer) (new : Memory) (t u : Tale) : Type 0 where
-  pub rebooted : IsRebooted failed host (kept_at old t) answer (kept_at new u)
+-- the end of a boot: what it came to; where it was answered, what is known; and where it adopted a replica, how many calls it made for it
+pub record IsBootEnd (failures : Failures) (Made : ℕ → ℕ → Type 0) (host : Host) (old : Memory) (answer : Answer) (new : Memory) (t u : Tale) : Type 0 where
+  pub rebooted : IsRebooted failures host (kept_at old t) answer (kept_at new u)
   pub booted : answer ≡ accepted → BootedTo host new t u
+  pub made : IfSome new.opened (AdoptedBy Made (site_of host) (drive_content t))
+
+abbrev pub BootEndsAs : {S : Type 0} → Ghosts S → S → S → Host → Memory → Answer → Memory → Type 0
+BootEndsAs shelf from to host old answer new = AtEnd shelf (IsBootEnd (DriveFailures shelf from to 0) (λ calls blocks. MadeCallsBetween shelf from to calls calls blocks) host old answer new) from to
 
 -- why a boot isn't answered, and what it leaves that is
-pub record HasBootedFrom (failed : Type 0) (host : Host) (begun : ℕ) (result : Result Memory Ended) : Type 0 where
-  pub cause : HasBootCause failed result
+pub record HasBootedFrom (failures : Failures) (host : Host) (begun : ℕ) (result : Result Memory Ended) : Type 0 where
+  pub cause : HasBootCause failures (kept_by begun result).down result
   pub well : IfOk result (λ memory. IsWell host memory × (memory.begun ≡ begun))
 
-pub record HasBooted (failed : Type 0) (host : Host) (result : Result Engine Ended) : Type 0 where
-  pub cause : HasBootCause failed result
+pub record HasBooted (failures : Failures) (host : Host) (result : Result Engine Ended) : Type 0 where
+  pub cause : HasBootCause failures (left_by result).down result
   pub engine : IfOk result (λ engine. (engine.host ≡ host) × IsWell host engine.state × (engine.state.begun ≡ 0))
 
-pub record HasRebooted (failed : Type 0) (old : Engine) (result : Result (Unit {0}) Ended) (new : Engine) : Type 0 where
-  pub cause : HasBootCause failed result
+pub record HasRebooted (failures : Failures) (old : Engine) (result : Result (Unit {0}) Ended) (new : Engine) : Type 0 where
+  pub cause : HasBootCause failures new.state.down result
   pub closed : IfErr result (λ refusal. new.state.opened ≡ None)
   pub host : new.host ≡ old.host
   pub well : IsWell old.host new.state
   pub begun : new.state.begun ≡ old.state.begun
 
--- what was read is what the drive has in these blocks of the volume
-pub record AreRead {S : Type 0} (shelf : Ghosts S) (s : S) (engine : Engine) (volume : VolId) (at count : ℕ) (IsTold : List (List ℕ) → Type 0) : Type 0 where
+-- what was read is what the drive has in these blocks of the volume, and no call failed
+pub record AreRead {S : Type 0} (shelf : Ghosts S) (old new : S) (engine : Engine) (volume : VolId) (at count : ℕ) (IsTold : List (List ℕ) → Type 0) : Type 0 where
   pub block : ℕ
   pub there : AreBlocksAt engine.host engine.state volume at count block
   pub allowed : blocks_refusal engine.state.opened volume (at + count) ≡ None
   pub blocks : List (List ℕ)
   pub as_told : IsTold blocks
-  pub as_there : (t : Tale) → shelf.tale s ≡ Some t → blocks ≡ blocks_of (last t 0) block count
+  pub calm : (DriveFailures shelf old new 0).none
+  pub as_there : (t : Tale) → shelf.tale old ≡ Some t → blocks ≡ blocks_of (last t 0) block count
 
 -- the volume has these blocks, and at each moment each of them was old or new
 pub record ArePutting {S : Type 0} (shelf : Ghosts S) (old new : S) (engine : Engine) (volume : VolId) (at : ℕ) (blocks : List (List ℕ)) : Type 0 where
@@ -147,9 +157,10 @@ pub record ArePutting {S : Type 0} (shelf : Ghosts S) (old new : S) (engine : En
   pub allowed : blocks_refusal engine.state.opened volume (at + length blocks) ≡ None
   pub moments : AtEachTale shelf (Settling 0 block blocks) old new
 
--- they are on the disk in the end
+-- they are on the disk in the end, and no call failed
 pub record ArePut {S : Type 0} (shelf : Ghosts S) (old new : S) (engine : Engine) (volume : VolId) (at : ℕ) (blocks : List (List ℕ)) : Type 0 where
   pub putting : ArePutting shelf old new engine volume at blocks
+  pub calm : (DriveFailures shelf old new 0).none
   pub settled : AtEnd shelf (λ _ u. IsSettled 0 putting.block blocks u) old new
 
 -- what a write did that was answered so

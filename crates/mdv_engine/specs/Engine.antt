@@ -1,6 +1,6 @@
 -- What an engine keeps, what its boots answer, and why blocks and changes are refused.
-use Rattle.std.specs.Prelude.{◌≡◌, ◌≢◌, ◌⊎◌, ◌+◌, ◌≤◌, ℕ, Option, Some, None, IfSome, Result, Ok, Err}
-use Rattle.mdv_engine.specs.Below.{VolId, Refusal, IoFault, OutOfMemory, with_blocks, Change, Table, Newest, IsTableAt, Answer, Host, site_of, Memory, IsSound, AreBlocksAt}
+use Rattle.std.specs.Prelude.{◌≡◌, ◌≢◌, ◌⊎◌, ◌+◌, ◌≤◌, ℕ, Bool, true, false, Option, Some, None, IfSome, Result, Ok, Err}
+use Rattle.mdv_engine.specs.Below.{Failures, VolId, Refusal, IoFault, OutOfMemory, with_blocks, Change, Table, Newest, IsTableAt, Answer, Host, site_of, Memory, IsSound, AreBlocksAt}
 use Rattle.mdv_table.specs.Change.{table_after}
 use Rattle.mdv_table.specs.Change as table
 use Rattle.mdv_table.specs.declared.change.ApplyFault.{ApplyFault}
@@ -30,10 +30,15 @@ abbrev pub boot_answer : {T : Type 0} → Result T Ended → Answer
 boot_answer (Ok booted) = accepted
 boot_answer (Err end) = Over end
 
+-- a boot that is answered has not read its drive where a call failed, and there alone
+abbrev pub HasUpCause : Failures → Bool → Type 0
+HasUpCause failures true = failures.some
+HasUpCause failures false = failures.none
+
 -- a boot is lost only where the drive failed
-abbrev pub HasBootCause : {T : Type 0} → Type 0 → Result T Ended → Type 0
-HasBootCause failed (Ok booted) = Unit {0}
-HasBootCause failed (Err end) = HasEndCause failed end
+abbrev pub HasBootCause : {T : Type 0} → Failures → Bool → Result T Ended → Type 0
+HasBootCause failures unread (Ok booted) = HasUpCause failures unread
+HasBootCause failures unread (Err end) = HasEndCause failures end
 
 -- as many blocks as are read or written at once
 pub record IsCount (count : ℕ) : Type 0 where
@@ -45,13 +50,14 @@ abbrev pub HasBlocks : Host → Memory → VolId → ℕ → ℕ → Type 0
 HasBlocks host memory volume at count = (block : ℕ) × AreBlocksAt host memory volume at count block × (blocks_refusal memory.opened volume (at + count) ≡ None)
 
 -- why blocks aren't read or written: the first cause that refuses them; or the volume has them, and a call on the drive failed
-abbrev pub HasBlocksCause : Type 0 → Host → Memory → VolId → ℕ → ℕ → Refusal → Type 0
-HasBlocksCause failed host memory volume at count refusal =
-    (blocks_refusal memory.opened volume (at + count) ≡ Some refusal) ⊎ (failed × HasBlocks host memory volume at count × (refusal ≡ IoFault))
+abbrev pub HasBlocksCause : Failures → Host → Memory → VolId → ℕ → ℕ → Refusal → Type 0
+HasBlocksCause failures host memory volume at count refusal =
+    (failures.none × (blocks_refusal memory.opened volume (at + count) ≡ Some refusal)) ⊎ (failures.some × HasBlocks host memory volume at count × (refusal ≡ IoFault))
 
 -- why a read isn't told: memory may be wanting as well
-abbrev pub HasReadCause : Type 0 → Host → Memory → VolId → ℕ → ℕ → Refusal → Type 0
-HasReadCause failed host memory volume at count refusal = HasBlocksCause failed host memory volume at count refusal ⊎ (HasBlocks host memory volume at count × (refusal ≡ OutOfMemory))
+abbrev pub HasReadCause : Failures → Host → Memory → VolId → ℕ → ℕ → Refusal → Type 0
+HasReadCause failures host memory volume at count refusal =
+    HasBlocksCause failures host memory volume at count refusal ⊎ (failures.none × HasBlocks host memory volume at count × (refusal ≡ OutOfMemory))
 
 -- the table that the change makes of the open one, which says nothing against it
 pub record IsNextTable (host : Host) (memory : Memory) (change : Change) (next : Table) : Type 0 where

@@ -4,7 +4,7 @@ ghost use Rattle.mdv_words.specs.declared.command.Command.TheVariants.{Create};
 ghost use Rattle.mdv_history.specs.History.{Created};
 ghost use Rattle.mdv_engine.specs.Counts.{IsCommandCounted};
 ghost use Rattle.mdv_engine.specs.Engine.{IsWell, case_at};
-ghost use Rattle.mdv_shelf.specs.Shelves.{AtEachTale, AtEnd, DriveFailed, Kept};
+ghost use Rattle.mdv_shelf.specs.Shelves.{AtEachTale, AtEnd, DriveFailures, Kept};
 ghost use Rattle.mdv_engine_law.specs.Home.{IsReady};
 ghost use Rattle.mdv_engine_law.specs.Line.{ToDo};
 ghost use Rattle.mdv_engine_law.specs.Refusals.{refusal_of};
@@ -38,8 +38,8 @@ impl Engine {
         requires well { IsWell self.old.host self.old.state }
         requires begun { self.old.state.begun + 1 < 2 ^ 32 }
         ensures moments { AtEachTale S.Shelf (CarryMoment self.old.host (ToDo Created) self.old.state) shelf.old shelf.new }
-        ensures end { AtEnd S.Shelf (CommandEnd (DriveFailed S.Shelf shelf.old shelf.new 0) self.old (Create slice force) result self.new) shelf.old shelf.new }
-        ensures answer { HasAnswered (DriveFailed S.Shelf shelf.old shelf.new 0) (ToDo Created) self.old result self.new }
+        ensures end { AtEnd S.Shelf (CommandEnd (DriveFailures S.Shelf shelf.old shelf.new 0) self.old (Create slice force) result self.new) shelf.old shelf.new }
+        ensures answer { HasAnswered (DriveFailures S.Shelf shelf.old shelf.new 0) (ToDo Created) self.old result self.new }
         ensures counted { IsCommandCounted S.tale S.calls S.written shelf.old shelf.new (Create slice force) result }
         ensures kept { Kept S.Shelf shelf.old shelf.new }
     {
@@ -87,7 +87,7 @@ impl Engine {
         requires up { self.old.state.down ≡ false }
         ensures moments { AtEachTale S.Shelf (CarryMoment self.old.host (ToDo Created) self.old.state) shelf.old shelf.new }
         ensures end { CreationEnds S.Shelf shelf.old shelf.new self.old result self.new }
-        ensures answer { HasAnswered (DriveFailed S.Shelf shelf.old shelf.new 0) (ToDo Created) self.old result self.new }
+        ensures answer { HasAnswered (DriveFailures S.Shelf shelf.old shelf.new 0) (ToDo Created) self.old result self.new }
         ensures counted { (slice : SliceName) (force : Bool) → IsCommandCounted S.tale S.calls S.written shelf.old shelf.new (Create slice force) result }
         ensures kept { Kept S.Shelf shelf.old shelf.new }
     {

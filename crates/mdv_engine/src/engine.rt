@@ -1,13 +1,12 @@
 ghost use Rattle.std.specs.Prelude.{◌<◌, ◌+◌, ◌^◌, [], List};
-ghost use Rattle.mdv_shelf.specs.Shelves.{AtEachTale, AtEnd, DriveFailed, GivingFailed, Kept};
-ghost use Rattle.mdv_history.specs.History.{Deed};
+ghost use Rattle.mdv_shelf.specs.Shelves.{AtEachTale, AtEnd, DriveFailures, GivingFailed, Kept};
 ghost use Rattle.mdv_engine_law.specs.Answers.{accepted, refusing};
 ghost use Rattle.mdv_engine_law.specs.Home.{IsReady};
 ghost use Rattle.mdv_engine_law.specs.Line.{IsExecuted, asked_by, unbooted, Ask, Nothing};
 ghost use Rattle.mdv_engine_law.specs.Replies.{IsPlain};
 ghost use Rattle.mdv_engine_law.specs.Standing.{BootMoment, CarryMoment, OnlyReplied};
 ghost use Rattle.mdv_engine.specs.Counts.{IsBootedCounted, IsCommandCounted};
-ghost use Rattle.mdv_engine.specs.Ends.{CarriesOut, IsBootEnd, CommandEnd, HasAnswered, HasBooted, HasBootedFrom, HasOnlyReplied, HasRebooted, HasReplied, IsReplyCounted, IsTurnCounted, LineMoments, OnlyAnswers, TurnEnd, kept_by, left_by};
+ghost use Rattle.mdv_engine.specs.Ends.{BootEndsAs, CarriesOut, CommandEnd, HasAnswered, HasBooted, HasBootedFrom, HasOnlyReplied, HasRebooted, HasReplied, IsReplyCounted, IsTurnCounted, LineMoments, OnlyAnswers, TurnEnd, kept_by, left_by};
 ghost use Rattle.mdv_engine.specs.Engine.{IsWell, boot_answer};
 
 use crate::state::State;
@@ -33,8 +32,8 @@ impl Engine {
     pub fn boot<S: Shelf>(shelf: &mut S, alloc: Global, host: Host) -> Result<Engine, Ended>
         requires { IsReady host (S.sizes shelf.old) }
         ensures moments { AtEachTale S.Shelf (BootMoment host) shelf.old shelf.new }
-        ensures end { AtEnd S.Shelf (IsBootEnd (DriveFailed S.Shelf shelf.old shelf.new 0) host (unbooted 0) (boot_answer result) (left_by result)) shelf.old shelf.new }
-        ensures answer { HasBooted (DriveFailed S.Shelf shelf.old shelf.new 0) host result }
+        ensures end { BootEndsAs S.Shelf shelf.old shelf.new host (unbooted 0) (boot_answer result) (left_by result) }
+        ensures answer { HasBooted (DriveFailures S.Shelf shelf.old shelf.new 0) host result }
         ensures counted { IsBootedCounted S.calls S.written shelf.old shelf.new (boot_answer result) (left_by result) }
         ensures kept { Kept S.Shelf shelf.old shelf.new }
     {
@@ -49,8 +48,8 @@ impl Engine {
     pub fn reboot<S: Shelf>(&mut self, shelf: &mut S, alloc: Global) -> Result<(), Ended>
         requires { IsReady self.old.host (S.sizes shelf.old) }
         ensures moments { AtEachTale S.Shelf (BootMoment self.old.host) shelf.old shelf.new }
-        ensures end { AtEnd S.Shelf (IsBootEnd (DriveFailed S.Shelf shelf.old shelf.new 0) self.old.host self.old.state (boot_answer result) self.new.state) shelf.old shelf.new }
-        ensures answer { HasRebooted (DriveFailed S.Shelf shelf.old shelf.new 0) self.old result self.new }
+        ensures end { BootEndsAs S.Shelf shelf.old shelf.new self.old.host self.old.state (boot_answer result) self.new.state }
+        ensures answer { HasRebooted (DriveFailures S.Shelf shelf.old shelf.new 0) self.old result self.new }
         ensures counted { IsBootedCounted S.calls S.written shelf.old shelf.new (boot_answer result) self.new.state }
         ensures kept { Kept S.Shelf shelf.old shelf.new }
     {
@@ -73,8 +72,8 @@ impl Engine {
         requires begun { self.old.state.begun + 1 < 2 ^ 32 }
         requires executed { IsExecuted command.now }
         ensures moments { LineMoments B.Shelf self.old.host (asked_by command.now) self.old.state (CarriesOut self.old.host command.now) bench.old bench.new }
-        ensures end { AtEnd B.Shelf (TurnEnd (DriveFailed B.Shelf bench.old bench.new 0) (GivingFailed B.Shelf bench.old bench.new) self.old command.now result self.new) bench.old bench.new }
-        ensures answer { HasReplied (DriveFailed B.Shelf bench.old bench.new 0) (GivingFailed B.Shelf bench.old bench.new) self.old result self.new }
+        ensures end { AtEnd B.Shelf (TurnEnd (DriveFailures B.Shelf bench.old bench.new 0) (GivingFailed B.Shelf bench.old bench.new) self.old command.now result self.new) bench.old bench.new }
+        ensures answer { HasReplied (DriveFailures B.Shelf bench.old bench.new 0) (GivingFailed B.Shelf bench.old bench.new) self.old result self.new }
         ensures counted { IsTurnCounted B.Shelf bench.old bench.new command.now result }
         ensures kept { Kept B.Shelf bench.old bench.new }
     {
@@ -88,7 +87,7 @@ impl Engine {
         requires { IsPlain refusal.now }
         ensures moments { (ask : Ask) → LineMoments B.Shelf self.old.host ask self.old.state (OnlyAnswers (refusing refusal.now)) bench.old bench.new }
         ensures end { AtEnd B.Shelf (OnlyReplied (GivingFailed B.Shelf bench.old bench.new) (refusing refusal.now) result) bench.old bench.new }
-        ensures answer { HasOnlyReplied (DriveFailed B.Shelf bench.old bench.new 0) (GivingFailed B.Shelf bench.old bench.new) self.old result self.new }
+        ensures answer { HasOnlyReplied (DriveFailures B.Shelf bench.old bench.new 0) (GivingFailed B.Shelf bench.old bench.new) (Outcome.Refused refusal.now) self.old result self.new }
         ensures counted { IsReplyCounted B.Shelf bench.old bench.new result }
         ensures kept { Kept B.Shelf bench.old bench.new }
     {
@@ -100,7 +99,7 @@ impl Engine {
     pub fn accept<B: Bench>(&mut self, bench: &mut B) -> Reply
         ensures moments { LineMoments B.Shelf self.old.host Nothing self.old.state (OnlyAnswers accepted) bench.old bench.new }
         ensures end { AtEnd B.Shelf (OnlyReplied (GivingFailed B.Shelf bench.old bench.new) accepted result) bench.old bench.new }
-        ensures answer { HasOnlyReplied (DriveFailed B.Shelf bench.old bench.new 0) (GivingFailed B.Shelf bench.old bench.new) self.old result self.new }
+        ensures answer { HasOnlyReplied (DriveFailures B.Shelf bench.old bench.new 0) (GivingFailed B.Shelf bench.old bench.new) Outcome.Ok self.old result self.new }
         ensures counted { IsReplyCounted B.Shelf bench.old bench.new result }
         ensures kept { Kept B.Shelf bench.old bench.new }
     {
@@ -115,8 +114,8 @@ impl Engine {
         requires begun { self.old.state.begun + 1 < 2 ^ 32 }
         requires executed { IsExecuted command.now }
         ensures moments { AtEachTale S.Shelf (CarryMoment self.old.host (asked_by command.now) self.old.state) shelf.old shelf.new }
-        ensures end { AtEnd S.Shelf (CommandEnd (DriveFailed S.Shelf shelf.old shelf.new 0) self.old command.now result self.new) shelf.old shelf.new }
-        ensures answer { HasAnswered (DriveFailed S.Shelf shelf.old shelf.new 0) (asked_by command.now) self.old result self.new }
+        ensures end { AtEnd S.Shelf (CommandEnd (DriveFailures S.Shelf shelf.old shelf.new 0) self.old command.now result self.new) shelf.old shelf.new }
+        ensures answer { HasAnswered (DriveFailures S.Shelf shelf.old shelf.new 0) (asked_by command.now) self.old result self.new }
         ensures counted { IsCommandCounted S.tale S.calls S.written shelf.old shelf.new command.now result }
         ensures kept { Kept S.Shelf shelf.old shelf.new }
     {
@@ -141,8 +140,8 @@ fn boot_from<S: Shelf>(
 ) -> Result<State, Ended>
     requires { IsReady host.now (S.sizes shelf.old) }
     ensures moments { AtEachTale S.Shelf (BootMoment host.now) shelf.old shelf.new }
-    ensures end { AtEnd S.Shelf (IsBootEnd (DriveFailed S.Shelf shelf.old shelf.new 0) host.now (unbooted begun) (boot_answer result) (kept_by begun result)) shelf.old shelf.new }
-    ensures answer { HasBootedFrom (DriveFailed S.Shelf shelf.old shelf.new 0) host.now begun result }
+    ensures end { BootEndsAs S.Shelf shelf.old shelf.new host.now (unbooted begun) (boot_answer result) (kept_by begun result) }
+    ensures answer { HasBootedFrom (DriveFailures S.Shelf shelf.old shelf.new 0) host.now begun result }
     ensures counted { IsBootedCounted S.calls S.written shelf.old shelf.new (boot_answer result) (kept_by begun result) }
     ensures kept { Kept S.Shelf shelf.old shelf.new }
 {

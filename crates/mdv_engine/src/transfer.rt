@@ -10,7 +10,7 @@ ghost use Rattle.mdv_words.specs.declared.command.Command.TheVariants.{Read, Wri
 ghost use Rattle.mdv_history.specs.History.{LiesOn, Wrote};
 ghost use Rattle.mdv_engine.specs.Counts.{HasReadCounts, IsCommandCounted};
 ghost use Rattle.mdv_engine.specs.Engine.{HasBlocksCause, HasReadCause, IsCount, IsWell};
-ghost use Rattle.mdv_shelf.specs.Shelves.{AtEachTale, AtEnd, DriveFailed, Kept};
+ghost use Rattle.mdv_shelf.specs.Shelves.{AtEachTale, AtEnd, DriveFailures, Kept};
 ghost use Rattle.mdv_engine_law.specs.Home.{IsReady, site_of};
 ghost use Rattle.mdv_engine_law.specs.Line.{AreBlocksAt, ToDo, ToSee};
 ghost use Rattle.mdv_engine_law.specs.Refusals.{blocks_refusal, size_of};
@@ -42,8 +42,8 @@ impl Engine {
         requires ready { IsReady self.now.host (S.sizes shelf.old) }
         requires well { IsWell self.now.host self.now.state }
         requires count { IsCount (length out.old) }
-        ensures ok { OnOk result (AreRead S.Shelf shelf.old self.now volume at (length out.new) (λ blocks. out.new ≡ blocks)) }
-        ensures err { IfErr result (HasBlocksCause (DriveFailed S.Shelf shelf.old shelf.new 0) self.now.host self.now.state volume at (length out.new)) }
+        ensures ok { OnOk result (AreRead S.Shelf shelf.old shelf.new self.now volume at (length out.new) (λ blocks. out.new ≡ blocks)) }
+        ensures err { IfErr result (HasBlocksCause (DriveFailures S.Shelf shelf.old shelf.new 0) self.now.host self.now.state volume at (length out.new)) }
         ensures same { S.tale shelf.new ≡ S.tale shelf.old }
         ensures counted { AreBlocksCounted S.Shelf shelf.old shelf.new 1 0 self.now volume at (length out.new) result }
         ensures kept { Kept S.Shelf shelf.old shelf.new }
@@ -69,7 +69,7 @@ impl Engine {
         requires well { IsWell self.old.host self.old.state }
         requires count { IsCount (length from.now) }
         ensures put { AreWritten S.Shelf shelf.old shelf.new self.old volume at from.now result }
-        ensures err { IfErr result (HasBlocksCause (DriveFailed S.Shelf shelf.old shelf.new 0) self.old.host self.old.state volume at (length from.now)) }
+        ensures err { IfErr result (HasBlocksCause (DriveFailures S.Shelf shelf.old shelf.new 0) self.old.host self.old.state volume at (length from.now)) }
         ensures same { self.new ≡ self.old }
         ensures counted { AreBlocksCounted S.Shelf shelf.old shelf.new 2 (length from.now) self.old volume at (length from.now) result }
         ensures kept { Kept S.Shelf shelf.old shelf.new }
@@ -95,8 +95,8 @@ impl Engine {
         requires well { IsWell self.now.host self.now.state }
         requires count { IsCount count }
         ensures moments { AtEachTale S.Shelf (CarryMoment self.now.host (ToSee volume at count) self.now.state) shelf.old shelf.new }
-        ensures end { AtEnd S.Shelf (CommandEnd (DriveFailed S.Shelf shelf.old shelf.new 0) self.now (Read volume at count) result self.now) shelf.old shelf.new }
-        ensures answer { HasAnswered (DriveFailed S.Shelf shelf.old shelf.new 0) (ToSee volume at count) self.now result self.now }
+        ensures end { AtEnd S.Shelf (CommandEnd (DriveFailures S.Shelf shelf.old shelf.new 0) self.now (Read volume at count) result self.now) shelf.old shelf.new }
+        ensures answer { HasAnswered (DriveFailures S.Shelf shelf.old shelf.new 0) (ToSee volume at count) self.now result self.now }
         ensures counted { IsCommandCounted S.tale S.calls S.written shelf.old shelf.new (Read volume at count) result }
         ensures kept { Kept S.Shelf shelf.old shelf.new }
     {
@@ -118,8 +118,8 @@ impl Engine {
         requires ready { IsReady self.now.host (S.sizes shelf.old) }
         requires well { IsWell self.now.host self.now.state }
         requires count { IsCount count }
-        ensures ok { IfOk result (λ text. AreRead S.Shelf shelf.old self.now volume at count (λ blocks. text ≡ values_reply at blocks)) }
-        ensures err { IfErr result (HasReadCause (DriveFailed S.Shelf shelf.old shelf.new 0) self.now.host self.now.state volume at count) }
+        ensures ok { IfOk result (λ text. AreRead S.Shelf shelf.old shelf.new self.now volume at count (λ blocks. text ≡ values_reply at blocks)) }
+        ensures err { IfErr result (HasReadCause (DriveFailures S.Shelf shelf.old shelf.new 0) self.now.host self.now.state volume at count) }
         ensures same { S.tale shelf.new ≡ S.tale shelf.old }
         ensures counted { HasReadCounts S.tale S.calls S.written shelf.old shelf.new volume at count result }
         ensures kept { Kept S.Shelf shelf.old shelf.new }
@@ -148,8 +148,8 @@ impl Engine {
         requires ready { IsReady self.old.host (S.sizes shelf.old) }
         requires well { IsWell self.old.host self.old.state }
         ensures moments { AtEachTale S.Shelf (CarryMoment self.old.host (ToDo (Wrote volume at (block.now ∷ []))) self.old.state) shelf.old shelf.new }
-        ensures end { AtEnd S.Shelf (CommandEnd (DriveFailed S.Shelf shelf.old shelf.new 0) self.old (Write volume at block.now) result self.new) shelf.old shelf.new }
-        ensures answer { HasAnswered (DriveFailed S.Shelf shelf.old shelf.new 0) (ToDo (Wrote volume at (block.now ∷ []))) self.old result self.new }
+        ensures end { AtEnd S.Shelf (CommandEnd (DriveFailures S.Shelf shelf.old shelf.new 0) self.old (Write volume at block.now) result self.new) shelf.old shelf.new }
+        ensures answer { HasAnswered (DriveFailures S.Shelf shelf.old shelf.new 0) (ToDo (Wrote volume at (block.now ∷ []))) self.old result self.new }
         ensures counted { IsCommandCounted S.tale S.calls S.written shelf.old shelf.new (Write volume at block.now) result }
         ensures kept { Kept S.Shelf shelf.old shelf.new }
     {

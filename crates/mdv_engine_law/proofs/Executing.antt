@@ -1,6 +1,8 @@
 -- What a command came to, told of the longer stretch that its reply ends.
-use Rattle.std.proofs.Common.{◌≡◌, inl, inr, ℕ, ◌+◌, ◌-◌, ◌^◌, ◌≤◌, min, List, ◌++◌, sym, refl, ◌∙◌, ap, subst, arith}
-use Rattle.mdv_engine_law.specs.Below.{Rose, KeptOutside, nowhere, Tale, told, Command, Create, Read, Write, Line}
+use Rattle.std.proofs.Common.{◌≡◌, inl, inr, ℕ, ◌+◌, ◌-◌, ◌^◌, ◌≤◌, min, List, ◌++◌, sym, refl, ◌∙◌, ap, subst, arith, rules}
+use Rattle.mdv_base.proofs.Causes.{IsWithin}
+use Rattle.mdv_base.specs.declared.refusal.Refusal.TheVariants as refusal
+use Rattle.mdv_engine_law.specs.Below.{Failures, Refusal, KeptOutside, nowhere, Tale, told, Command, Create, Read, Write, Line}
 use Rattle.mdv_words.specs.declared.command.Command.TheVariants.{MakeStripe}
 use Rattle.mdv_words.specs.declared.command.Line.TheVariants as words
 use Rattle.mdv_engine_law.specs.declared.answer.Answer.{Answer}
@@ -10,19 +12,13 @@ use Rattle.mdv_engine_law.specs.declared.answer.Ended.{Ended}
 use Rattle.mdv_engine_law.specs.declared.answer.Ended.TheVariants as ended
 use Rattle.mdv_engine_law.specs.declared.answer.Outcome.{Outcome}
 use Rattle.mdv_engine_law.specs.declared.answer.Reply.{Reply}
+use Rattle.mdv_engine_law.specs.declared.answer.Reply.TheVariants as reply
 use Rattle.mdv_engine_law.specs.declared.host.Host.{Host}
 use Rattle.mdv_engine_law.specs.Commands as came
 use Rattle.mdv_engine_law.specs.Commands.{CameTo, ComesTo, GivesUp}
 use Rattle.mdv_engine_law.specs.Line.{Memory, Kept, kept_at, drive_content, IsRebooted, adopted, empty, down, lost, spent, wanting}
-use Rattle.mdv_engine_law.specs.Replies.{IsTold, HasAnswerCause, HasEndCause, HasReplyCause, reply_at, reply_to}
+use Rattle.mdv_engine_law.specs.Replies.{IsTold, HasAnswerCause, HasCommandCause, IsReplyTo, reply_at, reply_to}
 use Rattle.mdv_engine_law.specs.Standing.{OnlyReplied, Executed}
-
--- a count that rose within a stretch rose over the longer one
-pub rose_within : (before from to after : ℕ) → before ≤ from → to ≤ after → Rose from to → Rose before after
-rose_within before from to after low high rose = capped before from to after (2 ^ 64 - 1) low high rose
-  where
-    capped : (before from to after top : ℕ) → before ≤ from → to ≤ after → min (from + 1) top ≤ to → min (before + 1) top ≤ after
-    capped before from to after top low high rose = omega arith
 
 -- a read of the drive gives what it gave
 pub content_kept : (u v : Tale) → KeptOutside nowhere u v → drive_content u ≡ drive_content v
@@ -30,31 +26,31 @@ content_kept u v kept = sym same where
   same : drive_content v ≡ drive_content u
   same = λ i block. (kept 0 block refl).last i
 
--- what may have failed in a stretch may have failed in the longer one
-module _ (failed more : Type 0) (cause : failed → more) (host : Host) (kept next : Kept) (answer : Answer) where
+-- what came of the calls of a stretch came of those of the longer one
+module _ (failed more : Failures) (cause : IsWithin failed more) (host : Host) (kept next : Kept) (answer : Answer) where
   pub rebooted_more : IsRebooted failed host kept answer next → IsRebooted more host kept answer next
-  rebooted_more (adopted newest ok memory is) = adopted newest ok memory is
-  rebooted_more (empty ok memory is same) = empty ok memory is same
-  rebooted_more (down so ok memory same) = down (cause so) ok memory same
-  rebooted_more (lost so found panic) = lost (cause so) found panic
-  rebooted_more (spent is used same) = spent is used same
-  rebooted_more (wanting is same) = wanting is same
+  rebooted_more (adopted calm newest ok memory is) = adopted (cause.none calm) newest ok memory is
+  rebooted_more (empty calm ok memory is same) = empty (cause.none calm) ok memory is same
+  rebooted_more (down so ok memory same) = down (cause.some so) ok memory same
+  rebooted_more (lost so found panic) = lost (cause.some so) found panic
+  rebooted_more (spent calm is used same) = spent (cause.none calm) is used same
+  rebooted_more (wanting calm is same) = wanting (cause.none calm) is same
 
   gives_up_more : (command : Command) (end : Ended) → GivesUp failed host kept command end next → GivesUp more host kept command end next
-  gives_up_more (Create slice force) (ended.Lost active listed) is = (cause is.0, is.1, is.2, is.3)
+  gives_up_more (Create slice force) (ended.Lost active listed) is = (cause.some is.0, is.1, is.2, is.3)
   gives_up_more (Create slice force) ended.Spent is = absurd is
   gives_up_more (Create slice force) ended.Memory is = absurd is
-  gives_up_more (MakeStripe volume slice) (ended.Lost active listed) is = (cause is.0, is.1, is.2)
-  gives_up_more (MakeStripe volume slice) ended.Spent is = is
+  gives_up_more (MakeStripe volume slice) (ended.Lost active listed) is = (cause.some is.0, is.1, is.2)
+  gives_up_more (MakeStripe volume slice) ended.Spent is = (cause.none is.0, is.1, is.2, is.3, is.4)
   gives_up_more (MakeStripe volume slice) ended.Memory is = absurd is
   gives_up_more (Read volume at count) end is = absurd is
   gives_up_more (Write volume at block) end is = absurd is
 
   pub came_more : (command : Command) → CameTo failed host kept command answer next → CameTo more host kept command answer next
-  came_more command (came.refused refusal is left) = came.refused refusal is left
-  came_more command (came.wanting is left) = came.wanting is left
-  came_more command (came.done free effect) = came.done free effect
-  came_more command (came.faulted so free is fault) = came.faulted (cause so) free is fault
+  came_more command (came.refused calm refusal is left) = came.refused (cause.none calm) refusal is left
+  came_more command (came.wanting calm is left) = came.wanting (cause.none calm) is left
+  came_more command (came.done calm free effect) = came.done (cause.none calm) free effect
+  came_more command (came.faulted so free is fault) = came.faulted (cause.some so) free is fault
   came_more command (came.over end free is gives) = came.over end free is (gives_up_more command end gives)
 
   pub comes_more : (line : Line) → ComesTo failed host kept line answer next → ComesTo more host kept line answer next
@@ -67,27 +63,37 @@ module _ (failed more : Type 0) (piece : List ℕ) (cause : failed → more) whe
   told_more (Said this) r (inr cut) = inr (record { cause = cause cut.cause; given_is = cut.given_is; count = cut.count; front = cut.front })
   told_more (Over end) r is = is
 
--- why a reply came
-module _ (drive replies failed more : Type 0) (piece : List ℕ) (one : drive → failed) (other : replies → more) where
-  reply_cause : (this : Outcome) → HasReplyCause failed more (reply_to this)
-  reply_cause outcome.Ok = tt
-  reply_cause (outcome.Values text) = tt
-  reply_cause (outcome.Refused refusal) = tt
+-- why a reply came to a command
+module _ (drive failed : Failures) (replies more : Type 0) (piece : List ℕ) (one : IsWithin drive failed) (other : replies → more) where
+  refused_cause : (r : Refusal) → HasAnswerCause drive (Said (outcome.Refused r)) → HasCommandCause failed more (reply.Refused r)
+  refused_cause refusal.BadLine cause = one.none cause
+  refused_cause refusal.IoFault cause = one.some cause
+  refused_cause other cause = search rules
 
-  end_cause : (end : Ended) → HasEndCause drive end → HasReplyCause failed more (reply_at end)
-  end_cause (ended.Lost active listed) cause = (one cause.0, cause.1, cause.2)
-  end_cause ended.Spent cause = tt
-  end_cause ended.Memory cause = tt
+  said_cause : (this : Outcome) → HasAnswerCause drive (Said this) → HasCommandCause failed more (reply_to this)
+  said_cause outcome.Ok cause = one.none cause
+  said_cause (outcome.Values text) cause = one.none cause
+  said_cause (outcome.Refused refusal) cause = refused_cause refusal cause
 
-  pub told_cause : (answer : Answer) (r : Reply) → HasAnswerCause drive answer → IsTold replies answer r piece → HasReplyCause failed more r
-  told_cause (Said this) r cause (inl whole) = subst (HasReplyCause failed more) (sym whole.0) (reply_cause this)
-  told_cause (Said this) r cause (inr cut) = subst (HasReplyCause failed more) (sym cut.given_is) (other cut.cause)
-  told_cause (Over end) r cause is = subst (HasReplyCause failed more) (sym is.0) (end_cause end cause)
+  ended_cause : (end : Ended) → HasAnswerCause drive (Over end) → HasCommandCause failed more (reply_at end)
+  ended_cause (ended.Lost active listed) cause = (one.some cause.0, cause.1, cause.2)
+  ended_cause ended.Spent cause = one.none cause
+  ended_cause ended.Memory cause = absurd cause
+
+  pub command_cause : (answer : Answer) (r : Reply) → HasAnswerCause drive answer → IsTold replies answer r piece → HasCommandCause failed more r
+  command_cause (Said this) r cause (inl whole) = subst (HasCommandCause failed more) (sym whole.0) (said_cause this cause)
+  command_cause (Said this) r cause (inr cut) = subst (HasCommandCause failed more) (sym cut.given_is) (other cut.cause)
+  command_cause (Over end) r cause is = subst (HasCommandCause failed more) (sym is.0) (ended_cause end cause)
+
+-- and to what is only said
+pub reply_cause : (failed : Type 0) (piece : List ℕ) (this : Outcome) (r : Reply) → IsTold failed (Said this) r piece → IsReplyTo failed this r
+reply_cause failed piece this r (inl whole) = inl whole.0
+reply_cause failed piece this r (inr cut) = inr (cut.given_is, cut.cause)
 
 -- a line that was carried out, and then replied to
-pub executed : (drive replies failed more : Type 0) (host : Host) (line : Line) (old new : Memory) (answer : Answer) (r : Reply) (t u v : Tale) → (drive → failed) → (replies → more) → told u ≡ told t
+pub executed : (drive failed : Failures) (replies more : Type 0) (host : Host) (line : Line) (old new : Memory) (answer : Answer) (r : Reply) (t u v : Tale) → IsWithin drive failed → (replies → more) → told u ≡ told t
     → ComesTo drive host (kept_at old t) line answer (kept_at new u) → OnlyReplied replies answer r u v → Executed failed more host line old new r t v
-executed drive replies failed more host line old new answer r t u v one other quiet carried given = record {
+executed drive failed replies more host line old new answer r t u v one other quiet carried given = record {
   answer = answer;
   carried = subst (λ (content : ℕ → List ℕ). ComesTo failed host (kept_at old t) line answer (record { memory = new; content = content })) (content_kept u v given.kept)
       (comes_more drive failed one host (kept_at old t) (kept_at new u) answer line carried);

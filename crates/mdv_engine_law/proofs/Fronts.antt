@@ -1,46 +1,57 @@
 -- Which front of a reply was told by each moment of a line.
-use Rattle.std.proofs.Common.{◌≡◌, inl, inr, ℕ, List, ◌++◌, take, Option, refl, ◌∙◌, ap, subst, arith}
+use Rattle.std.proofs.Common.{◌≡◌, ◌≤◌, inl, inr, ℕ, List, ◌++◌, take, Option, refl, ◌∙◌, ap, subst, arith}
 use Rattle.std.specs.Option.{option_map}
 use Rattle.mdv_shelf.specs.Calls.{OnDrive}
-use Rattle.mdv_shelf.specs.Shelves.{AtEachMoment, AtEachTale, AtEnd, DriveFailed, GoesOn, RestsOnceTold}
+use Rattle.mdv_shelf.specs.Shelves.{AtEachMoment, AtEachTale, AtEnd, DriveFailures, GoesOn, RestsOnceTold}
 use Rattle.mdv_shelf.specs.Story.{OfTales, Story, tale_of}
 use Rattle.mdv_shelf.specs.declared.shelf.Shelf.{Ghosts}
-use Rattle.mdv_shelf.proofs.Noted.{moment_weaker, moments_of_tales}
+use Rattle.mdv_shelf.proofs.Noted.{moments_of_tales}
 use Rattle.mdv_shelf.proofs.Moments.{moments_weaker, some_is}
-use Rattle.mdv_shelf.proofs.Telling.{each_joined, rests_alone}
-use Rattle.mdv_engine_law.specs.Below.{Tale, last, told}
+use Rattle.mdv_shelf.proofs.Telling.{each_joined, each_within, rests_alone}
+use Rattle.mdv_engine_law.specs.Below.{Failures, Tale, last, told}
 use Rattle.mdv_engine_law.specs.Line.{IsSame, Kept, Memory, drive_content, kept_at}
 use Rattle.mdv_engine_law.specs.Replies.{text_of}
 use Rattle.mdv_engine_law.specs.Standing.{Knows, TellMoment, TellsFront}
 use Rattle.mdv_engine_law.specs.declared.answer.Answer.{Answer}
 use Rattle.mdv_engine_law.specs.declared.host.Host.{Host}
-use Rattle.mdv_engine_law.proofs.Executing.{rose_within}
+use Rattle.mdv_base.proofs.Causes.{IsWithin, within_calm}
+
+-- a count between two that are the same
+between : (low high at : ℕ) → high ≡ low → low ≤ at → at ≤ high → at ≡ low
+between low high at same above below = omega arith
 
 module _ {S : Type 0} (shelf : Ghosts S) (telling : (s : S) → shelf.tale s ≡ option_map tale_of (shelf.story s)) where
   -- a line that was carried out, with nothing told, and then the telling of its answer
-  pub fronts_then : (a b c : S) (Comes : Type 0 → Kept → Answer → Kept → Type 0) (host : Host) (old : Memory) (answer : Answer) (new : Memory)
-      → ((failed more : Type 0) → (failed → more) → (kept next : Kept) → Comes failed kept answer next → Comes more kept answer next)
-      → GoesOn shelf a b → AtEachTale shelf (λ t m. told m ≡ told t) a b → AtEnd shelf (λ t u. Knows host old t → Comes (DriveFailed shelf a b 0) (kept_at old t) answer (kept_at new u)) a b
-      → GoesOn shelf b c → AtEachTale shelf (TellMoment (text_of answer)) b c → AtEachMoment shelf (λ t m. Knows host old t.tale → TellsFront Comes old t m) a c
-  fronts_then a b c Comes host old answer new widen on quiet ends more tells =
+  pub fronts_then : (a b c : S) (Comes : Failures → Kept → Answer → Kept → Type 0) (host : Host) (old : Memory) (answer : Answer) (new : Memory)
+      → ((failed more : Failures) → IsWithin failed more → (kept next : Kept) → Comes failed kept answer next → Comes more kept answer next)
+      → GoesOn shelf a b → AtEachTale shelf (λ t m. told m ≡ told t) a b → AtEnd shelf (λ t u. Knows host old t → Comes (DriveFailures shelf a b 0) (kept_at old t) answer (kept_at new u)) a b
+      → GoesOn shelf b c → shelf.faults c (OnDrive 0) ≡ shelf.faults b (OnDrive 0) → AtEachTale shelf (TellMoment (text_of answer)) b c → AtEachMoment shelf (λ t m. Knows host old t.tale → TellsFront Comes old t m) a c
+  fronts_then a b c Comes host old answer new widen on quiet ends more still tells =
       each_joined (OfTales (λ t m. told m ≡ told t)) (OfTales (TellMoment (text_of answer))) (λ t m. Knows host old t.tale → TellsFront Comes old t m) _ _ _ _ _ _
       (λ s u v first mid last turn there ahead m here within knows. inl here)
       (λ s u v first mid last turn m here within ahead knows.
       let end = ends (tale_of s) (telling a ∙ ap (λ (o : Option Story). option_map tale_of o) first) in inr (record {
         answer = answer;
         next = kept_at new end.0;
-        came = widen (DriveFailed shelf a b 0) _ (λ rose. rose_within _ _ _ _ (omega arith) (within.counts.0 (OnDrive 0)) rose) (kept_at old (tale_of s)) (kept_at new end.0) (end.2 knows);
+        came = widen (DriveFailures shelf a b 0) _ (within_calm _ _ _ (between _ _ _ still (within.counts.0 (OnDrive 0)) (within.counts.1 (OnDrive 0)))) (kept_at old (tale_of s)) (kept_at new end.0) (end.2 knows);
         count = here.count;
         is_told = here.is_told ∙ ap (λ (l : List ℕ). l ++ take here.count (text_of answer)) turn;
         shows = subst (λ (x : Tale). IsSame (drive_content x) (drive_content m.tale)) (some_is (shelf.tale b) (tale_of u) end.0 (telling b ∙ ap (λ (o : Option Story). option_map tale_of o) mid) end.1) (λ block. (here.kept 0 block refl).last);
       })) (moments_of_tales shelf telling a b (λ t m. told m ≡ told t) on quiet) (moments_of_tales shelf telling b c (TellMoment (text_of answer)) more tells)
 
   -- the telling of an answer alone
-  pub fronts_alone : (a b : S) (host : Host) (old : Memory) (answer : Answer) → GoesOn shelf a b → AtEachTale shelf (TellMoment (text_of answer)) a b
-      → AtEachMoment shelf (λ t m. Knows host old t.tale → TellsFront (λ failed kept given next. (given ≡ answer) × (next ≡ kept)) old t m) a b
-  fronts_alone a b host old answer on tells =
-      moment_weaker shelf (OfTales (TellMoment (text_of answer))) (λ t m. Knows host old t.tale → TellsFront (λ failed kept given next. (given ≡ answer) × (next ≡ kept)) old t m) a b
-      (λ t m up down here knows. inr (record { answer = answer; next = kept_at old t.tale; came = (refl, refl); count = here.count; is_told = here.is_told; shows = λ block. (here.kept 0 block refl).last }))
+  pub fronts_alone : (a b : S) (host : Host) (old : Memory) (answer : Answer) → GoesOn shelf a b → shelf.faults b (OnDrive 0) ≡ shelf.faults a (OnDrive 0) → AtEachTale shelf (TellMoment (text_of answer)) a b
+      → AtEachMoment shelf (λ t m. Knows host old t.tale → TellsFront (λ failures kept given next. failures.none × (given ≡ answer) × (next ≡ kept)) old t m) a b
+  fronts_alone a b host old answer on still tells =
+      each_within (OfTales (TellMoment (text_of answer))) (λ t m. Knows host old t.tale → TellsFront (λ failures kept given next. failures.none × (given ≡ answer) × (next ≡ kept)) old t m) _ _ _ _
+      (λ s u first last m end here within knows. inr (record {
+        answer = answer;
+        next = kept_at old (tale_of s);
+        came = (between _ _ _ still (within.counts.0 (OnDrive 0)) (within.counts.1 (OnDrive 0)), refl, refl);
+        count = here.count;
+        is_told = here.is_told;
+        shows = λ block. (here.kept 0 block refl).last;
+      }))
       (moments_of_tales shelf telling a b (TellMoment (text_of answer)) on tells)
 
   -- by which the drives are at rest

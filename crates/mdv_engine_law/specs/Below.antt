@@ -1,4 +1,5 @@
 -- The words of the crates below in which this crate speaks, so that a file of it needs one line of import.
+pub use Rattle.mdv_base.specs.Causes.{Failures}
 pub use Rattle.mdv_base.specs.Causes.{Rose}
 pub use Rattle.mdv_base.specs.Refusal.{refusal_text}
 pub use Rattle.mdv_base.specs.declared.drive.SliceName.{SliceName}

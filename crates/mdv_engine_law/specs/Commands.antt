@@ -1,6 +1,6 @@
 -- What a command comes to, and a line.
 use Rattle.std.specs.Prelude.{◌≡◌, ◌≢◌, ◌+◌, ◌<◌, ◌≤◌, ◌^◌, ℕ, [], ◌∷◌, Some, None}
-use Rattle.mdv_engine_law.specs.Below.{Refusal, IoFault, OutOfMemory, values_reply, MakeStripe, Command, Create, Read, Write, Line, Newest}
+use Rattle.mdv_engine_law.specs.Below.{Failures, Refusal, IoFault, OutOfMemory, values_reply, MakeStripe, Command, Create, Read, Write, Line, Newest}
 use Rattle.mdv_store_law.specs.Standing.{IsReplicaMade}
 use Rattle.mdv_table.specs.Change.{table_after}
 use Rattle.mdv_words.specs.declared.command.Command.TheVariants as command
@@ -50,22 +50,22 @@ Wanting host kept (Write volume at block) next = ⊥
 
 -- Why the run is over with a command: the one place is lost, whose new replica is there where a creation's format was answered; or the count
 -- would reach its limit, and nothing was done.
-abbrev pub GivesUp : Type 0 → Host → Kept → Command → Ended → Kept → Type 0
-GivesUp failed host kept (Create slice force) (ended.Lost active listed) next = failed × (active ≡ 0) × (listed ≡ 1) × IsReplicaMade (site_of host) (identity_of host kept.memory.begun) next.content
-GivesUp failed host kept (command.MakeStripe volume slice) (ended.Lost active listed) next = failed × (active ≡ 0) × (listed ≡ 1)
-GivesUp failed host kept (command.MakeStripe volume slice) ended.Spent next = (newest : Newest) × (kept.memory.opened ≡ Some newest) × (2 ^ 63 ≤ newest.mark.count + 1) × Stays kept next
-GivesUp failed host kept command end next = ⊥
+abbrev pub GivesUp : Failures → Host → Kept → Command → Ended → Kept → Type 0
+GivesUp failures host kept (Create slice force) (ended.Lost active listed) next = failures.some × (active ≡ 0) × (listed ≡ 1) × IsReplicaMade (site_of host) (identity_of host kept.memory.begun) next.content
+GivesUp failures host kept (command.MakeStripe volume slice) (ended.Lost active listed) next = failures.some × (active ≡ 0) × (listed ≡ 1)
+GivesUp failures host kept (command.MakeStripe volume slice) ended.Spent next = failures.none × (newest : Newest) × (kept.memory.opened ≡ Some newest) × (2 ^ 63 ≤ newest.mark.count + 1) × Stays kept next
+GivesUp failures host kept command end next = ⊥
 
 -- What a command comes to, the same for all: the first cause refuses it, and nothing is done; memory is wanting; it is done; a call on the drive
--- failed; or the run is over with it.
-pub data CameTo (failed : Type 0) (host : Host) (kept : Kept) (command : Command) (answer : Answer) (next : Kept) : Type 0 where
-  refused : (refusal : Refusal) → refusal_of (case_of host kept) command ≡ Some refusal → IsTurnedDown refusal kept answer next → CameTo failed host kept command answer next
-  wanting : answer ≡ refusing OutOfMemory → Wanting host kept command next → CameTo failed host kept command answer next
-  done : IsAllowed (case_of host kept) command → Effect host kept command answer next → CameTo failed host kept command answer next
-  faulted : failed → IsAllowed (case_of host kept) command → answer ≡ refusing IoFault → Fault host kept command next → CameTo failed host kept command answer next
-  over : (end : Ended) → IsAllowed (case_of host kept) command → answer ≡ Over end → GivesUp failed host kept command end next → CameTo failed host kept command answer next
+-- failed; or the run is over with it. No call failed where it is refused, wanting or done.
+pub data CameTo (failures : Failures) (host : Host) (kept : Kept) (command : Command) (answer : Answer) (next : Kept) : Type 0 where
+  refused : failures.none → (refusal : Refusal) → refusal_of (case_of host kept) command ≡ Some refusal → IsTurnedDown refusal kept answer next → CameTo failures host kept command answer next
+  wanting : failures.none → answer ≡ refusing OutOfMemory → Wanting host kept command next → CameTo failures host kept command answer next
+  done : failures.none → IsAllowed (case_of host kept) command → Effect host kept command answer next → CameTo failures host kept command answer next
+  faulted : failures.some → IsAllowed (case_of host kept) command → answer ≡ refusing IoFault → Fault host kept command next → CameTo failures host kept command answer next
+  over : (end : Ended) → IsAllowed (case_of host kept) command → answer ≡ Over end → GivesUp failures host kept command end next → CameTo failures host kept command answer next
 
 -- what a line comes to, that is in the grammar
-abbrev pub ComesTo : Type 0 → Host → Kept → Line → Answer → Kept → Type 0
-ComesTo failed host kept words.Boot answer next = IsRebooted failed host kept answer next
-ComesTo failed host kept (words.Command command) answer next = CameTo failed host kept command answer next
+abbrev pub ComesTo : Failures → Host → Kept → Line → Answer → Kept → Type 0
+ComesTo failures host kept words.Boot answer next = IsRebooted failures host kept answer next
+ComesTo failures host kept (words.Command command) answer next = CameTo failures host kept command answer next

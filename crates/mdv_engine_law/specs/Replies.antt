@@ -5,7 +5,7 @@ use Rattle.mdv_shelf.specs.Calls.{OnDrive}
 use Rattle.mdv_shelf.specs.Shelves.{MadeCalls, MadeCallsAtMost}
 use Rattle.mdv_shelf.specs.Story.{NoFewer}
 use Rattle.mdv_shelf.specs.declared.shelf.Shelf.{Ghosts}
-use Rattle.mdv_engine_law.specs.Below.{refusal_text, VolId, Refusal, IoFault, Deed, Saw, lacks, left_in, one_reply, refused, replies_in, said_in, unsaid, with_reply, values_reply}
+use Rattle.mdv_engine_law.specs.Below.{Failures, refusal_text, VolId, Refusal, IoFault, Deed, Saw, lacks, left_in, one_reply, refused, replies_in, said_in, unsaid, with_reply, values_reply}
 use Rattle.mdv_engine_law.specs.declared.answer.Answer.{Answer}
 use Rattle.mdv_engine_law.specs.declared.answer.Answer.TheVariants.{Said, Over}
 use Rattle.mdv_engine_law.specs.declared.answer.Ended.{Ended}
@@ -186,6 +186,21 @@ HasReplyCause drive replies reply.Spent = Unit {0}
 HasReplyCause drive replies reply.NoMemory = Unit {0}
 HasReplyCause drive replies reply.Told = replies
 
+-- A reply to a command tells a call on the drive that failed, or the run is over with it, where one did, and else not; and it never ends a run
+-- for want of memory.
+abbrev pub HasCommandCause : Failures → Type 0 → Reply → Type 0
+HasCommandCause drive replies reply.Ok = drive.none
+HasCommandCause drive replies (reply.Refused IoFault) = drive.some
+HasCommandCause drive replies (reply.Refused other) = drive.none
+HasCommandCause drive replies (reply.Panic active listed) = drive.some × (active ≡ 0) × (listed ≡ 1)
+HasCommandCause drive replies reply.Spent = drive.none
+HasCommandCause drive replies reply.NoMemory = ⊥
+HasCommandCause drive replies reply.Told = replies
+
+-- what was said is the reply, or its giving failed
+abbrev pub IsReplyTo : Type 0 → Outcome → Reply → Type 0
+IsReplyTo failed outcome given = (given ≡ reply_to outcome) ⊎ ((given ≡ reply.Told) × failed)
+
 -- the answer says that what was asked was done
 abbrev pub IsAccepted : Answer → Type 0
 IsAccepted (Said outcome.Ok) = Unit {0}
@@ -193,15 +208,21 @@ IsAccepted (Said (outcome.Values text)) = Unit {0}
 IsAccepted (Said (outcome.Refused refusal)) = ⊥
 IsAccepted (Over end) = ⊥
 
--- places are lost only where the drive failed: none of one is left
-abbrev pub HasEndCause : Type 0 → Ended → Type 0
-HasEndCause drive (ended.Lost active listed) = drive × (active ≡ 0) × (listed ≡ 1)
-HasEndCause drive ended.Spent = Unit {0}
-HasEndCause drive ended.Memory = Unit {0}
+-- places are lost only where the drive failed: none of one is left; and no other end comes where it did
+abbrev pub HasEndCause : Failures → Ended → Type 0
+HasEndCause drive (ended.Lost active listed) = drive.some × (active ≡ 0) × (listed ≡ 1)
+HasEndCause drive ended.Spent = drive.none
+HasEndCause drive ended.Memory = drive.none
 
-abbrev pub HasAnswerCause : Type 0 → Answer → Type 0
-HasAnswerCause drive (Said this) = Unit {0}
-HasAnswerCause drive (Over end) = HasEndCause drive end
+-- A command tells a call on the drive that failed, or ends the run with it, where one did, and else not; and it never ends a run for want of memory.
+abbrev pub HasAnswerCause : Failures → Answer → Type 0
+HasAnswerCause drive (Said outcome.Ok) = drive.none
+HasAnswerCause drive (Said (outcome.Values text)) = drive.none
+HasAnswerCause drive (Said (outcome.Refused IoFault)) = drive.some
+HasAnswerCause drive (Said (outcome.Refused other)) = drive.none
+HasAnswerCause drive (Over (ended.Lost active listed)) = drive.some × (active ≡ 0) × (listed ≡ 1)
+HasAnswerCause drive (Over ended.Spent) = drive.none
+HasAnswerCause drive (Over ended.Memory) = ⊥
 
 -- The calls of a telling: one at most, by which no drive's count rose; one where the reply was told whole, by which none rose at all; and none
 -- where the run is over.

@@ -1,9 +1,9 @@
 -- How the drive stands with its history at each moment of a line.
 use Rattle.std.specs.Prelude.{◌≡◌, ◌≢◌, ◌⊎◌, ℕ, ◌≤◌, false, List, [], ◌∷◌, ◌++◌, take, None, IfSome, Contains}
-use Rattle.mdv_engine_law.specs.Below.{Identity, KeptOutside, nowhere, Tale, told, Line, area_of, ShowsNothing, IsOpened, IsNewestIn, History, Deed, Created, Event, history_after, MayHappen, Adds, HasWoken, CanTell}
+use Rattle.mdv_engine_law.specs.Below.{Failures, Identity, KeptOutside, nowhere, Tale, told, Line, area_of, ShowsNothing, IsOpened, IsNewestIn, History, Deed, Created, Event, history_after, MayHappen, Adds, HasWoken, CanTell}
 use Rattle.mdv_store_law.specs.Machine as machine
 use Rattle.mdv_shelf.specs.Calls.{OnDrive}
-use Rattle.mdv_shelf.specs.Story.{FailedBy, Moment}
+use Rattle.mdv_shelf.specs.Story.{FailuresBy, Moment}
 use Rattle.mdv_history.specs.Standing as history
 use Rattle.mdv_engine_law.specs.declared.answer.Answer.{Answer}
 use Rattle.mdv_engine_law.specs.declared.answer.Answer.TheVariants.{Said, Over}
@@ -49,7 +49,7 @@ pub record OnlyReplied (failed : Type 0) (answer : Answer) (reply : Reply) (t u 
   pub kept : KeptOutside nowhere t u
 
 -- a line that was carried out and replied to, where calls on the drive and the giving of replies may have failed
-pub record Executed (drive replies : Type 0) (host : Host) (line : Line) (old new : Memory) (reply : Reply) (t u : Tale) : Type 0 where
+pub record Executed (drive : Failures) (replies : Type 0) (host : Host) (line : Line) (old new : Memory) (reply : Reply) (t u : Tale) : Type 0 where
   pub answer : Answer
   pub carried : ComesTo drive host (kept_at old t) line answer (kept_at new u)
   pub replied : Replied replies answer reply t u
@@ -125,18 +125,18 @@ pub record TellMoment (text : List ℕ) (t m : Tale) : Type 0 where
   pub count : ℕ
   pub is_told : told m ≡ told t ++ take count text
 
--- By this moment of a line a front of the reply was told to what it came to, as calls on the drive had failed by then, and the drive's blocks
+-- By this moment of a line a front of the reply was told to what it came to, as the calls on the drive had come out by then, and the drive's blocks
 -- read as the line left them.
-pub record FrontTold (Comes : Type 0 → Kept → Answer → Kept → Type 0) (old : Memory) (t m : Moment) : Type 0 where
+pub record FrontTold (Comes : Failures → Kept → Answer → Kept → Type 0) (old : Memory) (t m : Moment) : Type 0 where
   pub answer : Answer
   pub next : Kept
-  pub came : Comes (FailedBy t m (OnDrive 0)) (kept_at old t.tale) answer next
+  pub came : Comes (FailuresBy t m (OnDrive 0)) (kept_at old t.tale) answer next
   pub count : ℕ
   pub is_told : told m.tale ≡ told t.tale ++ take count (text_of answer)
   pub shows : IsSame next.content (drive_content m.tale)
 
 -- nothing of a reply, or a front of the one to what the line came to
-abbrev pub TellsFront : (Type 0 → Kept → Answer → Kept → Type 0) → Memory → Moment → Moment → Type 0
+abbrev pub TellsFront : (Failures → Kept → Answer → Kept → Type 0) → Memory → Moment → Moment → Type 0
 TellsFront Comes old t m = (told m.tale ≡ told t.tale) ⊎ FrontTold Comes old t m
 
 -- A moment of a line that asks this, and of its reply: at most a front of one reply is told, which acknowledges these deeds, and each

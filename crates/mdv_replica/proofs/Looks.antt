@@ -1,5 +1,6 @@
 -- What a look makes of the master, the claim and the gates that it read.
 use Rattle.std.proofs.Common.{◌≡◌, ◌↔◌, ℕ, ◌+◌, ◌<◌, ◌≤◌, ◌-◌, min, Bool, true, false, List, [], length, slice_index_or, Option, Some, None, IfSome, MatchOption, is_some, is_none, refl, sym, ◌∙◌, ap, subst, arith}
+use Rattle.mdv_base.specs.Causes.{Failures}
 use Rattle.mdv_replica.specs.Below.{Flags, Place}
 use Rattle.mdv_replica.specs.declared.forms.Master.{Master}
 use Rattle.mdv_replica.specs.declared.forms.Gate.{Gate}
@@ -8,7 +9,7 @@ use Rattle.mdv_replica.specs.declared.looking.Seen.{Seen}
 use Rattle.mdv_replica.specs.declared.replica.Head.{Head}
 use Rattle.mdv_replica.specs.declared.replica.PlaceAt.{PlaceAt}
 use Rattle.mdv_replica.specs.Replica.{IsHead, with_blocks}
-use Rattle.mdv_replica.specs.Seen.{IsMasterAt, AreClaimAndGates, HasClaimAndGates, IsLook, head_flags}
+use Rattle.mdv_replica.specs.Seen.{IsMasterAt, AreClaimAndGates, HasClaimAndGates, HasLookCause, IsLook, head_flags}
 
 abbrev pub head_with : Master → ClaimAndGates → Head
 head_with master rest = record { master = master; claim = rest.claim; first = rest.first; second = rest.second }
@@ -160,5 +161,5 @@ pub contents_are : (first : ℕ) (blocks : List (List ℕ)) (k : ℕ) → k < le
 contents_are first blocks k lt = ap (λ (i : ℕ). slice_index_or blocks i []) (omega arith)
 
 -- a look whose read didn't fail tells of no failed read
-pub look_was_read : (at : PlaceAt) (size : ℕ) (content : ℕ → List ℕ) (seen : Seen) → IsLook at size content seen → seen.flags.read_error ≡ true → ⊥
-look_was_read at size content seen look failed = absurd (cc (sym failed ∙ ap (λ (f : Flags). f.read_error) look.letters))
+pub look_calm : (at : PlaceAt) (size : ℕ) (content : ℕ → List ℕ) (seen : Seen) (failures : Failures) → IsLook at size content seen → failures.none → HasLookCause failures seen.flags.read_error
+look_calm at size content seen failures look calm = subst (λ (f : Flags). HasLookCause failures f.read_error) (sym look.letters) calm

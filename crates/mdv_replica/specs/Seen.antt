@@ -1,5 +1,6 @@
 -- What a look at the head of a replica answers, from what the drive's blocks hold.
 use Rattle.std.specs.Prelude.{◌≡◌, ◌⊎◌, ◌↔◌, ℕ, ◌+◌, ◌≤◌, ◌<◌, ◌^◌, Bool, true, false, not, IsTrue, List, [], length, slice_index_or, Some, None}
+use Rattle.mdv_base.specs.Causes.{Failures}
 use Rattle.mdv_base.specs.declared.flags.Flags.{Flags}
 use Rattle.mdv_replica.specs.declared.forms.Master.{Master}
 use Rattle.mdv_replica.specs.declared.forms.Gate.{Gate}
@@ -67,6 +68,11 @@ pub record IsLook (at : PlaceAt) (size : ℕ) (content : ℕ → List ℕ) (seen
   pub sized : (master : Master) → IsMasterAt at size (content at.first) master → seen.place ≡ (with_blocks at master.blocks).place
   pub unsized : seen.flags.located ≡ false → seen.place ≡ at.place
   pub head : (spelled : Head) → (seen.head ≡ Some spelled) ↔ IsHead at size content spelled
+
+-- the read failed exactly where the answer says so
+abbrev pub HasLookCause : Failures → Bool → Type 0
+HasLookCause failures true = failures.some
+HasLookCause failures false = failures.none
 
 -- the read failed, or the answer is what the blocks say
 abbrev pub IsSeen : PlaceAt → ℕ → (ℕ → List ℕ) → Seen → Type 0

@@ -1,11 +1,10 @@
 // What the head of a replica says, and the letters that a place is told with.
-ghost use Rattle.std.specs.Prelude.{◌≡◌, ◌↔◌, ◌<◌, ◌-◌, min, ℕ, List, length, slice_index_or, true, is_some, is_none, IsTrue, IfSome, MatchOption, Some, None};
-ghost use Rattle.mdv_base.specs.Causes.{Rose};
+ghost use Rattle.std.specs.Prelude.{◌≡◌, ◌↔◌, ◌<◌, ◌-◌, min, ℕ, List, length, slice_index_or, is_some, is_none, IsTrue, IfSome, MatchOption, Some, None};
 ghost use Rattle.mdv_shelf.specs.Tale.{Tale, last};
-ghost use Rattle.mdv_shelf.specs.Calls.{OnDrive, Took};
-ghost use Rattle.mdv_shelf.specs.Shelves.{Kept};
+ghost use Rattle.mdv_shelf.specs.Calls.{Took};
+ghost use Rattle.mdv_shelf.specs.Shelves.{DriveFailures, Kept};
 ghost use Rattle.mdv_replica.specs.Replica.{LiesAt, with_blocks};
-ghost use Rattle.mdv_replica.specs.Seen.{AreBehindFirst, AreBlocksOf, IsMasterAt, IsSeen, IsLook, head_flags, head_with, unread_at};
+ghost use Rattle.mdv_replica.specs.Seen.{AreBehindFirst, AreBlocksOf, HasLookCause, IsMasterAt, IsSeen, IsLook, head_flags, head_with, unread_at};
 
 use crate::forms::{Gate, Master};
 use crate::reading::{read_claim, read_gate, read_master};
@@ -40,7 +39,7 @@ pub fn inspect<S: Shelf>(shelf: &mut S, at: PlaceAt) -> Seen
 
     // Where the shelf tells no tale, it is the answer to contents of some kind.
     ensures form { (content : ℕ → List ℕ) × IsSeen at (slice_index_or (S.sizes shelf.old) at.drive.0 0) content result }
-    ensures cause { result.flags.read_error ≡ true → Rose (S.faults shelf.old (OnDrive at.drive.0)) (S.faults shelf.new (OnDrive at.drive.0)) }
+    ensures cause { HasLookCause (DriveFailures S.Shelf shelf.old shelf.new at.drive.0) result.flags.read_error }
     ensures same { S.tale shelf.new ≡ S.tale shelf.old }
     ensures counted { Took S.calls S.written shelf.old shelf.new 1 0 }
     ensures kept { Kept S.Shelf shelf.old shelf.new }

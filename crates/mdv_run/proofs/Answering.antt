@@ -1,6 +1,13 @@
 -- One line, answered.
+use Rattle.mdv_base.specs.Causes.{Failures}
+use Rattle.mdv_engine_law.specs.Replies.{HasCommandCause, HasEndCause, HasReplyCause, IsReplyTo, reply_at, reply_to}
+use Rattle.mdv_engine_law.specs.declared.answer.Ended.{Ended}
+use Rattle.mdv_engine_law.specs.declared.answer.Ended.TheVariants as ended
+use Rattle.mdv_engine_law.specs.declared.answer.Outcome.{Outcome}
+use Rattle.mdv_engine_law.specs.declared.answer.Outcome.TheVariants as outcome
+use Rattle.mdv_engine_law.specs.declared.answer.Reply.TheVariants as reply
 use Rattle.mdv_engine_law.specs.Line.{Nothing, Ask}
-use Rattle.std.proofs.Common.{inl, inr, ℕ, List, [], refl, ◌∙◌, ap}
+use Rattle.std.proofs.Common.{inl, inr, ℕ, List, [], refl, sym, ◌∙◌, ap, subst}
 use Rattle.mdv_run.specs.Below.{Script, line, Tale, Command, Create, MakeStripe, Read, Write, Spelled, Boot, IsCommand, IsLine, Reply, IsReplied, IsTurnedDown, Host, Memory, IsExecuted, Executed, Knows, IsAwake, Turned, Asks, RanTo, behind, kept_at}
 use Rattle.mdv_run.specs.Turns.{LineAnswered}
 use Rattle.mdv_shelf.proofs.Blocks.{both_ways}
@@ -51,7 +58,7 @@ module _ (host : Host) (text : List ℕ) (more : Script) (ask : Ask) (asks : Ask
   ]
 
 -- a line that was carried out is answered
-pub line_executed : (text : List ℕ) (spelled : Spelled) → IsLine text spelled → (drive replies : Type 0) (host : Host) (old new : Memory) (reply : Reply) (t u : Tale) → Executed drive replies host spelled old new reply t u → LineAnswered drive replies host text old new reply t u
+pub line_executed : (text : List ℕ) (spelled : Spelled) → IsLine text spelled → (drive : Failures) (replies : Type 0) (host : Host) (old new : Memory) (reply : Reply) (t u : Tale) → Executed drive replies host spelled old new reply t u → LineAnswered drive replies host text old new reply t u
 line_executed text spelled is drive replies host old new reply t u done = record { answer = done.answer; done = inr (spelled, is, done.carried); replied = done.replied }
 
 -- a refusal that was told, and nothing else happened
@@ -69,3 +76,31 @@ module _ (host : Host) (memory : Memory) (r : Refusal) (plain : IsPlain r) (repl
 pub accepted_turned : (host : Host) (memory : Memory) (replies : Type 0) (reply : Reply) (t u : Tale) → OnlyReplied replies accepted reply t u → IsReplied reply → Turned host Nothing memory memory t u
 accepted_turned host memory replies reply t u given on =
     turned host Nothing memory memory replies t t u refl accepted tt (λ on some. absurd (some refl)) (λ on has. absurd (never_among [] Created refl has)) (accepted_none host memory t) reply on given
+
+-- why a line is replied to so: by what its command came to, by what was only told, or by the end of its boot
+pub command_reply : (drive : Failures) (replies : Type 0) (given : Reply) → HasCommandCause drive replies given → HasReplyCause drive.some replies given
+command_reply drive replies reply.Ok cause = tt
+command_reply drive replies (reply.Refused refusal) cause = tt
+command_reply drive replies (reply.Panic active listed) cause = cause
+command_reply drive replies reply.Spent cause = tt
+command_reply drive replies reply.NoMemory cause = tt
+command_reply drive replies reply.Told cause = cause
+
+said_reply : (drive replies : Type 0) (said : Outcome) → HasReplyCause drive replies (reply_to said)
+said_reply drive replies outcome.Ok = tt
+said_reply drive replies (outcome.Values text) = tt
+said_reply drive replies (outcome.Refused refusal) = tt
+
+pub told_reply : (drive replies : Type 0) (said : Outcome) (given : Reply) → IsReplyTo replies said given → HasReplyCause drive replies given
+told_reply drive replies said given (inl whole) = subst (HasReplyCause drive replies) (sym whole) (said_reply drive replies said)
+told_reply drive replies said given (inr cut) = subst (HasReplyCause drive replies) (sym cut.0) cut.1
+
+-- a giving that failed in a stretch failed in the longer one
+pub reply_more : (replies more : Type 0) → (replies → more) → (said : Outcome) (given : Reply) → IsReplyTo replies said given → IsReplyTo more said given
+reply_more replies more cause said given (inl whole) = inl whole
+reply_more replies more cause said given (inr cut) = inr (cut.0, cause cut.1)
+
+pub ended_reply : (drive : Failures) (replies : Type 0) (end : Ended) → HasEndCause drive end → HasReplyCause drive.some replies (reply_at end)
+ended_reply drive replies (ended.Lost active listed) cause = cause
+ended_reply drive replies ended.Spent cause = tt
+ended_reply drive replies ended.Memory cause = tt

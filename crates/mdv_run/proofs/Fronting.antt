@@ -2,13 +2,13 @@
 use Rattle.std.proofs.Common.{◌≡◌, inl, inr, ℕ, ◌+◌, Bool, false, List, [], ◌++◌, length, Option, Some, refl, sym, ◌∙◌, ap, subst, append_assoc, arith}
 use Rattle.std.proofs.lemmas.List.{append-nil, length-append}
 use Rattle.std.specs.Option.{option_map}
-use Rattle.mdv_run.specs.Below.{Counts, Ends, Host, IsRebooted, IsToldBy, Knows, Memory, RoseTo, Script, Stretch, Tale, drive_failed, kept_at, told, unbooted}
+use Rattle.mdv_run.specs.Below.{Counts, Ends, Host, IsRebooted, IsToldBy, Knows, Memory, Script, Stretch, Tale, kept_at, told, unbooted}
 use Rattle.mdv_run.specs.Promise.{between}
 use Rattle.mdv_run.specs.Turns.{LinesFront, at}
 use Rattle.mdv_run.proofs.Fronts.{ScriptFront}
 use Rattle.mdv_run.proofs.Shown.{shown_earlier, shown_later}
 use Rattle.mdv_run.proofs.Went.{Went, lines_shown}
-use Rattle.mdv_run_law.specs.Run.{no_line}
+use Rattle.mdv_run_law.specs.Run.{RoseCalmly, drive_failures, no_line}
 use Rattle.mdv_shelf.specs.Shelves.{AtEachMoment, AtEachTale, GoesOn}
 use Rattle.mdv_shelf.specs.Story.{Moment, OfTales, Story, tale_of}
 use Rattle.mdv_shelf.specs.declared.shelf.Shelf.{Ghosts}
@@ -90,8 +90,8 @@ module _ {S : Type 0} (shelf : Ghosts S) (telling : (s : S) → shelf.tale s ≡
   pub fronts_quiet : (stretch : Stretch) (a b : S) → GoesOn shelf a b → AtEachTale shelf (λ t m. told m ≡ told t) a b → AtEachMoment shelf (IsToldBy host stretch start script) a b
   fronts_quiet stretch a b on quiet = moment_weaker shelf (OfTales (λ t m. told m ≡ told t)) (IsToldBy host stretch start script) a b (λ t m up below here. quiet_front stretch t m here) (moments_of_tales shelf telling a b (λ t m. told m ≡ told t) on quiet)
 
-  pub fronts_whole : (a b c : S) (memory : Memory) → RoseTo start mid → GoesOn shelf a b → AtEachTale shelf (λ t m. told m ≡ told t) a b
-      → Ends (λ t u. IsRebooted (drive_failed start mid) host (kept_at (unbooted 0) t) accepted (kept_at memory u) × Knows host memory u) (shelf.tale a) (shelf.tale b)
+  pub fronts_whole : (a b c : S) (memory : Memory) → RoseCalmly start mid → GoesOn shelf a b → AtEachTale shelf (λ t m. told m ≡ told t) a b
+      → Ends (λ t u. IsRebooted (drive_failures start mid) host (kept_at (unbooted 0) t) accepted (kept_at memory u) × Knows host memory u) (shelf.tale a) (shelf.tale b)
       → AtEachMoment shelf (RunFront host (between shelf b c) mid memory script) b c → AtEachMoment shelf (IsToldBy host (between shelf a c) start script) a c
   fronts_whole a b c memory rose on quiet boots lines =
       each_joined (OfTales (λ t m. told m ≡ told t)) (RunFront host (between shelf b c) mid memory script) (IsToldBy host (between shelf a c) start script) _ _ _ _ _ _
@@ -99,7 +99,7 @@ module _ {S : Type 0} (shelf : Ghosts S) (telling : (s : S) → shelf.tale s ≡
       (λ s u v is_s is_u is_v turn m front within ahead.
       let up = boots (tale_of s) (telling a ∙ ap (λ (o : Option Story). option_map tale_of o) is_s) in
       let same : up.0 ≡ tale_of u = some_is (shelf.tale b) up.0 (tale_of u) up.1 (telling b ∙ ap (λ (o : Option Story). option_map tale_of o) is_u) in
-      let booted = subst (λ (x : Tale). IsRebooted (drive_failed start mid) host (kept_at (unbooted 0) (tale_of s)) accepted (kept_at memory x) × Knows host memory x) same up.2 in
+      let booted = subst (λ (x : Tale). IsRebooted (drive_failures start mid) host (kept_at (unbooted 0) (tale_of s)) accepted (kept_at memory x) × Knows host memory x) same up.2 in
       let one = front booted.1 in record {
         bytes = one.bytes;
         is_told = one.is_told ∙ ap (λ (l : List ℕ). l ++ one.bytes) turn;

@@ -1,23 +1,26 @@
 -- Which front of a reply was told by each moment of a turn.
+use Rattle.mdv_base.specs.Causes.{Failures, failures_of}
+use Rattle.mdv_base.proofs.Causes.{within_calm}
+use Rattle.mdv_run_law.specs.Run.{RoseCalmly}
 use Rattle.std.proofs.Common.{◌≡◌, inl, inr, ℕ, Bool, List, [], ◌++◌, take, refl, sym, ◌∙◌, ap, subst, arith}
 use Rattle.std.proofs.lemmas.List.{append-nil}
-use Rattle.mdv_run.specs.Below.{Rose, Answer, Boot, Counts, Host, IsAnswered, IsLine, IsRebooted, IsSame, IsTurnedDown, Kept, Knows, LineTooLong, Memory, OnDrive, RoseTo, Script, TellsFront, counts, drive_content, kept_at, line, told, too_long}
+use Rattle.mdv_run.specs.Below.{Answer, Boot, Counts, Host, IsAnswered, IsLine, IsRebooted, IsSame, IsTurnedDown, Kept, Knows, LineTooLong, Memory, OnDrive, Script, TellsFront, counts, drive_content, kept_at, line, told, too_long}
 use Rattle.mdv_run.specs.Turns.{TurnFront, at}
 use Rattle.mdv_shelf.specs.Calls.{Part}
 use Rattle.mdv_shelf.specs.Shelves.{AtEachMoment}
-use Rattle.mdv_shelf.specs.Story.{FailedBy, Moment, NoFewer, Story}
+use Rattle.mdv_shelf.specs.Story.{FailuresBy, Moment, NoFewer, Story}
 use Rattle.mdv_shelf.specs.declared.shelf.Shelf.{Ghosts}
 use Rattle.mdv_shelf.proofs.Stories.{each_none, moment}
 use Rattle.mdv_base.specs.declared.refusal.Refusal.{Refusal}
 use Rattle.mdv_engine_law.specs.Line.{Stays}
 use Rattle.mdv_engine_law.specs.Replies.{text_of}
 use Rattle.mdv_engine_law.specs.Answers.{accepted, refusing}
-use Rattle.mdv_engine_law.proofs.Executing.{rebooted_more, rose_within}
+use Rattle.mdv_engine_law.proofs.Executing.{rebooted_more}
 use Rattle.mdv_engine.specs.Ends.{OnlyAnswers}
 
 -- a front of the reply to a line, of an answer to it that came whatever the line, and of a turn's
 abbrev pub LineFront : Host → List ℕ → Memory → Moment → Moment → Type 0
-LineFront host text old t m = Knows host old t.tale → TellsFront (λ failed kept answer next. IsAnswered failed host kept text answer next) old t m
+LineFront host text old t m = Knows host old t.tale → TellsFront (λ failures kept answer next. IsAnswered failures host kept text answer next) old t m
 
 abbrev pub AnswerFront : Host → Answer → Memory → Moment → Moment → Type 0
 AnswerFront host answer old t m = Knows host old t.tale → TellsFront (OnlyAnswers answer) old t m
@@ -25,26 +28,26 @@ AnswerFront host answer old t m = Knows host old t.tale → TellsFront (OnlyAnsw
 abbrev pub ScriptFront : Host → Counts → Memory → Bool → Script → Moment → Moment → Type 0
 ScriptFront host now old refused script t m = Knows host old t.tale → TurnFront host (at now (kept_at old t.tale) refused script) t m
 
-pub front_of : (Comes More : Type 0 → Kept → Answer → Kept → Type 0) (old : Memory) (t m : Moment) → ((failed : Type 0) (kept : Kept) (answer : Answer) (next : Kept) → Comes failed kept answer next → More failed kept answer next)
+pub front_of : (Comes More : Failures → Kept → Answer → Kept → Type 0) (old : Memory) (t m : Moment) → ((failures : Failures) (kept : Kept) (answer : Answer) (next : Kept) → Comes failures kept answer next → More failures kept answer next)
     → TellsFront Comes old t m → TellsFront More old t m
 front_of Comes More old t m more (inl same) = inl same
 front_of Comes More old t m more (inr front) = inr (record { answer = front.answer; next = front.next; came = more _ _ _ _ front.came; count = front.count; is_told = front.is_told; shows = front.shows })
 
-pub only_refused : (refusal : Refusal) (failed : Type 0) (kept : Kept) (answer : Answer) (next : Kept) → OnlyAnswers (refusing refusal) failed kept answer next → IsTurnedDown refusal kept answer next
-only_refused refusal failed kept answer next is = (is.0, subst (λ (k : Kept). Stays kept k) (sym is.1) (record { memory = refl; content = λ block. refl }))
+pub only_refused : (refusal : Refusal) (failures : Failures) (kept : Kept) (answer : Answer) (next : Kept) → OnlyAnswers (refusing refusal) failures kept answer next → IsTurnedDown refusal kept answer next
+only_refused refusal failures kept answer next is = (is.1, subst (λ (k : Kept). Stays kept k) (sym is.2) (record { memory = refl; content = λ block. refl }))
 
 -- an `ok` that was told behind a boot
-pub boot_front : (host : Host) (old new : Memory) (text : List ℕ) → IsLine text Boot → (t u m : Moment) → told u.tale ≡ told t.tale → NoFewer u.faults m.faults
-    → IsRebooted (FailedBy t u (OnDrive 0)) host (kept_at old t.tale) accepted (kept_at new u.tale) → TellsFront (OnlyAnswers accepted) new u m
-    → TellsFront (λ failed kept answer next. IsAnswered failed host kept text answer next) old t m
-boot_front host old new text boots t u m quiet rise rebooted (inl same) = inl (same ∙ quiet)
-boot_front host old new text boots t u m quiet rise rebooted (inr front) = inr (record {
+pub boot_front : (host : Host) (old new : Memory) (text : List ℕ) → IsLine text Boot → (t u m : Moment) → told u.tale ≡ told t.tale
+    → IsRebooted (FailuresBy t u (OnDrive 0)) host (kept_at old t.tale) accepted (kept_at new u.tale) → TellsFront (OnlyAnswers accepted) new u m
+    → TellsFront (λ failures kept answer next. IsAnswered failures host kept text answer next) old t m
+boot_front host old new text boots t u m quiet rebooted (inl same) = inl (same ∙ quiet)
+boot_front host old new text boots t u m quiet rebooted (inr front) = inr (record {
   answer = accepted;
   next = kept_at new u.tale;
-  came = inr (Boot, boots, rebooted_more (FailedBy t u (OnDrive 0)) (FailedBy t m (OnDrive 0)) (λ rose. rose_within _ _ _ _ (omega arith) (rise (OnDrive 0)) rose) host (kept_at old t.tale) (kept_at new u.tale) accepted rebooted);
+  came = inr (Boot, boots, rebooted_more (FailuresBy t u (OnDrive 0)) (FailuresBy t m (OnDrive 0)) (within_calm _ _ _ front.came.0) host (kept_at old t.tale) (kept_at new u.tale) accepted rebooted);
   count = front.count;
-  is_told = front.is_told ∙ ap (λ (a : Answer). told u.tale ++ take front.count (text_of a)) front.came.0 ∙ ap (λ (l : List ℕ). l ++ take front.count (text_of accepted)) quiet;
-  shows = subst (λ (k : Kept). IsSame k.content (drive_content m.tale)) front.came.1 front.shows;
+  is_told = front.is_told ∙ ap (λ (a : Answer). told u.tale ++ take front.count (text_of a)) front.came.1 ∙ ap (λ (l : List ℕ). l ++ take front.count (text_of accepted)) quiet;
+  shows = subst (λ (k : Kept). IsSame k.content (drive_content m.tale)) front.came.2 front.shows;
 })
 
 -- the counts by a moment in the middle of a turn
@@ -52,15 +55,15 @@ abbrev by_then : Counts → Moment → Counts
 by_then now m = record { drive = m.faults (OnDrive 0); source = now.source; replies = now.replies }
 
 module _ (host : Host) (old : Memory) (now : Counts) (refused : Bool) (t m : Moment) (drive : now.drive ≡ t.faults (OnDrive 0)) (rise : NoFewer t.faults m.faults) where
-  rose : RoseTo now (by_then now m)
-  rose = let le = rise (OnDrive 0) in record { drive = omega (arith, drive, le); source = omega arith; replies = omega arith }
+  rose : RoseCalmly now (by_then now m)
+  rose = let le = rise (OnDrive 0) in record { drive = omega (arith, drive, le); source = refl; replies = omega arith }
 
   -- nothing is told
   pub no_front : (script : Script) → told m.tale ≡ told t.tale → TurnFront host (at now (kept_at old t.tale) refused script) t m
   no_front script same = record { bytes = []; is_told = same ∙ sym (append-nil (told t.tale)); front = inl refl }
 
   -- a front of a line's reply
-  pub line_front : (script more : Script) (text : List ℕ) → script ≡ line text more → TellsFront (λ failed kept answer next. IsAnswered failed host kept text answer next) old t m → TurnFront host (at now (kept_at old t.tale) refused script) t m
+  pub line_front : (script more : Script) (text : List ℕ) → script ≡ line text more → TellsFront (λ failures kept answer next. IsAnswered failures host kept text answer next) old t m → TurnFront host (at now (kept_at old t.tale) refused script) t m
   line_front script more text is (inl same) = no_front script same
   line_front script more text is (inr front) = subst (λ (s : Script). TurnFront host (at now (kept_at old t.tale) refused s) t m) (sym is) (record {
     bytes = take front.count (text_of front.answer);
@@ -70,8 +73,8 @@ module _ (host : Host) (old : Memory) (now : Counts) (refused : Bool) (t m : Mom
       later = by_then now m;
       next = front.next;
       more = more;
-      comes = (refl, rose, subst (λ (d : ℕ). IsAnswered (Rose d (m.faults (OnDrive 0))) host (kept_at old t.tale) text front.answer front.next) (sym drive) front.came);
-      by_then = omega arith;
+      comes = (refl, rose, subst (λ (d : ℕ). IsAnswered (failures_of d (m.faults (OnDrive 0))) host (kept_at old t.tale) text front.answer front.next) (sym drive) front.came);
+      by_then = refl;
       shows = front.shows;
       count = front.count;
       front = refl;
@@ -89,8 +92,8 @@ module _ (host : Host) (old : Memory) (now : Counts) (refused : Bool) (t m : Mom
       later = by_then now m;
       next = front.next;
       more = more;
-      comes = (refl, rose, only_refused LineTooLong (Rose now.drive (m.faults (OnDrive 0))) (kept_at old t.tale) front.answer front.next front.came);
-      by_then = omega arith;
+      comes = (refl, rose, front.came.0 ∙ sym drive, only_refused LineTooLong (FailuresBy t m (OnDrive 0)) (kept_at old t.tale) front.answer front.next front.came);
+      by_then = refl;
       shows = front.shows;
       count = front.count;
       front = refl;

@@ -4,7 +4,7 @@ use Rattle.std.proofs.lemmas.List.{append-nil, length-append}
 use Rattle.mdv_run.specs.Below.{Reader, Script, asked_before, asked_of, Tale, told, Moments, Ends, Host, Memory, kept_at, Knows, RunStatus, Done, SomeRefused, Usage, NoQuorum, Panic, ReadFault, WriteFault, NoMemory, TwoDatabases, ScriptTooLong, NumbersSpent, At, Counts, Kept, RoseTo, LineTold, LinesTold, Stretch, IsLastShown, IsShown, drive_content, HasStatusCause, LinesMoment, RanTo}
 use Rattle.mdv_run_law.specs.Run.{Over as IsOver, broken, ended, no_line, one_more, unread}
 use Rattle.mdv_shelf.proofs.Moments.{moments_none, moments_after, ends_more, some_is}
-use Rattle.mdv_engine_law.proofs.Executing.{rose_within}
+use Rattle.mdv_base.proofs.Causes.{rose_within}
 use Rattle.mdv_run.specs.declared.session.Turn.TheVariants.{On, Over}
 use Rattle.mdv_run.specs.Turns.{at, Turns, LinesRun}
 use Rattle.mdv_run.specs.Promise.{TurnEnd}
@@ -153,8 +153,8 @@ module _ (host : Host) (first : Memory) (input : List ℕ) (start : Counts) wher
 -- the same end of a run, by another stretch
 over_shown : (host : Host) (stretch other : Stretch) (bytes : ℕ) → ((drive : ℕ) (content : ℕ → List ℕ) → IsLastShown stretch bytes drive content → IsLastShown other bytes drive content) → (end : Counts) (now : At) (told : List ℕ) (status : RunStatus) (last : Kept)
     → IsOver host stretch bytes end now told status last → IsOver host other bytes end now told status last
-over_shown host stretch other bytes shows end now told status last (unread so rose stops) = unread so rose stops
-over_shown host stretch other bytes shows end now told status last (ended how rose stops) = ended how rose stops
+over_shown host stretch other bytes shows end now told status last (unread so stops) = unread so stops
+over_shown host stretch other bytes shows end now told status last (ended how same stops) = ended how same stops
 over_shown host stretch other bytes shows end now told status last (broken answer later next more comes shown rose with) = broken answer later next more comes (shows later.drive next.content shown) rose with
 
 -- the same lines, by a stretch that begins earlier

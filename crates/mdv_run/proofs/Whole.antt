@@ -1,15 +1,15 @@
 -- A whole run: its boot, and the lines behind it.
-use Rattle.std.proofs.Common.{◌≡◌, ℕ, List, [], ◌++◌, Option, Some, Err, refl, sym, ◌∙◌, ap, false, arith}
+use Rattle.std.proofs.Common.{◌≡◌, ℕ, Bool, List, [], ◌++◌, Option, Some, Err, refl, sym, ◌∙◌, ap, false, arith}
 use Rattle.std.proofs.lemmas.List.{append-nil}
-use Rattle.mdv_run.specs.Below.{Script, Tale, told, Ended, Host, Memory, IsRebooted, kept_at, unbooted, HasBootCause, boot_answer, RunStatus, Panic, Counts, RoseTo, Stretch, IsWholeRun, HasStatusCause, drive_failed}
-use Rattle.mdv_run_law.specs.Run.{IsLostStatus, status_at}
+use Rattle.mdv_run.specs.Below.{Script, Tale, told, Ended, Host, Memory, IsRebooted, kept_at, unbooted, HasBootCause, boot_answer, RunStatus, Counts, Stretch, IsWholeRun, HasStatusCause}
+use Rattle.mdv_run_law.specs.Run.{IsLostStatus, RoseCalmly, drive_failures, status_at}
 use Rattle.mdv_engine_law.specs.Answers.{accepted}
 use Rattle.mdv_engine_law.specs.declared.answer.Ended.TheVariants as ended
 use Rattle.mdv_run.specs.Turns.{LinesRun}
 
 module _ (host : Host) (stretch : Stretch) (start : Counts) (t : Tale) (script : Script) (tale : Option Tale) where
   -- a run that is over with its boot
-  pub whole_over : (T : Type 0) (end : Counts) → RoseTo start end → (u : Tale) (memory : Memory) (r : Ended) → tale ≡ Some u → told u ≡ told t → IsRebooted (drive_failed start end) host (kept_at (unbooted 0) t) (boot_answer {T = T} (Err r)) (kept_at memory u) → IsWholeRun host stretch start end t script tale (status_at r)
+  pub whole_over : (T : Type 0) (end : Counts) → RoseCalmly start end → (u : Tale) (memory : Memory) (r : Ended) → tale ≡ Some u → told u ≡ told t → IsRebooted (drive_failures start end) host (kept_at (unbooted 0) t) (boot_answer {T = T} (Err r)) (kept_at memory u) → IsWholeRun host stretch start end t script tale (status_at r)
   whole_over T end rose u memory r is quiet rebooted = record {
     u = u;
     tells = is;
@@ -17,18 +17,15 @@ module _ (host : Host) (stretch : Stretch) (start : Counts) (t : Tale) (script :
     is_told = quiet ∙ sym (append-nil (told t));
     last = kept_at memory u;
     left = record { content = λ block. refl; opened = λ known. absurd (known (lost r)) };
-    runs = record { answer = boot_answer {T = T} (Err r); booted = end; rose = rose; kept = kept_at memory u; boots = rebooted; runs = (still, record { silent = refl; ended = refl; keeps = refl }) };
+    runs = record { answer = boot_answer {T = T} (Err r); booted = end; rose = rose; kept = kept_at memory u; boots = rebooted; runs = (refl, record { silent = refl; ended = refl; keeps = refl }) };
   } where
     lost : (r : Ended) → IsLostStatus (status_at r)
     lost (ended.Lost active listed) = tt
     lost ended.Spent = tt
     lost ended.Memory = tt
 
-    still : RoseTo end end
-    still = record { drive = omega arith; source = omega arith; replies = omega arith }
-
   -- a run that goes on to its lines
-  pub whole_lines : (mid end : Counts) → RoseTo start mid → (u v : Tale) (memory : Memory) (status : RunStatus) → tale ≡ Some v → told u ≡ told t → IsRebooted (drive_failed start mid) host (kept_at (unbooted 0) t) accepted (kept_at memory u)
+  pub whole_lines : (mid end : Counts) → RoseCalmly start mid → (u v : Tale) (memory : Memory) (status : RunStatus) → tale ≡ Some v → told u ≡ told t → IsRebooted (drive_failures start mid) host (kept_at (unbooted 0) t) accepted (kept_at memory u)
       → LinesRun host stretch mid end memory false script status u v → IsWholeRun host stretch start end t script tale status
   whole_lines mid end rose u v memory status is quiet rebooted lines = record {
     u = v;
@@ -41,7 +38,7 @@ module _ (host : Host) (stretch : Stretch) (start : Counts) (t : Tale) (script :
   }
 
 -- why a run is over with its boot
-pub over_cause : (T : Type 0) (start end : Counts) (r : Ended) → HasBootCause {T = T} (drive_failed start end) (Err r) → HasStatusCause start end (status_at r)
-over_cause T start end (ended.Lost active listed) why = why
-over_cause T start end ended.Spent why = tt
-over_cause T start end ended.Memory why = tt
+pub over_cause : (T : Type 0) (start end : Counts) (r : Ended) (unread : Bool) → HasBootCause {T = T} (drive_failures start end) unread (Err r) → HasStatusCause start end (status_at r)
+over_cause T start end (ended.Lost active listed) unread why = why
+over_cause T start end ended.Spent unread why = tt
+over_cause T start end ended.Memory unread why = tt

@@ -1,7 +1,8 @@
 -- What a run promises, of the whole bench and the whole source.
+use Rattle.mdv_base.specs.Causes.{Failures}
 use Rattle.std.specs.Prelude.{◌≡◌, ◌≢◌, ◌⊎◌, ◌↔◌, ◌≤◌, ◌<◌, ◌+◌, ℕ, Bool, false, List, Option, Some}
 use Rattle.mdv_run.specs.Below.{Reader, Script, line, asked_before, asked_of, Tale, Reply, IsReplied, Host, Memory, Engine, Knows, IsWell, StaysHome, TellsFront, IsAnswered, IsToldBy, kept_at, RunStatus, NoMemory, Usage, Counts, Stretch, counts, HasStatusCause, IsWholeRun, RunMoment, LinesMoment, RanTo}
-use Rattle.mdv_shelf.specs.Shelves.{AtEachMoment, AtEachTale, AtEnd, DriveFailed, EndsTold, GivingFailed, RestsOnceTold}
+use Rattle.mdv_shelf.specs.Shelves.{AtEachMoment, AtEachTale, AtEnd, DriveFailures, EndsTold, GivingFailed, RestsOnceTold}
 use Rattle.mdv_shelf.specs.Story.{OfTales}
 use Rattle.mdv_shelf.specs.declared.shelf.Shelf.{Ghosts as Shelf}
 use Rattle.mdv_port.specs.declared.source.Source.{Ghosts as Source}
@@ -93,7 +94,7 @@ TurnTells shelf source engine bench on from before refused =
 -- a front of a line's reply
 abbrev pub LineTells : {B : Type 0} → Shelf B → Engine → List ℕ → B → B → Type 0
 LineTells shelf engine text bench on =
-    AtEachMoment shelf (λ t m. Knows engine.host engine.state t.tale → TellsFront (λ failed kept answer next. IsAnswered failed engine.host kept text answer next) engine.state t m) bench on
+    AtEachMoment shelf (λ t m. Knows engine.host engine.state t.tale → TellsFront (λ failures kept answer next. IsAnswered failures engine.host kept text answer next) engine.state t m) bench on
 
 -- A line, or a turn: outside the host's area nothing happens; from the first byte of its reply on the drives are at rest, and where it was told whole no
 -- call failed; and a front of it is told by each moment.
@@ -104,13 +105,13 @@ pub record LineStays {B : Type 0} (shelf : Shelf B) (host : Host) (replied Tells
   pub tells : Tells
 
 -- one line, in the end: its answer and its reply, what is left of the script, and what is known of the drive then
-pub record LineEnd (drive replies : Type 0) (host : Host) (text : List ℕ) (old new : Memory) (reply : Reply) (t u : Tale) : Type 0 where
+pub record LineEnd (drive : Failures) (replies : Type 0) (host : Host) (text : List ℕ) (old new : Memory) (reply : Reply) (t u : Tale) : Type 0 where
   pub answered : Knows host old t → LineAnswered drive replies host text old new reply t u
   pub ran : IsReplied reply → (more : Script) → RanTo host (line text more) old new more t u
   pub knows : (IsLost reply → ⊥) → Knows host old t → Knows host new u
 
 abbrev pub LineEnds : {B : Type 0} → Shelf B → B → B → Host → List ℕ → Memory → Memory → Reply → Type 0
-LineEnds shelf bench on host text old new reply = AtEnd shelf (LineEnd (DriveFailed shelf bench on 0) (GivingFailed shelf bench on) host text old new reply) bench on
+LineEnds shelf bench on host text old new reply = AtEnd shelf (LineEnd (DriveFailures shelf bench on 0) (GivingFailed shelf bench on) host text old new reply) bench on
 
 -- what a reply says whatever the bench tells: its cause, and what the engine is then
 pub record LineReply (drive replies : Type 0) (host : Host) (old : Memory) (engine : Engine) (reply : Reply) : Type 0 where

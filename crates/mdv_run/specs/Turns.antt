@@ -1,4 +1,5 @@
 -- How the lines of a run follow one another.
+use Rattle.mdv_base.specs.Causes.{Failures}
 use Rattle.std.specs.Prelude.{◌≡◌, ℕ, Bool, true, List, ◌++◌, Option, Some}
 use Rattle.mdv_run.specs.Below.{Script, Tale, told, Answer, Reply, Host, Kept, Memory, kept_at, Replied, RunStatus, Panic, WriteFault, NoMemory, NumbersSpent, At, Counts, IsNextFront, LinesToldBy, LineTold, Runs, Stretch, IsAnswered, IsLeft, HasStatusCause}
 use Rattle.mdv_shelf.specs.Story.{Moment}
@@ -8,7 +9,7 @@ use Rattle.mdv_run.specs.declared.session.Turn.{Turn}
 use Rattle.mdv_run.specs.declared.session.Turn.TheVariants.{On, Over}
 
 -- a line that was carried out and replied to, where calls on the drive and the giving of replies may have failed
-pub record LineAnswered (drive replies : Type 0) (host : Host) (text : List ℕ) (old new : Memory) (reply : Reply) (t u : Tale) : Type 0 where
+pub record LineAnswered (drive : Failures) (replies : Type 0) (host : Host) (text : List ℕ) (old new : Memory) (reply : Reply) (t u : Tale) : Type 0 where
   pub answer : Answer
   pub done : IsAnswered drive host (kept_at old t) text answer (kept_at new u)
   pub replied : Replied replies answer reply t u

@@ -1,5 +1,6 @@
 -- Where nothing failed and memory wasn't wanting, a line comes to one answer.
 use Rattle.std.proofs.Common.{◌≡◌, inl, inr, ℕ, zero, suc, ◌+◌, ◌≤◌, ◌<◌, false, List, [], ◌∷◌, Option, Some, refl, sym, ◌∙◌, ap, subst, arith}
+use Rattle.mdv_base.specs.Causes.{Failures}
 use Rattle.mdv_run_law.specs.Below.{VolId, Refusal, IsHome, values_reply, IsSound, Change, Command, Create, Read, Write, Line, Newest, area_of, next_newest, Answer, Host, site_of, Memory, Kept, IsTurnedDown, CameTo, ComesTo, IsCreated, IsNew, IsCommitted, AreBlocksAt, ArePut, blocks_of}
 use Rattle.mdv_words.specs.declared.command.Command.TheVariants as command
 use Rattle.mdv_words.specs.declared.command.Line.TheVariants as words
@@ -36,7 +37,7 @@ one_new host n m one other =
     let volumes = one.volumes ∙ sym other.volumes in
     λ i. record { blocks = blocks i; slot = slot i; mark = mark i; table = record { plan = record { lists = lists i; volumes = volumes i }; status = n.table.status } }
 
-module _ (failed : Type 0) (calm : failed → ⊥) (host : Host) (sound : IsSound host.drives) (home : IsHome host.drives host.home) where
+module _ (failures : Failures) (calm : failures.some → ⊥) (host : Host) (sound : IsSound host.drives) (home : IsHome host.drives host.home) where
   module _ (memory : Memory) (c d : ℕ → List ℕ) (n m : Kept) (a b : Answer) where
     abbrev k : Kept
     k = record { memory = memory; content = c }
@@ -93,7 +94,7 @@ module _ (failed : Type 0) (calm : failed → ⊥) (host : Host) (sound : IsSoun
           (ok ∙ sym ok_too, λ said. put_same host other block (both.1 0 (omega arith)) k j n m same kept kept_too (subst (λ (p : ℕ). ArePut p (block ∷ []) c n.content) both.0 put) put_too)
 
       -- over for want of numbers alone
-      over_is : (cmd : Command) (end : Ended) (x y : Kept) → GivesUp failed host x cmd end y → end ≡ ended.Spent
+      over_is : (cmd : Command) (end : Ended) (x y : Kept) → GivesUp failures host x cmd end y → end ≡ ended.Spent
       over_is (Create slice force) (ended.Lost active listed) x y is = absurd (calm is.0)
       over_is (Create slice force) ended.Spent x y is = refl
       over_is (Create slice force) ended.Memory x y is = absurd is
@@ -103,12 +104,12 @@ module _ (failed : Type 0) (calm : failed → ⊥) (host : Host) (sound : IsSoun
       over_is (Read volume at count) end x y is = absurd is
       over_is (Write volume at block) end x y is = absurd is
 
-      never_done : (cmd : Command) (end : Ended) (x y z w : Kept) (answer : Answer) → x.memory ≡ y.memory → GivesUp failed host x cmd end z → Effect host y cmd answer w → ⊥
+      never_done : (cmd : Command) (end : Ended) (x y z w : Kept) (answer : Answer) → x.memory ≡ y.memory → GivesUp failures host x cmd end z → Effect host y cmd answer w → ⊥
       never_done (Create slice force) (ended.Lost active listed) x y z w answer is gives effect = calm gives.0
       never_done (Create slice force) ended.Spent x y z w answer is gives effect = gives
       never_done (Create slice force) ended.Memory x y z w answer is gives effect = gives
       never_done (command.MakeStripe volume slice) (ended.Lost active listed) x y z w answer is gives effect = calm gives.0
-      never_done (command.MakeStripe volume slice) ended.Spent x y z w answer is (newest, opened, high, stays) (ok, other, also, less, made) =
+      never_done (command.MakeStripe volume slice) ended.Spent x y z w answer is (quiet, newest, opened, high, stays) (ok, other, also, less, made) =
           let count = ap (λ (x : Newest). x.mark.count) (opened_twice y.memory.opened newest other (sym (ap (λ (m : Memory). m.opened) is) ∙ opened) also) in
           absurd (omega (arith, count, high, less))
       never_done (command.MakeStripe volume slice) ended.Memory x y z w answer is gives effect = gives
@@ -121,37 +122,37 @@ module _ (failed : Type 0) (calm : failed → ⊥) (host : Host) (sound : IsSoun
       same_refusal : (r q : Refusal) (o : Option Refusal) → o ≡ Some r → o ≡ Some q → r ≡ q
       same_refusal r q o is also = cc
 
-      came_same : (cmd : Command) → CameTo failed host k cmd a n → CameTo failed host j cmd b m → One host n m a b
-      came_same cmd (came.refused r is left) (came.refused q also left_too) = refused r q (same_refusal r q (refusal_of (case_of host k) cmd) is also) left left_too
-      came_same cmd (came.refused r is left) (came.done free effect) = absurd (never cmd r is free)
-      came_same cmd (came.refused r is left) (came.over end free so gives) = absurd (never cmd r is free)
-      came_same cmd (came.done free effect) (came.refused r is left) = absurd (never cmd r is free)
-      came_same cmd (came.done free effect) (came.done also effect_too) = effects cmd free effect effect_too
-      came_same cmd (came.done free effect) (came.over end also so gives) = absurd (never_done cmd end j k m n a refl gives effect)
-      came_same cmd (came.over end free so gives) (came.refused r is left) = absurd (never cmd r is free)
-      came_same cmd (came.over end free so gives) (came.done also effect) = absurd (never_done cmd end k j n m b refl gives effect)
+      came_same : (cmd : Command) → CameTo failures host k cmd a n → CameTo failures host j cmd b m → One host n m a b
+      came_same cmd (came.refused quiet r is left) (came.refused quiet_too q also left_too) = refused r q (same_refusal r q (refusal_of (case_of host k) cmd) is also) left left_too
+      came_same cmd (came.refused quiet r is left) (came.done quiet_too free effect) = absurd (never cmd r is free)
+      came_same cmd (came.refused quiet r is left) (came.over end free so gives) = absurd (never cmd r is free)
+      came_same cmd (came.done quiet free effect) (came.refused quiet_too r is left) = absurd (never cmd r is free)
+      came_same cmd (came.done quiet free effect) (came.done quiet_too also effect_too) = effects cmd free effect effect_too
+      came_same cmd (came.done quiet free effect) (came.over end also so gives) = absurd (never_done cmd end j k m n a refl gives effect)
+      came_same cmd (came.over end free so gives) (came.refused quiet r is left) = absurd (never cmd r is free)
+      came_same cmd (came.over end free so gives) (came.done quiet also effect) = absurd (never_done cmd end k j n m b refl gives effect)
       came_same cmd (came.over end free so gives) (came.over other also too gives_too) =
           (so ∙ ap (λ (e : Ended). Over e) (over_is cmd end k n gives ∙ sym (over_is cmd other j m gives_too)) ∙ sym too, λ said. absurd (let unsaid : ⊥ = subst IsSaid so said in unsaid))
-      came_same cmd (came.wanting is left) second = absurd (sated.not_refused is)
+      came_same cmd (came.wanting quiet is left) second = absurd (sated.not_refused is)
       came_same cmd (came.faulted so free is fault) second = absurd (calm so)
-      came_same cmd first (came.wanting is left) = absurd (sated_too.not_refused is)
+      came_same cmd first (came.wanting quiet is left) = absurd (sated_too.not_refused is)
       came_same cmd first (came.faulted so free is fault) = absurd (calm so)
 
-      comes : (spelled : Line) → ComesTo failed host k spelled a n → ComesTo failed host j spelled b m → One host n m a b
-      comes words.Boot first second = boot_same host sound failed calm k j n m a b same sated sated_too first second
+      comes : (spelled : Line) → ComesTo failures host k spelled a n → ComesTo failures host j spelled b m → One host n m a b
+      comes words.Boot first second = boot_same host sound failures calm k j n m a b same sated sated_too first second
       comes (words.Command cmd) first second = came_same cmd first second
 
   -- a line comes to the same from what is kept in common
-  one_carried : (spelled : Line) (k j n m : Kept) (a b : Answer) → Same host k j → IsSatisfied a → IsSatisfied b → ComesTo failed host k spelled a n → ComesTo failed host j spelled b m → One host n m a b
+  one_carried : (spelled : Line) (k j n m : Kept) (a b : Answer) → Same host k j → IsSatisfied a → IsSatisfied b → ComesTo failures host k spelled a n → ComesTo failures host j spelled b m → One host n m a b
   one_carried spelled k j n m a b same sated sated_too first second =
-      let moved = subst (λ (x : Memory). ComesTo failed host (record { memory = x; content = j.content }) spelled b m) (sym same.memory) second in
+      let moved = subst (λ (x : Memory). ComesTo failures host (record { memory = x; content = j.content }) spelled b m) (sym same.memory) second in
       let settled = subst (λ (x : Memory). Settled host (record { memory = x; content = j.content })) (sym same.memory) same.other in
       comes k.memory k.content j.content n m a b (record { memory = refl; beside = same.beside; one = same.one; other = settled }) sated sated_too spelled first moved
 
   -- and so does a line
-  pub one_answer : (text : List ℕ) (k j n m : Kept) (a b : Answer) → Same host k j → IsSatisfied a → IsSatisfied b → IsAnswered failed host k text a n → IsAnswered failed host j text b m → One host n m a b
-  one_answer text k j n m a b same sated sated_too (inl first) (inl second) = (first.1.0 ∙ sym second.1.0, λ said. stays_same host k j n m same first.1.1 second.1.1)
+  pub one_answer : (text : List ℕ) (k j n m : Kept) (a b : Answer) → Same host k j → IsSatisfied a → IsSatisfied b → IsAnswered failures host k text a n → IsAnswered failures host j text b m → One host n m a b
+  one_answer text k j n m a b same sated sated_too (inl first) (inl second) = (first.2.0 ∙ sym second.2.0, λ said. stays_same host k j n m same first.2.1 second.2.1)
   one_answer text k j n m a b same sated sated_too (inl first) (inr second) = absurd (first.0 second.0 second.1)
   one_answer text k j n m a b same sated sated_too (inr first) (inl second) = absurd (second.0 first.0 first.1)
   one_answer text k j n m a b same sated sated_too (inr first) (inr second) =
-      one_carried first.0 k j n m a b same sated sated_too first.2 (subst (λ (x : Line). ComesTo failed host j x b m) (one_line text second.0 first.0 second.1 first.1) second.2)
+      one_carried first.0 k j n m a b same sated sated_too first.2 (subst (λ (x : Line). ComesTo failures host j x b m) (one_line text second.0 first.0 second.1 first.1) second.2)

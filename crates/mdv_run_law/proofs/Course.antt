@@ -1,6 +1,8 @@
 -- Where nothing failed and memory was never wanting, a run has one course.
-use Rattle.std.proofs.Common.{◌≡◌, inl, inr, ℕ, Bool, false, List, [], ◌∷◌, ◌++◌, length, ◌+◌, Contains, refl, sym, ◌∙◌, ap, subst, append_assoc, arith}
+use Rattle.std.proofs.Common.{◌≡◌, inl, inr, ℕ, Bool, false, List, [], ◌∷◌, ◌++◌, length, ◌+◌, ◌≤◌, Contains, refl, sym, ◌∙◌, ap, subst, append_assoc, arith}
 use Rattle.std.proofs.lemmas.List.Elements.{Contains-append_right}
+use Rattle.mdv_base.specs.Causes.{Failures}
+use Rattle.mdv_base.proofs.Causes.{IsWithin, rose_within}
 use Rattle.mdv_run_law.specs.Below.{Refusal, BadLine, OutOfMemory, Script, at_end, spent, too_long, line, replies_in, Command, Create, MakeStripe, Read, Write, Boot, Line, Answer, Host, site_of, Kept, CameTo, ComesTo, IsRebooted, adopted, empty, down, lost, wanting, IsPlain, IsPlainAnswer, IsReply, refusal_line}
 use Rattle.mdv_words.specs.declared.command.Line.TheVariants as words
 use Rattle.mdv_engine_law.specs.declared.answer.Answer.TheVariants.{Said, Over as Ends}
@@ -13,30 +15,30 @@ use Rattle.mdv_engine_law.specs.Commands.{Effect, case_of}
 use Rattle.mdv_engine_law.specs.Line as boot
 use Rattle.mdv_status.specs.Telling.{Said as SaidBytes}
 use Rattle.mdv_engine_law.specs.Replies.{text_of}
-use Rattle.mdv_engine_law.proofs.Executing.{rose_within, comes_more, rebooted_more}
+use Rattle.mdv_engine_law.proofs.Executing.{comes_more, rebooted_more}
 use Rattle.mdv_engine_law.proofs.Plain.{bad_line_plain, too_long_plain, memory_plain, refusal_plain, ok_reply, values_are_reply, refusal_reply}
 use Rattle.mdv_run_law.specs.declared.status.RunStatus.{RunStatus}
 use Rattle.mdv_run_law.specs.declared.status.RunStatus.TheVariants.{NoMemory}
-use Rattle.mdv_run_law.specs.Run.{Counts, RoseTo, IsUndisturbed, IsSated, Stops, At, NextLine, IsSaid, refused_by, LineTold, LinesTold, Stretch, no_line, one_more, EndsAs, EndsWith, Over, unread, ended as script_ended, broken, Runs, RunsFrom, IsAnswered, IsLostStatus, IsSameEnd, HasHome, OneCourse, started, drive_failed, status_at}
+use Rattle.mdv_run_law.specs.Run.{Counts, RoseTo, RoseCalmly, OnlyUngiven, IsUndisturbed, IsSated, Stops, At, NextLine, IsSaid, refused_by, LineTold, LinesTold, Stretch, no_line, one_more, EndsAs, EndsWith, Over, unread, ended as script_ended, broken, Runs, RunsFrom, IsAnswered, IsLostStatus, IsSameEnd, HasHome, OneCourse, started, drive_failed, drive_failures, status_at}
 use Rattle.mdv_run_law.proofs.Again.{Alike, neither, alike_itself}
 use Rattle.mdv_run_law.proofs.Carrying.{one_answer}
 use Rattle.mdv_run_law.proofs.Keeping.{IsSatisfied, Same, One, stays_same, one_boot}
 
 -- what a line comes to is told in whole replies
-module _ (failed : Type 0) (calm : failed → ⊥) (host : Host) (kept next : Kept) (answer : Answer) where
+module _ (failures : Failures) (calm : failures.some → ⊥) (host : Host) (kept next : Kept) (answer : Answer) where
   refused_plain : (r : Refusal) → IsPlain r → answer ≡ refusing r → IsPlainAnswer answer
   refused_plain r plain is = subst IsPlainAnswer (sym is) plain
 
   ok_plain : answer ≡ accepted → IsPlainAnswer answer
   ok_plain is = subst IsPlainAnswer (sym is) tt
 
-  booted_plain : IsRebooted failed host kept answer next → IsPlainAnswer answer
-  booted_plain (adopted newest ok memory is) = ok_plain ok
-  booted_plain (empty ok memory none same) = ok_plain ok
+  booted_plain : IsRebooted failures host kept answer next → IsPlainAnswer answer
+  booted_plain (adopted quiet newest ok memory is) = ok_plain ok
+  booted_plain (empty quiet ok memory none same) = ok_plain ok
   booted_plain (down so ok memory same) = absurd (calm so)
   booted_plain (lost so found panic) = absurd (calm so)
-  booted_plain (boot.spent is used same) = subst IsPlainAnswer (sym is) tt
-  booted_plain (wanting is same) = subst IsPlainAnswer (sym is) tt
+  booted_plain (boot.spent quiet is used same) = subst IsPlainAnswer (sym is) tt
+  booted_plain (wanting quiet is same) = subst IsPlainAnswer (sym is) tt
 
   effect_plain : (command : Command) → Effect host kept command answer next → IsPlainAnswer answer
   effect_plain (Create slice force) is = ok_plain is.0
@@ -44,25 +46,32 @@ module _ (failed : Type 0) (calm : failed → ⊥) (host : Host) (kept next : Ke
   effect_plain (Read volume at count) is = subst IsPlainAnswer (sym is.2) (record { at = at; blocks = _; is = refl })
   effect_plain (Write volume at block) is = ok_plain is.2
 
-  came_plain : (command : Command) → CameTo failed host kept command answer next → IsPlainAnswer answer
-  came_plain command (came.refused r is left) = refused_plain r (refusal_plain (case_of host kept) command r is) left.0
-  came_plain command (came.wanting is left) = refused_plain OutOfMemory memory_plain is
-  came_plain command (came.done free effect) = effect_plain command effect
+  came_plain : (command : Command) → CameTo failures host kept command answer next → IsPlainAnswer answer
+  came_plain command (came.refused quiet r is left) = refused_plain r (refusal_plain (case_of host kept) command r is) left.0
+  came_plain command (came.wanting quiet is left) = refused_plain OutOfMemory memory_plain is
+  came_plain command (came.done quiet free effect) = effect_plain command effect
   came_plain command (came.faulted so free is fault) = absurd (calm so)
   came_plain command (came.over end free is gives) = subst IsPlainAnswer (sym is) tt
 
-  line_plain : (spelled : Line) → ComesTo failed host kept spelled answer next → IsPlainAnswer answer
+  line_plain : (spelled : Line) → ComesTo failures host kept spelled answer next → IsPlainAnswer answer
   line_plain Boot is = booted_plain is
   line_plain (words.Command command) is = came_plain command is
 
-  answer_plain : (text : List ℕ) → IsAnswered failed host kept text answer next → IsPlainAnswer answer
-  answer_plain text (inl (none, refused)) = refused_plain BadLine bad_line_plain refused.0
+  answer_plain : (text : List ℕ) → IsAnswered failures host kept text answer next → IsPlainAnswer answer
+  answer_plain text (inl (none, quiet, refused)) = refused_plain BadLine bad_line_plain refused.0
   answer_plain text (inr (spelled, is, comes)) = line_plain spelled comes
 
--- what a line came to where something failed may be told of a longer stretch
-pub answered_more : (failed more : Type 0) (host : Host) (kept next : Kept) (text : List ℕ) (answer : Answer) → (failed → more) → IsAnswered failed host kept text answer next → IsAnswered more host kept text answer next
-answered_more failed more host kept next text answer cause (inl none) = inl none
-answered_more failed more host kept next text answer cause (inr (spelled, is, done)) = inr (spelled, is, comes_more failed more cause host kept next answer spelled done)
+-- what a line came to may be told of a longer stretch
+pub answered_more : (failures more : Failures) (host : Host) (kept next : Kept) (text : List ℕ) (answer : Answer) → IsWithin failures more → IsAnswered failures host kept text answer next → IsAnswered more host kept text answer next
+answered_more failures more host kept next text answer cause (inl (none, quiet, refused)) = inl (none, cause.none quiet, refused)
+answered_more failures more host kept next text answer cause (inr (spelled, is, done)) = inr (spelled, is, comes_more failures more cause host kept next answer spelled done)
+
+-- calls of which none failed
+abbrev unfailing : Failures
+unfailing = record { some = ⊥; none = Unit {0} }
+
+calm_is : (failures : Failures) → (failures.some → ⊥) → IsWithin failures unfailing
+calm_is failures calm = record { some = calm; none = λ quiet. tt }
 
 -- a run that is over so is lost
 ended_status : (end : Ended) → IsLostStatus (status_at end)
@@ -96,12 +105,22 @@ rose_to_more a b c one other = record {
   replies = let x = one.replies in let y = other.replies in omega arith;
 }
 
+calmly_rose : (a b : Counts) → RoseCalmly a b → RoseTo a b
+calmly_rose a b is = record { drive = is.drive; source = let same = is.source in omega arith; replies = is.replies }
+
 calm_within : (a b c d : Counts) → RoseTo a b → RoseTo c d → IsUndisturbed a d → IsUndisturbed b c
 calm_within a b c d before behind calm = record {
   drive = λ rose. calm.drive (rose_within _ _ _ _ before.drive behind.drive rose);
   source = λ rose. calm.source (rose_within _ _ _ _ before.source behind.source rose);
   replies = λ rose. calm.replies (rose_within _ _ _ _ before.replies behind.replies rose);
 }
+
+-- a drive that never failed failed in no part of the stretch
+drive_calm : (a b c d : Counts) → a.drive ≤ b.drive → c.drive ≤ d.drive → IsUndisturbed a d → drive_failed b c → ⊥
+drive_calm a b c d before behind calm rose = calm.drive (rose_within _ _ _ _ before behind rose)
+
+drive_given : (a b : Counts) → OnlyUngiven a b → a.drive ≤ b.drive
+drive_given a b given = let same = given.drive in omega arith
 
 rose_itself : (a : Counts) → RoseTo a a
 rose_itself a = record { drive = omega arith; source = omega arith; replies = omega arith }
@@ -110,18 +129,25 @@ module _ (host : Host) where
   next_rose : (now then : Counts) (kept next : Kept) (script rest : Script) (answer : Answer) → NextLine host now kept script answer then next rest → RoseTo now then
   next_rose now then kept next at_end rest answer is = absurd is
   next_rose now then kept next (spent lines bytes) rest answer is = absurd is
-  next_rose now then kept next (too_long left) rest answer is = is.1
-  next_rose now then kept next (line text left) rest answer is = is.1
+  next_rose now then kept next (too_long left) rest answer is = calmly_rose now then is.1
+  next_rose now then kept next (line text left) rest answer is = calmly_rose now then is.1
 
-  over_rose : (w : Stretch) (n : ℕ) (end : Counts) (now : At) (told : List ℕ) (status : RunStatus) (last : Kept) → Over host w n end now told status last → RoseTo now.counts end
-  over_rose w n end now told status last (unread so rose stops) = rose
-  over_rose w n end now told status last (script_ended how rose stops) = rose
-  over_rose w n end now told status last (broken answer then next left is shown rose with) = rose_to_more now.counts then end (next_rose now.counts then now.kept next now.script left answer is) rose
+  over_rose : (w : Stretch) (n : ℕ) (end : Counts) (now : At) (told : List ℕ) (status : RunStatus) (last : Kept) → Over host w n end now told status last → now.counts.drive ≤ end.drive
+  over_rose w n end now told status last (unread only stops) = let same = only.drive in omega arith
+  over_rose w n end now told status last (script_ended how same stops) = let drives = ap (λ (x : Counts). x.drive) same in omega arith
+  over_rose w n end now told status last (broken answer then next left is shown given with) =
+      let before = (next_rose now.counts then now.kept next now.script left answer is).drive in
+      let behind = given.drive in
+      omega arith
 
   lines_rose : (w : Stretch) (n : ℕ) (now then : At) (told : List ℕ) → LinesTold host w n now told then → RoseTo now.counts then.counts
   lines_rose w n now then told (no_line bytes at) = rose_itself now.counts
   lines_rose w n now then told (one_more bytes at mid last piece rest some one shown lines) =
       rose_to_more now.counts mid.counts then.counts (next_rose now.counts mid.counts now.kept mid.kept now.script mid.script one.answer one.comes) (lines_rose w (n + length piece) mid then rest lines)
+
+-- a drive's count that never fell, and never behind that
+drive_on : (a b c : Counts) → RoseTo a b → b.drive ≤ c.drive → a.drive ≤ c.drive
+drive_on a b c one behind = let before = one.drive in omega arith
 
 -- an answer that no failure told, and what it was told by
 said_text : (answer : Answer) (failed : Type 0) → (failed → ⊥) → IsSaid answer → (next : Kept) (told : List ℕ) (status : RunStatus) (last : Kept) → EndsWith failed answer next told status last → ⊥
@@ -161,19 +187,19 @@ module _ (host : Host) (content : ℕ → List ℕ) (has : HasHome host content)
   one_next now then from to calm calm_too n m next also same at_end rest left answer other enough enough_too one two = absurd one
   one_next now then from to calm calm_too n m next also same (spent lines bytes) rest left answer other enough enough_too one two = absurd one
   one_next now then from to calm calm_too n m next also same (too_long behind) rest left answer other enough enough_too one two = record {
-    same = two.2.0 ∙ sym one.2.0;
+    same = two.3.0 ∙ sym one.3.0;
     script = two.0 ∙ sym one.0;
-    plain = subst IsPlainAnswer (sym one.2.0) too_long_plain;
-    kept = λ heard. stays_same host n m next also same one.2.1 two.2.1;
+    plain = subst IsPlainAnswer (sym one.3.0) too_long_plain;
+    kept = λ heard. stays_same host n m next also same one.3.1 two.3.1;
   }
   one_next now then from to calm calm_too n m next also same (line text behind) rest left answer other enough enough_too one two =
-      let here : IsAnswered ⊥ host n text answer next = answered_more (drive_failed now then) ⊥ host n next text answer calm one.2 in
-      let there : IsAnswered ⊥ host m text other also = answered_more (drive_failed from to) ⊥ host m also text other calm_too two.2 in
-      let answers = one_answer ⊥ (λ never. never) host has.sound has.home text n m next also answer other same enough enough_too here there in
+      let here : IsAnswered unfailing host n text answer next = answered_more (drive_failures now then) unfailing host n next text answer (calm_is (drive_failures now then) calm) one.2 in
+      let there : IsAnswered unfailing host m text other also = answered_more (drive_failures from to) unfailing host m also text other (calm_is (drive_failures from to) calm_too) two.2 in
+      let answers = one_answer unfailing (λ never. never) host has.sound has.home text n m next also answer other same enough enough_too here there in
       record {
         same = sym answers.0;
         script = two.0 ∙ sym one.0;
-        plain = answer_plain ⊥ (λ never. never) host n next answer text here;
+        plain = answer_plain unfailing (λ never. never) host n next answer text here;
         kept = answers.1;
       }
 
@@ -214,34 +240,34 @@ module _ (host : Host) (content : ℕ → List ℕ) (has : HasHome host content)
   module _ (w v : Stretch) (c d : ℕ) (e f : Counts) (s r : RunStatus) (k j : Kept) where
     -- both are over before a line, or with its answer
     one_over : (n m : At) (a b : List ℕ) → Beside n m → IsUndisturbed n.counts e → IsUndisturbed m.counts f → IsSated a s → IsSated b r → Over host w c e n a s k → Over host v d f m b r j → SameEnds host a b s r k j
-    one_over n m a b beside calm calm_too sated sated_too (unread so rose stops) two = absurd (calm.source so)
-    one_over n m a b beside calm calm_too sated sated_too one (unread so rose stops) = absurd (calm_too.source so)
-    one_over n m a b beside calm calm_too sated sated_too (script_ended how rose stops) (script_ended how_too rose_too stops_too) =
+    one_over n m a b beside calm calm_too sated sated_too (unread only stops) two = absurd (calm.source only.source)
+    one_over n m a b beside calm calm_too sated sated_too one (unread only stops) = absurd (calm_too.source only.source)
+    one_over n m a b beside calm calm_too sated sated_too (script_ended how same_counts stops) (script_ended how_too same_too stops_too) =
         let same = one_end n.refused m.refused n.script m.script s r beside.refused beside.script how how_too in
         (stops.silent ∙ sym stops_too.silent, same, λ known. subst (λ (x : Kept). IsSameEnd host x j) (sym stops.keeps) (subst (λ (x : Kept). IsSameEnd host n.kept x) (sym stops_too.keeps) (beside.kept.memory, beside.kept.beside)))
-    one_over n m a b beside calm calm_too sated sated_too (script_ended how rose stops) (broken answer then next left is shown rose_too with) =
+    one_over n m a b beside calm calm_too sated sated_too (script_ended how same stops) (broken answer then next left is shown given with) =
         absurd (never_next n.refused n.script m.script s m.counts then m.kept next left answer beside.script how is)
-    one_over n m a b beside calm calm_too sated sated_too (broken answer then next left is shown rose with) (script_ended how rose_too stops) =
+    one_over n m a b beside calm calm_too sated sated_too (broken answer then next left is shown given with) (script_ended how same stops) =
         absurd (never_next m.refused m.script n.script r n.counts then n.kept next left answer (sym beside.script) how is)
-    one_over n m a b beside calm calm_too sated sated_too (broken answer then next left is shown rose with) (broken other to also behind is_too shown_too rose_too with_too) =
-        let here = calm_within n.counts n.counts then e (rose_itself n.counts) rose calm in
-        let there = calm_within m.counts m.counts to f (rose_itself m.counts) rose_too calm_too in
+    one_over n m a b beside calm calm_too sated sated_too (broken answer then next left is shown given with) (broken other to also behind is_too shown_too given_too with_too) =
+        let here = drive_calm n.counts n.counts then e (omega arith) (drive_given _ _ given) calm in
+        let there = drive_calm m.counts m.counts to f (omega arith) (drive_given _ _ given_too) calm_too in
         let last = calm_within n.counts then e e (next_rose host n.counts then n.kept next n.script left answer is) (rose_itself e) calm in
         let last_too = calm_within m.counts to f f (next_rose host m.counts to m.kept also m.script behind other is_too) (rose_itself f) calm_too in
-        let both = one_next n.counts then m.counts to here.drive there.drive n.kept m.kept next also beside.kept n.script left behind answer other (end_satisfied _ last.replies answer next a s k with sated) (end_satisfied _ last_too.replies other also b r j with_too sated_too)
+        let both = one_next n.counts then m.counts to here there n.kept m.kept next also beside.kept n.script left behind answer other (end_satisfied _ last.replies answer next a s k with sated) (end_satisfied _ last_too.replies other also b r j with_too sated_too)
         is (subst (λ (x : Script). NextLine host m.counts m.kept x other to also behind) (sym beside.script) is_too) in
         one_with _ _ last.replies last_too.replies answer other both.same next also a b s r k j with with_too
 
     -- one is over where the other goes on
-    one_stays : (n m then : At) (a piece rest : List ℕ) → Beside n m → IsUndisturbed n.counts e → IsUndisturbed m.counts f → RoseTo then.counts f → IsSated a s → IsSated (piece ++ rest) r → Over host w c e n a s k → LineTold host m piece then → ⊥
-    one_stays n m then a piece rest beside calm calm_too rose_too sated sated_too (unread so rose stops) two = calm.source so
-    one_stays n m then a piece rest beside calm calm_too rose_too sated sated_too (script_ended how rose stops) two =
+    one_stays : (n m then : At) (a piece rest : List ℕ) → Beside n m → IsUndisturbed n.counts e → IsUndisturbed m.counts f → then.counts.drive ≤ f.drive → IsSated a s → IsSated (piece ++ rest) r → Over host w c e n a s k → LineTold host m piece then → ⊥
+    one_stays n m then a piece rest beside calm calm_too rose_too sated sated_too (unread only stops) two = calm.source only.source
+    one_stays n m then a piece rest beside calm calm_too rose_too sated sated_too (script_ended how same stops) two =
         never_next n.refused n.script m.script s m.counts then.counts m.kept then.kept then.script two.answer beside.script how two.comes
-    one_stays n m then a piece rest beside calm calm_too rose_too sated sated_too (broken answer to next left is shown rose with) two =
-        let here = calm_within n.counts n.counts to e (rose_itself n.counts) rose calm in
-        let there = calm_within m.counts m.counts then.counts f (rose_itself m.counts) rose_too calm_too in
+    one_stays n m then a piece rest beside calm calm_too rose_too sated sated_too (broken answer to next left is shown given with) two =
+        let here = drive_calm n.counts n.counts to e (omega arith) (drive_given _ _ given) calm in
+        let there = drive_calm m.counts m.counts then.counts f (omega arith) rose_too calm_too in
         let last = calm_within n.counts to e e (next_rose host n.counts to n.kept next n.script left answer is) (rose_itself e) calm in
-        let both = one_next n.counts to m.counts then.counts here.drive there.drive n.kept m.kept next then.kept beside.kept n.script left then.script answer two.answer (end_satisfied _ last.replies answer next a s k with sated) (line_satisfied two.answer piece rest r two.said two.as_text sated_too)
+        let both = one_next n.counts to m.counts then.counts here there n.kept m.kept next then.kept beside.kept n.script left then.script answer two.answer (end_satisfied _ last.replies answer next a s k with sated) (line_satisfied two.answer piece rest r two.said two.as_text sated_too)
         is (subst (λ (x : Script). NextLine host m.counts m.kept x two.answer then.counts then.kept then.script) (sym beside.script) two.comes) in
         said_text answer _ last.replies (subst IsSaid both.same two.said) next a s k with
 
@@ -260,19 +286,19 @@ module _ (host : Host) (content : ℕ → List ℕ) (has : HasHome host content)
         → LinesTold host w c n a p → LinesTold host v d m b q → Over host w x_at e p x s k → Over host v y_at f q y r j → SameEnds host (a ++ x) (b ++ y) s r k j
     one_run w v c d x_at y_at n m p q a b x y beside calm calm_too sated sated_too (no_line c_is at) (no_line d_is also) one two = one_over w v x_at y_at e f s r k j n m x y beside calm calm_too sated sated_too one two
     one_run w v c d x_at y_at n m p q a b x y beside calm calm_too sated sated_too (no_line c_is at) (one_more d_is from mid to piece rest some said shown lines) one two =
-        absurd (one_stays w v x_at y_at e f s r k j n m mid x piece (rest ++ y) beside calm calm_too (rose_to_more mid.counts q.counts f (lines_rose host v (d + length piece) mid q rest lines) (over_rose host v y_at f q y r j two)) sated (sated_apart piece rest y r sated_too) one said)
+        absurd (one_stays w v x_at y_at e f s r k j n m mid x piece (rest ++ y) beside calm calm_too (drive_on mid.counts q.counts f (lines_rose host v (d + length piece) mid q rest lines) (over_rose host v y_at f q y r j two)) sated (sated_apart piece rest y r sated_too) one said)
     one_run w v c d x_at y_at n m p q a b x y beside calm calm_too sated sated_too (one_more c_is from mid to piece rest some said shown lines) (no_line d_is at) one two =
-        absurd (one_stays v w y_at x_at f e r s j k m n mid y piece (rest ++ x) (beside_back n m beside) calm_too calm (rose_to_more mid.counts p.counts e (lines_rose host w (c + length piece) mid p rest lines) (over_rose host w x_at e p x s k one)) sated_too (sated_apart piece rest x s sated) two said)
+        absurd (one_stays v w y_at x_at f e r s j k m n mid y piece (rest ++ x) (beside_back n m beside) calm_too calm (drive_on mid.counts p.counts e (lines_rose host w (c + length piece) mid p rest lines) (over_rose host w x_at e p x s k one)) sated_too (sated_apart piece rest x s sated) two said)
     one_run w v c d x_at y_at n m p q a b x y beside calm calm_too sated sated_too (one_more c_is from mid to piece rest some said shown lines) (one_more d_is start also last other behind some_too turn shown_too turns) one two =
-        let up = rose_to_more mid.counts p.counts e (lines_rose host w (c + length piece) mid p rest lines) (over_rose host w x_at e p x s k one) in
-        let up_too = rose_to_more also.counts q.counts f (lines_rose host v (d + length other) also q behind turns) (over_rose host v y_at f q y r j two) in
-        let here = calm_within n.counts n.counts mid.counts e (rose_itself n.counts) up calm in
-        let there = calm_within m.counts m.counts also.counts f (rose_itself m.counts) up_too calm_too in
+        let up = drive_on mid.counts p.counts e (lines_rose host w (c + length piece) mid p rest lines) (over_rose host w x_at e p x s k one) in
+        let up_too = drive_on also.counts q.counts f (lines_rose host v (d + length other) also q behind turns) (over_rose host v y_at f q y r j two) in
+        let here = drive_calm n.counts n.counts mid.counts e (omega arith) up calm in
+        let there = drive_calm m.counts m.counts also.counts f (omega arith) up_too calm_too in
         let left = calm_within n.counts mid.counts e e (next_rose host n.counts mid.counts n.kept mid.kept n.script mid.script said.answer said.comes) (rose_itself e) calm in
         let left_too = calm_within m.counts also.counts f f (next_rose host m.counts also.counts m.kept also.kept m.script also.script turn.answer turn.comes) (rose_itself f) calm_too in
         let all = sated_apart piece rest x s sated in
         let all_too = sated_apart other behind y r sated_too in
-        let both = one_next n.counts mid.counts m.counts also.counts here.drive there.drive n.kept m.kept mid.kept also.kept beside.kept n.script mid.script also.script said.answer turn.answer
+        let both = one_next n.counts mid.counts m.counts also.counts here there n.kept m.kept mid.kept also.kept beside.kept n.script mid.script also.script said.answer turn.answer
         (line_satisfied said.answer piece (rest ++ x) s said.said said.as_text all) (line_satisfied turn.answer other (behind ++ y) r turn.said turn.as_text all_too)
         said.comes (subst (λ (z : Script). NextLine host m.counts m.kept z turn.answer also.counts also.kept also.script) (sym beside.script) turn.comes) in
         let pieces : piece ≡ other = said.as_text ∙ sym (ap text_of both.same) ∙ sym turn.as_text in
@@ -282,8 +308,8 @@ module _ (host : Host) (content : ℕ → List ℕ) (has : HasHome host content)
         left left_too (rest_sated piece (rest ++ x) s whole all) (rest_sated other (behind ++ y) r (subst IsReply pieces whole) all_too) lines turns one two in
         (append_assoc piece rest x ∙ (λ i. pieces i ++ ends.0 i) ∙ sym (append_assoc other behind y), ends.1, ends.2)
 
-    runs_rose : (w : Stretch) (n : At) (told : List ℕ) → Runs host w e n told s k → RoseTo n.counts e
-    runs_rose w n told runs = rose_to_more n.counts runs.at.counts e (lines_rose host w 0 n runs.at runs.so_far runs.lines) (over_rose host w (length runs.so_far) e runs.at runs.rest s k runs.over)
+    runs_rose : (w : Stretch) (n : At) (told : List ℕ) → Runs host w e n told s k → n.counts.drive ≤ e.drive
+    runs_rose w n told runs = drive_on n.counts runs.at.counts e (lines_rose host w 0 n runs.at runs.so_far runs.lines) (over_rose host w (length runs.so_far) e runs.at runs.rest s k runs.over)
 
     one_from : (w v : Stretch) (answer : Answer) (now from : Counts) (n m : Kept) → (IsSaid answer → Same host n m) → (script : Script) (a b : List ℕ) → IsUndisturbed now e → IsUndisturbed from f → IsSated a s → IsSated b r
         → RunsFrom host w e answer now n script a s k → RunsFrom host v f answer from m script b r j → SameEnds host a b s r k j
@@ -297,42 +323,42 @@ module _ (host : Host) (content : ℕ → List ℕ) (has : HasHome host content)
 
   -- the boot at a run's start
   module _ (e : Counts) (s : RunStatus) (k : Kept) where
-    from_rose : (w : Stretch) (answer : Answer) (now : Counts) (n : Kept) (script : Script) (told : List ℕ) → RunsFrom host w e answer now n script told s k → RoseTo now e
+    from_rose : (w : Stretch) (answer : Answer) (now : Counts) (n : Kept) (script : Script) (told : List ℕ) → RunsFrom host w e answer now n script told s k → now.drive ≤ e.drive
     from_rose w (Said outcome.Ok) now n script told from = runs_rose e e s s k k w (record { counts = now; kept = n; refused = false; script = script }) told from
     from_rose w (Said (outcome.Values text)) now n script told from = absurd from
     from_rose w (Said (outcome.Refused refusal)) now n script told from = absurd from
-    from_rose w (Ends end) now n script told from = from.0
+    from_rose w (Ends end) now n script told from = let drives = ap (λ (x : Counts). x.drive) from.0 in omega arith
 
     satisfied_from : (w : Stretch) (answer : Answer) (now : Counts) (n : Kept) (script : Script) (told : List ℕ) → IsSated told s → RunsFrom host w e answer now n script told s k → IsSatisfied answer
     satisfied_from w answer now n script told sated from = record {
       not_refused = λ is. (let never : ⊥ = subst (λ (x : Answer). RunsFrom host w e x now n script told s k) is from in never);
-      not_wanting = λ is. (let stops : RoseTo now e × Stops n NoMemory told s k = subst (λ (x : Answer). RunsFrom host w e x now n script told s k) is from in sated.end stops.1.ended);
+      not_wanting = λ is. (let stops : (e ≡ now) × Stops n NoMemory told s k = subst (λ (x : Answer). RunsFrom host w e x now n script told s k) is from in sated.end stops.1.ended);
     }
 
-  alike_start : (kept next : Kept) (answer : Answer) → IsSatisfied answer → IsRebooted ⊥ host kept answer next → Alike (site_of host) has.sound kept.content kept.content
-  alike_start kept next answer enough (adopted newest ok memory is) = alike_itself (site_of host) has.sound kept.content is.head is.replica is.shown
-  alike_start kept next answer enough (empty ok memory found same) = neither found found
+  alike_start : (kept next : Kept) (answer : Answer) → IsSatisfied answer → IsRebooted unfailing host kept answer next → Alike (site_of host) has.sound kept.content kept.content
+  alike_start kept next answer enough (adopted quiet newest ok memory is) = alike_itself (site_of host) has.sound kept.content is.head is.replica is.shown
+  alike_start kept next answer enough (empty quiet ok memory found same) = neither found found
   alike_start kept next answer enough (down so ok memory same) = absurd so
   alike_start kept next answer enough (lost so found panic) = absurd so
-  alike_start kept next answer enough (boot.spent is used same) = alike_itself (site_of host) has.sound kept.content used.head used.replica used.shown
-  alike_start kept next answer enough (wanting is same) = absurd (enough.not_wanting is)
+  alike_start kept next answer enough (boot.spent quiet is used same) = alike_itself (site_of host) has.sound kept.content used.head used.replica used.shown
+  alike_start kept next answer enough (wanting quiet is same) = absurd (enough.not_wanting is)
 
-  one_start : (n m : Kept) (a b : Answer) → IsSatisfied a → IsSatisfied b → IsRebooted ⊥ host (started content) a n → IsRebooted ⊥ host (started content) b m → One host n m a b
+  one_start : (n m : Kept) (a b : Answer) → IsSatisfied a → IsSatisfied b → IsRebooted unfailing host (started content) a n → IsRebooted unfailing host (started content) b m → One host n m a b
   one_start n m a b enough enough_too first second =
-      one_boot host has.sound ⊥ (λ never. never) (started content) (started content) n m a b (alike_start (started content) n a enough first) refl (λ block out. refl)
+      one_boot host has.sound unfailing (λ never. never) (started content) (started content) n m a b (alike_start (started content) n a enough first) refl (λ block out. refl)
       (λ head replica shown. has.room head (replica, shown)) enough enough_too first second
 
 pub one_course : OneCourse
 one_course = λ host content has script w v start end from to calm calm_too a b s r k j sated sated_too first second.
     let up = from_rose host content has end s k w first.answer first.booted first.kept script a first.runs in
     let up_too = from_rose host content has to r j v second.answer second.booted second.kept script b second.runs in
-    let here = calm_within start start first.booted end (rose_itself start) up calm in
-    let there = calm_within from from second.booted to (rose_itself from) up_too calm_too in
-    let left = calm_within start first.booted end end first.rose (rose_itself end) calm in
-    let left_too = calm_within from second.booted to to second.rose (rose_itself to) calm_too in
+    let here = drive_calm start start first.booted end (omega arith) up calm in
+    let there = drive_calm from from second.booted to (omega arith) up_too calm_too in
+    let left = calm_within start first.booted end end (calmly_rose start first.booted first.rose) (rose_itself end) calm in
+    let left_too = calm_within from second.booted to to (calmly_rose from second.booted second.rose) (rose_itself to) calm_too in
     let both = one_start host content has first.kept second.kept first.answer second.answer
     (satisfied_from host content has end s k w first.answer first.booted first.kept script a sated first.runs) (satisfied_from host content has to r j v second.answer second.booted second.kept script b sated_too second.runs)
-    (rebooted_more (drive_failed start first.booted) ⊥ here.drive host (started content) first.kept first.answer first.boots)
-    (rebooted_more (drive_failed from second.booted) ⊥ there.drive host (started content) second.kept second.answer second.boots) in
+    (rebooted_more (drive_failures start first.booted) unfailing (calm_is (drive_failures start first.booted) here) host (started content) first.kept first.answer first.boots)
+    (rebooted_more (drive_failures from second.booted) unfailing (calm_is (drive_failures from second.booted) there) host (started content) second.kept second.answer second.boots) in
     one_from host content has end to s r k j w v first.answer first.booted second.booted first.kept second.kept both.1 script a b left left_too sated sated_too first.runs
     (subst (λ (x : Answer). RunsFrom host v to x second.booted second.kept script b r j) (sym both.0) second.runs)

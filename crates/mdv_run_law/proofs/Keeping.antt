@@ -1,6 +1,7 @@
 -- What two courses keep in common, as far as a boot and a line can tell.
 use Rattle.std.proofs.Common.{◌≡◌, inl, inr, ℕ, ◌+◌, ◌≤◌, ◌<◌, ◌^◌, true, false, List, [], ◌∷◌, Option, Some, None, sym, ◌∙◌, ap, subst, arith}
 use Rattle.std.proofs.lemmas.Bool.Decides.{nat_tests}
+use Rattle.mdv_base.specs.Causes.{Failures}
 use Rattle.mdv_run_law.specs.Below.{OutOfMemory, Head, greatest, shows, covers, IsSound, area_of, IsFound, IsReplica, Newest, IsNewestOf, Answer, Host, site_of, Memory, Kept, Stays, ArePut, IsRebooted, adopted, empty, down, lost, wanting}
 use Rattle.mdv_shelf.specs.Area.{range}
 use Rattle.mdv_shelf.proofs.Blocks.{both_ways}
@@ -66,7 +67,7 @@ module _ (host : Host) where
     room_kept kept (held newest opened room its_head is) head replica shown = room
 
     -- two boots from blocks that a boot can't tell apart
-    module _ (failed : Type 0) (calm : failed → ⊥) (k j n m : Kept) (a b : Answer) (alike : Alike (site_of host) sound k.content j.content) (begun : k.memory.begun ≡ j.memory.begun)
+    module _ (failures : Failures) (calm : failures.some → ⊥) (k j n m : Kept) (a b : Answer) (alike : Alike (site_of host) sound k.content j.content) (begun : k.memory.begun ≡ j.memory.begun)
         (beside : (block : ℕ) → area_of (site_of host) 0 block ≡ false → k.content block ≡ j.content block)
         (room : (head : Head) → IsReplica (site_of host) k.content head → shows head ≡ true → 8208 ≤ host.home.blocks) (sated : IsSatisfied a) (sated_too : IsSatisfied b) where
       booted_memory : (opened : Option Newest) → n.memory ≡ record { opened = opened; down = false; begun = k.memory.begun } → m.memory ≡ record { opened = opened; down = false; begun = j.memory.begun } → n.memory ≡ m.memory
@@ -78,8 +79,8 @@ module _ (host : Host) where
       nor_both : (x y : Head) → IsReplica (site_of host) k.content x → shows x ≡ true → IsReplica (site_of host) j.content y → shows y ≡ true → 2 ^ 63 ≤ greatest x + 1 → greatest y + 1 < 2 ^ 63 → ⊥
       nor_both x y has_x shows_x has_y shows_y high low = (let same = same_number (site_of host) sound k.content j.content alike x y has_x shows_x has_y shows_y in absurd (omega (arith, same, low, high)))
 
-      pub one_boot : IsRebooted failed host k a n → IsRebooted failed host j b m → One n m a b
-      one_boot (adopted newest ok memory is) (adopted other also memory_too is_too) =
+      pub one_boot : IsRebooted failures host k a n → IsRebooted failures host j b m → One n m a b
+      one_boot (adopted quiet newest ok memory is) (adopted quiet_too other also memory_too is_too) =
           let newests = same_adopted (site_of host) sound k.content j.content alike n.content m.content newest other is is_too in (
             ok ∙ sym also,
             λ heard. record {
@@ -89,7 +90,7 @@ module _ (host : Host) where
               other = held other (ap (λ (x : Memory). x.opened) memory_too) (room is.head is.replica is.shown) _ is_too.written;
             },
           )
-      one_boot (empty ok memory none same) (empty also memory_too none_too same_too) = (
+      one_boot (empty quiet ok memory none same) (empty quiet_too also memory_too none_too same_too) = (
         ok ∙ sym also,
         λ heard. record {
           memory = booted_memory None memory memory_too;
@@ -98,24 +99,24 @@ module _ (host : Host) where
           other = bare (ap (λ (x : Memory). x.opened) memory_too) (none_there (site_of host) j.content m.content (λ block from to. same_too block) none_too);
         },
       )
-      one_boot (spent is used same) (spent also used_too same_too) = (is ∙ sym also, λ heard. absurd (subst IsSaid is heard))
-      one_boot (adopted newest ok memory is) (empty also memory_too none same) = absurd (never_found (site_of host) sound k.content j.content alike is.head is.replica is.shown none)
-      one_boot (adopted newest ok memory is) (spent also used kept) = absurd (never_both is.head used.head is.replica is.shown used.replica used.shown is.fits used.spent)
-      one_boot (empty ok memory none same) (adopted other also memory_too is) = absurd (never_lost (site_of host) sound k.content j.content alike is.head is.replica is.shown none)
-      one_boot (empty ok memory none same) (spent also used kept) = absurd (never_lost (site_of host) sound k.content j.content alike used.head used.replica used.shown none)
-      one_boot (spent ok used kept) (adopted other also memory_too is) = absurd (nor_both used.head is.head used.replica used.shown is.replica is.shown used.spent is.fits)
-      one_boot (spent ok used kept) (empty also memory_too none same) = absurd (never_found (site_of host) sound k.content j.content alike used.head used.replica used.shown none)
-      one_boot (wanting is same) second = absurd (sated.not_wanting is)
-      one_boot first (wanting is same) = absurd (sated_too.not_wanting is)
+      one_boot (spent quiet is used same) (spent quiet_too also used_too same_too) = (is ∙ sym also, λ heard. absurd (subst IsSaid is heard))
+      one_boot (adopted quiet newest ok memory is) (empty quiet_too also memory_too none same) = absurd (never_found (site_of host) sound k.content j.content alike is.head is.replica is.shown none)
+      one_boot (adopted quiet newest ok memory is) (spent quiet_too also used kept) = absurd (never_both is.head used.head is.replica is.shown used.replica used.shown is.fits used.spent)
+      one_boot (empty quiet ok memory none same) (adopted quiet_too other also memory_too is) = absurd (never_lost (site_of host) sound k.content j.content alike is.head is.replica is.shown none)
+      one_boot (empty quiet ok memory none same) (spent quiet_too also used kept) = absurd (never_lost (site_of host) sound k.content j.content alike used.head used.replica used.shown none)
+      one_boot (spent quiet ok used kept) (adopted quiet_too other also memory_too is) = absurd (nor_both used.head is.head used.replica used.shown is.replica is.shown used.spent is.fits)
+      one_boot (spent quiet ok used kept) (empty quiet_too also memory_too none same) = absurd (never_found (site_of host) sound k.content j.content alike used.head used.replica used.shown none)
+      one_boot (wanting quiet is same) second = absurd (sated.not_wanting is)
+      one_boot first (wanting quiet is same) = absurd (sated_too.not_wanting is)
       one_boot (down so ok memory same) second = absurd (calm so)
       one_boot (lost so found panic) second = absurd (calm so)
       one_boot first (down so ok memory same) = absurd (calm so)
       one_boot first (lost so found panic) = absurd (calm so)
 
     -- a line `boot`
-    pub boot_same : (failed : Type 0) → (failed → ⊥) → (k j n m : Kept) (a b : Answer) → Same k j → IsSatisfied a → IsSatisfied b → IsRebooted failed host k a n → IsRebooted failed host j b m → One n m a b
-    boot_same failed calm k j n m a b same sated sated_too first second =
-        one_boot failed calm k j n m a b (alike_kept k j same.memory same.one same.other) (ap (λ (x : Memory). x.begun) same.memory) same.beside (room_kept k same.one) sated sated_too first second
+    pub boot_same : (failures : Failures) → (failures.some → ⊥) → (k j n m : Kept) (a b : Answer) → Same k j → IsSatisfied a → IsSatisfied b → IsRebooted failures host k a n → IsRebooted failures host j b m → One n m a b
+    boot_same failures calm k j n m a b same sated sated_too first second =
+        one_boot failures calm k j n m a b (alike_kept k j same.memory same.one same.other) (ap (λ (x : Memory). x.begun) same.memory) same.beside (room_kept k same.one) sated sated_too first second
 
   -- a write puts the same blocks
   module _ (place : ℕ) (block : List ℕ) (beside_home : area_of (site_of host) 0 (place + 0) ≡ false) where

@@ -1,5 +1,6 @@
 -- The run of one host, told by what its script asks.
 use Rattle.std.specs.Prelude.{◌≡◌, ◌≢◌, ◌⊎◌, ◌≤◌, ◌<◌, ◌+◌, ℕ, Bool, true, false, List, [], ◌++◌, take, length, Option, Some, IfSome, Contains, if◌then◌else◌}
+use Rattle.mdv_base.specs.Causes.{Failures, failures_of}
 use Rattle.mdv_run_law.specs.Below.{Rose, BadLine, LineTooLong, OutOfMemory, IsHome, Script, at_end, spent, too_long, line, Head, Part, OnDrive, OnReplies, Tale, told, replies_in, IsSound, Line, IsLine, IsFound, IsOpened, Answer, Host, site_of, Kept, IsSame, IsSameBeside, ComesTo, IsRebooted, IsTurnedDown, drive_content, unbooted}
 use Rattle.mdv_shelf.specs.Story.{Moment, Story, AtEach}
 use Rattle.mdv_engine_law.specs.Replies.{outcome_text, refusal_line, text_of}
@@ -27,6 +28,29 @@ pub record RoseTo (now later : Counts) : Type 0 where
   pub source : now.source ≤ later.source
   pub replies : now.replies ≤ later.replies
 
+-- between two points no count fell, and no call of the source failed
+pub record RoseCalmly (now later : Counts) : Type 0 where
+  pub drive : now.drive ≤ later.drive
+  pub source : later.source ≡ now.source
+  pub replies : now.replies ≤ later.replies
+
+-- a call of the source failed, and nothing else
+pub record OnlyUnread (now later : Counts) : Type 0 where
+  pub drive : later.drive ≡ now.drive
+  pub source : Rose now.source later.source
+  pub no_fewer : now.source ≤ later.source
+  pub replies : later.replies ≡ now.replies
+
+-- no call failed but the giving of replies
+pub record OnlyUngiven (now later : Counts) : Type 0 where
+  pub drive : later.drive ≡ now.drive
+  pub source : later.source ≡ now.source
+  pub replies : now.replies ≤ later.replies
+
+-- how the calls on the drive came out
+abbrev pub drive_failures : Counts → Counts → Failures
+drive_failures now later = failures_of now.drive later.drive
+
 abbrev pub drive_failed : Counts → Counts → Type 0
 drive_failed now later = Rose now.drive later.drive
 
@@ -41,9 +65,9 @@ abbrev pub IsNoCommand : List ℕ → Type 0
 IsNoCommand text = (spelled : Line) → IsLine text spelled → ⊥
 
 -- what a line comes to: one that isn't in the grammar is refused, and another comes to what it asks
-abbrev pub IsAnswered : Type 0 → Host → Kept → List ℕ → Answer → Kept → Type 0
-IsAnswered failed host kept text answer next =
-    (IsNoCommand text × IsTurnedDown BadLine kept answer next) ⊎ ((spelled : Line) × IsLine text spelled × ComesTo failed host kept spelled answer next)
+abbrev pub IsAnswered : Failures → Host → Kept → List ℕ → Answer → Kept → Type 0
+IsAnswered failures host kept text answer next =
+    (IsNoCommand text × failures.none × IsTurnedDown BadLine kept answer next) ⊎ ((spelled : Line) × IsLine text spelled × ComesTo failures host kept spelled answer next)
 
 -- the run is over for want of places, numbers or memory: what a crash leaves then isn't said
 abbrev pub IsLostStatus : RunStatus → Type 0
@@ -68,12 +92,13 @@ pub record At : Type 0 where
   pub refused : Bool
   pub script : Script
 
--- What the next line comes to, and the script behind it. It is excused by a count that rose between these counts alone.
+-- What the next line comes to, and the script behind it. The source gave it without a failure. It is excused by a count that rose between these counts
+-- alone, and a call on the drive that failed between them comes out in its answer.
 abbrev pub NextLine : Host → Counts → Kept → Script → Answer → Counts → Kept → Script → Type 0
 NextLine host now kept at_end answer later next more = ⊥
 NextLine host now kept (spent lines bytes) answer later next more = ⊥
-NextLine host now kept (too_long rest) answer later next more = (more ≡ rest) × RoseTo now later × IsTurnedDown LineTooLong kept answer next
-NextLine host now kept (line text rest) answer later next more = (more ≡ rest) × RoseTo now later × IsAnswered (drive_failed now later) host kept text answer next
+NextLine host now kept (too_long rest) answer later next more = (more ≡ rest) × RoseCalmly now later × (drive_failures now later).none × IsTurnedDown LineTooLong kept answer next
+NextLine host now kept (line text rest) answer later next more = (more ≡ rest) × RoseCalmly now later × IsAnswered (drive_failures now later) host kept text answer next
 
 -- an answer that is told, and with which the run goes on
 abbrev pub IsSaid : Answer → Type 0
@@ -158,9 +183,9 @@ EndsWith failed (Ends end) next told status last = Stops next (status_at end) to
 -- How a run is over, which has come so far, with so many bytes told, by these counts: the source failed; the script is at its end, or past its limit; or a line
 -- was answered so that no line is run behind it, or its reply couldn't be told. What that line did the moments show.
 pub data Over (host : Host) (stretch : Stretch) (bytes : ℕ) (end : Counts) (now : At) (told : List ℕ) (status : RunStatus) (last : Kept) : Type 0 where
-  unread : source_failed now.counts end → RoseTo now.counts end → Stops now.kept ReadFault told status last → Over host stretch bytes end now told status last
-  ended : EndsAs now.refused now.script status → RoseTo now.counts end → Stops now.kept status told status last → Over host stretch bytes end now told status last
-  broken : (answer : Answer) (later : Counts) (next : Kept) (more : Script) → NextLine host now.counts now.kept now.script answer later next more → IsLastShown stretch bytes later.drive next.content → RoseTo later end
+  unread : OnlyUnread now.counts end → Stops now.kept ReadFault told status last → Over host stretch bytes end now told status last
+  ended : EndsAs now.refused now.script status → end ≡ now.counts → Stops now.kept status told status last → Over host stretch bytes end now told status last
+  broken : (answer : Answer) (later : Counts) (next : Kept) (more : Script) → NextLine host now.counts now.kept now.script answer later next more → IsLastShown stretch bytes later.drive next.content → OnlyUngiven later end
       → EndsWith (replies_failed later end) answer next told status last → Over host stretch bytes end now told status last
 
 -- The run of a script, from there on: line after line, until it is over. A line is excused by the calls alone that failed until the first byte of its reply
@@ -181,16 +206,16 @@ started content = record { memory = unbooted 0; content = content }
 abbrev pub RunsFrom : Host → Stretch → Counts → Answer → Counts → Kept → Script → List ℕ → RunStatus → Kept → Type 0
 RunsFrom host stretch end (Said outcome.Ok) later kept script told status last = Runs host stretch end (record { counts = later; kept = kept; refused = false; script = script }) told status last
 RunsFrom host stretch end (Said other) later kept script told status last = ⊥
-RunsFrom host stretch end (Ends over) later kept script told status last = RoseTo later end × Stops kept (status_at over) told status last
+RunsFrom host stretch end (Ends over) later kept script told status last = (end ≡ later) × Stops kept (status_at over) told status last
 
 -- A whole run, from these counts to those: the boot answers from what the drive's blocks held, excused by the calls that failed until the counts `booted`, and the script is run from
 -- there. No moment shows those counts, as nothing is told between the boot and the first line: the two share what failed until the first reply is told.
 pub record IsRun (host : Host) (stretch : Stretch) (start end : Counts) (content : ℕ → List ℕ) (script : Script) (told : List ℕ) (status : RunStatus) (last : Kept) : Type 0 where
   pub answer : Answer
   pub booted : Counts
-  pub rose : RoseTo start booted
+  pub rose : RoseCalmly start booted
   pub kept : Kept
-  pub boots : IsRebooted (drive_failed start booted) host (started content) answer kept
+  pub boots : IsRebooted (drive_failures start booted) host (started content) answer kept
   pub runs : RunsFrom host stretch end answer booted kept script told status last
 
 -- Of the next line's reply nothing was told by that moment, or a front: of the reply to what it came to, where the drive had failed so often, and its blocks read as
@@ -201,7 +226,7 @@ pub record NextFront (host : Host) (now : At) (told : List ℕ) (m : Moment) : T
   pub next : Kept
   pub more : Script
   pub comes : NextLine host now.counts now.kept now.script answer later next more
-  pub by_then : later.drive ≤ m.faults (OnDrive 0)
+  pub by_then : later.drive ≡ m.faults (OnDrive 0)
   pub shows : IsSame next.content (drive_content m.tale)
   pub count : ℕ
   pub front : told ≡ take count (text_of answer)
@@ -221,9 +246,9 @@ pub record LinesToldBy (host : Host) (stretch : Stretch) (first : At) (told : Li
 -- and of a run whose boot was answered
 pub record RunToldBy (host : Host) (stretch : Stretch) (start : Counts) (content : ℕ → List ℕ) (script : Script) (told : List ℕ) (m : Moment) : Type 0 where
   pub booted : Counts
-  pub rose : RoseTo start booted
+  pub rose : RoseCalmly start booted
   pub kept : Kept
-  pub boots : IsRebooted (drive_failed start booted) host (started content) accepted kept
+  pub boots : IsRebooted (drive_failures start booted) host (started content) accepted kept
   pub lines : LinesToldBy host stretch (record { counts = booted; kept = kept; refused = false; script = script }) told m
 
 -- By a moment of a run that began at t nothing was told, or what the script asks for, as far as it had come: values that were told are those of

@@ -90,6 +90,7 @@ module _ (old mid new : MemShelf) (part : Part) (blocks : ℕ) (failed : HasFail
   failed_cause e = record {
     later = omega (arith, before part, failed.no_fewer_faults);
     failed = omega (arith, before part, failed.fault);
+    calm = tt;
   }
 
   no_fewer : (p : Part) → ((p ≡ part) ⊎ (p ≢ part)) → fault_count old p ≤ fault_count new p

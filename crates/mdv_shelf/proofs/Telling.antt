@@ -97,7 +97,7 @@ each_joined R T Q a before b mid c after front behind one two s is =
 
 -- a giving of which all was told raised no count
 pub told_calm : {T E : Type 0} {v : T} (before now : Part → ℕ) → HasGivingCause {T = T} {E = E} before now (Ok v) → NoFewer now before
-told_calm before now cause OnReplies = let same = cause.told in omega arith
+told_calm before now cause OnReplies = let same = cause.own.calm in omega arith
 told_calm before now cause (OnDrive drive) = let same = cause.drives drive in omega arith
 
 module _ {S : Type 0} (shelf : Ghosts S) where

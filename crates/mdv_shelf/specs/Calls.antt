@@ -74,8 +74,7 @@ pub record TookAtMost {S : Type 0} (calls written : S → Option ℕ) (old new :
   pub in_calls : RoseByAtMost count (calls old) (calls new)
   pub in_blocks : RoseByAtMost blocks (written old) (written new)
 
--- A giving fails only where its own count rose. It raises no drive's count, and none at all where it is answered.
+-- A giving fails only where its own count rose, and raises no drive's.
 pub record HasGivingCause {T E : Type 0} (before now : Part → ℕ) (result : Result T E) : Type 0 where
   pub own : HasCause (before OnReplies) (now OnReplies) result
   pub drives : (drive : ℕ) → now (OnDrive drive) ≡ before (OnDrive drive)
-  pub told : OnOk result (now OnReplies ≡ before OnReplies)

@@ -1,6 +1,6 @@
 -- Words over a whole shelf: the ghosts of its bound are passed as one, as `S.Shelf`.
 use Rattle.std.specs.Prelude.{◌≡◌, ◌≤◌, ◌<◌, ℕ, length, Some}
-use Rattle.mdv_base.specs.Causes.{Rose}
+use Rattle.mdv_base.specs.Causes.{Rose, Failures, failures_of}
 use Rattle.mdv_shelf.specs.Tale.{Tale, last, told}
 use Rattle.mdv_shelf.specs.Calls.{Part, OnDrive, OnReplies, Took, TookAtMost, Keeps as KeepsOf}
 use Rattle.mdv_shelf.specs.Moments.{Moments, Ends}
@@ -18,6 +18,13 @@ DriveFailed shelf old new drive = Rose (shelf.faults old (OnDrive drive)) (shelf
 -- a giving of replies failed
 abbrev pub GivingFailed : {S : Type 0} → Ghosts S → S → S → Type 0
 GivingFailed shelf old new = Rose (shelf.faults old OnReplies) (shelf.faults new OnReplies)
+
+-- how the calls on the drive came out, and the givings of replies
+abbrev pub DriveFailures : {S : Type 0} → Ghosts S → S → S → ℕ → Failures
+DriveFailures shelf old new drive = failures_of (shelf.faults old (OnDrive drive)) (shelf.faults new (OnDrive drive))
+
+abbrev pub GivingFailures : {S : Type 0} → Ghosts S → S → S → Failures
+GivingFailures shelf old new = failures_of (shelf.faults old OnReplies) (shelf.faults new OnReplies)
 
 -- R holds, relative to the start, at each moment: of what was done and told by then, and of the counts
 abbrev pub AtEachMoment : {S : Type 0} → Ghosts S → (Moment → Moment → Type 0) → S → S → Type 0

@@ -2,7 +2,7 @@
 -- tale and the counts by then.
 use Rattle.std.specs.Prelude.{◌≡◌, ◌⊎◌, ℕ, ◌≤◌, List, [], ◌∷◌, Option, Some}
 use Rattle.std.specs.Option.{option_map}
-use Rattle.mdv_base.specs.Causes.{Rose}
+use Rattle.mdv_base.specs.Causes.{Rose, Failures, failures_of}
 use Rattle.mdv_shelf.specs.Tale.{Start, Tale, Begun, Then, Call}
 use Rattle.mdv_shelf.specs.Calls.{Part}
 use Rattle.mdv_shelf.specs.Moments.{During}
@@ -44,6 +44,10 @@ pub record Moment : Type 0 where
 -- a call on the part failed between two moments
 abbrev pub FailedBy : Moment → Moment → Part → Type 0
 FailedBy t m part = Rose (t.faults part) (m.faults part)
+
+-- how the calls on the part came out between two moments
+abbrev pub FailuresBy : Moment → Moment → Part → Failures
+FailuresBy t m part = failures_of (t.faults part) (m.faults part)
 
 -- P at each moment of these calls, each with the counts as it was made
 abbrev pub AtMarks : (Moment → Type 0) → Story → List Mark → Type 0

@@ -1,5 +1,5 @@
 -- A call on the image of one drive, told of the whole bench.
-use Rattle.std.proofs.Common.{◌≡◌, ◌≢◌, ◌⊎◌, ℕ, Ok, Err, Result, OnErr, ◌<◌, ◌≤◌, List, length, get_or, set, sym, ◌∙◌, ap, inl, inr, arith}
+use Rattle.std.proofs.Common.{◌≡◌, ◌≢◌, ◌⊎◌, ℕ, Ok, Err, Result, OnErr, OnOk, ◌<◌, ◌≤◌, List, length, get_or, set, sym, ◌∙◌, ap, inl, inr, arith}
 use Rattle.std.proofs.lemmas.List.{map-set, get_or-map, get_or-set_same, get_or-set_other, length-map}
 use Rattle.std.proofs.lemmas.Bool.{cases_eq}
 use Rattle.std.proofs.Math.Seq.{map-set_same}
@@ -13,21 +13,24 @@ use Rattle.metad.specs.Bench.{fault_counts, faults_of, sizes_of}
 pub record IsCounted {T E : Type 0} (old : Image) (result : Result T E) (new : Image) : Type 0 where
   pub blocks : new.blocks ≡ old.blocks
   pub failed : OnErr result (new.faults ≡ one_more old.faults)
+  pub calm : OnOk result (new.faults ≡ old.faults)
   pub no_fewer : old.faults ≤ new.faults
 
 pub of_read : {T E : Type 0} (old : Image) (result : Result T E) (new : Image) → IsRead old result new → IsCounted old result new
-of_read old (Ok value) new call = record { blocks = ap (λ (x : Image). x.blocks) call.done; failed = tt; no_fewer = call.no_fewer }
+of_read old (Ok value) new call = record { blocks = ap (λ (x : Image). x.blocks) call.done; failed = tt; calm = ap (λ (x : Image). x.faults) call.done; no_fewer = call.no_fewer }
 of_read old (Err error) new call = record {
   blocks = ap (λ (x : Image). x.blocks) call.failed;
   failed = ap (λ (x : Image). x.faults) call.failed;
+  calm = tt;
   no_fewer = call.no_fewer;
 }
 
 pub of_change : {T E : Type 0} (old : Image) (result : Result T E) (new : Image) → IsChange old result new → IsCounted old result new
-of_change old (Ok value) new call = record { blocks = ap (λ (x : Image). x.blocks) call.done; failed = tt; no_fewer = call.no_fewer }
+of_change old (Ok value) new call = record { blocks = ap (λ (x : Image). x.blocks) call.done; failed = tt; calm = ap (λ (x : Image). x.faults) call.done; no_fewer = call.no_fewer }
 of_change old (Err error) new call = record {
   blocks = ap (λ (x : Image). x.blocks) call.failed;
   failed = ap (λ (x : Image). x.faults) call.failed;
+  calm = tt;
   no_fewer = call.no_fewer;
 }
 
@@ -64,8 +67,9 @@ module _ (images : List Image) (i : ℕ) (inside : i < length images) (was now :
       at k (inr other) = omega (arith, count_other k other)
 
   pub call_cause : {T E : Type 0} (result : Result T E) → IsCounted was result now → HasCause {T = T} {E = E} (get_or (fault_counts images) i 0) (get_or (fault_counts (set images i now)) i 0) result
-  call_cause (Ok value) call = record { later = omega (arith, call.no_fewer, count_was, count_now); failed = tt }
+  call_cause (Ok value) call = record { later = omega (arith, call.no_fewer, count_was, count_now); failed = tt; calm = omega (arith, call.calm, count_was, count_now) }
   call_cause (Err error) call = record {
     later = omega (arith, call.no_fewer, count_was, count_now);
     failed = omega (arith, call.failed, count_was, count_now);
+    calm = tt;
   }

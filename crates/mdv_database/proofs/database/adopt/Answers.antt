@@ -1,5 +1,6 @@
-use Rattle.std.proofs.Common.{◌≡◌, ◌<◌, ◌+◌, ◌^◌, ℕ, ap, arith, rules}
-use Rattle.mdv_database.specs.Below.{Mark, greatest, drawn, Newest, adopted_newest}
+use Rattle.std.proofs.Common.{◌≡◌, ◌<◌, ◌+◌, ◌^◌, ℕ, ap, subst, arith, rules}
+use Rattle.mdv_shelf.specs.Shelves.{DriveFailures}
+use Rattle.mdv_database.specs.Below.{Mark, PlaceAt, greatest, drawn, Newest, adopted_newest}
 use Rattle.mdv_database.proofs.Booting.{adopt_ends, adopt_lost, adopt_moments, adopt_spent, adopt_still}
 use Rattle.mdv_database.proofs.database.adopt.Goals as goal
 use Rattle.mdv_database.proofs.database.adopt.Goals.{After-rewrite}
@@ -19,19 +20,22 @@ newest_is g c = ap (λ (n : ℕ). record { blocks = c.args.found.head.master.blo
 
 pub returns-in-Ok-clause-answer : goal.returns-in-Ok-clause-answer
 unfolding newest
-returns-in-Ok-clause-answer g c = record {
-  is = newest_is g (goal.at.returns-in-Ok-clause-answer g c).After-rewrite;
-  fits = fits g (goal.at.returns-in-Ok-clause-answer g c).After-rewrite;
-  laid = record {
-    placed = record {
-      drive = c.requires.on_drive.drive;
-      least = c.requires.in_hand.form.of_place.least;
-      within = c.requires.in_hand.form.of_place.within;
-      size = c.requires.on_drive.size;
+returns-in-Ok-clause-answer g c = (
+  subst (λ (p : PlaceAt). (DriveFailures g.S.Shelf c.args.shelf.now c.rewrite.new.shelf p.drive.0).none) c.at_length.ensures c.in-Ok.ensures.answer.cause.calm,
+  record {
+    is = newest_is g (goal.at.returns-in-Ok-clause-answer g c).After-rewrite;
+    fits = fits g (goal.at.returns-in-Ok-clause-answer g c).After-rewrite;
+    laid = record {
+      placed = record {
+        drive = c.requires.on_drive.drive;
+        least = c.requires.in_hand.form.of_place.least;
+        within = c.requires.in_hand.form.of_place.within;
+        size = c.requires.on_drive.size;
+      };
+      in_place = c.requires.in_hand.form.of_place.in_place;
     };
-    in_place = c.requires.in_hand.form.of_place.in_place;
-  };
-}
+  },
+)
 
 pub returns-in-Err-clause-answer : goal.returns-in-Err-clause-answer
 returns-in-Err-clause-answer g c = (search rules, fits g (goal.at.returns-in-Err-clause-answer g c).After-rewrite)

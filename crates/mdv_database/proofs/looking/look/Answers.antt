@@ -5,7 +5,7 @@ use Rattle.mdv_shelf.proofs.Between.{between_of, between_one, between_then}
 use Rattle.mdv_shelf.proofs.Blocks.{last_unwritten}
 use Rattle.mdv_shelf.proofs.Counts.{took_one}
 use Rattle.mdv_shelf.proofs.Settled.{synced_drive}
-use Rattle.mdv_database.proofs.Counting.{looked_err, looked_few}
+use Rattle.mdv_database.proofs.Counting.{looked_err, looked_least, looked_most, looked_wide}
 use Rattle.mdv_database.specs.Database.{IsLookedAt, site_of}
 use Rattle.mdv_database.proofs.Quiet.{unwritten_synced}
 use Rattle.mdv_shelf.proofs.Noted.{kept_call, kept_more}
@@ -67,11 +67,11 @@ returns-in-Err-sync-clause-counted g c =
 
 pub returns-in_err-found-clause-counted : goal.returns-in_err-found-clause-counted
 returns-in_err-found-clause-counted g c =
-    between_then g.S.Shelf.calls g.S.Shelf.written _ _ _ 2 2 0 0 3 0 _ 5 0 (looked_err c.from_residual.result c.from_residual.ensures.0) (omega arith) (omega arith) (two g (goal.at.returns-in_err-found-clause-counted g c).After-find) c.in_err-found.ensures.counted
+    between_then g.S.Shelf.calls g.S.Shelf.written _ _ _ 2 2 0 0 3 0 _ _ 0 (looked_err c.from_residual.result c.from_residual.ensures.0) (looked_wide c.from_residual.result c.from_residual.ensures.0) (omega arith) (two g (goal.at.returns-in_err-found-clause-counted g c).After-find) c.in_err-found.ensures.counted
 
 pub returns-clause-counted : goal.returns-clause-counted
 returns-clause-counted g c =
-    between_then g.S.Shelf.calls g.S.Shelf.written _ _ _ 2 2 0 _ 3 0 _ 5 0 (looked_few (Ok c.in_ok-found.found)) (omega arith) (omega arith) (two g (goal.at.returns-clause-counted g c).After-find) c.in_ok-found.ensures.counted
+    between_then g.S.Shelf.calls g.S.Shelf.written _ _ _ 2 2 0 _ _ 0 _ _ 0 (looked_least (Ok c.in_ok-found.found)) (looked_most (Ok c.in_ok-found.found)) (omega arith) (two g (goal.at.returns-clause-counted g c).After-find) c.in_ok-found.ensures.counted
 
 pub returns-in-Err-clause-kept : goal.returns-in-Err-clause-kept
 returns-in-Err-clause-kept g c = kept_call g.S.Shelf _ _ c.read.ensures.noted c.read.ensures.keeps

@@ -1,14 +1,17 @@
-use Rattle.std.proofs.Common.{true, false, sym, subst, refl, ap, arith}
+use Rattle.std.proofs.Common.{◌≡◌, true, false, sym, subst, refl, ap, arith}
 use Rattle.mdv_engine_law.specs.declared.answer.Ended.TheVariants as ended
-use Rattle.mdv_engine.specs.Below.{Rose, PlaceAt, OnDrive, Memory, lost, spent, wanting, unbooted}
+use Rattle.mdv_database.specs.Boot.{AdoptedBy}
+use Rattle.mdv_database.specs.Counts.{MadeCallsBetween}
+use Rattle.mdv_shelf.specs.Shelves.{DriveFailures}
+use Rattle.mdv_engine.specs.Engine.{HasUpCause}
+use Rattle.mdv_engine.specs.Below.{Failures, last, PlaceAt, Memory, lost, spent, wanting, unbooted}
 use Rattle.mdv_engine_law.proofs.Keeping.{same_content}
-use Rattle.mdv_engine.proofs.Ending.{answered_ends, closed_well, unanswered_ends}
+use Rattle.mdv_engine.proofs.Ending.{answered_ends, closed_well, nothing_adopted, unanswered_ends}
 use Rattle.mdv_shelf.proofs.Moments.{moments_end}
-use Rattle.mdv_engine.specs.Counts.{IsOpenedCounted}
+use Rattle.mdv_engine.specs.Counts.{IsUpCounted}
 use Rattle.mdv_engine.proofs.Booting.{boot_moments, adopted_rebooted, adopted_booted, empty_rebooted, empty_booted, down_rebooted, down_booted, spent_here, adoptable_here, adopted_well}
-use Rattle.mdv_engine.proofs.Parts.{adopted_there, boot_goes, boot_quiet, goes_to, shown, shows_nothing, synced, unwritten}
-use Rattle.mdv_engine.proofs.Sites.{on_drive}
-use Rattle.mdv_shelf.proofs.Between.{between_wider}
+use Rattle.mdv_engine.proofs.Parts.{adopted_there, boot_goes, boot_quiet, goes_to, made_by, shown, shows_nothing, synced, unwritten}
+use Rattle.mdv_engine.proofs.Sites.{here, on_drive}
 use Rattle.mdv_engine.proofs.engine.boot_from.Goals as goal
 
 pub boot-requires-clause-on_drive : goal.boot-requires-clause-on_drive
@@ -34,77 +37,83 @@ returns-in-Memory-clause-moments g c = boot_moments c.args.host.now (g.S.Shelf.s
 
 pub returns-in-Adopted-clause-end : goal.returns-in-Adopted-clause-end
 returns-in-Adopted-clause-end g c =
-    answered_ends _ c.args.host.now (unbooted c.args.begun) _ _ _ _ refl
+    answered_ends _ _ c.args.host.now (unbooted c.args.begun) _ _ _ _ refl
     (λ t start.
-    let end = adopted_rebooted c.args.host.now (g.S.Shelf.sizes c.args.shelf.now) c.requires c.place_at.result c.place_at.ensures c.args.begun c.in-Adopted.database _ _ _ (boot_quiet _ _ _ c.boot.ensures.moments) (shown _ _ _ _ _ c.in-Adopted.ensures.end) (adopted_there _ _ _ _ _ c.in-Adopted.ensures.end) t start in
+    let end = adopted_rebooted c.args.host.now (g.S.Shelf.sizes c.args.shelf.now) c.requires c.place_at.result c.place_at.ensures c.args.begun c.in-Adopted.database _ _ _ (subst (λ (p : PlaceAt). (DriveFailures g.S.Shelf c.args.shelf.now c.boot.new.shelf p.drive.0).none) c.place_at.ensures c.in-Adopted.ensures.answer.cause) (boot_quiet _ _ _ c.boot.ensures.moments) (shown _ _ _ _ _ _ c.in-Adopted.ensures.end) (adopted_there _ _ _ _ _ _ c.in-Adopted.ensures.end) t start in
     (end.0, end.1, end.2 (unbooted c.args.begun) _ refl refl))
-    (adopted_booted c.args.host.now (g.S.Shelf.sizes c.args.shelf.now) c.requires c.place_at.result c.place_at.ensures c.args.begun c.in-Adopted.database _ _ (boot_quiet _ _ _ c.boot.ensures.moments) (adopted_there _ _ _ _ _ c.in-Adopted.ensures.end) (synced _ _ _ _ _ c.in-Adopted.ensures.end tt) (goes_to _ _ _ _ _ c.in-Adopted.ensures.end))
+    (adopted_booted c.args.host.now (g.S.Shelf.sizes c.args.shelf.now) c.requires c.place_at.result c.place_at.ensures c.args.begun c.in-Adopted.database _ _ (boot_quiet _ _ _ c.boot.ensures.moments) (adopted_there _ _ _ _ _ _ c.in-Adopted.ensures.end) (synced _ _ _ _ _ _ c.in-Adopted.ensures.end tt) (goes_to _ _ _ _ _ _ c.in-Adopted.ensures.end))
+    (λ t start. here c.args.host.now (g.S.Shelf.sizes c.args.shelf.now) c.requires c.place_at.result c.place_at.ensures (λ s. AdoptedBy (λ calls blocks. MadeCallsBetween g.S.Shelf c.args.shelf.now c.boot.new.shelf calls calls blocks) s (last t s.at.drive.0) c.in-Adopted.database) (made_by _ _ _ _ _ _ c.in-Adopted.ensures.end t start))
 
 pub returns-in-Empty-clause-end : goal.returns-in-Empty-clause-end
 returns-in-Empty-clause-end g c =
-    answered_ends _ c.args.host.now (unbooted c.args.begun) _ _ _ _ c.without_database.ensures
+    answered_ends _ _ c.args.host.now (unbooted c.args.begun) _ _ _ _ c.without_database.ensures
     (λ t start.
-    let end = empty_rebooted c.args.host.now (g.S.Shelf.sizes c.args.shelf.now) c.requires c.place_at.result c.place_at.ensures c.args.begun _ _ _ (shown _ _ _ _ _ c.in-Empty.ensures.end) (unwritten _ _ _ _ _ c.in-Empty.ensures.end tt) t start in
+    let end = empty_rebooted c.args.host.now (g.S.Shelf.sizes c.args.shelf.now) c.requires c.place_at.result c.place_at.ensures c.args.begun _ _ _ (subst (λ (p : PlaceAt). (DriveFailures g.S.Shelf c.args.shelf.now c.boot.new.shelf p.drive.0).none) c.place_at.ensures c.in-Empty.ensures.answer.cause) (shown _ _ _ _ _ _ c.in-Empty.ensures.end) (unwritten _ _ _ _ _ _ c.in-Empty.ensures.end tt) t start in
     (end.0, end.1, end.2 (unbooted c.args.begun) _ refl c.without_database.ensures))
-    (empty_booted c.args.host.now (g.S.Shelf.sizes c.args.shelf.now) c.requires c.place_at.result c.place_at.ensures c.args.begun _ _ (boot_quiet _ _ _ c.boot.ensures.moments) (synced _ _ _ _ _ c.in-Empty.ensures.end tt) (shows_nothing _ _ _ _ _ c.in-Empty.ensures.end refl) (goes_to _ _ _ _ _ c.in-Empty.ensures.end))
+    (empty_booted c.args.host.now (g.S.Shelf.sizes c.args.shelf.now) c.requires c.place_at.result c.place_at.ensures c.args.begun _ _ (boot_quiet _ _ _ c.boot.ensures.moments) (synced _ _ _ _ _ _ c.in-Empty.ensures.end tt) (shows_nothing _ _ _ _ _ _ c.in-Empty.ensures.end refl) (goes_to _ _ _ _ _ _ c.in-Empty.ensures.end))
+    (λ t start. nothing_adopted c.args.host.now _ c.without_database.result t (ap (λ (m : Memory). m.opened) c.without_database.ensures))
 
 pub returns-in-Down-clause-end : goal.returns-in-Down-clause-end
 returns-in-Down-clause-end g c =
-    answered_ends _ c.args.host.now (unbooted c.args.begun) _ _ _ _ c.without_database-in-Down.ensures
+    answered_ends _ _ c.args.host.now (unbooted c.args.begun) _ _ _ _ c.without_database-in-Down.ensures
     (λ t start.
-    let end = down_rebooted c.args.host.now (g.S.Shelf.sizes c.args.shelf.now) c.requires c.place_at.result c.place_at.ensures c.args.begun _ _ (Rose (g.S.Shelf.faults c.args.shelf.now (OnDrive 0)) (g.S.Shelf.faults c.boot.new.shelf (OnDrive 0)))
-    (subst (λ (p : PlaceAt). Rose (g.S.Shelf.faults c.args.shelf.now (OnDrive p.drive.0)) (g.S.Shelf.faults c.boot.new.shelf (OnDrive p.drive.0))) c.place_at.ensures c.in-Down.ensures.answer.cause)
-    (unwritten _ _ _ _ _ c.in-Down.ensures.end tt) t start in
+    let end = down_rebooted c.args.host.now (g.S.Shelf.sizes c.args.shelf.now) c.requires c.place_at.result c.place_at.ensures c.args.begun _ _ (DriveFailures g.S.Shelf c.args.shelf.now c.boot.new.shelf 0)
+    (subst (λ (p : PlaceAt). (DriveFailures g.S.Shelf c.args.shelf.now c.boot.new.shelf p.drive.0).some) c.place_at.ensures c.in-Down.ensures.answer.cause)
+    (unwritten _ _ _ _ _ _ c.in-Down.ensures.end tt) t start in
     (end.0, end.1, end.2 (unbooted c.args.begun) _ refl c.without_database-in-Down.ensures))
-    (down_booted c.args.host.now (g.S.Shelf.sizes c.args.shelf.now) c.requires c.place_at.result c.place_at.ensures c.args.begun _ _ (boot_quiet _ _ _ c.boot.ensures.moments) (unwritten _ _ _ _ _ c.in-Down.ensures.end tt))
+    (down_booted c.args.host.now (g.S.Shelf.sizes c.args.shelf.now) c.requires c.place_at.result c.place_at.ensures c.args.begun _ _ (boot_quiet _ _ _ c.boot.ensures.moments) (unwritten _ _ _ _ _ _ c.in-Down.ensures.end tt))
+    (λ t start. nothing_adopted c.args.host.now _ c.without_database-in-Down.result t (ap (λ (m : Memory). m.opened) c.without_database-in-Down.ensures))
 
 pub returns-in-Lost-clause-end : goal.returns-in-Lost-clause-end
 returns-in-Lost-clause-end g c =
-    unanswered_ends _ c.args.host.now (unbooted c.args.begun) (unbooted c.args.begun) (ended.Lost 0 1) _ _ (λ t start.
+    unanswered_ends _ _ c.args.host.now (unbooted c.args.begun) (unbooted c.args.begun) refl (ended.Lost 0 1) _ _ (λ t start.
     let end = moments_end _ _ _ c.boot.ensures.moments t start in
-    (end.0, end.1, lost (subst (λ (p : PlaceAt). Rose (g.S.Shelf.faults c.args.shelf.now (OnDrive p.drive.0)) (g.S.Shelf.faults c.boot.new.shelf (OnDrive p.drive.0))) c.place_at.ensures c.in-Lost.ensures.answer.cause) (adoptable_here c.args.host.now (g.S.Shelf.sizes c.args.shelf.now) c.requires c.place_at.result c.place_at.ensures t (shown _ _ _ _ _ c.in-Lost.ensures.end t start).1) refl))
+    (end.0, end.1, lost (subst (λ (p : PlaceAt). (DriveFailures g.S.Shelf c.args.shelf.now c.boot.new.shelf p.drive.0).some) c.place_at.ensures c.in-Lost.ensures.answer.cause) (adoptable_here c.args.host.now (g.S.Shelf.sizes c.args.shelf.now) c.requires c.place_at.result c.place_at.ensures t (shown _ _ _ _ _ _ c.in-Lost.ensures.end t start).1) refl))
 
 pub returns-in-Spent-clause-end : goal.returns-in-Spent-clause-end
 returns-in-Spent-clause-end g c =
-    unanswered_ends _ c.args.host.now (unbooted c.args.begun) (unbooted c.args.begun) ended.Spent _ _ (λ t start.
-    let end = unwritten _ _ _ _ _ c.in-Spent.ensures.end tt t start in
-    (end.0, end.1, spent refl (spent_here c.args.host.now (g.S.Shelf.sizes c.args.shelf.now) c.requires c.place_at.result c.place_at.ensures t (shown _ _ _ _ _ c.in-Spent.ensures.end t start)) (same_content t end.0 end.2)))
+    unanswered_ends _ _ c.args.host.now (unbooted c.args.begun) (unbooted c.args.begun) refl ended.Spent _ _ (λ t start.
+    let end = unwritten _ _ _ _ _ _ c.in-Spent.ensures.end tt t start in
+    (end.0, end.1, spent (subst (λ (p : PlaceAt). (DriveFailures g.S.Shelf c.args.shelf.now c.boot.new.shelf p.drive.0).none) c.place_at.ensures c.in-Spent.ensures.answer.cause) refl (spent_here c.args.host.now (g.S.Shelf.sizes c.args.shelf.now) c.requires c.place_at.result c.place_at.ensures t (shown _ _ _ _ _ _ c.in-Spent.ensures.end t start)) (same_content t end.0 end.2)))
 
 pub returns-in-Memory-clause-end : goal.returns-in-Memory-clause-end
 returns-in-Memory-clause-end g c =
-    unanswered_ends _ c.args.host.now (unbooted c.args.begun) (unbooted c.args.begun) ended.Memory _ _ (λ t start.
-    let end = unwritten _ _ _ _ _ c.in-Memory.ensures.end tt t start in
-    (end.0, end.1, wanting refl (same_content t end.0 end.2)))
+    unanswered_ends _ _ c.args.host.now (unbooted c.args.begun) (unbooted c.args.begun) refl ended.Memory _ _ (λ t start.
+    let end = unwritten _ _ _ _ _ _ c.in-Memory.ensures.end tt t start in
+    (end.0, end.1, wanting (subst (λ (p : PlaceAt). (DriveFailures g.S.Shelf c.args.shelf.now c.boot.new.shelf p.drive.0).none) c.place_at.ensures c.in-Memory.ensures.answer.cause) refl (same_content t end.0 end.2)))
+
+-- a boot that found no database, and has read the drive or not
+unread_so : (failures : Failures) (memory after : Memory) → memory ≡ after → HasUpCause failures after.down → HasUpCause failures memory.down
+unread_so failures memory after is cause = subst (λ (m : Memory). HasUpCause failures m.down) (sym is) cause
 
 pub returns-in-Adopted-clause-answer : goal.returns-in-Adopted-clause-answer
-returns-in-Adopted-clause-answer g c = record { cause = tt; well = adopted_well c.args.host.now c.args.begun c.in-Adopted.database c.place_at.result c.place_at.ensures c.in-Adopted.ensures.answer.table }
+returns-in-Adopted-clause-answer g c = record { cause = (subst (λ (p : PlaceAt). (DriveFailures g.S.Shelf c.args.shelf.now c.boot.new.shelf p.drive.0).none) c.place_at.ensures c.in-Adopted.ensures.answer.cause); well = adopted_well c.args.host.now c.args.begun c.in-Adopted.database c.place_at.result c.place_at.ensures c.in-Adopted.ensures.answer.table }
 
 pub returns-in-Empty-clause-answer : goal.returns-in-Empty-clause-answer
-returns-in-Empty-clause-answer g c = record { cause = tt; well = closed_well c.args.host.now _ false c.args.begun c.without_database.ensures }
+returns-in-Empty-clause-answer g c = record { cause = unread_so _ _ _ c.without_database.ensures (subst (λ (p : PlaceAt). (DriveFailures g.S.Shelf c.args.shelf.now c.boot.new.shelf p.drive.0).none) c.place_at.ensures c.in-Empty.ensures.answer.cause); well = closed_well c.args.host.now _ false c.args.begun c.without_database.ensures }
 
 pub returns-in-Down-clause-answer : goal.returns-in-Down-clause-answer
-returns-in-Down-clause-answer g c = record { cause = tt; well = closed_well c.args.host.now _ true c.args.begun c.without_database-in-Down.ensures }
+returns-in-Down-clause-answer g c = record { cause = unread_so _ _ _ c.without_database-in-Down.ensures (subst (λ (p : PlaceAt). (DriveFailures g.S.Shelf c.args.shelf.now c.boot.new.shelf p.drive.0).some) c.place_at.ensures c.in-Down.ensures.answer.cause); well = closed_well c.args.host.now _ true c.args.begun c.without_database-in-Down.ensures }
 
 pub returns-in-Lost-clause-answer : goal.returns-in-Lost-clause-answer
-returns-in-Lost-clause-answer g c = record { cause = ((subst (λ (p : PlaceAt). Rose (g.S.Shelf.faults c.args.shelf.now (OnDrive p.drive.0)) (g.S.Shelf.faults c.boot.new.shelf (OnDrive p.drive.0))) c.place_at.ensures c.in-Lost.ensures.answer.cause), refl, refl); well = tt }
+returns-in-Lost-clause-answer g c = record { cause = ((subst (λ (p : PlaceAt). (DriveFailures g.S.Shelf c.args.shelf.now c.boot.new.shelf p.drive.0).some) c.place_at.ensures c.in-Lost.ensures.answer.cause), refl, refl); well = tt }
 
 pub returns-in-Adopted-clause-counted : goal.returns-in-Adopted-clause-counted
 returns-in-Adopted-clause-counted g c = c.in-Adopted.ensures.counted
 
 pub returns-in-Empty-clause-counted : goal.returns-in-Empty-clause-counted
 returns-in-Empty-clause-counted g c =
-    subst (IsOpenedCounted g.S.Shelf.calls g.S.Shelf.written _ _) (sym (ap (λ (m : Memory). m.opened) c.without_database.ensures))
-    (between_wider g.S.Shelf.calls g.S.Shelf.written _ _ 2 5 0 1 5 0 (omega arith) (omega arith) (omega arith) c.in-Empty.ensures.counted)
+    subst (IsUpCounted g.S.Shelf.calls g.S.Shelf.written _ _) (sym c.without_database.ensures) c.in-Empty.ensures.counted
 
 pub returns-in-Down-clause-counted : goal.returns-in-Down-clause-counted
 returns-in-Down-clause-counted g c =
-    subst (IsOpenedCounted g.S.Shelf.calls g.S.Shelf.written _ _) (sym (ap (λ (m : Memory). m.opened) c.without_database-in-Down.ensures)) c.in-Down.ensures.counted
+    subst (IsUpCounted g.S.Shelf.calls g.S.Shelf.written _ _) (sym c.without_database-in-Down.ensures) c.in-Down.ensures.counted
 
 pub returns-in-Lost-clause-counted : goal.returns-in-Lost-clause-counted
-returns-in-Lost-clause-counted g c = c.in-Lost.ensures.counted.at_most
+returns-in-Lost-clause-counted g c = c.in-Lost.ensures.counted
 
 pub returns-in-Spent-clause-counted : goal.returns-in-Spent-clause-counted
-returns-in-Spent-clause-counted g c = c.in-Spent.ensures.counted.at_most
+returns-in-Spent-clause-counted g c = c.in-Spent.ensures.counted
 
 pub returns-in-Memory-clause-counted : goal.returns-in-Memory-clause-counted
-returns-in-Memory-clause-counted g c = c.in-Memory.ensures.counted.at_most
+returns-in-Memory-clause-counted g c = c.in-Memory.ensures.counted

@@ -22,7 +22,7 @@ loop-chunk-preserved g c = record {
       goes_on input c.fill.new.self (g.I.Source.left c.fill.new.source) c.cut_piece.new.chunk c.loop-chunk.line c.loop-chunk.length c.cut_piece.new.line c.in-Some.piece so c.in-Some.ensures.cuts c.if-piece.false;
   silent = λ none. still_silent c.loop-chunk.chunk c.fill.new.self (g.I.Source.left c.loop-chunk.source) (g.I.Source.left c.fill.new.source) c.fill.ensures.same (c.loop-chunk.invariant.silent none);
   within = omega (arith, c.in-Some.ensures.within, c.loop-chunk.invariant.within);
-  later = omega (arith, c.loop-chunk.invariant.later, c.fill.ensures.cause.later);
+  calm = omega (arith, c.loop-chunk.invariant.calm, c.in_ok-fill.ensures.cause.calm);
 }
 
 pub returns-clause-cuts : goal.returns-clause-cuts

@@ -8,7 +8,7 @@ invariant-loop-chunk g l = record {
   told : (input : List ℕ) → to_come l.initial.chunk (g.I.Source.left l.initial.source) ≡ Some input → SoFar input l.length l.line (to_come l.chunk (g.I.Source.left l.source));
   silent : g.I.Source.left l.initial.source ≡ None → g.I.Source.left l.source ≡ None;
   within : l.length ≤ l.room;
-  later : g.I.Source.faults l.initial.source ≤ g.I.Source.faults l.source;
+  calm : g.I.Source.faults l.source ≡ g.I.Source.faults l.initial.source;
 }
 
 abbrev pub decreases-loop-chunk : goal.decreases-loop-chunk

@@ -1,5 +1,8 @@
-use Rattle.std.proofs.Common.{inl, inr, []}
-use Rattle.mdv_replica.proofs.Looks.{contents_of, contents_are, look_was_read}
+use Rattle.std.proofs.Common.{inl, inr, [], sym, subst}
+use Rattle.mdv_shelf.specs.Shelves.{DriveFailures}
+use Rattle.mdv_replica.specs.Seen.{HasLookCause}
+use Rattle.mdv_replica.specs.declared.looking.Seen.{Seen}
+use Rattle.mdv_replica.proofs.Looks.{contents_of, contents_are, look_calm}
 use Rattle.mdv_shelf.proofs.Noted.{kept_call}
 use Rattle.mdv_replica.proofs.looking.inspect.Goals as goal
 
@@ -8,8 +11,13 @@ returns-in-Ok-clause-form g c =
     (contents_of c.args.at.first c.read.new.out, inr (rw c.blocks-size.ensures at c.looked.ensures (contents_of c.args.at.first c.read.new.out) (contents_are c.args.at.first c.read.new.out)))
 
 pub returns-in-Ok-clause-cause : goal.returns-in-Ok-clause-cause
-returns-in-Ok-clause-cause g c = λ failed.
-    absurd (look_was_read c.args.at c.blocks-size.result (contents_of c.args.at.first c.read.new.out) c.looked.result (c.looked.ensures (contents_of c.args.at.first c.read.new.out) (contents_are c.args.at.first c.read.new.out)) failed)
+returns-in-Ok-clause-cause g c =
+    look_calm c.args.at c.blocks-size.result (contents_of c.args.at.first c.read.new.out) c.looked.result (DriveFailures g.S.Shelf c.args.shelf.now c.read.new.self c.args.at.drive.0)
+    (c.looked.ensures (contents_of c.args.at.first c.read.new.out) (contents_are c.args.at.first c.read.new.out)) c.in-Ok.ensures.cause.calm
+
+pub returns-in-Err-clause-cause : goal.returns-in-Err-clause-cause
+returns-in-Err-clause-cause g c =
+    subst (λ (s : Seen). HasLookCause (DriveFailures g.S.Shelf c.args.shelf.now c.read.new.self c.args.at.drive.0) s.flags.read_error) (sym c.unread.ensures) c.in-Err.ensures.cause.failed
 
 pub returns-in-Err-clause-form : goal.returns-in-Err-clause-form
 returns-in-Err-clause-form g c = (contents_of c.args.at.first [], inl c.unread.ensures)

@@ -1,4 +1,4 @@
-use Rattle.std.proofs.Common.{Some, sym, ◌∙◌, ap, subst, arith}
+use Rattle.std.proofs.Common.{Some, refl, sym, ◌∙◌, ap, subst, arith}
 use Rattle.mdv_grammar.specs.Line.{asks_nothing}
 use Rattle.mdv_port.specs.Script.{IsTurn, Script}
 use Rattle.mdv_port.specs.declared.reader.LineEnd.TheVariants.{End, Line, Spent, TooLong}
@@ -7,7 +7,7 @@ use Rattle.mdv_run.proofs.Asking.{end_asked, line_asked, line_passed, long_asked
 use Rattle.mdv_run.proofs.lines.next_asked.Goals as goal
 
 pub loop-reader-init : goal.loop-reader-init
-loop-reader-init g c = record { reads = λ script before. before; lines = omega arith; source = omega arith }
+loop-reader-init g c = record { reads = λ script before. before; lines = omega arith; source = refl }
 
 -- a line that asks for something
 pub returns-then-not-asks_nothing-clause-reads : goal.returns-then-not-asks_nothing-clause-reads
@@ -24,7 +24,7 @@ returns-then-not-asks_nothing-clause-passed g c =
     record { lines = let one = up.lines in omega arith; limit = up.line_limit }
 
 pub returns-then-not-asks_nothing-clause-cause : goal.returns-then-not-asks_nothing-clause-cause
-returns-then-not-asks_nothing-clause-cause g c = record { later = let before = c.loop-reader.invariant.source in let now = c.next.ensures.cause.later in omega arith; failed = tt }
+returns-then-not-asks_nothing-clause-cause g c = record { later = let before = c.loop-reader.invariant.source in let now = c.next.ensures.cause.later in omega arith; failed = tt; calm = c.in-Ok-Line.ensures.cause.calm ∙ c.loop-reader.invariant.source }
 
 -- one that is passed over
 pub loop-reader-smaller : goal.loop-reader-smaller
@@ -45,7 +45,7 @@ loop-reader-preserved g c =
           let asks = ap asks_nothing (sym c.line.ensures.value) ∙ sym c.asks_nothing.ensures ∙ c.if-not-asks_nothing.false in
           line_passed c.next.new.self (g.I.Source.left c.next.new.source) whole.0 asks reads ∙ ap (λ (s : Script). Some s) whole.2;
       lines = let one = up.lines in let so_far = before.lines in omega arith;
-      source = let so_far = before.source in let now = c.next.ensures.cause.later in omega arith;
+      source = c.in-Ok-Line.ensures.cause.calm ∙ before.source;
     }
 
 -- one that was too long, the end, and a limit
@@ -62,7 +62,7 @@ returns-in-Ok-TooLong-clause-passed g c =
     record { lines = let one = up.lines in omega arith; limit = up.line_limit }
 
 pub returns-in-Ok-TooLong-clause-cause : goal.returns-in-Ok-TooLong-clause-cause
-returns-in-Ok-TooLong-clause-cause g c = record { later = let before = c.loop-reader.invariant.source in let now = c.next.ensures.cause.later in omega arith; failed = tt }
+returns-in-Ok-TooLong-clause-cause g c = record { later = let before = c.loop-reader.invariant.source in let now = c.next.ensures.cause.later in omega arith; failed = tt; calm = c.in-Ok-TooLong.ensures.cause.calm ∙ c.loop-reader.invariant.source }
 
 pub returns-in-Ok-End-clause-reads : goal.returns-in-Ok-End-clause-reads
 returns-in-Ok-End-clause-reads g c = λ script before.
@@ -77,7 +77,7 @@ returns-in-Ok-End-clause-passed g c =
     record { lines = let none = up.lines in omega arith; limit = up.line_limit }
 
 pub returns-in-Ok-End-clause-cause : goal.returns-in-Ok-End-clause-cause
-returns-in-Ok-End-clause-cause g c = record { later = let before = c.loop-reader.invariant.source in let now = c.next.ensures.cause.later in omega arith; failed = tt }
+returns-in-Ok-End-clause-cause g c = record { later = let before = c.loop-reader.invariant.source in let now = c.next.ensures.cause.later in omega arith; failed = tt; calm = c.in-Ok-End.ensures.cause.calm ∙ c.loop-reader.invariant.source }
 
 pub returns-in-Ok-Spent-clause-reads : goal.returns-in-Ok-Spent-clause-reads
 returns-in-Ok-Spent-clause-reads g c = λ script before.
@@ -93,7 +93,7 @@ returns-in-Ok-Spent-clause-passed g c =
     record { lines = let none = up.lines in omega arith; limit = up.line_limit }
 
 pub returns-in-Ok-Spent-clause-cause : goal.returns-in-Ok-Spent-clause-cause
-returns-in-Ok-Spent-clause-cause g c = record { later = let before = c.loop-reader.invariant.source in let now = c.next.ensures.cause.later in omega arith; failed = tt }
+returns-in-Ok-Spent-clause-cause g c = record { later = let before = c.loop-reader.invariant.source in let now = c.next.ensures.cause.later in omega arith; failed = tt; calm = c.in-Ok-Spent.ensures.cause.calm ∙ c.loop-reader.invariant.source }
 
 -- the source failed
 pub returns-in-Err-clause-passed : goal.returns-in-Err-clause-passed
@@ -106,4 +106,4 @@ pub returns-in-Err-clause-cause : goal.returns-in-Err-clause-cause
 returns-in-Err-clause-cause g c =
     let before = c.loop-reader.invariant.source in
     let now = c.in-Err.ensures.cause.failed in
-    record { later = let more = c.next.ensures.cause.later in omega arith; failed = omega arith }
+    record { later = let more = c.next.ensures.cause.later in omega arith; failed = omega arith; calm = tt }

@@ -8,7 +8,7 @@ abbrev pub invariant-loop-reader : goal.invariant-loop-reader
 invariant-loop-reader g l = record {
   reads : (script : Script) → asked_before l.fn.reader (g.I.Source.left l.fn.source) ≡ Some script → asked_before l.reader (g.I.Source.left l.source) ≡ Some script;
   lines : l.fn.reader.lines ≤ l.reader.lines;
-  source : g.I.Source.faults l.fn.source ≤ g.I.Source.faults l.source;
+  source : g.I.Source.faults l.source ≡ g.I.Source.faults l.fn.source;
 }
 
 abbrev pub decreases-loop-reader : goal.decreases-loop-reader

@@ -1,10 +1,11 @@
-use Rattle.std.proofs.Common.{refl, inl, inr, subst, sym}
+use Rattle.mdv_engine_law.specs.declared.answer.Outcome.TheVariants as outcome
+use Rattle.std.proofs.Common.{◌≤◌, ◌+◌, refl, inl, inr, ap, subst, sym, arith}
 use Rattle.mdv_engine_law.specs.Line.{Nothing}
-use Rattle.mdv_run.specs.Below.{line, Ends, Boot, IsCommand, IsLine, asked_by, IsAnswered, Knows, TellsFront, TurnMoment, Engine, LinesMoment}
+use Rattle.mdv_run.specs.Below.{line, Ends, IsWell, Boot, IsCommand, IsLine, asked_by, IsAnswered, Knows, TellsFront, TurnMoment, Engine, LinesMoment}
 use Rattle.mdv_words.specs.declared.command.Line.TheVariants as words
 use Rattle.mdv_engine_law.specs.Answers.{refusing}
 use Rattle.mdv_base.specs.declared.refusal.Refusal.TheVariants.{BadLine}
-use Rattle.mdv_shelf.specs.Shelves.{DriveFailed, GivingFailed}
+use Rattle.mdv_shelf.specs.Shelves.{DriveFailures, GivingFailed}
 use Rattle.mdv_shelf.proofs.Moments.{moments_weaker}
 use Rattle.mdv_engine_law.proofs.Plain.{bad_line_plain}
 use Rattle.mdv_engine_law.proofs.Staying.{turn_stays}
@@ -14,7 +15,7 @@ use Rattle.mdv_run.specs.Promise.{LineEnd}
 use Rattle.mdv_shelf.proofs.Noted.{moment_weaker}
 use Rattle.mdv_run.proofs.Fronts.{AnswerFront, LineFront, front_of, only_refused}
 use Rattle.mdv_engine.specs.Ends.{CarriesOut, OnlyAnswers}
-use Rattle.mdv_run.proofs.Answering.{executed_line, no_boot, known_ran, line_executed, refused_turned, refused_down, refused_knows}
+use Rattle.mdv_run.proofs.Answering.{command_reply, told_reply, executed_line, no_boot, known_ran, line_executed, refused_turned, refused_down, refused_knows}
 use Rattle.mdv_run.proofs.session.answer.Goals as goal
 
 pub exec-requires-clause-executed : goal.exec-requires-clause-executed
@@ -39,7 +40,7 @@ returns-in-Command-clause-end g c = λ t told.
     let new = c.exec.new.self.state in
     let command = c.in-Command.command in
     let is : IsCommand c.args.line.now command = subst (IsLine c.args.line.now) c.in-Command.is c.in-Some.ensures.value in
-    let drive = DriveFailed g.B.Shelf c.args.bench.now c.exec.new.bench 0 in
+    let drive = DriveFailures g.B.Shelf c.args.bench.now c.exec.new.bench 0 in
     let replies = GivingFailed g.B.Shelf c.args.bench.now c.exec.new.bench in
     let end = c.exec.ensures.end t told in (
       end.0,
@@ -58,7 +59,7 @@ returns-in-Command-clause-stays g c = record {
   told = c.exec.ensures.counted.told;
   rests = c.exec.ensures.moments.rests;
   tells = moment_weaker g.B.Shelf (λ t m. Knows c.args.engine.now.host c.args.engine.now.state t.tale → TellsFront (CarriesOut c.args.engine.now.host c.in-Command.command) c.args.engine.now.state t m) (LineFront c.args.engine.now.host c.args.line.now c.args.engine.now.state) _ _
-      (λ t m up down here known. front_of (CarriesOut c.args.engine.now.host c.in-Command.command) (λ failed kept answer next. IsAnswered failed c.args.engine.now.host kept c.args.line.now answer next) c.args.engine.now.state t m (λ failed kept answer next is. inr (words.Command c.in-Command.command, subst (IsLine c.args.line.now) c.in-Command.is c.in-Some.ensures.value, is)) (here known)) c.exec.ensures.moments.fronts;
+      (λ t m up down here known. front_of (CarriesOut c.args.engine.now.host c.in-Command.command) (λ failures kept answer next. IsAnswered failures c.args.engine.now.host kept c.args.line.now answer next) c.args.engine.now.state t m (λ failures kept answer next is. inr (words.Command c.in-Command.command, subst (IsLine c.args.line.now) c.in-Command.is c.in-Some.ensures.value, is)) (here known)) c.exec.ensures.moments.fronts;
 }
 
 -- a line that isn't in the grammar
@@ -73,7 +74,7 @@ pub returns-in_default-clause-end : goal.returns-in_default-clause-end
 returns-in_default-clause-end g c =
     let host = c.args.engine.now.host in
     let old = c.args.engine.now.state in
-    let drive = DriveFailed g.B.Shelf c.args.bench.now c.refuse.new.bench 0 in
+    let drive = DriveFailures g.B.Shelf c.args.bench.now c.refuse.new.bench 0 in
     let replies = GivingFailed g.B.Shelf c.args.bench.now c.refuse.new.bench in
     subst (λ (e : Engine). Ends (LineEnd drive replies host c.args.line.now old e.state c.refuse.result) (g.B.Shelf.tale c.args.bench.now) (g.B.Shelf.tale c.refuse.new.bench)) (sym c.refuse.ensures.answer.same)
     (λ t told. (
@@ -81,7 +82,7 @@ returns-in_default-clause-end g c =
       end.0,
       end.1,
       record {
-        answered = λ knows. record { answer = refusing BadLine; done = inl (c.in_default.ensures.none, refused_down host old BadLine bad_line_plain replies c.refuse.result t end.0 end.2); replied = end.2.replied };
+        answered = λ knows. record { answer = refusing BadLine; done = inl (c.in_default.ensures.none, c.refuse.ensures.answer.calm, refused_down host old BadLine bad_line_plain replies c.refuse.result t end.0 end.2); replied = end.2.replied };
         ran = λ on more. line_ran host c.args.line.now Nothing (inl (c.in_default.ensures.none, refl)) more old old t end.0 (refused_turned host old BadLine bad_line_plain replies c.refuse.result t end.0 end.2 Nothing on) (λ up. up) (c.in_default.ensures.none Boot);
         knows = λ kept. refused_knows host old BadLine bad_line_plain replies c.refuse.result t end.0 end.2;
       },
@@ -93,7 +94,7 @@ returns-in_default-clause-stays g c = record {
   told = c.refuse.ensures.counted.told;
   rests = (c.refuse.ensures.moments Nothing).rests;
   tells = moment_weaker g.B.Shelf (AnswerFront c.args.engine.now.host (refusing BadLine) c.args.engine.now.state) (LineFront c.args.engine.now.host c.args.line.now c.args.engine.now.state) _ _
-      (λ t m up down here known. front_of (OnlyAnswers (refusing BadLine)) (λ failed kept answer next. IsAnswered failed c.args.engine.now.host kept c.args.line.now answer next) c.args.engine.now.state t m (λ failed kept answer next is. inl (c.in_default.ensures.none, only_refused BadLine failed kept answer next is)) (here known)) (c.refuse.ensures.moments Nothing).fronts;
+      (λ t m up down here known. front_of (OnlyAnswers (refusing BadLine)) (λ failures kept answer next. IsAnswered failures c.args.engine.now.host kept c.args.line.now answer next) c.args.engine.now.state t m (λ failures kept answer next is. inl (c.in_default.ensures.none, is.0, only_refused BadLine failures kept answer next is)) (here known)) (c.refuse.ensures.moments Nothing).fronts;
 }
 
 -- a boot
@@ -109,3 +110,19 @@ returns-in-Boot-clause-end g c = c.boot_anew.ensures.end c.args.line.now (subst 
 
 pub returns-in-Boot-clause-stays : goal.returns-in-Boot-clause-stays
 returns-in-Boot-clause-stays g c = c.boot_anew.ensures.stays c.args.line.now (subst (IsLine c.args.line.now) c.in-Boot.is c.in-Some.ensures.value)
+
+pub returns-in-Command-clause-answer : goal.returns-in-Command-clause-answer
+returns-in-Command-clause-answer g c = record {
+  cause = command_reply (DriveFailures g.B.Shelf c.args.bench.now c.exec.new.bench 0) _ c.exec.result c.exec.ensures.answer.cause;
+  same = c.exec.ensures.answer.host;
+  well = c.exec.ensures.answer.well;
+  begun = c.exec.ensures.answer.begun;
+}
+
+pub returns-in_default-clause-answer : goal.returns-in_default-clause-answer
+returns-in_default-clause-answer g c = record {
+  cause = told_reply _ _ (outcome.Refused BadLine) c.refuse.result c.refuse.ensures.answer.cause;
+  same = ap (λ (e : Engine). e.host) c.refuse.ensures.answer.same;
+  well = subst (λ (e : Engine). IsWell c.args.engine.now.host e.state) (sym c.refuse.ensures.answer.same) c.requires.well;
+  begun = subst (λ (e : Engine). e.state.begun ≤ c.args.engine.now.state.begun + 1) (sym c.refuse.ensures.answer.same) (omega arith);
+}

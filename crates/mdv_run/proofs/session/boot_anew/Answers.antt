@@ -1,10 +1,11 @@
-use Rattle.std.proofs.Common.{◌≡◌, [], inl, inr, Option, refl, sym, ◌∙◌, ap, subst, arith}
+use Rattle.mdv_engine_law.specs.declared.answer.Outcome.TheVariants as outcome
+use Rattle.std.proofs.Common.{◌≡◌, ◌≤◌, ◌+◌, [], inl, inr, Option, refl, sym, ◌∙◌, ap, subst, arith}
 use Rattle.mdv_engine_law.specs.Line.{Nothing}
 use Rattle.std.proofs.lemmas.List.{append-nil}
-use Rattle.mdv_shelf.specs.Shelves.{DriveFailed, GivingFailed}
-use Rattle.mdv_run.specs.Below.{OnDrive, OnReplies, Moments, Ends, told, Boot, Host, StaysHome, BootMoment, BootedTo, TurnMoment, Engine, Knows, IsRebooted, Tale, kept_at}
+use Rattle.mdv_shelf.specs.Shelves.{DriveFailed, DriveFailures, GivingFailed}
+use Rattle.mdv_run.specs.Below.{OnReplies, Moments, Ends, told, Boot, Host, StaysHome, BootMoment, BootedTo, TurnMoment, Engine, IsWell, Knows, IsRebooted, Tale, kept_at}
 use Rattle.mdv_run.specs.Promise.{LineEnd}
-use Rattle.mdv_run.proofs.Answering.{line_executed, accepted_turned}
+use Rattle.mdv_run.proofs.Answering.{line_executed, accepted_turned, ended_reply, reply_more, told_reply}
 use Rattle.std.specs.Option.{option_map}
 use Rattle.mdv_shelf.specs.Shelves.{AtEachMoment}
 use Rattle.mdv_shelf.specs.Story.{OfTales, Story, tale_of}
@@ -15,9 +16,10 @@ use Rattle.mdv_run.proofs.Fronts.{AnswerFront, LineFront, boot_front}
 use Rattle.mdv_shelf.proofs.Moments.{moments_after, moments_weaker, moments_end, some_is}
 use Rattle.mdv_engine_law.specs.declared.answer.Answer.TheVariants.{Over}
 use Rattle.mdv_engine_law.specs.Answers.{accepted}
-use Rattle.mdv_engine_law.specs.Replies.{IsLost, IsReplied}
+use Rattle.mdv_engine_law.specs.Replies.{HasReplyCause, IsLost, IsReplied}
 use Rattle.mdv_engine_law.proofs.Longer.{ended_lost, never_ended}
-use Rattle.mdv_engine_law.proofs.Executing.{executed, rose_within, told_cause}
+use Rattle.mdv_engine_law.proofs.Executing.{executed}
+use Rattle.mdv_base.proofs.Causes.{rose_within, within_calm}
 use Rattle.mdv_engine_law.proofs.Knowing.{knows_kept}
 use Rattle.mdv_engine_law.proofs.Staying.{both_stay, boot_stays, turn_stays}
 use Rattle.mdv_run_law.proofs.Booting.{boot_turn, booted_turn, booted_ran}
@@ -37,7 +39,7 @@ returns-in-Ok-clause-end g c = λ text boots.
     let host = c.args.engine.now.host in
     let old = c.args.engine.now.state in
     let new = c.reboot.new.self.state in
-    let drive = DriveFailed g.B.Shelf c.args.bench.now c.accept.new.bench 0 in
+    let drive = DriveFailures g.B.Shelf c.args.bench.now c.accept.new.bench 0 in
     let replies = GivingFailed g.B.Shelf c.args.bench.now c.accept.new.bench in
     subst (λ (e : Engine). Ends (LineEnd drive replies host text old e.state c.accept.result) (g.B.Shelf.tale c.args.bench.now) (g.B.Shelf.tale c.accept.new.bench)) (sym c.accept.ensures.answer.same)
     (λ t is. (
@@ -49,7 +51,7 @@ returns-in-Ok-clause-end g c = λ text boots.
       record {
         answered = λ knows. line_executed text Boot boots drive replies host old new c.accept.result t end.0
             (executed _ _ _ _ host Boot old new accepted c.accept.result t up.0 end.0
-            (λ rose. rose_within _ _ _ _ (omega arith) (c.accept.ensures.kept.keeps.no_fewer_faults (OnDrive 0)) rose)
+            (within_calm _ _ _ c.accept.ensures.answer.calm)
             (λ rose. rose_within _ _ _ _ (c.reboot.ensures.kept.keeps.no_fewer_faults OnReplies) (omega arith) rose)
             (ap told (some_is _ up.0 quiet.0 up.1 quiet.1) ∙ quiet.2.quiet) up.2.rebooted end.2);
         ran = λ on more. booted_ran host old new t up.0 (up.2.booted refl) text more boots end.0 (accepted_turned host new _ c.accept.result up.0 end.0 end.2 on);
@@ -72,7 +74,7 @@ returns-in-Ok-clause-stays g c = λ text boots.
           (λ s u v first mid last turn m here within ahead knows.
           let up = c.in-Ok.ensures.end (tale_of s) (g.met.B.Shelf.telling c.args.bench.now ∙ ap (λ (o : Option Story). option_map tale_of o) first) in
           let same = some_is (g.B.Shelf.tale c.reboot.new.shelf) up.0 (tale_of u) up.1 (g.met.B.Shelf.telling c.reboot.new.shelf ∙ ap (λ (o : Option Story). option_map tale_of o) mid) in
-          boot_front host old new text boots (moment s _) (moment u _) m turn within.counts.0 (subst (λ (x : Tale). IsRebooted (DriveFailed g.B.Shelf c.args.bench.now c.reboot.new.shelf 0) host (kept_at old (tale_of s)) accepted (kept_at new x)) same up.2.rebooted)
+          boot_front host old new text boots (moment s _) (moment u _) m turn (subst (λ (x : Tale). IsRebooted (DriveFailures g.B.Shelf c.args.bench.now c.reboot.new.shelf 0) host (kept_at old (tale_of s)) accepted (kept_at new x)) same up.2.rebooted)
           (here (subst (λ (x : Tale). Knows host new x) same (up.2.booted refl).knows)))
           (moments_of_tales g.B.Shelf g.met.B.Shelf.telling _ _ (λ t m. told m ≡ told t) c.reboot.ensures.kept.goes quiet)
           (subst (λ (h : Host). AtEachMoment g.B.Shelf (AnswerFront h accepted new) c.reboot.new.shelf c.accept.new.bench) c.in-Ok.ensures.answer.host c.accept.ensures.moments.fronts);
@@ -114,8 +116,17 @@ returns-in-Err-clause-stays g c = λ text boots. record {
 
 pub returns-in-Err-clause-answer : goal.returns-in-Err-clause-answer
 returns-in-Err-clause-answer g c = record {
-  cause = told_cause _ _ _ _ [] (λ failed. failed) (λ failed. failed) (Over c.in-Err.end) c.reply_at.result c.in-Err.ensures.answer.cause (c.reply_at.ensures, refl);
+  cause = subst (HasReplyCause (DriveFailures g.B.Shelf c.args.bench.now c.reboot.new.shelf 0).some _) (sym c.reply_at.ensures) (ended_reply (DriveFailures g.B.Shelf c.args.bench.now c.reboot.new.shelf 0) _ c.in-Err.end c.in-Err.ensures.answer.cause);
   same = c.in-Err.ensures.answer.host;
   well = c.in-Err.ensures.answer.well;
   begun = (let same = c.in-Err.ensures.answer.begun in omega arith);
+}
+
+pub returns-in-Ok-clause-answer : goal.returns-in-Ok-clause-answer
+returns-in-Ok-clause-answer g c = record {
+  cause = told_reply (DriveFailed g.B.Shelf c.args.bench.now c.accept.new.bench 0) (GivingFailed g.B.Shelf c.args.bench.now c.accept.new.bench) outcome.Ok c.accept.result
+      (reply_more _ _ (λ rose. rose_within _ _ _ _ (c.reboot.ensures.kept.keeps.no_fewer_faults OnReplies) (omega arith) rose) outcome.Ok c.accept.result c.accept.ensures.answer.cause);
+  same = ap (λ (e : Engine). e.host) c.accept.ensures.answer.same ∙ c.in-Ok.ensures.answer.host;
+  well = subst (λ (e : Engine). IsWell c.args.engine.now.host e.state) (sym c.accept.ensures.answer.same) c.in-Ok.ensures.answer.well;
+  begun = subst (λ (e : Engine). e.state.begun ≤ c.args.engine.now.state.begun + 1) (sym c.accept.ensures.answer.same) (let same = c.in-Ok.ensures.answer.begun in omega arith);
 }

@@ -1,4 +1,5 @@
-use Rattle.std.proofs.Common.{◌≡◌, ◌≤◌, refl, sym, ap, subst, arith}
+use Rattle.mdv_engine_law.specs.declared.answer.Outcome.TheVariants as outcome
+use Rattle.std.proofs.Common.{◌≡◌, ◌≤◌, ℕ, refl, sym, ap, subst, arith}
 use Rattle.mdv_engine_law.specs.Line.{Nothing}
 use Rattle.mdv_run.specs.Below.{Script, Engine, line, too_long, asked_before, IsAskedTurn, Line, TooLong, End, Spent, Moments, TurnMoment, IsWell, OnDrive, OnReplies, ScriptTooLong, counts, told, LinesMoment, RanTo}
 use Rattle.mdv_run_law.specs.Run.{EndsAs}
@@ -16,7 +17,7 @@ use Rattle.mdv_run_law.proofs.Turning.{long_moment, long_ran}
 use Rattle.mdv_run.proofs.Leading.{end_is, spent_is, long_is, line_is, leads_line, leads_long, on_replied, lost_reply, ended_turn, unread_turn, same_left, turn_cause}
 use Rattle.mdv_engine_law.proofs.Staying.{nothing_stays, turn_stays}
 use Rattle.mdv_base.specs.declared.refusal.Refusal.TheVariants.{LineTooLong}
-use Rattle.mdv_run.proofs.Answering.{refused_turned, refused_down, refused_knows}
+use Rattle.mdv_run.proofs.Answering.{told_reply, refused_turned, refused_down, refused_knows}
 use Rattle.mdv_engine_law.specs.Answers.{refusing}
 use Rattle.mdv_run.proofs.session.take_turn.Goals as goal
 
@@ -47,7 +48,7 @@ returns-in-Ok-Line-clause-end g c = λ lines before t told.
       end.1,
       subst (λ (turn : Turn). TurnEnd host now last old new c.args.any_refused lines rest turn t end.0) (sym c.turn_of.ensures)
           (record {
-            turns = λ knows. leads_line now last (record { drive = c.answer.ensures.kept.keeps.no_fewer_faults (OnDrive 0); source = c.next_asked.ensures.cause.later; replies = c.answer.ensures.kept.keeps.no_fewer_faults OnReplies })
+            turns = λ knows. leads_line now last (record { drive = c.answer.ensures.kept.keeps.no_fewer_faults (OnDrive 0); source = c.in-Ok-Line.ensures.cause.calm; replies = c.answer.ensures.kept.keeps.no_fewer_faults OnReplies })
                 host old new c.args.any_refused lines script.0 c.line.result.now c.answer.result rest t end.0 script.1 script.2 (end.2.answered knows);
             ran = λ on left is. subst (λ (s : Script). RanTo host s old new left t end.0) (sym script.1)
                 (subst (λ (s : Script). RanTo host (line c.line.result.now s) old new left t end.0) (sym (same_left left script.0 is script.2)) (end.2.ran (on_replied c.answer.result c.args.any_refused _ refl on) left));
@@ -106,7 +107,7 @@ returns-in-Ok-TooLong-clause-end g c = λ lines before t told.
       subst (λ (e : Engine). TurnEnd host now last old e.state c.args.any_refused lines rest c.turn_of-in-Ok-TooLong.result t end.0) (sym c.refuse.ensures.answer.same)
           (subst (λ (turn : Turn). TurnEnd host now last old old c.args.any_refused lines rest turn t end.0) (sym c.turn_of-in-Ok-TooLong.ensures)
           (record {
-            turns = λ knows. leads_long now last (record { drive = c.refuse.ensures.kept.keeps.no_fewer_faults (OnDrive 0); source = c.next_asked.ensures.cause.later; replies = c.refuse.ensures.kept.keeps.no_fewer_faults OnReplies })
+            turns = λ knows. leads_long now last (record { drive = c.refuse.ensures.kept.keeps.no_fewer_faults (OnDrive 0); source = c.in-Ok-TooLong.ensures.cause.calm; replies = c.refuse.ensures.kept.keeps.no_fewer_faults OnReplies }) c.refuse.ensures.answer.calm
                 host old c.args.any_refused lines script.0 c.refuse.result rest t end.0 script.1 script.2 (refused_down host old LineTooLong too_long_plain _ c.refuse.result t end.0 end.2) end.2.replied;
             ran = λ on left is.
                 let turned = refused_turned host old LineTooLong too_long_plain _ c.refuse.result t end.0 end.2 Nothing (on_replied c.refuse.result c.args.any_refused _ refl on) in
@@ -118,7 +119,7 @@ returns-in-Ok-TooLong-clause-end g c = λ lines before t told.
 
 pub returns-in-Ok-TooLong-clause-answer : goal.returns-in-Ok-TooLong-clause-answer
 returns-in-Ok-TooLong-clause-answer g c = record {
-  cause = subst (HasTurnCause (counts (g.B.Shelf.faults c.args.bench.now) (g.I.Source.faults c.args.script.now)) (counts (g.B.Shelf.faults c.refuse.new.bench) (g.I.Source.faults c.next_asked.new.source))) (sym c.turn_of-in-Ok-TooLong.ensures) (turn_cause (counts (g.B.Shelf.faults c.args.bench.now) (g.I.Source.faults c.args.script.now)) (counts (g.B.Shelf.faults c.refuse.new.bench) (g.I.Source.faults c.next_asked.new.source)) c.refuse.result c.args.any_refused c.refuse.ensures.answer.cause);
+  cause = subst (HasTurnCause (counts (g.B.Shelf.faults c.args.bench.now) (g.I.Source.faults c.args.script.now)) (counts (g.B.Shelf.faults c.refuse.new.bench) (g.I.Source.faults c.next_asked.new.source))) (sym c.turn_of-in-Ok-TooLong.ensures) (turn_cause (counts (g.B.Shelf.faults c.args.bench.now) (g.I.Source.faults c.args.script.now)) (counts (g.B.Shelf.faults c.refuse.new.bench) (g.I.Source.faults c.next_asked.new.source)) c.refuse.result c.args.any_refused (told_reply _ _ (outcome.Refused LineTooLong) c.refuse.result c.refuse.ensures.answer.cause));
   source = c.next_asked.ensures.cause.later;
   same = ap (λ (e : Engine). e.host) c.refuse.ensures.answer.same;
   well = subst (λ (e : Engine). IsWell c.args.engine.now.host e.state) (sym c.refuse.ensures.answer.same) c.requires.well;
@@ -161,7 +162,7 @@ returns-in-Ok-End-clause-end g c = λ lines before t told.
       t,
       told,
       record {
-        turns = λ knows. ended_turn host _ _ (record { drive = omega arith; source = c.next_asked.ensures.cause.later; replies = omega arith }) state c.args.any_refused lines _ c.ended.result t
+        turns = λ knows. ended_turn host _ _ (ap (λ (n : ℕ). counts (g.B.Shelf.faults c.args.bench.now) n) c.in-Ok-End.ensures.cause.calm) state c.args.any_refused lines _ c.ended.result t
             (subst (λ (x : Script). EndsAs c.args.any_refused x c.ended.result) (sym script) c.ended.ensures);
         ran = λ on. absurd on;
         knows = λ kept known. known;
@@ -178,7 +179,7 @@ returns-in-Ok-Spent-clause-end g c = λ lines before t told.
       t,
       told,
       record {
-        turns = λ knows. ended_turn host _ _ (record { drive = omega arith; source = c.next_asked.ensures.cause.later; replies = omega arith }) state c.args.any_refused lines _ status t (subst (λ (x : Script). EndsAs c.args.any_refused x status) (sym script) refl);
+        turns = λ knows. ended_turn host _ _ (ap (λ (n : ℕ). counts (g.B.Shelf.faults c.args.bench.now) n) c.in-Ok-Spent.ensures.cause.calm) state c.args.any_refused lines _ status t (subst (λ (x : Script). EndsAs c.args.any_refused x status) (sym script) refl);
         ran = λ on. absurd on;
         knows = λ kept known. known;
       },
@@ -189,7 +190,7 @@ returns-in-Err-clause-end g c = λ lines before t told. (
   t,
   told,
   record {
-    turns = λ knows. unread_turn c.args.engine.now.host _ _ (record { drive = omega arith; source = c.next_asked.ensures.cause.later; replies = omega arith }) c.in-Err.ensures.cause.failed c.args.engine.now.state c.args.any_refused lines _ t;
+    turns = λ knows. unread_turn c.args.engine.now.host _ _ (record { drive = refl; source = c.in-Err.ensures.cause.failed; no_fewer = c.next_asked.ensures.cause.later; replies = refl }) c.args.engine.now.state c.args.any_refused lines _ t;
     ran = λ on. absurd on;
     knows = λ kept known. known;
   },

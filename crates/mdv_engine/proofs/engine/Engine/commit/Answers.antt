@@ -3,7 +3,11 @@ use Rattle.mdv_engine_law.specs.Line.{ToDo}
 use Rattle.mdv_base.specs.declared.refusal.Refusal.TheVariants.{NoDatabase}
 use Rattle.std.specs.Fmt.{digits}
 use Rattle.mdv_engine_law.specs.Replies.{IsPlain}
-use Rattle.mdv_engine.specs.Below.{MakeStripe, Changed, Rose, Local, place_of, PlaceAt, OnDrive, TooLong, HasCommitCause, Newest, IsPlainAnswer}
+use Rattle.mdv_shelf.specs.Shelves.{DriveFailures}
+use Rattle.mdv_engine_law.specs.Replies.{HasAnswerCause}
+use Rattle.mdv_base.specs.Causes.{Failures}
+use Rattle.mdv_engine_law.specs.declared.answer.Answer.{Answer}
+use Rattle.mdv_engine.specs.Below.{ReplicaFull, MakeStripe, Changed, Local, place_of, PlaceAt, OnDrive, TooLong, HasCommitCause, Newest, IsPlainAnswer}
 use Rattle.mdv_engine_law.specs.Answers.{accepted, refusing}
 use Rattle.mdv_engine_law.specs.declared.answer.Answer.TheVariants.{Over}
 use Rattle.mdv_engine_law.specs.declared.answer.Ended.TheVariants as ended
@@ -57,28 +61,32 @@ returns-clause-end g c = λ volume slice is.
     let stays = (commit_goes _ _ _ _ _ _ host.drives (Local host.home.host) (Some change) c.commit.ensures.moments) in
     elim c.match-commit.branch [
       | in-Ok w ↦
-          end_as host memory volume slice _ _ accepted _ w.result-is _ _ (opened_as _ memory same _ _ w.in-Ok.ensures.answer.0) _
-          (committed_answer host _ c.requires.ready _ at_is memory volume slice next db opened chosen placed _ _ (commit_quiet _ _ _ _ _ _ c.commit.ensures.moments) w.in-Ok.ensures.answer.1.in_room _ w.in-Ok.ensures.answer.1.countable (commit_opened _ _ _ _ _ _ host.drives (Local host.home.host) (Some change) w.in-Ok.ensures.end))
+          end_as host memory volume slice _ _ accepted _ w.result-is _ _ (opened_as _ memory same _ _ w.in-Ok.ensures.answer.1) _
+          (committed_answer host _ c.requires.ready _ at_is memory volume slice next db opened chosen placed _ _ (commit_quiet _ _ _ _ _ _ c.commit.ensures.moments) w.in-Ok.ensures.answer.2.in_room _ (subst (λ (p : PlaceAt). (DriveFailures g.S.Shelf c.args.shelf.now c.commit.new.shelf p.drive.0).none) at_is w.in-Ok.ensures.answer.0) w.in-Ok.ensures.answer.2.countable (commit_opened _ _ _ _ _ _ host.drives (Local host.home.host) (Some change) w.in-Ok.ensures.end))
           (committed_carried host _ c.requires.ready _ at_is memory change next db opened chosen placed _ _ (commit_quiet _ _ _ _ _ _ c.commit.ensures.moments) (commit_opened _ _ _ _ _ _ host.drives (Local host.home.host) (Some change) w.in-Ok.ensures.end) (commit_goes_to _ _ _ _ _ _ host.drives (Local host.home.host) (Some change) w.in-Ok.ensures.end))
       | in-Err-Lost w ↦
-          let failed = subst (HasCommitCause _ db next) w.in-Err-Lost.field-0-is w.in-Err-Lost.ensures.answer.1 in
-          let rose = subst (λ (p : PlaceAt). Rose (g.S.Shelf.faults c.args.shelf.now (OnDrive p.drive.0)) (g.S.Shelf.faults c.commit.new.shelf (OnDrive p.drive.0))) at_is failed.0 in
+          let failed = subst (HasCommitCause (DriveFailures g.S.Shelf c.args.shelf.now c.commit.new.shelf c.place_at-at.result.drive.0) db next) w.in-Err-Lost.field-0-is w.in-Err-Lost.ensures.answer.1 in
+          let rose = subst (λ (p : PlaceAt). (DriveFailures g.S.Shelf c.args.shelf.now c.commit.new.shelf p.drive.0).some) at_is failed.0 in
           end_as host memory volume slice _ _ (Over (ended.Lost 0 1)) _ w.result-is memory _ (opened_still _ memory same _ db w.in-Err-Lost.ensures.answer.0 opened) _
           (lost_answer host _ c.requires.ready _ at_is memory volume slice next db opened chosen placed _ _ (commit_quiet _ _ _ _ _ _ c.commit.ensures.moments) failed.1.in_room _ memory rose)
           (lost_carried host _ c.requires.ready _ at_is memory change next db opened chosen placed _ _ (commit_quiet _ _ _ _ _ _ c.commit.ensures.moments) memory stays)
       | in-Err-TooLong w ↦
           let nothing = ap g.S.Shelf.tale (rw w.in-Err-TooLong.field-0-is at w.in-Err-TooLong.ensures.counted) in
-          let long = subst (HasCommitCause _ db next) w.in-Err-TooLong.field-0-is w.in-Err-TooLong.ensures.answer.1 in
+          let long = subst (HasCommitCause (DriveFailures g.S.Shelf c.args.shelf.now c.commit.new.shelf c.place_at-at.result.drive.0) db next) w.in-Err-TooLong.field-0-is w.in-Err-TooLong.ensures.answer.1 in
           end_as host memory volume slice _ _ _ _ w.result-is memory _ (opened_still _ memory same _ db w.in-Err-TooLong.ensures.answer.0 opened) _
-          (long_answer host _ c.requires.ready _ at_is memory volume slice next db opened chosen placed _ _ nothing _ _ _ long.0 (ap (λ (f : TooLong). f.bytes) long.1) (ap (λ (f : TooLong). f.room) long.1))
+          (long_answer host _ c.requires.ready _ at_is memory volume slice next db opened chosen placed _ _ nothing _ (ap (λ (s : g.row.S.Denot). g.S.Shelf.faults s (OnDrive 0)) (rw w.in-Err-TooLong.field-0-is at w.in-Err-TooLong.ensures.counted)) _ _ long.0 (ap (λ (f : TooLong). f.bytes) long.1) (ap (λ (f : TooLong). f.room) long.1))
           (refused_carried host memory change _ _ (ap g.S.Shelf.tale (rw w.in-Err-TooLong.field-0-is at w.in-Err-TooLong.ensures.counted)) _)
       | in-Err-Spent w ↦
           let nothing = ap g.S.Shelf.tale (rw w.in-Err-Spent.field-0-is at w.in-Err-Spent.ensures.counted) in
-          let reached = subst (HasCommitCause _ db next) w.in-Err-Spent.field-0-is w.in-Err-Spent.ensures.answer.1 in
+          let reached = subst (HasCommitCause (DriveFailures g.S.Shelf c.args.shelf.now c.commit.new.shelf c.place_at-at.result.drive.0) db next) w.in-Err-Spent.field-0-is w.in-Err-Spent.ensures.answer.1 in
           end_as host memory volume slice _ _ (Over ended.Spent) _ w.result-is memory _ (opened_still _ memory same _ db w.in-Err-Spent.ensures.answer.0 opened) _
-          (spent_answer host _ c.requires.ready _ at_is memory volume slice next db opened chosen placed _ _ nothing _ reached.0 reached.1)
+          (spent_answer host _ c.requires.ready _ at_is memory volume slice next db opened chosen placed _ _ nothing _ (ap (λ (s : g.row.S.Denot). g.S.Shelf.faults s (OnDrive 0)) (rw w.in-Err-Spent.field-0-is at w.in-Err-Spent.ensures.counted)) reached.0 reached.1)
           (spent_carried host memory change _ _ (ap g.S.Shelf.tale (rw w.in-Err-Spent.field-0-is at w.in-Err-Spent.ensures.counted)))
     ]
+
+-- the answer is this one, which has its cause
+said_cause : (failures : Failures) (this answer : Answer) → answer ≡ this → HasAnswerCause failures this → HasAnswerCause failures answer
+said_cause failures this answer is cause = subst (HasAnswerCause failures) (sym is) cause
 
 pub returns-clause-answer : goal.returns-clause-answer
 returns-clause-answer g c = λ change. record {
@@ -88,7 +96,16 @@ returns-clause-answer g c = λ change. record {
     | in-Err-TooLong w ↦ subst IsPlainAnswer (sym w.result-is) (numbers_plain w.in-Err-TooLong.fault.bytes w.in-Err-TooLong.fault.room)
     | in-Err-Spent w ↦ subst IsPlainAnswer (sym w.result-is) tt
   ];
-  cause = search rules;
+  cause =
+      let fails = DriveFailures g.S.Shelf c.args.shelf.now c.commit.new.shelf 0 in
+      let at_is : c.place_at-at.result ≡ place_of c.args.self.now.host.home = c.place_at-at.ensures ∙ ap (λ (e : Engine). place_of e.host.home) c.self.view_is in
+      elim c.match-commit.branch [
+        | in-Ok w ↦ said_cause fails accepted _ w.result-is (subst (λ (p : PlaceAt). (DriveFailures g.S.Shelf c.args.shelf.now c.commit.new.shelf p.drive.0).none) at_is w.in-Ok.ensures.answer.0)
+        | in-Err-Lost w ↦ said_cause fails (Over (ended.Lost 0 1)) _ w.result-is
+            (subst (λ (p : PlaceAt). (DriveFailures g.S.Shelf c.args.shelf.now c.commit.new.shelf p.drive.0).some) at_is (subst (HasCommitCause (DriveFailures g.S.Shelf c.args.shelf.now c.commit.new.shelf c.place_at-at.result.drive.0) c.in-Some.database c.args.next) w.in-Err-Lost.field-0-is w.in-Err-Lost.ensures.answer.1).0, refl, refl)
+        | in-Err-TooLong w ↦ said_cause fails (refusing (ReplicaFull w.in-Err-TooLong.fault.bytes w.in-Err-TooLong.fault.room)) _ w.result-is (ap (λ (s : g.row.S.Denot). g.S.Shelf.faults s (OnDrive 0)) (rw w.in-Err-TooLong.field-0-is at w.in-Err-TooLong.ensures.counted))
+        | in-Err-Spent w ↦ said_cause fails (Over ended.Spent) _ w.result-is (ap (λ (s : g.row.S.Denot). g.S.Shelf.faults s (OnDrive 0)) (rw w.in-Err-Spent.field-0-is at w.in-Err-Spent.ensures.counted))
+      ];
   awake = search rules;
   free = λ on has. absurd (no_creation (Changed change) (λ is. absurd (cc (is))) has);
   host = search rules;
@@ -103,9 +120,9 @@ nothing_open_plain = record { one_line = refl; begins = refl }
 
 pub returns-in_default-clause-answer : goal.returns-in_default-clause-answer
 returns-in_default-clause-answer g c = λ change.
-    let failed = Rose (g.S.Shelf.faults c.args.shelf.now (OnDrive 0)) (g.S.Shelf.faults c.args.shelf.now (OnDrive 0)) in
-    subst (λ (e : Engine). HasAnswered failed (ToDo (Changed change)) c.args.self.now (refusing NoDatabase) e) (sym c.self.view_is)
-    (refused_answer failed (ToDo (Changed change)) c.args.self.now c.requires.well NoDatabase nothing_open_plain)
+    let failures = DriveFailures g.S.Shelf c.args.shelf.now c.args.shelf.now 0 in
+    subst (λ (e : Engine). HasAnswered failures (ToDo (Changed change)) c.args.self.now (refusing NoDatabase) e) (sym c.self.view_is)
+    (refused_answer failures (ToDo (Changed change)) c.args.self.now c.requires.well NoDatabase refl nothing_open_plain)
 
 pub returns-clause-counted : goal.returns-clause-counted
 returns-clause-counted g c = λ volume slice.

@@ -1,11 +1,12 @@
 use Rattle.std.proofs.Common.{◌≡◌, ◌∙◌, ap, subst, sym, arith}
-use Rattle.mdv_engine.specs.Below.{told, KeptOutside, nowhere, OnDrive, OnReplies, Ends, Tale, asked_by, text_of, CarriedTo, CarryMoment, TellMoment, TurnMoment}
+use Rattle.mdv_engine.specs.Below.{told, KeptOutside, nowhere, OnReplies, Ends, Tale, asked_by, text_of, CarriedTo, CarryMoment, TellMoment, TurnMoment}
 use Rattle.mdv_shelf.proofs.Moments.{moments_after, moments_end, moments_weaker, some_is}
 use Rattle.mdv_shelf.proofs.Telling.{rests_behind, told_behind, told_once}
 use Rattle.mdv_shelf.proofs.Between.{between_of, between_then}
 use Rattle.mdv_shelf.proofs.Counts.{at_most_then}
 use Rattle.mdv_words.specs.declared.command.Line.TheVariants as words
-use Rattle.mdv_engine_law.proofs.Executing.{came_more, executed, told_cause, rose_within}
+use Rattle.mdv_engine_law.proofs.Executing.{came_more, command_cause, executed}
+use Rattle.mdv_base.proofs.Causes.{rose_within, within_calm}
 use Rattle.mdv_engine_law.proofs.Longer.{replied_more}
 use Rattle.mdv_engine_law.proofs.Fronts.{fronts_then, telling_rests}
 use Rattle.mdv_engine_law.proofs.Turning.{Carried, carried_ends, turn_carry, turn_tell, turned, knows_after}
@@ -33,7 +34,7 @@ returns-clause-moments g c =
           (λ failed more cause kept next is. came_more failed more cause host kept next answer c.args.command.now is)
           c.carry_out-answer.ensures.kept.goes
           (moments_weaker (CarryMoment host asked old) (λ t m. told m ≡ told t) _ _ (λ t m moment. moment.quiet) c.carry_out-answer.ensures.moments)
-          (λ t is. (let end = c.carry_out-answer.ensures.end t is in (end.0, end.1, end.2.answered))) c.tell.ensures.kept.goes c.tell.ensures.fronts;
+          (λ t is. (let end = c.carry_out-answer.ensures.end t is in (end.0, end.1, end.2.answered))) c.tell.ensures.kept.goes (c.tell.ensures.counted.drives 0) c.tell.ensures.fronts;
       rests = rests_behind g.B.Shelf g.met.B.Shelf.telling _ _ _ c.carry_out-answer.ensures.kept.goes
           (moments_weaker (CarryMoment host asked old) (λ t m. told m ≡ told t) _ _ (λ t m moment. moment.quiet) c.carry_out-answer.ensures.moments)
           (telling_rests g.B.Shelf g.met.B.Shelf.telling _ _ (text_of answer) c.tell.ensures.kept.goes c.tell.ensures.fronts c.tell.ensures.counted.drives);
@@ -55,7 +56,7 @@ returns-clause-end g c = λ t is.
       end.1,
       record {
         answered = λ known. executed _ _ _ _ host (words.Command c.args.command.now) old new answer c.tell.result t done.0 end.0
-            (λ rose. rose_within _ _ _ _ (omega arith) (c.tell.ensures.kept.keeps.no_fewer_faults (OnDrive 0)) rose)
+            (within_calm _ _ _ (c.tell.ensures.counted.drives 0))
             (λ rose. rose_within _ _ _ _ (c.carry_out-answer.ensures.kept.keeps.no_fewer_faults OnReplies) (omega arith) rose)
             quiet (done.2.answered known) end.2;
         turned = λ on. turned host asked old new _ t done.0 end.0 quiet answer says.plain (λ on some. says.awake on) says.free done.2.carried c.tell.result on end.2;
@@ -68,8 +69,7 @@ returns-clause-end g c = λ t is.
 
 pub returns-clause-answer : goal.returns-clause-answer
 returns-clause-answer g c = record {
-  cause = told_cause _ _ _ _ c.tell.ensures.answers.0
-      (λ rose. rose_within _ _ _ _ (omega arith) (c.tell.ensures.kept.keeps.no_fewer_faults (OnDrive 0)) rose)
+  cause = command_cause _ _ _ _ c.tell.ensures.answers.0 (within_calm _ _ _ (c.tell.ensures.counted.drives 0))
       (λ rose. rose_within _ _ _ _ (c.carry_out-answer.ensures.kept.keeps.no_fewer_faults OnReplies) (omega arith) rose)
       c.carry_out-answer.result c.tell.result c.carry_out-answer.ensures.answer.cause c.tell.ensures.answers.1;
   host = c.carry_out-answer.ensures.answer.host;

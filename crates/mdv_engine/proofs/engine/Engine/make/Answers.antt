@@ -6,7 +6,9 @@ use Rattle.mdv_engine_law.proofs.Plain.{refusal_plain}
 use Rattle.mdv_engine_law.specs.Answers.{refusing}
 use Rattle.mdv_engine_law.specs.Line.{ToDo}
 use Rattle.mdv_history.specs.History.{Created}
-use Rattle.mdv_engine.proofs.Blocks.{IsJudged, creation_judged, moments_still, refused_carried}
+use Rattle.mdv_shelf.specs.Shelves.{DriveFailures}
+use Rattle.mdv_engine.proofs.Blocks.{moments_still, refused_carried}
+use Rattle.mdv_engine.proofs.Judged.{IsJudged, creation_judged, judged_said}
 use Rattle.mdv_engine.proofs.Counting.{refused_counted}
 use Rattle.mdv_engine.proofs.Ending.{command_ends, refused_answer}
 use Rattle.mdv_engine.specs.Engine.{case_at}
@@ -24,12 +26,12 @@ make_database-requires-clause-up g c = allowed_up (case_at c.args.self.now) c.ar
 pub returns-in-Some-clause-end : goal.returns-in-Some-clause-end
 returns-in-Some-clause-end g c =
     command_ends _ c.args.self.now (Create c.args.slice c.args.force) (refusing c.in-Some.refusal) c.args.self.now _ _
-    (λ t start. (t, start, λ known. came.refused c.in-Some.refusal (sym c.creation_refusal.ensures ∙ c.in-Some.is) (refl, record { memory = refl; content = λ block. refl })))
+    (λ t start. (t, start, λ known. came.refused refl c.in-Some.refusal (sym c.creation_refusal.ensures ∙ c.in-Some.is) (refl, record { memory = refl; content = λ block. refl })))
     (refused_carried c.args.self.now.host (ToDo Created) c.args.self.now.state _ _ refl c.in-Some.refusal)
 
 pub returns-in-Some-clause-answer : goal.returns-in-Some-clause-answer
 returns-in-Some-clause-answer g c =
-    refused_answer _ _ c.args.self.now c.requires.well c.in-Some.refusal (refusal_plain (case_at c.args.self.now) (Create c.args.slice c.args.force) c.in-Some.refusal (sym c.creation_refusal.ensures ∙ c.in-Some.is))
+    refused_answer _ _ c.args.self.now c.requires.well c.in-Some.refusal (judged_said (DriveFailures g.S.Shelf c.args.shelf.now c.args.shelf.now 0) c.in-Some.refusal (creation_judged (case_at c.args.self.now) c.args.slice c.args.force c.in-Some.refusal (sym c.creation_refusal.ensures ∙ c.in-Some.is)) refl) (refusal_plain (case_at c.args.self.now) (Create c.args.slice c.args.force) c.in-Some.refusal (sym c.creation_refusal.ensures ∙ c.in-Some.is))
 
 pub returns-in-None-clause-end : goal.returns-in-None-clause-end
 returns-in-None-clause-end g c = c.make_database.ensures.end c.args.slice c.args.force (sym c.creation_refusal.ensures ∙ c.in-None.is)

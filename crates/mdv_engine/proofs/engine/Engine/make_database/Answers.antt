@@ -1,6 +1,7 @@
 use Rattle.std.proofs.Common.{◌≡◌, ◌∙◌, ◌+◌, ◌≤◌, List, ℕ, Bool, false, Option, Some, None, Err, refl, sym, ap, subst, arith, rules}
 use Rattle.mdv_engine_law.specs.Line.{ToDo}
-use Rattle.mdv_engine.specs.Below.{SliceName, Create, Rose, Local, IoFault, OutOfMemory, OnDrive, Ends, Moments, Tale, place_of, PlaceAt, IsPlaceOf, Geometry, IsCreated, Log, is_firm, Site, Newest, Anything, GoesMaking, IsOpened, ShowsNothing, Created, IsQuiet, IsSafe, first_newest, Answer, IsReady, identity_of, Memory, CameTo, IsAllowed, kept_at, CarriedTo, CarryMoment, Knows}
+use Rattle.mdv_shelf.specs.Shelves.{DriveFailures}
+use Rattle.mdv_engine.specs.Below.{Failures, SliceName, Create, Local, IoFault, OutOfMemory, Ends, Moments, Tale, place_of, PlaceAt, IsPlaceOf, Geometry, IsCreated, Log, is_firm, Site, Newest, Anything, GoesMaking, IsOpened, ShowsNothing, Created, IsQuiet, IsSafe, first_newest, Answer, IsReady, identity_of, Memory, CameTo, IsAllowed, kept_at, CarriedTo, CarryMoment, Knows}
 use Rattle.mdv_database.specs.Database as database
 use Rattle.mdv_store_law.specs.Standing.{ShowsReplica}
 use Rattle.mdv_engine_law.specs.Answers.{accepted, refusing}
@@ -19,8 +20,8 @@ use Rattle.mdv_engine.specs.Engine.{case_at}
 use Rattle.mdv_engine.proofs.engine.Engine.make_database.Goals as goal
 
 -- what a creation that came to this answer, and left this in memory, is to be
-abbrev Creates : SliceName → Bool → Type 0 → Answer → Memory → Option Tale → Option Tale → Engine → Type 0
-Creates slice force failed answer next a b x = Ends (λ t u. Knows x.host x.state t → CameTo failed x.host (kept_at x.state t) (Create slice force) answer (kept_at next u)) a b
+abbrev Creates : SliceName → Bool → Failures → Answer → Memory → Option Tale → Option Tale → Engine → Type 0
+Creates slice force failures answer next a b x = Ends (λ t u. Knows x.host x.state t → CameTo failures x.host (kept_at x.state t) (Create slice force) answer (kept_at next u)) a b
 
 abbrev Carries : Answer → Memory → Option Tale → Option Tale → Engine → Type 0
 Carries answer next a b x = Ends (CarriedTo x.host (ToDo Created) x.state answer next) a b
@@ -56,9 +57,9 @@ module _ (sizes : List ℕ) (e v : Engine) (is : e ≡ v) (readied : IsReady v.h
   on_ours : (P : Geometry → Type 0) → OnEach P → P e.host.drives
   on_ours P each = each e.host.drives (place_is e.host sizes ready at at_is room)
 
-  lost_made : OnEach (λ drives. Ends (λ _ u. ShowsReplica (site drives) (identity_of e.host e.state.begun) u) a b) → (slice : SliceName) (force : Bool) → IsAllowed (case_at v) (Create slice force) → (failed : Type 0) → failed → Creates slice force failed (Over (ended.Lost 0 1)) (begun e.state) a b v
-  lost_made shows slice force free failed so = subst (Creates slice force failed (Over (ended.Lost 0 1)) (begun e.state) a b) is
-      (lost_creation e.host sizes ready at at_is e.state room none up a b quiet slice force (allowed slice force free) failed so (on_ours (λ drives. Ends (λ _ u. ShowsReplica (site drives) (identity_of e.host e.state.begun) u) a b) shows))
+  lost_made : OnEach (λ drives. Ends (λ _ u. ShowsReplica (site drives) (identity_of e.host e.state.begun) u) a b) → (slice : SliceName) (force : Bool) → IsAllowed (case_at v) (Create slice force) → (failures : Failures) → failures.some → Creates slice force failures (Over (ended.Lost 0 1)) (begun e.state) a b v
+  lost_made shows slice force free failures so = subst (Creates slice force failures (Over (ended.Lost 0 1)) (begun e.state) a b) is
+      (lost_creation e.host sizes ready at at_is e.state room none up a b quiet slice force (allowed slice force free) failures so (on_ours (λ drives. Ends (λ _ u. ShowsReplica (site drives) (identity_of e.host e.state.begun) u) a b) shows))
 
   module _ (stays : OnEach (λ drives. Moments (Goes (λ s. Anything) drives) a b)) where
     moments : Moments (CarryMoment v.host (ToDo Created) v.state) a b
@@ -79,8 +80,8 @@ module _ (sizes : List ℕ) (e v : Engine) (is : e ≡ v) (readied : IsReady v.h
     ours : Ends (λ t u. IsSafe (site e.host.drives) (identity_of e.host e.state.begun) u) a b
     ours = on_ours (λ drives. Ends (λ t u. IsSafe (site drives) (identity_of e.host e.state.begun) u) a b) safe
 
-    made : (slice : SliceName) (force : Bool) → IsAllowed (case_at v) (Create slice force) → (failed : Type 0) → Creates slice force failed accepted next a b v
-    made slice force free failed = subst (Creates slice force failed accepted next a b) is (made_creation e.host sizes ready at at_is e.state room none up a b quiet slice force (allowed slice force free) ours failed next next_is)
+    made : (slice : SliceName) (force : Bool) → IsAllowed (case_at v) (Create slice force) → (failures : Failures) → failures.none → Creates slice force failures accepted next a b v
+    made slice force free failures calm = subst (Creates slice force failures accepted next a b) is (made_creation e.host sizes ready at at_is e.state room none up a b quiet slice force (allowed slice force free) ours failures calm next next_is)
 
     carried : OnEach (λ drives. Ends (λ t u. IsOpened (site drives) newest u) a b) → OnEach (λ drives. Ends (Goes (λ s. IsCreated s (identity_of e.host e.state.begun) newest.table) drives) a b) → Carries accepted next a b v
     carried opened goes = subst (Carries accepted next a b) is (made_carried e.host sizes ready at at_is e.state room none up a b quiet newest next new next_is
@@ -88,9 +89,9 @@ module _ (sizes : List ℕ) (e v : Engine) (is : e ≡ v) (readied : IsReady v.h
         (on_ours (λ drives. Ends (Goes (λ s. IsCreated s (identity_of e.host e.state.begun) newest.table) drives) a b) goes))
 
   module _ (nothing : (drives : Geometry) → IsPlaceOf drives at.place → Ends (λ t u. ShowsNothing (site drives) t → ShowsNothing (site drives) u) a b) where
-    unmade : (slice : SliceName) (force : Bool) → IsAllowed (case_at v) (Create slice force) → (failed : Type 0) → failed → Creates slice force failed (refusing IoFault) (begun e.state) a b v
-    unmade slice force free failed so = subst (Creates slice force failed (refusing IoFault) (begun e.state) a b) is
-        (unmade_creation e.host sizes ready at at_is e.state room none up a b quiet (on_ours (λ drives. Ends (λ t u. ShowsNothing (site drives) t → ShowsNothing (site drives) u) a b) nothing) slice force (allowed slice force free) failed so)
+    unmade : (slice : SliceName) (force : Bool) → IsAllowed (case_at v) (Create slice force) → (failures : Failures) → failures.some → Creates slice force failures (refusing IoFault) (begun e.state) a b v
+    unmade slice force free failures so = subst (Creates slice force failures (refusing IoFault) (begun e.state) a b) is
+        (unmade_creation e.host sizes ready at at_is e.state room none up a b quiet (on_ours (λ drives. Ends (λ t u. ShowsNothing (site drives) t → ShowsNothing (site drives) u) a b) nothing) slice force (allowed slice force free) failures so)
 
     unmade_carries : OnEach (λ drives. Ends (Goes (λ s lg. is_firm lg ≡ false) drives) a b) → Carries (refusing IoFault) (begun e.state) a b v
     unmade_carries goes = subst (Carries (refusing IoFault) (begun e.state) a b) is
@@ -100,9 +101,9 @@ module _ (sizes : List ℕ) (e v : Engine) (is : e ≡ v) (readied : IsReady v.h
 unbegun : (e v : Engine) → e ≡ v → (a b : Option Tale) → b ≡ a → Carries (refusing OutOfMemory) (begun e.state) a b v
 unbegun e v is a b same = subst (Carries (refusing OutOfMemory) (begun e.state) a b) is (unbegun_carried e.host e.state a b same)
 
-unbegun_made : (e v : Engine) → e ≡ v → (a b : Option Tale) → b ≡ a → (slice : SliceName) (force : Bool) → IsAllowed (case_at v) (Create slice force) → (failed : Type 0) → Creates slice force failed (refusing OutOfMemory) (begun e.state) a b v
-unbegun_made e v is a b same slice force free failed = subst (Creates slice force failed (refusing OutOfMemory) (begun e.state) a b) is
-    (unbegun_creation e.host e.state a b same slice force (subst (λ (x : Engine). IsAllowed (case_at x) (Create slice force)) (sym is) free) failed)
+unbegun_made : (e v : Engine) → e ≡ v → (a b : Option Tale) → b ≡ a → (slice : SliceName) (force : Bool) → IsAllowed (case_at v) (Create slice force) → (failures : Failures) → failures.none → Creates slice force failures (refusing OutOfMemory) (begun e.state) a b v
+unbegun_made e v is a b same slice force free failures calm = subst (Creates slice force failures (refusing OutOfMemory) (begun e.state) a b) is
+    (unbegun_creation e.host e.state a b same slice force (subst (λ (x : Engine). IsAllowed (case_at x) (Create slice force)) (sym is) free) failures calm)
 
 -- what is kept of the host
 same_host : (e v : Engine) → e ≡ v → e.host ≡ v.host
@@ -123,27 +124,27 @@ returns-in-Err-Memory-clause-moments g c = moments_still c.args.self.now.host (T
 pub returns-in-Ok-clause-end : goal.returns-in-Ok-clause-end
 returns-in-Ok-clause-end g c = λ slice force free.
     command_ends _ c.args.self.now (Create slice force) accepted (record { host = c.args.self.now.host; state = _ }) _ _
-    (made _ _ _ c.self.view_is c.requires.ready c.place_at.result c.place_at.ensures c.requires.room c.requires.none c.requires.up _ _ (create_quiet _ _ _ _ _ _ c.create.ensures.moments) c.in-Ok.database c.in-Ok.ensures.answer.is (create_safe _ _ _ _ _ _ _ c.in-Ok.ensures.end) slice force free (Rose (g.S.Shelf.faults c.args.shelf.now (OnDrive 0)) (g.S.Shelf.faults c.create.new.shelf (OnDrive 0))))
-    (carried _ _ _ c.self.view_is c.requires.ready c.place_at.result c.place_at.ensures c.requires.room c.requires.none c.requires.up _ _ (create_quiet _ _ _ _ _ _ c.create.ensures.moments) c.in-Ok.database c.in-Ok.ensures.answer.is (create_safe _ _ _ _ _ _ _ c.in-Ok.ensures.end) (create_opened _ _ _ _ _ _ _ c.in-Ok.ensures.end c.in-Ok.ensures.answer.is) (create_goes_to _ _ _ _ _ _ _ c.in-Ok.ensures.end))
+    (made _ _ _ c.self.view_is c.requires.ready c.place_at.result c.place_at.ensures c.requires.room c.requires.none c.requires.up _ _ (create_quiet _ _ _ _ _ _ c.create.ensures.moments) c.in-Ok.database c.in-Ok.ensures.answer.1.is (create_safe _ _ _ _ _ _ _ c.in-Ok.ensures.end) slice force free (DriveFailures g.S.Shelf c.args.shelf.now c.create.new.shelf 0) (subst (λ (p : PlaceAt). (DriveFailures g.S.Shelf c.args.shelf.now c.create.new.shelf p.drive.0).none) c.place_at.ensures c.in-Ok.ensures.answer.0))
+    (carried _ _ _ c.self.view_is c.requires.ready c.place_at.result c.place_at.ensures c.requires.room c.requires.none c.requires.up _ _ (create_quiet _ _ _ _ _ _ c.create.ensures.moments) c.in-Ok.database c.in-Ok.ensures.answer.1.is (create_safe _ _ _ _ _ _ _ c.in-Ok.ensures.end) (create_opened _ _ _ _ _ _ _ c.in-Ok.ensures.end c.in-Ok.ensures.answer.1.is) (create_goes_to _ _ _ _ _ _ _ c.in-Ok.ensures.end))
 
 pub returns-in-Err-Failed-clause-end : goal.returns-in-Err-Failed-clause-end
 returns-in-Err-Failed-clause-end g c = λ slice force free.
     command_ends _ c.args.self.now (Create slice force) (refusing IoFault) (record { host = c.args.self.now.host; state = _ }) _ _
-    (unmade _ _ _ c.self.view_is c.requires.ready c.place_at.result c.place_at.ensures c.requires.room c.requires.none c.requires.up _ _ (create_quiet _ _ _ _ _ _ c.create.ensures.moments) (λ drives has. create_failed _ _ _ _ _ _ _ c.create.ensures.end (c.in-Err-Failed.is ∙ ap Err c.in-Err-Failed.field-0-is) drives) slice force free (Rose (g.S.Shelf.faults c.args.shelf.now (OnDrive 0)) (g.S.Shelf.faults c.create.new.shelf (OnDrive 0))) (subst (λ (n : ℕ). Rose (g.S.Shelf.faults c.args.shelf.now (OnDrive n)) (g.S.Shelf.faults c.create.new.shelf (OnDrive n))) (ap (λ (p : PlaceAt). p.drive.0) c.place_at.ensures) (rw c.in-Err-Failed.field-0-is at c.in-Err-Failed.ensures.answer)))
+    (unmade _ _ _ c.self.view_is c.requires.ready c.place_at.result c.place_at.ensures c.requires.room c.requires.none c.requires.up _ _ (create_quiet _ _ _ _ _ _ c.create.ensures.moments) (λ drives has. create_failed _ _ _ _ _ _ _ c.create.ensures.end (c.in-Err-Failed.is ∙ ap Err c.in-Err-Failed.field-0-is) drives) slice force free (DriveFailures g.S.Shelf c.args.shelf.now c.create.new.shelf 0) (subst (λ (p : PlaceAt). (DriveFailures g.S.Shelf c.args.shelf.now c.create.new.shelf p.drive.0).some) c.place_at.ensures (rw c.in-Err-Failed.field-0-is at c.in-Err-Failed.ensures.answer)))
     (unmade_carries _ _ _ c.self.view_is c.requires.ready c.place_at.result c.place_at.ensures c.requires.room c.requires.none c.requires.up _ _ (create_quiet _ _ _ _ _ _ c.create.ensures.moments) (λ drives has. create_failed _ _ _ _ _ _ _ c.create.ensures.end (c.in-Err-Failed.is ∙ ap Err c.in-Err-Failed.field-0-is) drives) (create_goes_to _ _ _ _ _ _ _ (rw c.in-Err-Failed.field-0-is at c.in-Err-Failed.ensures.end)))
 
 pub returns-in-Err-Lost-clause-end : goal.returns-in-Err-Lost-clause-end
 returns-in-Err-Lost-clause-end g c = λ slice force free.
-    command_ends _ c.args.self.now (Create slice force) (Over (ended.Lost 0 1)) (record { host = c.args.self.now.host; state = _ }) _ _ (lost_made _ _ _ c.self.view_is c.requires.ready c.place_at.result c.place_at.ensures c.requires.room c.requires.none c.requires.up _ _ (create_quiet _ _ _ _ _ _ c.create.ensures.moments) (create_lost _ _ _ _ _ _ _ c.create.ensures.end (c.in-Err-Lost.is ∙ ap Err c.in-Err-Lost.field-0-is)) slice force free (Rose (g.S.Shelf.faults c.args.shelf.now (OnDrive 0)) (g.S.Shelf.faults c.create.new.shelf (OnDrive 0))) (subst (λ (n : ℕ). Rose (g.S.Shelf.faults c.args.shelf.now (OnDrive n)) (g.S.Shelf.faults c.create.new.shelf (OnDrive n))) (ap (λ (p : PlaceAt). p.drive.0) c.place_at.ensures) (rw c.in-Err-Lost.field-0-is at c.in-Err-Lost.ensures.answer))) (lost _ _ _ c.self.view_is c.requires.ready c.place_at.result c.place_at.ensures c.requires.room c.requires.none c.requires.up _ _ (create_quiet _ _ _ _ _ _ c.create.ensures.moments) (create_goes _ _ _ _ _ _ c.create.ensures.moments) _)
+    command_ends _ c.args.self.now (Create slice force) (Over (ended.Lost 0 1)) (record { host = c.args.self.now.host; state = _ }) _ _ (lost_made _ _ _ c.self.view_is c.requires.ready c.place_at.result c.place_at.ensures c.requires.room c.requires.none c.requires.up _ _ (create_quiet _ _ _ _ _ _ c.create.ensures.moments) (create_lost _ _ _ _ _ _ _ c.create.ensures.end (c.in-Err-Lost.is ∙ ap Err c.in-Err-Lost.field-0-is)) slice force free (DriveFailures g.S.Shelf c.args.shelf.now c.create.new.shelf 0) (subst (λ (p : PlaceAt). (DriveFailures g.S.Shelf c.args.shelf.now c.create.new.shelf p.drive.0).some) c.place_at.ensures (rw c.in-Err-Lost.field-0-is at c.in-Err-Lost.ensures.answer))) (lost _ _ _ c.self.view_is c.requires.ready c.place_at.result c.place_at.ensures c.requires.room c.requires.none c.requires.up _ _ (create_quiet _ _ _ _ _ _ c.create.ensures.moments) (create_goes _ _ _ _ _ _ c.create.ensures.moments) _)
 
 pub returns-in-Err-Memory-clause-end : goal.returns-in-Err-Memory-clause-end
 returns-in-Err-Memory-clause-end g c = λ slice force free.
-    command_ends _ c.args.self.now (Create slice force) (refusing OutOfMemory) (record { host = c.args.self.now.host; state = _ }) _ _ (unbegun_made _ _ c.self.view_is _ _ (ap g.S.Shelf.tale (rw (c.in-Err-Memory.is ∙ ap Err c.in-Err-Memory.field-0-is) at c.create.ensures.counted)) slice force free (Rose (g.S.Shelf.faults c.args.shelf.now (OnDrive 0)) (g.S.Shelf.faults c.create.new.shelf (OnDrive 0)))) (unbegun _ _ c.self.view_is _ _ (ap g.S.Shelf.tale (rw (c.in-Err-Memory.is ∙ ap Err c.in-Err-Memory.field-0-is) at c.create.ensures.counted)))
+    command_ends _ c.args.self.now (Create slice force) (refusing OutOfMemory) (record { host = c.args.self.now.host; state = _ }) _ _ (unbegun_made _ _ c.self.view_is _ _ (ap g.S.Shelf.tale (rw (c.in-Err-Memory.is ∙ ap Err c.in-Err-Memory.field-0-is) at c.create.ensures.counted)) slice force free (DriveFailures g.S.Shelf c.args.shelf.now c.create.new.shelf 0) (subst (λ (p : PlaceAt). (DriveFailures g.S.Shelf c.args.shelf.now c.create.new.shelf p.drive.0).none) c.place_at.ensures (rw c.in-Err-Memory.field-0-is at c.in-Err-Memory.ensures.answer))) (unbegun _ _ c.self.view_is _ _ (ap g.S.Shelf.tale (rw (c.in-Err-Memory.is ∙ ap Err c.in-Err-Memory.field-0-is) at c.create.ensures.counted)))
 
 pub returns-in-Ok-clause-answer : goal.returns-in-Ok-clause-answer
 returns-in-Ok-clause-answer g c = record {
   plain = tt;
-  cause = tt;
+  cause = (subst (λ (p : PlaceAt). (DriveFailures g.S.Shelf c.args.shelf.now c.create.new.shelf p.drive.0).none) c.place_at.ensures c.in-Ok.ensures.answer.0);
   awake = λ on. c.requires.up;
   free = λ on has. c.requires.none;
   host = same_host _ _ c.self.view_is;
@@ -154,7 +155,7 @@ returns-in-Ok-clause-answer g c = record {
 pub returns-in-Err-Failed-clause-answer : goal.returns-in-Err-Failed-clause-answer
 returns-in-Err-Failed-clause-answer g c = record {
   plain = fault_plain;
-  cause = tt;
+  cause = (subst (λ (p : PlaceAt). (DriveFailures g.S.Shelf c.args.shelf.now c.create.new.shelf p.drive.0).some) c.place_at.ensures (rw c.in-Err-Failed.field-0-is at c.in-Err-Failed.ensures.answer));
   awake = λ on. c.requires.up;
   free = λ on has. c.requires.none;
   host = same_host _ _ c.self.view_is;
@@ -165,7 +166,7 @@ returns-in-Err-Failed-clause-answer g c = record {
 pub returns-in-Err-Lost-clause-answer : goal.returns-in-Err-Lost-clause-answer
 returns-in-Err-Lost-clause-answer g c = record {
   plain = tt;
-  cause = ((subst (λ (n : ℕ). Rose (g.S.Shelf.faults c.args.shelf.now (OnDrive n)) (g.S.Shelf.faults c.create.new.shelf (OnDrive n))) (ap (λ (p : PlaceAt). p.drive.0) c.place_at.ensures) (rw c.in-Err-Lost.field-0-is at c.in-Err-Lost.ensures.answer)), refl, refl);
+  cause = ((subst (λ (p : PlaceAt). (DriveFailures g.S.Shelf c.args.shelf.now c.create.new.shelf p.drive.0).some) c.place_at.ensures (rw c.in-Err-Lost.field-0-is at c.in-Err-Lost.ensures.answer)), refl, refl);
   awake = λ on. c.requires.up;
   free = λ on has. c.requires.none;
   host = same_host _ _ c.self.view_is;
@@ -176,7 +177,7 @@ returns-in-Err-Lost-clause-answer g c = record {
 pub returns-in-Err-Memory-clause-answer : goal.returns-in-Err-Memory-clause-answer
 returns-in-Err-Memory-clause-answer g c = record {
   plain = memory_plain;
-  cause = tt;
+  cause = (subst (λ (p : PlaceAt). (DriveFailures g.S.Shelf c.args.shelf.now c.create.new.shelf p.drive.0).none) c.place_at.ensures (rw c.in-Err-Memory.field-0-is at c.in-Err-Memory.ensures.answer));
   awake = λ on. c.requires.up;
   free = λ on has. c.requires.none;
   host = same_host _ _ c.self.view_is;

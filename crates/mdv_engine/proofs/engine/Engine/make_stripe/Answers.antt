@@ -1,10 +1,12 @@
 use Rattle.std.proofs.Common.{refl}
 use Rattle.mdv_table.specs.declared.change.Change.TheVariants.{MakeStripe}
 use Rattle.mdv_words.specs.declared.command.Command.TheVariants as command
+use Rattle.mdv_shelf.specs.Shelves.{DriveFailures}
+use Rattle.mdv_engine.proofs.Judged.{change_cause, change_no_fault}
 use Rattle.mdv_engine.proofs.Commits.{refused_carried}
 use Rattle.mdv_engine.proofs.Committing.{refused_line, refused_plain}
 use Rattle.mdv_engine_law.specs.Answers.{refusing}
-use Rattle.mdv_engine.proofs.Counting.{none_at_most, refused_counted}
+use Rattle.mdv_engine.proofs.Counting.{refused_counted}
 use Rattle.mdv_engine.proofs.Ending.{command_ends, refused_answer}
 use Rattle.mdv_engine.proofs.engine.Engine.make_stripe.Goals as goal
 
@@ -14,7 +16,7 @@ returns-in-Ok-clause-end g c = c.commit.ensures.end c.args.volume c.args.slice c
 pub returns-in-Err-clause-end : goal.returns-in-Err-clause-end
 returns-in-Err-clause-end g c =
     command_ends _ c.args.self.now (command.MakeStripe c.args.volume c.args.slice) (refusing c.in-Err.refusal) c.args.self.now _ _
-    (λ t start. (t, start, λ known. refused_line c.args.self.now.host c.args.self.now.state c.args.volume c.args.slice _ t c.in-Err.refusal c.in-Err.ensures.err))
+    (λ t start. (t, start, λ known. refused_line c.args.self.now.host c.args.self.now.state c.args.volume c.args.slice (DriveFailures g.S.Shelf c.args.shelf.now c.args.shelf.now 0) refl t c.in-Err.refusal c.in-Err.ensures.err))
     (refused_carried c.args.self.now.host c.args.self.now.state (MakeStripe c.args.volume c.args.slice) _ _ refl c.in-Err.refusal)
 
 pub returns-in-Ok-clause-answer : goal.returns-in-Ok-clause-answer
@@ -22,12 +24,12 @@ returns-in-Ok-clause-answer g c = c.commit.ensures.answer (MakeStripe c.args.vol
 
 pub returns-in-Err-clause-answer : goal.returns-in-Err-clause-answer
 returns-in-Err-clause-answer g c =
-    refused_answer _ _ c.args.self.now c.requires.well c.in-Err.refusal (refused_plain c.args.self.now.host c.args.self.now.state c.args.volume c.args.slice c.in-Err.refusal c.in-Err.ensures.err)
+    refused_answer _ _ c.args.self.now c.requires.well c.in-Err.refusal (change_cause c.args.self.now.host c.args.self.now.state (MakeStripe c.args.volume c.args.slice) (DriveFailures g.S.Shelf c.args.shelf.now c.args.shelf.now 0) refl c.in-Err.refusal c.in-Err.ensures.err) (refused_plain c.args.self.now.host c.args.self.now.state c.args.volume c.args.slice c.in-Err.refusal c.in-Err.ensures.err)
 
 pub returns-in-Err-clause-counted : goal.returns-in-Err-clause-counted
 returns-in-Err-clause-counted g c =
     refused_counted g.S.Shelf.tale g.S.Shelf.calls g.S.Shelf.written _ _ (command.MakeStripe c.args.volume c.args.slice) c.in-Err.refusal
-    (λ fault. none_at_most g.S.Shelf.tale g.S.Shelf.calls g.S.Shelf.written _ _ 6 4096 refl) refl
+    (change_no_fault c.args.self.now.host c.args.self.now.state (MakeStripe c.args.volume c.args.slice) c.in-Err.refusal c.in-Err.ensures.err) refl
 
 pub returns-in-Ok-clause-counted : goal.returns-in-Ok-clause-counted
 returns-in-Ok-clause-counted g c = c.commit.ensures.counted c.args.volume c.args.slice

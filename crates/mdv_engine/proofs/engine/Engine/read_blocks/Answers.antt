@@ -1,7 +1,7 @@
 use Rattle.std.proofs.Common.{◌≡◌, ◌+◌, None, sym, subst, ℕ, refl, arith}
 use Rattle.mdv_base.specs.declared.refusal.Refusal.TheVariants.{IoFault}
 use Rattle.mdv_engine_law.specs.Refusals.{blocks_refusal}
-use Rattle.mdv_engine.proofs.Blocks.{blocks_judged}
+use Rattle.mdv_engine.proofs.Judged.{blocks_judged}
 use Rattle.mdv_shelf.proofs.Counts.{took_at_most, took_one}
 use Rattle.mdv_engine_law.specs.Line.{AreBlocksAt}
 use Rattle.mdv_engine_law.proofs.Keeping.{blocks_shown}
@@ -15,6 +15,7 @@ returns-in-Ok-clause-ok g c = record {
   allowed = subst (λ (n : ℕ). blocks_refusal c.args.self.now.state.opened c.args.volume (c.args.at + n) ≡ None) (sym c.read.auto.out) c.in_ok-first.ensures.free;
   blocks = c.read.new.out;
   as_told = refl;
+  calm = c.in-Ok.ensures.cause.calm;
   as_there = λ t start. sym (blocks_shown t c.in_ok-first.first c.read.new.out (c.in-Ok.ensures.reads.gave t start));
 }
 

@@ -2,8 +2,9 @@ use Rattle.std.proofs.Common.{refl}
 use Rattle.mdv_shelf.proofs.Moments.{moments_weaker}
 use Rattle.mdv_shelf.proofs.Telling.{told_once}
 use Rattle.mdv_engine.specs.Below.{text_of, TellMoment, TurnMoment}
+use Rattle.mdv_engine_law.specs.declared.answer.Outcome.TheVariants as outcome
 use Rattle.mdv_engine_law.specs.Answers.{refusing}
-use Rattle.mdv_engine_law.proofs.Executing.{told_cause}
+use Rattle.mdv_engine_law.proofs.Executing.{reply_cause}
 use Rattle.mdv_engine_law.proofs.Fronts.{fronts_alone, telling_rests}
 use Rattle.mdv_engine_law.proofs.Longer.{replied_more}
 use Rattle.mdv_engine_law.proofs.Turning.{refusal_told}
@@ -14,12 +15,12 @@ returns-clause-moments g c = λ ask.
     let host = c.args.self.now.host in
     let memory = c.args.self.now.state in record {
       each = moments_weaker (TellMoment (text_of (refusing c.args.refusal.now))) (TurnMoment host ask memory) _ _ (refusal_told host memory ask c.args.refusal.now c.requires) c.tell.ensures.fronts;
-      fronts = fronts_alone g.B.Shelf g.met.B.Shelf.telling _ _ host memory (refusing c.args.refusal.now) c.tell.ensures.kept.goes c.tell.ensures.fronts;
+      fronts = fronts_alone g.B.Shelf g.met.B.Shelf.telling _ _ host memory (refusing c.args.refusal.now) c.tell.ensures.kept.goes (c.tell.ensures.counted.drives 0) c.tell.ensures.fronts;
       rests = telling_rests g.B.Shelf g.met.B.Shelf.telling _ _ (text_of (refusing c.args.refusal.now)) c.tell.ensures.kept.goes c.tell.ensures.fronts c.tell.ensures.counted.drives;
     }
 
 pub returns-clause-answer : goal.returns-clause-answer
-returns-clause-answer g c = record { cause = told_cause _ _ _ _ c.tell.ensures.answers.0 (λ rose. rose) (λ rose. rose) (refusing c.args.refusal.now) c.tell.result tt c.tell.ensures.answers.1; same = refl }
+returns-clause-answer g c = record { cause = reply_cause _ c.tell.ensures.answers.0 (outcome.Refused c.args.refusal.now) c.tell.result c.tell.ensures.answers.1; calm = c.tell.ensures.counted.drives 0; same = refl }
 
 pub returns-clause-counted : goal.returns-clause-counted
 returns-clause-counted g c = record {

@@ -1,6 +1,7 @@
 use Rattle.std.proofs.Common.{◌≡◌, ◌∙◌, ◌+◌, None, inl, ℕ, length, take, ◌++◌, drop, sym, subst, ap, arith}
 use Rattle.std.proofs.Math.Seq.{take-append_seam}
-use Rattle.mdv_engine.specs.Below.{Read, Rose, OnDrive, last, values_reply, AreBlocksAt, blocks_of}
+use Rattle.mdv_shelf.specs.Shelves.{DriveFailures}
+use Rattle.mdv_engine.specs.Below.{Read, last, values_reply, AreBlocksAt, blocks_of}
 use Rattle.mdv_engine.specs.Engine.{HasBlocksCause}
 use Rattle.mdv_engine_law.specs.Refusals.{blocks_refusal}
 use Rattle.mdv_engine.proofs.Counting.{blocks_counted}
@@ -10,9 +11,9 @@ use Rattle.mdv_engine.proofs.engine.Engine.values.Goals as goal
 pub returns-in-Err-clause-err : goal.returns-in-Err-clause-err
 returns-in-Err-clause-err g c =
     let counted : length c.read_blocks.new.out ≡ c.args.count = c.read_blocks.auto.out ∙ ap length c.as_mut_slice.ensures.value ∙ c.in_ok-blocks.ensures.ok in
-    let failed = Rose (g.S.Shelf.faults c.args.shelf.now (OnDrive 0)) (g.S.Shelf.faults c.read_blocks.new.shelf (OnDrive 0)) in
+    let failures = DriveFailures g.S.Shelf c.args.shelf.now c.read_blocks.new.shelf 0 in
     inl
-    (subst (λ (n : ℕ). HasBlocksCause failed c.args.self.now.host c.args.self.now.state c.args.volume c.args.at n c.in-Err.refusal) counted c.in-Err.ensures.err)
+    (subst (λ (n : ℕ). HasBlocksCause failures c.args.self.now.host c.args.self.now.state c.args.volume c.args.at n c.in-Err.refusal) counted c.in-Err.ensures.err)
 
 pub returns-in-Ok-new-clause-ok : goal.returns-in-Ok-new-clause-ok
 returns-in-Ok-new-clause-ok g c =
@@ -26,6 +27,7 @@ returns-in-Ok-new-clause-ok g c =
       allowed = subst (λ (n : ℕ). blocks_refusal c.args.self.now.state.opened c.args.volume (c.args.at + n) ≡ None) counted read.allowed;
       blocks = c.read_blocks.new.out;
       as_told = c.in-Ok-new.ensures ∙ ap (values_reply c.args.at) all;
+      calm = read.calm;
       as_there = λ t start. read.as_told ∙ read.as_there t start ∙ ap (blocks_of (last t 0) read.block) counted;
     }
 

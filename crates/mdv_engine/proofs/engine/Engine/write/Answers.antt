@@ -1,8 +1,9 @@
 use Rattle.std.proofs.Common.{◌∷◌, [], ap, refl, arith}
 use Rattle.mdv_words.specs.declared.command.Command.TheVariants as command
-use Rattle.mdv_engine.specs.Below.{Rose, OnDrive, Wrote}
+use Rattle.mdv_shelf.specs.Shelves.{DriveFailures}
+use Rattle.mdv_engine.specs.Below.{Wrote}
 use Rattle.mdv_engine_law.specs.Answers.{accepted, refusing}
-use Rattle.mdv_engine.proofs.Blocks.{torn_of, unwritten, unwritten_plain, write_moments, written_carried, written_line}
+use Rattle.mdv_engine.proofs.Blocks.{torn_of, unwritten, unwritten_cause, unwritten_plain, write_moments, written_carried, written_line}
 use Rattle.mdv_engine.proofs.Ending.{command_ends, no_creation, refused_answer}
 use Rattle.mdv_engine.proofs.Places.{awake_blocks}
 use Rattle.mdv_engine.proofs.engine.Engine.write.Goals as goal
@@ -13,13 +14,13 @@ returns-in-Ok-clause-moments g c = write_moments c.args.self.now.host (g.S.Shelf
 pub returns-in-Ok-clause-end : goal.returns-in-Ok-clause-end
 returns-in-Ok-clause-end g c =
     rw (c.write_blocks.ensures.same) (command_ends _ c.args.self.now (command.Write c.args.volume c.args.at c.args.block.now) accepted c.args.self.now _ _
-    (written_line c.args.self.now.host (g.S.Shelf.sizes c.args.shelf.now) c.requires.ready c.args.self.now.state c.requires.well c.args.volume c.args.at c.args.block.now _ _ c.in-Ok.ensures.put.putting.block c.in-Ok.ensures.put.putting.there c.in-Ok.ensures.put.putting.allowed c.in-Ok.ensures.put.putting.moments c.in-Ok.ensures.put.settled (Rose (g.S.Shelf.faults c.args.shelf.now (OnDrive 0)) (g.S.Shelf.faults c.write_blocks.new.shelf (OnDrive 0))))
+    (written_line c.args.self.now.host (g.S.Shelf.sizes c.args.shelf.now) c.requires.ready c.args.self.now.state c.requires.well c.args.volume c.args.at c.args.block.now _ _ c.in-Ok.ensures.put.putting.block c.in-Ok.ensures.put.putting.there c.in-Ok.ensures.put.putting.allowed c.in-Ok.ensures.put.putting.moments c.in-Ok.ensures.put.settled (DriveFailures g.S.Shelf c.args.shelf.now c.write_blocks.new.shelf 0) c.in-Ok.ensures.put.calm)
     (written_carried c.args.self.now.host (g.S.Shelf.sizes c.args.shelf.now) c.requires.ready c.args.self.now.state c.requires.well c.args.volume c.args.at c.args.block.now _ _ c.in-Ok.ensures.put.putting.block c.in-Ok.ensures.put.putting.there c.in-Ok.ensures.put.putting.allowed c.in-Ok.ensures.put.putting.moments c.in-Ok.ensures.put.settled))
 
 pub returns-in-Ok-clause-answer : goal.returns-in-Ok-clause-answer
 returns-in-Ok-clause-answer g c = rw (c.write_blocks.ensures.same) (record {
   plain = tt;
-  cause = tt;
+  cause = c.in-Ok.ensures.put.calm;
   awake = λ on. awake_blocks c.args.self.now.host c.args.self.now.state c.args.volume c.args.at 1 c.requires.well.sound (c.in-Ok.ensures.put.putting.block, c.in-Ok.ensures.put.putting.there, c.in-Ok.ensures.put.putting.allowed);
   free = λ on has. absurd (no_creation (Wrote c.args.volume c.args.at (c.args.block.now ∷ [])) (λ is. absurd (cc (is))) has);
   host = refl;
@@ -29,14 +30,14 @@ returns-in-Ok-clause-answer g c = rw (c.write_blocks.ensures.same) (record {
 
 pub returns-in-Err-clause-moments : goal.returns-in-Err-clause-moments
 returns-in-Err-clause-moments g c =
-    let is = unwritten c.args.self.now.host (g.S.Shelf.sizes c.args.shelf.now) c.requires.ready c.args.self.now.state c.requires.well c.args.volume c.args.at c.args.block.now _ _ (Rose (g.S.Shelf.faults c.args.shelf.now (OnDrive 0)) (g.S.Shelf.faults c.write_blocks.new.shelf (OnDrive 0))) c.in-Err.refusal c.in-Err.ensures.err (torn_of g.S.Shelf c.args.shelf.now c.write_blocks.new.shelf c.args.self.now c.args.volume c.args.at c.args.block.now c.in-Err.refusal c.in-Err.ensures.put) (λ is. ap g.S.Shelf.tale (c.in-Err.ensures.counted.refused is)) in
+    let is = unwritten c.args.self.now.host (g.S.Shelf.sizes c.args.shelf.now) c.requires.ready c.args.self.now.state c.requires.well c.args.volume c.args.at c.args.block.now _ _ (DriveFailures g.S.Shelf c.args.shelf.now c.write_blocks.new.shelf 0) c.in-Err.refusal c.in-Err.ensures.err (torn_of g.S.Shelf c.args.shelf.now c.write_blocks.new.shelf c.args.self.now c.args.volume c.args.at c.args.block.now c.in-Err.refusal c.in-Err.ensures.put) (λ is. ap g.S.Shelf.tale (c.in-Err.ensures.counted.refused is)) in
     is.moments
 
 pub returns-in-Err-clause-end : goal.returns-in-Err-clause-end
 returns-in-Err-clause-end g c =
-    let is = unwritten c.args.self.now.host (g.S.Shelf.sizes c.args.shelf.now) c.requires.ready c.args.self.now.state c.requires.well c.args.volume c.args.at c.args.block.now _ _ (Rose (g.S.Shelf.faults c.args.shelf.now (OnDrive 0)) (g.S.Shelf.faults c.write_blocks.new.shelf (OnDrive 0))) c.in-Err.refusal c.in-Err.ensures.err (torn_of g.S.Shelf c.args.shelf.now c.write_blocks.new.shelf c.args.self.now c.args.volume c.args.at c.args.block.now c.in-Err.refusal c.in-Err.ensures.put) (λ is. ap g.S.Shelf.tale (c.in-Err.ensures.counted.refused is)) in
+    let is = unwritten c.args.self.now.host (g.S.Shelf.sizes c.args.shelf.now) c.requires.ready c.args.self.now.state c.requires.well c.args.volume c.args.at c.args.block.now _ _ (DriveFailures g.S.Shelf c.args.shelf.now c.write_blocks.new.shelf 0) c.in-Err.refusal c.in-Err.ensures.err (torn_of g.S.Shelf c.args.shelf.now c.write_blocks.new.shelf c.args.self.now c.args.volume c.args.at c.args.block.now c.in-Err.refusal c.in-Err.ensures.put) (λ is. ap g.S.Shelf.tale (c.in-Err.ensures.counted.refused is)) in
     rw (c.write_blocks.ensures.same) (command_ends _ c.args.self.now (command.Write c.args.volume c.args.at c.args.block.now) (refusing c.in-Err.refusal) c.args.self.now _ _ is.line is.carried)
 
 pub returns-in-Err-clause-answer : goal.returns-in-Err-clause-answer
 returns-in-Err-clause-answer g c =
-    rw (c.write_blocks.ensures.same) (refused_answer _ _ c.args.self.now c.requires.well c.in-Err.refusal (unwritten_plain c.args.self.now.host c.args.self.now.state c.args.volume c.args.at 1 (Rose (g.S.Shelf.faults c.args.shelf.now (OnDrive 0)) (g.S.Shelf.faults c.write_blocks.new.shelf (OnDrive 0))) c.in-Err.refusal c.in-Err.ensures.err))
+    rw (c.write_blocks.ensures.same) (refused_answer _ _ c.args.self.now c.requires.well c.in-Err.refusal (unwritten_cause c.args.self.now.host c.args.self.now.state c.args.volume c.args.at 1 (DriveFailures g.S.Shelf c.args.shelf.now c.write_blocks.new.shelf 0) c.in-Err.refusal c.in-Err.ensures.err) (unwritten_plain c.args.self.now.host c.args.self.now.state c.args.volume c.args.at 1 (DriveFailures g.S.Shelf c.args.shelf.now c.write_blocks.new.shelf 0) c.in-Err.refusal c.in-Err.ensures.err))

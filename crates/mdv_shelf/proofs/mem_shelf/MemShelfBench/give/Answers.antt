@@ -9,7 +9,6 @@ pub returns-then-not-may_give-clause-cause : goal.returns-then-not-may_give-clau
 returns-then-not-may_give-clause-cause c = record {
   own = failed_cause c.args.self.now c.args.self.now c.fail_giving.new.self OnReplies 0 c.fail_giving.ensures (λ p. refl) c.fail_giving.result;
   drives = λ drive. c.fail_giving.ensures.no_other_fault (OnDrive drive) (λ e. cc);
-  told = tt;
 }
 
 pub returns-then-not-may_give-clause-keeps : goal.returns-then-not-may_give-clause-keeps
@@ -19,7 +18,6 @@ pub returns-in-Err-clause-cause : goal.returns-in-Err-clause-cause
 returns-in-Err-clause-cause c = record {
   own = failed_cause c.args.self.now _ c.fail_giving-in-Err.new.self OnReplies 0 c.fail_giving-in-Err.ensures (λ p. refl) c.fail_giving-in-Err.result;
   drives = λ drive. c.fail_giving-in-Err.ensures.no_other_fault (OnDrive drive) (λ e. cc);
-  told = tt;
 }
 
 pub returns-in-Err-clause-keeps : goal.returns-in-Err-clause-keeps
