@@ -6,8 +6,6 @@ mod law;
 mod line;
 mod operands;
 mod sets;
-#[cfg(test)]
-mod tests;
 mod verb;
 
 pub use law::asks_one_thing;

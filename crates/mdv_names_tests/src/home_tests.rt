@@ -26,50 +26,51 @@ fn table(alloc: Global, head: &[u8], slices: &[u8]) -> Result<Geometry, Fail> {
 }
 
 // How many blocks hostA's home has.
+const HOMES: &[(&[u8], &[u8], Option<u64>)] = &[
+    (ONE, b"slice c0t0d0s7 12000 28000 db\n", Some(28000)),
+    (
+        ONE,
+        b"slice c0t0d0s7 12000 100 db\nslice c0t0d0s0 0 12000\nslice c0t0d0s1 12100 9\n",
+        Some(100),
+    ),
+    (
+        ONE,
+        b"slice c0t0d0s2 0 9000\nslice c0t0d0s0 0 12000\nslice c0t0d0s7 12000 1 db\n",
+        Some(1),
+    ),
+    (TWO_HOSTS, b"slice c0t0d0s7 12000 28000 db\n", None),
+    (TWO_DRIVES, b"slice c0t0d0s7 12000 28000 db\n", None),
+    (OTHER_HOST, b"slice c0t0d0s7 12000 28000 db\n", None),
+    (SHARED, b"slice c0t0d0s7 12000 28000 db\n", None),
+    (ONE, b"slice c0t0d0s7 12000 28000\n", None),
+    (
+        ONE,
+        b"slice c0t0d0s7 12000 28000 db\nslice c0t0d0s6 0 12000 db\n",
+        None,
+    ),
+    (
+        ONE,
+        b"slice c0t0d0s7 12000 100 db\nslice c0t0d0s0 0 12001\n",
+        None,
+    ),
+    (
+        ONE,
+        b"slice c0t0d0s7 12000 100 db\nslice c0t0d0s1 12099 9\n",
+        None,
+    ),
+    (
+        ONE,
+        b"slice c0t0d0s7 12000 100 db\nslice c0t0d0s2 0 40000\n",
+        None,
+    ),
+];
+
 #[test]
 fn tells_homes(rt: HostRuntime) -> Result<(), Fail> {
-    let cases: [(&[u8], &[u8], Option<u64>); 12] = [
-        (ONE, b"slice c0t0d0s7 12000 28000 db\n", Some(28000)),
-        (
-            ONE,
-            b"slice c0t0d0s7 12000 100 db\nslice c0t0d0s0 0 12000\nslice c0t0d0s1 12100 9\n",
-            Some(100),
-        ),
-        (
-            ONE,
-            b"slice c0t0d0s2 0 9000\nslice c0t0d0s0 0 12000\nslice c0t0d0s7 12000 1 db\n",
-            Some(1),
-        ),
-        (TWO_HOSTS, b"slice c0t0d0s7 12000 28000 db\n", None),
-        (TWO_DRIVES, b"slice c0t0d0s7 12000 28000 db\n", None),
-        (OTHER_HOST, b"slice c0t0d0s7 12000 28000 db\n", None),
-        (SHARED, b"slice c0t0d0s7 12000 28000 db\n", None),
-        (ONE, b"slice c0t0d0s7 12000 28000\n", None),
-        (
-            ONE,
-            b"slice c0t0d0s7 12000 28000 db\nslice c0t0d0s6 0 12000 db\n",
-            None,
-        ),
-        (
-            ONE,
-            b"slice c0t0d0s7 12000 100 db\nslice c0t0d0s0 0 12001\n",
-            None,
-        ),
-        (
-            ONE,
-            b"slice c0t0d0s7 12000 100 db\nslice c0t0d0s1 12099 9\n",
-            None,
-        ),
-        (
-            ONE,
-            b"slice c0t0d0s7 12000 100 db\nslice c0t0d0s2 0 40000\n",
-            None,
-        ),
-    ];
-    for (head, slices, expected) in cases {
+    for (head, slices, want) in HOMES {
         let table = table(rt.alloc(), head, slices)?;
         let blocks = home_in(&table, b"hostA").map(|home| home.blocks);
-        assert_eq!(rt; blocks, expected, "{head:?}{slices:?}");
+        assert!(rt; blocks == *want, "{head:?}{slices:?}");
     }
     Ok(())
 }

@@ -4,11 +4,21 @@
 #[cfg(test)]
 mod base_tests;
 #[cfg(test)]
+mod drives;
+#[cfg(test)]
+mod drives_tests;
+#[cfg(test)]
+mod grammar_tests;
+#[cfg(test)]
 mod home_tests;
 #[cfg(test)]
 mod name_tests;
 #[cfg(test)]
+mod parts_tests;
+#[cfg(test)]
 mod record_tests;
+#[cfg(test)]
+mod tab_tests;
 #[cfg(test)]
 mod table_tests;
 #[cfg(test)]

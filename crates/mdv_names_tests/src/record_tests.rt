@@ -1,12 +1,8 @@
-ghost use Rattle.std.specs.Prelude.{IfOk};
-ghost use Rattle.mdv_table.specs.Slices.{IsSound};
-
-use mdv_base::{Place, Places, VolId};
-use mdv_name::{Geometry, parse_slice, read_geometries_are_sound};
+use crate::drives::{place, sound};
+use crate::table_tests::told;
 use mdv_record::*;
-use mdv_table::{Change, Table};
+use mdv_table::Table;
 use std::alloc::Global;
-use std::process::Abort;
 use std::test::Fail;
 
 // Slice 1 begins with the last block of slice 0.
@@ -17,14 +13,6 @@ slice c0t0d0s1 999 991
 slice c0t0d0s3 2000 4000
 slice c0t0d0s7 12000 28000 db
 ";
-
-fn drives(alloc: Global) -> Result<Geometry, Fail>
-    ensures { IfOk result IsSound }
-{
-    let geometry = Geometry::read(alloc, DRIVES)?;
-    read_geometries_are_sound();
-    Ok(geometry)
-}
 
 // A place of 16 blocks at block 16 of c0t0d0s7, and nothing else.
 const EMPTY: [u8; 36] = [
@@ -53,46 +41,44 @@ const STRIPES: [u8; 136] = [
 ];
 
 fn empty(alloc: Global) -> Result<Table, Fail> {
-    let mut places = Places::new();
-    places.push(Place {
-        slice: parse_slice(b"c0t0d0s7").ok_or("a slice")?,
-        start: 16,
-        blocks: 16,
-    });
-    Ok(Table::empty(alloc, places))
+    Ok(Table::empty(alloc, place(b"c0t0d0s7", 16, 16)?))
 }
 
-fn stripes(rt: &impl Abort, alloc: Global, geometry: &Geometry) -> Result<Table, Fail>
-    requires { IsSound geometry.now }
-{
+fn stripes(alloc: Global) -> Result<Table, Fail> {
     let mut table = empty(alloc)?;
-    for (number, text) in [(260, b"c0t0d0s3"), (10, b"c0t0d0s0")] {
-        let change = Change::MakeStripe {
-            volume: VolId(number),
-            slice: parse_slice(text).ok_or("a slice")?,
-        };
-        assert!(rt; number < 8192);
-        assert_eq!(rt; table.apply(alloc, geometry, &change), Ok(()));
+    let second = told(alloc, DRIVES, &mut table, 260, b"c0t0d0s3")?;
+    let first = told(alloc, DRIVES, &mut table, 10, b"c0t0d0s0")?;
+    if first != 0 || second != 0 {
+        return Err(Fail::from("refused"));
     }
     Ok(table)
 }
 
-fn expect_text(rt: &impl Abort, table: &Table, text: &[u8]) {
+// Whether the table has this text, and nothing behind it is written.
+fn is_spelled(table: &Table, text: &[u8]) -> bool {
     let mut out = [7; 140];
-    assert_eq!(rt; text_bytes(table), text.len() as u64);
-    assert_eq!(rt; encode(table, &mut out), Ok(text.len()));
-    assert!(rt; out.len() >= text.len());
-    assert_eq!(rt; &out[..text.len()], text);
-    assert!(rt; out[text.len()..].iter().all(|byte| *byte == 7));
+    let told = encode(table, &mut out);
+    let Some((front, rest)) = out.split_at_checked(text.len()) else {
+        return false;
+    };
+    text_bytes(table) == text.len() as u64
+        && told == Ok(text.len())
+        && front == text
+        && rest.iter().all(|byte| *byte == 7)
+}
+
+// Whether the table has this text, and that which is read of the text too.
+fn is_both_ways(alloc: Global, table: &Table, text: &[u8]) -> Result<bool, Fail> {
+    let geometry = sound(alloc, DRIVES)?;
+    let read = decode(alloc, &geometry, text)?;
+    Ok(is_spelled(table, text) && is_spelled(&read, text))
 }
 
 #[test]
 fn writes_and_reads_the_worked_bytes(rt: HostRuntime) -> Result<(), Fail> {
-    let geometry = drives(rt.alloc())?;
-    expect_text(&rt, &empty(rt.alloc())?, &EMPTY);
-    expect_text(&rt, &stripes(&rt, rt.alloc(), &geometry)?, &STRIPES);
-    expect_text(&rt, &decode(rt.alloc(), &geometry, &EMPTY)?, &EMPTY);
-    expect_text(&rt, &decode(rt.alloc(), &geometry, &STRIPES)?, &STRIPES);
+    let (empty, stripes) = (empty(rt.alloc())?, stripes(rt.alloc())?);
+    assert!(rt; is_both_ways(rt.alloc(), &empty, &EMPTY)?);
+    assert!(rt; is_both_ways(rt.alloc(), &stripes, &STRIPES)?);
     Ok(())
 }
 
@@ -100,76 +86,71 @@ fn writes_and_reads_the_worked_bytes(rt: HostRuntime) -> Result<(), Fail> {
 fn tells_what_is_too_long(rt: HostRuntime) -> Result<(), Fail> {
     let table = empty(rt.alloc())?;
     let mut exact = [7; 36];
-    assert_eq!(rt; encode(&table, &mut exact), Ok(36));
+    assert!(rt; encode(&table, &mut exact) == Ok(36));
     let mut short = [7; 35];
     let fault = TooLong {
         bytes: 36,
         room: 35,
     };
-    assert_eq!(rt; encode(&table, &mut short), Err(fault));
+    assert!(rt; encode(&table, &mut short) == Err(fault));
     assert!(rt; short.iter().all(|byte| *byte == 7));
     Ok(())
 }
 
-fn expect_none(rt: &impl Abort, alloc: Global, geometry: &Geometry, bytes: &[u8], name: &str)
-    requires { IsSound geometry.now }
-{
-    let is_none = match decode(alloc, geometry, bytes) {
+fn is_refused(alloc: Global, bytes: &[u8]) -> Result<bool, Fail> {
+    let geometry = sound(alloc, DRIVES)?;
+    Ok(match decode(alloc, &geometry, bytes) {
         Err(RecordError::NotARecord) => true,
         _ => false,
-    };
-    assert!(rt; is_none, "{name}");
+    })
 }
 
-// One byte of the text of two stripes is another.
+// So many bytes of the text of two stripes, of which some are others, and what these ask.
+const WRONG: &[(usize, &[(usize, u8)], &str)] = &[
+    (136, &[(0, 0x4e)], "another head"),
+    (136, &[(11, 135)], "another length"),
+    (136, &[(12, 2)], "two lists"),
+    (136, &[(13, 2)], "two places"),
+    (136, &[(17, 0)], "a place on a slice for data"),
+    (136, &[(21, 17)], "a place from block 17 on"),
+    (136, &[(26, 1)], "an owner"),
+    (136, &[(33, 1)], "a pool"),
+    (136, &[(35, 1)], "bytes behind the record"),
+    (136, &[(36, 2)], "volumes out of order"),
+    (136, &[(38, 1)], "a mirror"),
+    (136, &[(49, 15)], "an interlace of 15"),
+    (136, &[(50, 1)], "a soft partition"),
+    (136, &[(54, 7)], "a volume on a slice for replicas"),
+    (136, &[(62, 1)], "a component from block 1 on"),
+    (136, &[(70, 0xe7)], "a component with a block less"),
+    (136, &[(71, 1)], "a component that isn't okay"),
+    (136, &[(73, 1)], "a spare"),
+    // d260 on c0t0d0s1, which has 991 blocks
+    (
+        136,
+        &[(104, 1), (119, 0x03), (120, 0xdf)],
+        "slices that share a block",
+    ),
+    (135, &[], "a byte less"),
+    (0, &[], "no bytes"),
+];
+
+fn changed(changes: &[(usize, u8)]) -> [u8; 136] {
+    let mut bytes = STRIPES;
+    for (place, byte) in changes {
+        if let Some(at) = bytes.get_mut(*place) {
+            *at = *byte;
+        }
+    }
+    bytes
+}
+
 #[test]
 fn reads_nothing_else(rt: HostRuntime) -> Result<(), Fail> {
-    let geometry = drives(rt.alloc())?;
-    let cases = [
-        (0, 0x4e, "another head"),
-        (11, 135, "another length"),
-        (12, 2, "two lists"),
-        (13, 2, "two places"),
-        (17, 0, "a place on a slice for data"),
-        (21, 17, "a place from block 17 on"),
-        (26, 1, "an owner"),
-        (33, 1, "a pool"),
-        (35, 1, "bytes behind the record"),
-        (36, 2, "volumes out of order"),
-        (38, 1, "a mirror"),
-        (49, 15, "an interlace of 15"),
-        (50, 1, "a soft partition"),
-        (54, 7, "a volume on a slice for replicas"),
-        (62, 1, "a component from block 1 on"),
-        (70, 0xe7, "a component with a block less"),
-        (71, 1, "a component that isn't okay"),
-        (73, 1, "a spare"),
-    ];
-    for (place, byte, name) in cases {
-        let mut bytes = STRIPES;
-        assert!(rt; place < 136);
-        bytes[place] = byte;
-        expect_none(&rt, rt.alloc(), &geometry, &bytes, name);
+    for (count, changes, name) in WRONG {
+        let bytes = changed(changes);
+        let front = bytes.get(..*count).ok_or("fewer bytes")?;
+        assert!(rt; is_refused(rt.alloc(), front)?, "{name}");
     }
-    expect_none(&rt, rt.alloc(), &geometry, &STRIPES[..135], "a byte less");
-    expect_none(&rt, rt.alloc(), &geometry, &[], "no bytes");
-    Ok(())
-}
-
-#[test]
-fn reads_no_overlapping_slices(rt: HostRuntime) -> Result<(), Fail> {
-    let geometry = drives(rt.alloc())?;
-    let mut bytes = STRIPES;
-    // d260 on c0t0d0s1, which has 991 blocks
-    bytes[104] = 1;
-    bytes[119] = 0x03;
-    bytes[120] = 0xdf;
-    expect_none(
-        &rt,
-        rt.alloc(),
-        &geometry,
-        &bytes,
-        "slices that share a block",
-    );
     Ok(())
 }

@@ -1,11 +1,9 @@
-ghost use Rattle.std.specs.Prelude.{◌<◌, IfOk};
-ghost use Rattle.mdv_table.specs.Slices.{IsSound};
+ghost use Rattle.std.specs.Prelude.{◌<◌};
 
-use mdv_base::{Place, Places, Refusal, SliceName, VolId};
-use mdv_name::{Geometry, parse_slice, read_geometries_are_sound};
+use crate::drives::{place, slice, sound};
+use mdv_base::{Refusal, VolId};
 use mdv_table::*;
 use std::alloc::Global;
-use std::process::Abort;
 use std::test::Fail;
 
 // Slice 2 is the whole drive, slice 3 the last block of slice 0, slice 4 the block behind it.
@@ -22,151 +20,141 @@ slice c0t1d0s0 0 1000
 slice c0t1d0s7 12000 28000 db
 ";
 
-fn drives(alloc: Global) -> Result<Geometry, Fail>
-    ensures { IfOk result IsSound }
+fn number(number: u16) -> VolId
+    ensures { result.0 < 8192 }
 {
-    let geometry = Geometry::read(alloc, DRIVES)?;
-    read_geometries_are_sound();
-    Ok(geometry)
-}
-
-fn slice(text: &[u8]) -> Result<SliceName, Fail> {
-    Ok(parse_slice(text).ok_or("a slice")?)
-}
-
-fn one_place(text: &[u8], start: u32, blocks: u32) -> Result<Places, Fail> {
-    let mut places = Places::new();
-    places.push(Place {
-        slice: slice(text)?,
-        start,
-        blocks,
-    });
-    Ok(places)
+    VolId(number % 8192)
 }
 
 // The number of the refusal, or 0 where the stripe was made.
-fn make(
+pub(crate) fn told(
     alloc: Global,
-    geometry: &Geometry,
+    drives: &[u8],
     table: &mut Table,
-    number: u16,
+    volume: u16,
     text: &[u8],
-) -> Result<u8, Fail>
-    requires sound { IsSound geometry.now }
-    requires number { number < 8192 }
-{
+) -> Result<u8, Fail> {
+    let geometry = sound(alloc, drives)?;
     let change = Change::MakeStripe {
-        volume: VolId(number),
+        volume: number(volume),
         slice: slice(text)?,
     };
-    Ok(match table.apply(alloc, geometry, &change) {
+    Ok(match table.apply(alloc, &geometry, &change) {
         Ok(()) => 0,
         Err(ApplyFault::Refused(refusal)) => refusal.number(),
         Err(ApplyFault::Memory) => Refusal::OutOfMemory.number(),
     })
 }
 
+type Line = (u16, &'static [u8], u8);
+
+// The place of the first stripe that isn't told so.
+fn first_wrong(alloc: Global, table: &mut Table, lines: &[Line]) -> Result<Option<usize>, Fail> {
+    for place in 0..lines.len() {
+        let (volume, text, want) = lines[place];
+        if told(alloc, DRIVES, table, volume, text)? != want {
+            return Ok(Some(place));
+        }
+    }
+    Ok(None)
+}
+
 // No such slice is 6, name taken 5, wrong kind 12, slice in use 7.
+const REFUSED: &[Line] = &[
+    (10, b"c0t0d0s0", 0),
+    (10, b"c0t2d0s0", 6),
+    (10, b"c0t0d0s7", 5),
+    (10, b"c0t0d0s0", 5),
+    (11, b"c0t0d0s7", 12),
+    (11, b"c0t1d0s7", 12),
+    (11, b"c0t0d0s0", 7),
+    (11, b"c0t0d0s2", 7),
+    (11, b"c0t0d0s3", 7),
+    (11, b"c0t0d0s4", 0),
+    (8191, b"c0t1d0s0", 0),
+    (0, b"c0t0d0s1", 0),
+];
+
 #[test]
 fn refuses_in_one_order(rt: HostRuntime) -> Result<(), Fail> {
-    let geometry = drives(rt.alloc())?;
-    let mut table = Table::empty(rt.alloc(), one_place(b"c0t0d0s7", 16, 8192)?);
-    let cases: [(u16, &[u8], u8); 12] = [
-        (10, b"c0t0d0s0", 0),
-        (10, b"c0t2d0s0", 6),
-        (10, b"c0t0d0s7", 5),
-        (10, b"c0t0d0s0", 5),
-        (11, b"c0t0d0s7", 12),
-        (11, b"c0t1d0s7", 12),
-        (11, b"c0t0d0s0", 7),
-        (11, b"c0t0d0s2", 7),
-        (11, b"c0t0d0s3", 7),
-        (11, b"c0t0d0s4", 0),
-        (8191, b"c0t1d0s0", 0),
-        (0, b"c0t0d0s1", 0),
-    ];
-    for (number, text, expected) in cases {
-        assert!(rt; number < 8192);
-        let told = make(rt.alloc(), &geometry, &mut table, number, text)?;
-        assert_eq!(rt; told, expected, "d{number} on {text:?}");
-    }
+    let mut table = Table::empty(rt.alloc(), place(b"c0t0d0s7", 16, 8192)?);
+    assert_eq!(rt; first_wrong(rt.alloc(), &mut table, REFUSED)?, None);
     Ok(())
+}
+
+const KEPT: &[Line] = &[(8191, b"c0t0d0s0", 0), (0, b"c0t0d0s1", 0)];
+
+// The stripes in the order of their numbers, and each found by its number.
+fn has_both(table: &Table) -> Result<bool, Fail> {
+    let [first, second] = table.plan.volumes.as_slice() else {
+        return Ok(false);
+    };
+    let want = Volume::stripe_on(VolId(0), slice(b"c0t0d0s1")?, 990);
+    Ok(*first == want && table.plan.volumes.find(VolId(8191)) == Some(second))
 }
 
 #[test]
 fn keeps_volumes_in_order(rt: HostRuntime) -> Result<(), Fail> {
-    let geometry = drives(rt.alloc())?;
-    let mut table = Table::empty(rt.alloc(), one_place(b"c0t0d0s7", 16, 8192)?);
-    assert_eq!(rt;
-        make(rt.alloc(), &geometry, &mut table, 8191, b"c0t0d0s0")?,
-        0
-    );
-    assert_eq!(rt; make(rt.alloc(), &geometry, &mut table, 0, b"c0t0d0s1")?, 0);
+    let mut table = Table::empty(rt.alloc(), place(b"c0t0d0s7", 16, 8192)?);
+    assert_eq!(rt; first_wrong(rt.alloc(), &mut table, KEPT)?, None);
     let copy = table.copy(rt.alloc())?;
-    let volumes = copy.plan.volumes.as_slice();
-    assert_eq!(rt; volumes.len(), 2);
-    assert_eq!(rt;
-        volumes[0],
-        Volume::stripe_on(VolId(0), slice(b"c0t0d0s1")?, 990)
-    );
-    assert_eq!(rt; volumes[1].number, VolId(8191));
-    let found = copy.plan.volumes.find(VolId(8191)).ok_or("d8191")?;
-    assert_eq!(rt; *found, volumes[1]);
-    assert!(rt; copy.is_of_geometry(&geometry));
+    assert!(rt; has_both(&copy)?);
+    assert!(rt; is_of_drives(rt.alloc(), &copy)?);
     Ok(())
+}
+
+fn is_of_drives(alloc: Global, table: &Table) -> Result<bool, Fail> {
+    let geometry = sound(alloc, DRIVES)?;
+    Ok(table.is_of_geometry(&geometry))
+}
+
+// Where the place lies, where d2 lies beside d1 on slice 0, and whether the table is one of the drives.
+const TABLES: &[(Lies, Option<(&[u8], u64)>, bool)] = &[
+    ((b"c0t0d0s7", 16, 16), None, true),
+    ((b"c0t0d0s7", 16, 8192), None, true),
+    ((b"c0t0d0s7", 16, 15), None, false),
+    ((b"c0t0d0s7", 16, 8193), None, false),
+    ((b"c0t0d0s7", 17, 16), None, false),
+    ((b"c0t0d0s0", 16, 16), None, false),
+    ((b"c0t0d0s5", 16, 16), None, false),
+    ((b"c0t2d0s7", 16, 16), None, false),
+    ((b"c0t0d0s7", 16, 8192), Some((b"c0t0d0s4", 1)), true),
+    ((b"c0t0d0s7", 16, 8192), Some((b"c0t0d0s4", 2)), false),
+    ((b"c0t0d0s7", 16, 8192), Some((b"c0t0d0s0", 1000)), false),
+    ((b"c0t0d0s7", 16, 8192), Some((b"c0t0d0s3", 1)), false),
+    ((b"c0t0d0s7", 16, 8192), Some((b"c0t1d0s7", 28000)), false),
+];
+
+// A slice, the first block and how many.
+type Lies = (&'static [u8], u32, u32);
+
+// d1 on slice 0 and d2 on so many blocks of another.
+fn two_stripes(alloc: Global, lies: Lies, text: &[u8], blocks: u64) -> Result<Table, Fail> {
+    let mut table = Table::empty(alloc, place(lies.0, lies.1, lies.2)?);
+    let volumes = &mut table.plan.volumes;
+    volumes.push(Volume::stripe_on(VolId(1), slice(b"c0t0d0s0")?, 1000))?;
+    if !volumes.is_behind(VolId(2)) {
+        return Err(Fail::from("out of order"));
+    }
+    volumes.push(Volume::stripe_on(VolId(2), slice(text)?, blocks))?;
+    Ok(table)
+}
+
+fn is_allowed(alloc: Global, lies: Lies, second: Option<(&[u8], u64)>) -> Result<bool, Fail> {
+    let table = match second {
+        Some((text, blocks)) => two_stripes(alloc, lies, text, blocks)?,
+        None => Table::empty(alloc, place(lies.0, lies.1, lies.2)?),
+    };
+    is_of_drives(alloc, &table)
 }
 
 #[test]
 fn tells_tables_of_a_geometry(rt: HostRuntime) -> Result<(), Fail> {
-    let geometry = drives(rt.alloc())?;
-    let cases: [(&[u8], u32, u32, bool); 8] = [
-        (b"c0t0d0s7", 16, 16, true),
-        (b"c0t0d0s7", 16, 8192, true),
-        (b"c0t0d0s7", 16, 15, false),
-        (b"c0t0d0s7", 16, 8193, false),
-        (b"c0t0d0s7", 17, 16, false),
-        (b"c0t0d0s0", 16, 16, false),
-        (b"c0t0d0s5", 16, 16, false),
-        (b"c0t2d0s7", 16, 16, false),
-    ];
-    for (text, start, blocks, expected) in cases {
-        let table = Table::empty(rt.alloc(), one_place(text, start, blocks)?);
-        assert_eq!(rt;
-            table.is_of_geometry(&geometry),
-            expected,
-            "{start} {blocks} of {text:?}"
+    for (lies, second, want) in TABLES {
+        assert!(rt;
+            is_allowed(rt.alloc(), *lies, *second)? == *want,
+            "{lies:?} {second:?}"
         );
     }
     Ok(())
-}
-
-#[test]
-fn tells_volumes_of_a_geometry(rt: HostRuntime) -> Result<(), Fail> {
-    let geometry = drives(rt.alloc())?;
-    let cases: [(&[u8], u64, bool); 5] = [
-        (b"c0t0d0s4", 1, true),
-        (b"c0t0d0s4", 2, false),
-        (b"c0t0d0s0", 1000, false),
-        (b"c0t0d0s3", 1, false),
-        (b"c0t1d0s7", 28000, false),
-    ];
-    for (text, blocks, expected) in cases {
-        let table = two_stripes(&rt, rt.alloc(), text, blocks)?;
-        assert_eq!(rt;
-            table.is_of_geometry(&geometry),
-            expected,
-            "{blocks} of {text:?}"
-        );
-    }
-    Ok(())
-}
-
-// d1 on slice 0 and d2 on so many blocks of another.
-fn two_stripes(rt: &impl Abort, alloc: Global, text: &[u8], blocks: u64) -> Result<Table, Fail> {
-    let mut table = Table::empty(alloc, one_place(b"c0t0d0s7", 16, 8192)?);
-    let volumes = &mut table.plan.volumes;
-    volumes.push(Volume::stripe_on(VolId(1), slice(b"c0t0d0s0")?, 1000))?;
-    assert!(rt; volumes.is_behind(VolId(2)));
-    volumes.push(Volume::stripe_on(VolId(2), slice(text)?, blocks))?;
-    Ok(table)
 }

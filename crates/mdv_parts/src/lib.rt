@@ -10,8 +10,6 @@ mod part;
 mod part_list;
 mod read;
 mod runs;
-#[cfg(test)]
-mod tests;
 
 pub use component::{Component, component_of, pool_of, slice_of, volume_of};
 pub use items::Items;

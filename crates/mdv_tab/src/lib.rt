@@ -15,8 +15,6 @@ mod options;
 mod queue;
 mod read;
 mod stripe;
-#[cfg(test)]
-mod tests;
 
 pub use entry::{Entry, Extent, MirrorOptions, RaidOptions, ReadFrom, Room, Row};
 pub use form::read_entry;

@@ -1,0 +1,31 @@
+//! Tables of drives, slices and places from their texts.
+ghost use Rattle.std.specs.Prelude.{IfOk};
+ghost use Rattle.mdv_table.specs.Slices.{IsSound};
+
+use mdv_base::{Place, Places, SliceName};
+use mdv_name::{Geometry, parse_slice, read_geometries_are_sound};
+use std::alloc::Global;
+use std::test::Fail;
+
+pub(crate) fn sound(alloc: Global, text: &[u8]) -> Result<Geometry, Fail>
+    ensures { IfOk result IsSound }
+{
+    let geometry = Geometry::read(alloc, text)?;
+    read_geometries_are_sound();
+    Ok(geometry)
+}
+
+pub(crate) fn slice(text: &[u8]) -> Result<SliceName, Fail> {
+    Ok(parse_slice(text).ok_or("a slice")?)
+}
+
+/// One place alone.
+pub(crate) fn place(text: &[u8], start: u32, blocks: u32) -> Result<Places, Fail> {
+    let mut places = Places::new();
+    places.push(Place {
+        slice: slice(text)?,
+        start,
+        blocks,
+    });
+    Ok(places)
+}
