@@ -3,7 +3,6 @@ ghost use Rattle.std.specs.Prelude.{◌≡◌, ◌<◌, ◌≤◌, ℕ, List, No
 use mdv_base::Failed;
 use mdv_port::{LineEnd, LineReader, MemSource, Source};
 use std::alloc::{AllocError, Global};
-use std::process::Abort;
 use std::test::Fail;
 
 // Gives the bytes one at a time, and tells nothing of them.
@@ -35,51 +34,69 @@ fn input(alloc: Global, letters: usize, tail: &str) -> Result<Vec<u8>, AllocErro
     Ok(bytes)
 }
 
-// The calls of a reader answer these, one after another.
-fn expect_answers<R: Abort + AllocGlobal, I: Source>(
-    rt: &R,
-    source: &mut I,
-    want: &str,
-) -> Result<(), Fail> {
-    let mut reader = LineReader::new();
-    for step in want.split(", ") {
-        let end = reader.next(source);
-        let length = reader.line().len();
-        let told = match end {
-            Ok(LineEnd::Line) => format!(in rt.alloc(); "line {length}")?,
-            Ok(LineEnd::TooLong) => format!(in rt.alloc(); "too long")?,
-            Ok(LineEnd::End) => format!(in rt.alloc(); "end")?,
-            Ok(LineEnd::Spent { lines, bytes }) => format!(in rt.alloc(); "spent {lines} {bytes}")?,
-            Err(Failed) => format!(in rt.alloc(); "failed")?,
-        };
-        assert_eq!(rt; told.as_str(), step, "in {want}");
-    }
-    Ok(())
+// What a call of the reader answers, and how many bytes the line has.
+enum Told {
+    Line(usize),
+    TooLong,
+    End,
+    Failed,
 }
+
+fn is_told(end: Result<LineEnd, Failed>, length: usize, told: &Told) -> bool {
+    match *told {
+        Told::Line(want) => end == Ok(LineEnd::Line) && length == want,
+        Told::TooLong => end == Ok(LineEnd::TooLong),
+        Told::End => end == Ok(LineEnd::End),
+        Told::Failed => end == Err(Failed),
+    }
+}
+
+// The place of the first answer that is another.
+fn first_wrong<I: Source>(source: &mut I, answers: &[Told]) -> Option<usize> {
+    let mut reader = LineReader::new();
+    for place in 0..answers.len() {
+        let end = reader.next(source);
+        if !is_told(end, reader.line().len(), &answers[place]) {
+            return Some(place);
+        }
+    }
+    None
+}
+
+// So many letters, what comes behind them, and the answers.
+const CUTS: &[(usize, &str, &[Told])] = &[
+    (0, "", &[Told::End]),
+    (0, "\n", &[Told::Line(0), Told::End]),
+    (0, "\n\n", &[Told::Line(0), Told::Line(0), Told::End]),
+    (3, "", &[Told::Line(3), Told::End]),
+    (3, "\n", &[Told::Line(3), Told::End]),
+    (
+        3,
+        "\n\nbc",
+        &[Told::Line(3), Told::Line(0), Told::Line(2), Told::End],
+    ),
+    (4095, "\r\nb", &[Told::Line(4096), Told::Line(1), Told::End]),
+    (4096, "", &[Told::Line(4096), Told::End]),
+    (4096, "\n", &[Told::Line(4096), Told::End]),
+    (4097, "", &[Told::TooLong, Told::End]),
+    (4097, "\n", &[Told::TooLong, Told::End]),
+    (4097, "\nb\n", &[Told::TooLong, Told::Line(1), Told::End]),
+    (8192, "\n", &[Told::TooLong, Told::End]),
+    (10000, "\nbc", &[Told::TooLong, Told::Line(2), Told::End]),
+];
 
 #[test]
 fn cuts_at_newlines(rt: HostRuntime) -> Result<(), Fail> {
-    let cases = [
-        (0, "", "end"),
-        (0, "\n", "line 0, end"),
-        (0, "\n\n", "line 0, line 0, end"),
-        (3, "", "line 3, end"),
-        (3, "\n", "line 3, end"),
-        (3, "\n\nbc", "line 3, line 0, line 2, end"),
-        (4095, "\r\nb", "line 4096, line 1, end"),
-        (4096, "", "line 4096, end"),
-        (4096, "\n", "line 4096, end"),
-        (4097, "", "too long, end"),
-        (4097, "\n", "too long, end"),
-        (4097, "\nb\n", "too long, line 1, end"),
-        (8192, "\n", "too long, end"),
-        (10000, "\nbc", "too long, line 2, end"),
-    ];
-    for (letters, tail, want) in cases {
-        let mut whole = MemSource::new(input(rt.alloc(), letters, tail)?);
-        expect_answers(&rt, &mut whole, want)?;
-        let bytes = input(rt.alloc(), letters, tail)?;
-        expect_answers(&rt, &mut OneByOne { bytes, given: 0 }, want)?;
+    for (letters, tail, answers) in CUTS {
+        let bytes = input(rt.alloc(), *letters, tail)?;
+        let mut each = OneByOne {
+            bytes: bytes.clone()?,
+            given: 0,
+        };
+        let wrong = first_wrong(&mut MemSource::new(bytes), answers);
+        assert!(rt; wrong.is_none(), "{letters} {tail:?} at {wrong:?}");
+        let wrong = first_wrong(&mut each, answers);
+        assert!(rt; wrong.is_none(), "{letters} {tail:?} at {wrong:?}");
     }
     Ok(())
 }
@@ -88,27 +105,30 @@ fn cuts_at_newlines(rt: HostRuntime) -> Result<(), Fail> {
 fn shows_the_line(rt: HostRuntime) -> Result<(), Fail> {
     let mut source = MemSource::new(input(rt.alloc(), 2, "\nmetadb -a\n")?);
     let mut reader = LineReader::new();
-    assert_eq!(rt; reader.line(), b"".as_slice());
-    assert_eq!(rt; reader.next(&mut source), Ok(LineEnd::Line));
-    assert_eq!(rt; reader.line(), b"aa".as_slice());
-    assert_eq!(rt; reader.next(&mut source), Ok(LineEnd::Line));
-    assert_eq!(rt; reader.line(), b"metadb -a".as_slice());
-    assert_eq!(rt; reader.next(&mut source), Ok(LineEnd::End));
-    assert_eq!(rt; reader.line(), b"".as_slice());
+    assert!(rt; reader.line() == b"".as_slice());
+    assert!(rt; reader.next(&mut source) == Ok(LineEnd::Line));
+    assert!(rt; reader.line() == b"aa".as_slice());
+    assert!(rt; reader.next(&mut source) == Ok(LineEnd::Line));
+    assert!(rt; reader.line() == b"metadb -a".as_slice());
+    assert!(rt; reader.next(&mut source) == Ok(LineEnd::End));
+    assert!(rt; reader.line() == b"".as_slice());
     Ok(())
 }
 
+// The call of that number fails.
+const FAILING: &[(u64, &[Told])] = &[
+    (0, &[Told::Failed, Told::Line(2), Told::Line(1), Told::End]),
+    (1, &[Told::Line(2), Told::Failed, Told::End]),
+    (2, &[Told::Line(2), Told::Line(1), Told::Failed, Told::End]),
+    (3, &[Told::Line(2), Told::Line(1), Told::End]),
+];
+
 #[test]
 fn fails_at_the_call_of_that_number(rt: HostRuntime) -> Result<(), Fail> {
-    let cases = [
-        (0, "failed, line 2, line 1, end"),
-        (1, "line 2, failed, end"),
-        (2, "line 2, line 1, failed, end"),
-        (3, "line 2, line 1, end"),
-    ];
-    for (number, want) in cases {
-        let mut source = MemSource::failing(input(rt.alloc(), 2, "\nb")?, number);
-        expect_answers(&rt, &mut source, want)?;
+    for (number, answers) in FAILING {
+        let mut source = MemSource::failing(input(rt.alloc(), 2, "\nb")?, *number);
+        let wrong = first_wrong(&mut source, answers);
+        assert!(rt; wrong.is_none(), "call {number} at {wrong:?}");
     }
     Ok(())
 }
@@ -117,12 +137,33 @@ fn fails_at_the_call_of_that_number(rt: HostRuntime) -> Result<(), Fail> {
 fn gives_what_fits(rt: HostRuntime) -> Result<(), Fail> {
     let mut source = MemSource::new(input(rt.alloc(), 4, "bc")?);
     let mut out = [0; 4];
-    assert_eq!(rt; source.take(&mut out), Ok(4));
-    assert_eq!(rt; out, *b"aaaa");
-    assert_eq!(rt; source.take(&mut out), Ok(2));
-    assert_eq!(rt; out, *b"bcaa");
-    assert_eq!(rt; source.take(&mut out), Ok(0));
+    assert!(rt; source.take(&mut out) == Ok(4));
+    assert!(rt; out == *b"aaaa");
+    assert!(rt; source.take(&mut out) == Ok(2));
+    assert!(rt; out == *b"bcaa");
+    assert!(rt; source.take(&mut out) == Ok(0));
     Ok(())
+}
+
+// How many of so many calls answer a line.
+fn lines(reader: &mut LineReader, source: &mut MemSource, calls: u32) -> u32 {
+    let mut lines: u32 = 0;
+    for _ in 0..calls {
+        if reader.next(source) == Ok(LineEnd::Line) {
+            lines = lines.saturating_add(1);
+        }
+    }
+    lines
+}
+
+// The last two answers behind a million lines, of so many lines in all.
+fn last_two(alloc: Global, count: usize) -> Result<[Result<LineEnd, Failed>; 2], Fail> {
+    let mut source = MemSource::new(vec![in alloc; b'\n'; count]?);
+    let mut reader = LineReader::new();
+    if lines(&mut reader, &mut source, 1_048_576) != 1_048_576 {
+        return Err(Fail::from("fewer lines"));
+    }
+    Ok([reader.next(&mut source), reader.next(&mut source)])
 }
 
 #[test]
@@ -131,15 +172,7 @@ fn takes_so_many_lines(rt: HostRuntime) -> Result<(), Fail> {
         lines: 1_048_576,
         bytes: 1_048_576,
     };
-    for (more, want) in [(0, LineEnd::End), (1, spent)] {
-        let bytes = vec![in rt.alloc(); b'\n'; 1_048_576 + more]?;
-        let mut source = MemSource::new(bytes);
-        let mut reader = LineReader::new();
-        for _ in 0..1_048_576u32 {
-            assert_eq!(rt; reader.next(&mut source), Ok(LineEnd::Line));
-        }
-        assert_eq!(rt; reader.next(&mut source), Ok(want));
-        assert_eq!(rt; reader.next(&mut source), Ok(want));
-    }
+    assert!(rt; last_two(rt.alloc(), 1_048_576)? == [Ok(LineEnd::End); 2]);
+    assert!(rt; last_two(rt.alloc(), 1_048_577)? == [Ok(spent); 2]);
     Ok(())
 }

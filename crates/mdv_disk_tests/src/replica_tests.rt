@@ -51,27 +51,21 @@ fn padded(text: &[u8]) -> Block {
     block
 }
 
+const MASTER: &[u8] =
+    b"MDVREPL1\x11\x12\x13\x14\x15\x16\x17\x18\x00\x00\x00\x02\x01\x04blue\x00\x00\x00\x00\x00\x00\x00\x00\x00\x00\x00\x00\x00\x00\x00\x00\x00\x00\x00\x00\x00\x00\x00\x00\x00\x00\x00\x00\x01\x02\x03\x07\x00\x00\x00\x10\x00\x00\x20\x00\x01\x02";
+
+const CLAIM: &[u8] = b"MDVCLAIM\x00\x00\x00\x00\x00\x00\x01\x02";
+
+const GATE: &[u8] =
+    b"MDVGATE1\x01\x01\x02\x03\x04\x05\x06\x07\x08\x00\x00\x00\x00\x00\x00\x00\x09\x00\x00\x02\xbc";
+
 #[test]
 fn spells_the_blocks_of_a_head(rt: HostRuntime) -> Result<(), Fail> {
     let name = Name::new(b"blue").ok_or("blue")?;
-    let cases: [(Block, &[u8]); 4] = [
-        (
-            master_block(&master(name)),
-            b"MDVREPL1\x11\x12\x13\x14\x15\x16\x17\x18\x00\x00\x00\x02\x01\x04blue\x00\x00\x00\x00\x00\x00\x00\x00\x00\x00\x00\x00\x00\x00\x00\x00\x00\x00\x00\x00\x00\x00\x00\x00\x00\x00\x00\x00\x01\x02\x03\x07\x00\x00\x00\x10\x00\x00\x20\x00\x01\x02",
-        ),
-        (
-            claim_block(258),
-            b"MDVCLAIM\x00\x00\x00\x00\x00\x00\x01\x02",
-        ),
-        (gate_block(Gate::Closed), b"MDVGATE1"),
-        (
-            gate_block(OPEN),
-            b"MDVGATE1\x01\x01\x02\x03\x04\x05\x06\x07\x08\x00\x00\x00\x00\x00\x00\x00\x09\x00\x00\x02\xbc",
-        ),
-    ];
-    for (block, want) in cases {
-        assert_eq!(rt; block.as_slice(), padded(want).as_slice());
-    }
+    assert!(rt; master_block(&master(name)) == padded(MASTER));
+    assert!(rt; claim_block(258) == padded(CLAIM));
+    assert!(rt; gate_block(Gate::Closed) == padded(b"MDVGATE1"));
+    assert!(rt; gate_block(OPEN) == padded(GATE));
     Ok(())
 }
 
@@ -90,65 +84,108 @@ fn without_head(flags: Flags) -> Seen {
     }
 }
 
+const AT: PlaceAt = PlaceAt {
+    place: PLACE,
+    drive: DriveNo(0),
+    first: 20,
+    index: 1,
+    count: 2,
+};
+
+const MARK: Mark = Mark { boot: 5, count: 9 };
+
+fn shows(shelf: &mut MemShelf, at: PlaceAt, want: Seen) -> bool {
+    at.drive.0 < shelf.drives() && at.first < shelf.blocks(at.drive) && inspect(shelf, at) == want
+}
+
+// Formats the place, claims and writes it, and reads what it wrote.
+fn is_written(shelf: &mut MemShelf, master: &Master) -> Result<bool, Fail> {
+    if shelf.drives() != 1 || shelf.blocks(AT.drive) != 36 {
+        return Ok(false);
+    }
+    format(shelf, AT, &master.key, master.identity, 258)?;
+    write_claim(shelf, AT, 259)?;
+    write_slot(shelf, AT, Slot::Second, MARK, 700, &[[1; 512]; 2])?;
+    let mut body = [ZERO_BLOCK];
+    read_body(shelf, AT, Slot::Second, &mut body)?;
+    Ok(body == [[1; 512]])
+}
+
+fn is_wiped(shelf: &mut MemShelf) -> Result<bool, Fail> {
+    if shelf.drives() != 1 || shelf.blocks(AT.drive) != 36 {
+        return Ok(false);
+    }
+    wipe(shelf, AT)?;
+    Ok(true)
+}
+
+fn is_lost(shelf: &mut MemShelf) -> bool {
+    if shelf.drives() == 0 {
+        return false;
+    }
+    shelf.lose(AT.drive);
+    true
+}
+
+fn blank() -> Flags {
+    Flags {
+        form_fault: true,
+        master_fault: true,
+        ..Flags::default()
+    }
+}
+
+fn with_head(master: Master) -> Seen {
+    Seen {
+        place: PLACE,
+        flags: Flags {
+            located: true,
+            ..Flags::default()
+        },
+        head: Some(Head {
+            master,
+            claim: 259,
+            first: Gate::Closed,
+            second: Gate::Open {
+                mark: MARK,
+                bytes: 700,
+            },
+        }),
+    }
+}
+
 #[test]
-fn tells_what_was_done_to_a_place(rt: HostRuntime) -> Result<(), Fail> {
+fn tells_what_was_written_to_a_place(rt: HostRuntime) -> Result<(), Fail> {
     let master = Master {
         blocks: 16,
         ..master(Name::new(b"blue").ok_or("blue")?)
     };
-    let at = PlaceAt {
-        place: PLACE,
-        drive: DriveNo(0),
-        first: 20,
-        index: 1,
-        count: 2,
-    };
     let mut shelf = MemShelf::new(rt.alloc(), &[36])?;
-    assert_eq!(rt; shelf.drives(), 1);
-    assert_eq!(rt; shelf.blocks(at.drive), 36);
-    let blank = Flags {
-        form_fault: true,
-        master_fault: true,
-        ..Flags::default()
-    };
-    assert_eq!(rt; inspect(&mut shelf, at), without_head(blank));
-    format(&mut shelf, at, &master.key, master.identity, 258)?;
-    write_claim(&mut shelf, at, 259)?;
-    let mark = Mark { boot: 5, count: 9 };
-    write_slot(&mut shelf, at, Slot::Second, mark, 700, &[[1; 512]; 2])?;
-    let mut body = [ZERO_BLOCK];
-    read_body(&mut shelf, at, Slot::Second, &mut body)?;
-    assert_eq!(rt; body.as_slice(), [[1; 512]].as_slice());
-    let head = Head {
-        master,
-        claim: 259,
-        first: Gate::Closed,
-        second: Gate::Open { mark, bytes: 700 },
-    };
-    let located = Flags {
-        located: true,
-        ..Flags::default()
-    };
-    let want = Seen {
-        place: PLACE,
-        flags: located,
-        head: Some(head),
-    };
-    assert_eq!(rt; inspect(&mut shelf, at), want);
-    wipe(&mut shelf, at)?;
+    assert!(rt; shows(&mut shelf, AT, without_head(blank())));
+    assert!(rt; is_written(&mut shelf, &master)?);
+    assert!(rt; shows(&mut shelf, AT, with_head(master)));
+    // The drive's last two blocks are no replica.
+    let end = PlaceAt { first: 34, ..AT };
+    assert!(rt; shows(&mut shelf, end, without_head(blank())));
+    Ok(())
+}
+
+#[test]
+fn tells_what_was_wiped_or_lost(rt: HostRuntime) -> Result<(), Fail> {
     let wiped = Flags {
         master_fault: true,
         ..Flags::default()
     };
-    assert_eq!(rt; inspect(&mut shelf, at), without_head(wiped));
-    // The drive's last two blocks are no replica.
-    let end = PlaceAt { first: 34, ..at };
-    assert_eq!(rt; inspect(&mut shelf, end), without_head(blank));
-    shelf.lose(at.drive);
     let lost = Flags {
         read_error: true,
         ..Flags::default()
     };
-    assert_eq!(rt; inspect(&mut shelf, at), without_head(lost));
+    let mut shelf = MemShelf::new(rt.alloc(), &[36])?;
+    let master = master(Name::new(b"blue").ok_or("blue")?);
+    assert!(rt; is_written(&mut shelf, &master)?);
+    assert!(rt; is_wiped(&mut shelf)?);
+    assert!(rt; shows(&mut shelf, AT, without_head(wiped)));
+    assert!(rt; is_lost(&mut shelf));
+    assert!(rt; shows(&mut shelf, AT, without_head(lost)));
     Ok(())
 }

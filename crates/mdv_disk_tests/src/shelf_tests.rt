@@ -1,11 +1,10 @@
 use mdv_base::{DriveNo, ZERO_BLOCK};
 use mdv_shelf::*;
 use std::alloc::{AllocError, Global};
-use std::process::Abort;
 use std::test::Fail;
 
 // What is done to a shelf: a block is filled with a byte, a drive synced, a byte told.
-#[derive(Clone, Copy, Debug)]
+#[derive(Clone, Copy)]
 enum Step {
     Put(u32, u64, u8),
     Get(u32, u64),
@@ -16,6 +15,15 @@ enum Step {
     LoseAt(u32, u64),
     StopAfter(u64),
     BringBack(u32),
+}
+
+enum Line {
+    /// The step passes, or fails.
+    Does(Step, bool),
+    /// What a block reads as; `None` where its drive can't be read.
+    Holds(u32, u64, Option<u8>),
+    Crash(&'static [u32]),
+    Told(&'static [u8]),
 }
 
 fn put(shelf: &mut MemShelf, drive: u32, at: u64, value: u8) -> bool {
@@ -67,171 +75,172 @@ fn done(shelf: &mut MemShelf, step: Step) -> Result<bool, AllocError> {
     }
 }
 
-// Two drives, of three blocks and of one, after the steps; each passes or fails as it says.
-fn after(rt: &impl Abort, alloc: Global, steps: &[(Step, bool)]) -> Result<MemShelf, AllocError> {
-    let mut shelf = MemShelf::new(alloc, &[3, 1])?;
-    for (step, passes) in steps {
-        let passed = done(&mut shelf, *step)?;
-        assert_eq!(rt; passed, *passes, "{step:?}");
+fn is_so(shelf: &mut MemShelf, line: &Line) -> Result<bool, AllocError> {
+    match *line {
+        Line::Does(step, passes) => Ok(done(shelf, step)? == passes),
+        Line::Holds(drive, at, value) => Ok(get(shelf, drive, at) == value),
+        Line::Crash(choice) => {
+            shelf.crash(choice);
+            Ok(true)
+        }
+        Line::Told(bytes) => Ok(shelf.told() == bytes),
     }
-    Ok(shelf)
+}
+
+// The place of the first line that isn't so, or behind the last one where memory fell short.
+fn first_wrong(shelf: &mut MemShelf, lines: &[Line]) -> Result<Option<usize>, AllocError> {
+    for place in 0..lines.len() {
+        if !is_so(shelf, &lines[place])? {
+            return Ok(Some(place));
+        }
+    }
+    Ok(if shelf.short() {
+        Some(lines.len())
+    } else {
+        None
+    })
+}
+
+// Two drives, of three blocks and of one.
+fn shelf(alloc: Global) -> Result<MemShelf, AllocError> {
+    MemShelf::new(alloc, &[3, 1])
+}
+
+const WRITTEN: &[Line] = &[
+    Line::Does(Step::Put(0, 1, 1), true),
+    Line::Does(Step::Sync(0), true),
+    Line::Does(Step::Put(0, 1, 2), true),
+    Line::Does(Step::Sync(1), true),
+    Line::Does(Step::Put(0, 1, 3), true),
+    Line::Does(Step::Put(1, 0, 9), true),
+];
+
+// Choices for the blocks of drive 0 and then of drive 1, and what is left in block 1 and block 0 of these.
+const CRASHES: &[(&[u32], u8, u8)] = &[
+    (&[], 1, 0),
+    (&[0, 0, 0, 0], 1, 0),
+    (&[0, 1], 2, 0),
+    (&[5, 2, 0, 1], 3, 9),
+    (&[0, 3, 0, 2], 1, 0),
+    (&[0, 5, 0, 3, 7], 3, 9),
+    (&[1, 4], 2, 0),
+];
+
+// What was left is stable from then on.
+fn leaves(shelf: &mut MemShelf, choice: &[u32], first: u8, second: u8) -> bool {
+    shelf.crash(choice);
+    let left = [get(shelf, 0, 0), get(shelf, 0, 1), get(shelf, 1, 0)];
+    shelf.crash(&[9, 9, 9, 9]);
+    let stable = get(shelf, 0, 1);
+    left == [Some(0), Some(first), Some(second)] && stable == Some(first) && !shelf.short()
 }
 
 #[test]
 fn a_crash_picks_block_after_block(rt: HostRuntime) -> Result<(), Fail> {
-    let steps = [
-        (Step::Put(0, 1, 1), true),
-        (Step::Sync(0), true),
-        (Step::Put(0, 1, 2), true),
-        (Step::Sync(1), true),
-        (Step::Put(0, 1, 3), true),
-        (Step::Put(1, 0, 9), true),
-    ];
-    // Choices for the blocks of drive 0 and then of drive 1, and what is left in block 1 and block 0 of these.
-    let cases: [(&[u32], u8, u8); 7] = [
-        (&[], 1, 0),
-        (&[0, 0, 0, 0], 1, 0),
-        (&[0, 1], 2, 0),
-        (&[5, 2, 0, 1], 3, 9),
-        (&[0, 3, 0, 2], 1, 0),
-        (&[0, 5, 0, 3, 7], 3, 9),
-        (&[1, 4], 2, 0),
-    ];
-    for (choice, first, second) in cases {
-        let mut shelf = after(&rt, rt.alloc(), &steps)?;
-        shelf.crash(choice);
-        assert_eq!(rt; get(&mut shelf, 0, 0), Some(0));
-        assert_eq!(rt; get(&mut shelf, 0, 1), Some(first), "{choice:?}");
-        assert_eq!(rt; get(&mut shelf, 1, 0), Some(second), "{choice:?}");
-        // What was left is stable from then on.
-        shelf.crash(&[9, 9, 9, 9]);
-        assert_eq!(rt; get(&mut shelf, 0, 1), Some(first), "{choice:?}");
-        assert_eq!(rt; shelf.short(), false);
+    for (choice, first, second) in CRASHES {
+        let mut shelf = shelf(rt.alloc())?;
+        assert!(rt; first_wrong(&mut shelf, WRITTEN)?.is_none());
+        assert!(rt; leaves(&mut shelf, choice, *first, *second), "{choice:?}");
     }
     Ok(())
 }
+
+const LIVES: &[&[Line]] = &[
+    // The call of a number, whatever it is.
+    &[
+        Line::Does(Step::FailCall(1), true),
+        Line::Does(Step::FailCall(3), true),
+        Line::Does(Step::Put(0, 0, 1), true),
+        Line::Does(Step::Put(0, 0, 2), false),
+        Line::Does(Step::Give(7), true),
+        Line::Does(Step::Give(8), false),
+        Line::Does(Step::Sync(0), true),
+    ],
+    // A lost drive refuses each call, until it comes back.
+    &[
+        Line::Does(Step::Put(1, 0, 1), true),
+        Line::Does(Step::Lose(1), true),
+        Line::Does(Step::Get(1, 0), false),
+        Line::Does(Step::Put(1, 0, 2), false),
+        Line::Does(Step::Sync(1), false),
+        Line::Does(Step::Sync(0), true),
+        Line::Does(Step::BringBack(1), true),
+        Line::Does(Step::Get(1, 0), true),
+    ],
+    // From the call of that number on.
+    &[
+        Line::Does(Step::LoseAt(0, 2), true),
+        Line::Does(Step::Put(0, 0, 1), true),
+        Line::Does(Step::Sync(0), true),
+        Line::Does(Step::Get(0, 0), false),
+        Line::Does(Step::Get(1, 0), true),
+        Line::Does(Step::Sync(0), false),
+        Line::Does(Step::BringBack(0), true),
+        Line::Does(Step::Get(0, 0), true),
+    ],
+    // So many calls pass; the earlier of two stops stands.
+    &[
+        Line::Does(Step::Give(1), true),
+        Line::Does(Step::StopAfter(2), true),
+        Line::Does(Step::StopAfter(9), true),
+        Line::Does(Step::Give(2), true),
+        Line::Does(Step::Sync(1), true),
+        Line::Does(Step::Give(3), false),
+        Line::Does(Step::Get(0, 0), false),
+        Line::Does(Step::Sync(1), false),
+    ],
+    // A loss to come outlives the coming back.
+    &[
+        Line::Does(Step::LoseAt(1, 1), true),
+        Line::Does(Step::BringBack(1), true),
+        Line::Does(Step::Get(1, 0), true),
+        Line::Does(Step::Get(1, 0), false),
+    ],
+    // A crash ends what was asked, and a drive whose loss had begun stays lost.
+    &[
+        Line::Does(Step::Give(5), true),
+        Line::Does(Step::LoseAt(1, 1), true),
+        Line::Does(Step::LoseAt(0, 3), true),
+        Line::Does(Step::FailCall(4), true),
+        Line::Does(Step::Give(6), true),
+        Line::Does(Step::StopAfter(0), true),
+        Line::Does(Step::Give(7), false),
+        Line::Crash(&[]),
+        Line::Holds(0, 0, Some(0)),
+        Line::Holds(0, 0, Some(0)),
+        Line::Holds(1, 0, None),
+        Line::Told(&[5, 6]),
+    ],
+    // A failed write leaves its block.
+    &[
+        Line::Does(Step::Put(0, 2, 1), true),
+        Line::Does(Step::FailCall(1), true),
+        Line::Does(Step::Put(0, 2, 2), false),
+        Line::Holds(0, 2, Some(1)),
+        Line::Crash(&[0, 0, 1]),
+        Line::Holds(0, 2, Some(1)),
+    ],
+    // A drive comes back stable.
+    &[
+        Line::Does(Step::Put(0, 0, 1), true),
+        Line::Does(Step::Sync(0), true),
+        Line::Does(Step::Put(0, 0, 2), true),
+        Line::Does(Step::Put(1, 0, 3), true),
+        Line::Does(Step::Lose(0), true),
+        Line::Does(Step::BringBack(0), true),
+        Line::Holds(0, 0, Some(1)),
+        Line::Holds(1, 0, Some(3)),
+        Line::Crash(&[1, 0, 0, 0]),
+        Line::Holds(0, 0, Some(1)),
+        Line::Holds(1, 0, Some(3)),
+    ],
+];
 
 #[test]
 fn calls_fail_as_asked(rt: HostRuntime) -> Result<(), Fail> {
-    let tables: [&[(Step, bool)]; 5] = [
-        // The call of a number, whatever it is.
-        &[
-            (Step::FailCall(1), true),
-            (Step::FailCall(3), true),
-            (Step::Put(0, 0, 1), true),
-            (Step::Put(0, 0, 2), false),
-            (Step::Give(7), true),
-            (Step::Give(8), false),
-            (Step::Sync(0), true),
-        ],
-        // A lost drive refuses each call, until it comes back.
-        &[
-            (Step::Put(1, 0, 1), true),
-            (Step::Lose(1), true),
-            (Step::Get(1, 0), false),
-            (Step::Put(1, 0, 2), false),
-            (Step::Sync(1), false),
-            (Step::Sync(0), true),
-            (Step::BringBack(1), true),
-            (Step::Get(1, 0), true),
-        ],
-        // From the call of that number on.
-        &[
-            (Step::LoseAt(0, 2), true),
-            (Step::Put(0, 0, 1), true),
-            (Step::Sync(0), true),
-            (Step::Get(0, 0), false),
-            (Step::Get(1, 0), true),
-            (Step::Sync(0), false),
-            (Step::BringBack(0), true),
-            (Step::Get(0, 0), true),
-        ],
-        // So many calls pass; the earlier of two stops stands.
-        &[
-            (Step::Give(1), true),
-            (Step::StopAfter(2), true),
-            (Step::StopAfter(9), true),
-            (Step::Give(2), true),
-            (Step::Sync(1), true),
-            (Step::Give(3), false),
-            (Step::Get(0, 0), false),
-            (Step::Sync(1), false),
-        ],
-        // A loss to come outlives the coming back.
-        &[
-            (Step::LoseAt(1, 1), true),
-            (Step::BringBack(1), true),
-            (Step::Get(1, 0), true),
-            (Step::Get(1, 0), false),
-        ],
-    ];
-    for table in tables {
-        let shelf = after(&rt, rt.alloc(), table)?;
-        assert_eq!(rt; shelf.short(), false);
+    for lines in LIVES {
+        let wrong = first_wrong(&mut shelf(rt.alloc())?, lines)?;
+        assert!(rt; wrong.is_none(), "line {wrong:?}");
     }
-    Ok(())
-}
-
-#[test]
-fn a_crash_ends_what_was_asked(rt: HostRuntime) -> Result<(), Fail> {
-    let mut shelf = after(
-        &rt,
-        rt.alloc(),
-        &[
-            (Step::Give(5), true),
-            (Step::LoseAt(1, 1), true),
-            (Step::LoseAt(0, 3), true),
-            (Step::FailCall(4), true),
-            (Step::Give(6), true),
-            (Step::StopAfter(0), true),
-            (Step::Give(7), false),
-        ],
-    )?;
-    shelf.crash(&[]);
-    assert_eq!(rt; get(&mut shelf, 0, 0), Some(0));
-    assert_eq!(rt; get(&mut shelf, 0, 0), Some(0));
-    // The drive whose loss had begun stays lost.
-    assert_eq!(rt; get(&mut shelf, 1, 0), None);
-    assert_eq!(rt; shelf.told(), [5, 6].as_slice());
-    assert_eq!(rt; shelf.short(), false);
-    Ok(())
-}
-
-#[test]
-fn a_failed_write_leaves_its_block(rt: HostRuntime) -> Result<(), Fail> {
-    let mut shelf = after(
-        &rt,
-        rt.alloc(),
-        &[
-            (Step::Put(0, 2, 1), true),
-            (Step::FailCall(1), true),
-            (Step::Put(0, 2, 2), false),
-        ],
-    )?;
-    assert_eq!(rt; get(&mut shelf, 0, 2), Some(1));
-    shelf.crash(&[0, 0, 1]);
-    assert_eq!(rt; get(&mut shelf, 0, 2), Some(1));
-    Ok(())
-}
-
-#[test]
-fn a_drive_comes_back_stable(rt: HostRuntime) -> Result<(), Fail> {
-    let mut shelf = after(
-        &rt,
-        rt.alloc(),
-        &[
-            (Step::Put(0, 0, 1), true),
-            (Step::Sync(0), true),
-            (Step::Put(0, 0, 2), true),
-            (Step::Put(1, 0, 3), true),
-            (Step::Lose(0), true),
-            (Step::BringBack(0), true),
-        ],
-    )?;
-    assert_eq!(rt; get(&mut shelf, 0, 0), Some(1));
-    assert_eq!(rt; get(&mut shelf, 1, 0), Some(3));
-    shelf.crash(&[1, 0, 0, 0]);
-    assert_eq!(rt; get(&mut shelf, 0, 0), Some(1));
-    assert_eq!(rt; get(&mut shelf, 1, 0), Some(3));
     Ok(())
 }
