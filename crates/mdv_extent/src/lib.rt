@@ -10,8 +10,6 @@ mod law;
 mod page;
 mod run;
 mod share;
-#[cfg(test)]
-mod tests;
 
 pub use apart::lie_apart;
 pub use form::{Header, header_block, read_header};

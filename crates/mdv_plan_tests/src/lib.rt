@@ -1,10 +1,12 @@
-//! Tests of the configuration of a database.
+//! Tests of the configuration of a database, and of the blocks of soft partitions.
 #![tactic(auto)]
 
 #[cfg(test)]
 mod change_tests;
 #[cfg(test)]
 mod drives;
+#[cfg(test)]
+mod extent_tests;
 #[cfg(test)]
 mod facts;
 #[cfg(test)]

@@ -1,7 +1,7 @@
-use crate::{
-    Header, Run, SpaceFault, allocate, free_runs, header_block, lie_apart, read_header, release,
-};
+//! The blocks of soft partitions, and their headers.
+
 use mdv_base::{Identity, VolId, ZERO_BLOCK};
+use mdv_extent::*;
 use std::test::Fail;
 
 const LOW_EXTENT: Run = Run { at: 1, blocks: 400 };
