@@ -12,80 +12,6 @@ const STOPPED: &str = "list 111
     write 1
     crash";
 
-#[test]
-fn a_change_at_a_lost_place_alone_is_struck(rt: HostRuntime) -> Result<(), Fail> {
-    let row = "lose 0
-        boot 110
-        adopts 1 0
-        crash
-        back 0
-        boot 111
-        adopts 2 0";
-    play(&rt, rt.alloc(), false, &[CREATED, STOPPED, row])?;
-    Ok(())
-}
-
-#[test]
-fn a_change_at_a_place_that_is_read_is_adopted(rt: HostRuntime) -> Result<(), Fail> {
-    let row = "boot 111
-        adopts 1 1
-        boot 110
-        adopts 2 0";
-    play(&rt, rt.alloc(), false, &[CREATED, STOPPED, row])?;
-    Ok(())
-}
-
-#[test]
-fn a_number_is_drawn_again_where_its_claim_is_lost(rt: HostRuntime) -> Result<(), Fail> {
-    let stopped = "crash
-        read 111
-        claim 1
-        crash
-        lose 0
-        boot 110
-        adopts 1 0";
-    let change = "list 111
-        write 110
-        tell
-        crash
-        back 0
-        boot 111
-        adopts 2 1
-        boot 111
-        adopts 3 0";
-    play(&rt, rt.alloc(), false, &[CREATED, stopped, change])?;
-    Ok(())
-}
-
-// To three places of drive 0 come four of drive 1; three of those seven aren't enough, four are.
-#[test]
-fn a_new_list_of_places_has_its_own_quorum(rt: HostRuntime) -> Result<(), Fail> {
-    let stopped = "list 7
-        format 7
-        write 7
-        tell
-        move 7 f7
-        format f0
-        write 1
-        crash
-        lose 1
-        read 7
-        no claim f7";
-    let again = "back 1
-        read 10
-        claim 17
-        write 17
-        tell
-        adopts 1 1
-        list f7
-        write f7
-        tell
-        boot f0
-        adopts 2 1";
-    play(&rt, rt.alloc(), false, &[stopped, again])?;
-    Ok(())
-}
-
 // Places on two drives, and mediators on two others, which came one by one.
 const MEDIATED: &str = "list 11
     format 11
@@ -106,50 +32,6 @@ const THIRD: &str = "format 1000000
     write 1110011
     tell";
 
-#[test]
-fn half_of_the_places_needs_a_majority_of_the_mediators(rt: HostRuntime) -> Result<(), Fail> {
-    let cases: [[&str; 3]; 5] = [
-        [MEDIATED, "lose 1", "boot 110001\nadopts 1 2"],
-        [
-            MEDIATED,
-            "lose 1\nlose 5",
-            "crash\nread 10001\nno claim 10001",
-        ],
-        [MEDIATED, THIRD, "lose 1\nlose 5\nboot 1010001\nadopts 1 3"],
-        [
-            MEDIATED,
-            THIRD,
-            "lose 1\ncrash\nread 100001\nno claim 100001",
-        ],
-        [CREATED, "lose 1\nlose 2", "crash\nread 1\nno claim 111"],
-    ];
-    for rows in cases {
-        play(&rt, rt.alloc(), true, &rows)?;
-    }
-    Ok(())
-}
-
-// A change was told at one place of two and at both mediators, while the other drive was lost.
-#[test]
-fn a_mediator_that_knows_a_greater_mark_stands_against_half(rt: HostRuntime) -> Result<(), Fail> {
-    let change = "lose 0
-        list 110011
-        write 110010
-        tell
-        crash
-        back 0
-        lose 1
-        read 110001
-        no claim 110001";
-    let back = "crash
-        back 1
-        lose 0
-        boot 110010
-        adopts 1 3";
-    play(&rt, rt.alloc(), true, &[MEDIATED, change, back])?;
-    Ok(())
-}
-
 const NO_BEGINNING: &str = "no read 11
     no claim 11
     no format 11
@@ -158,25 +40,163 @@ const NO_BEGINNING: &str = "no read 11
     no list 1
     no list 10";
 
-#[test]
-fn a_deleted_database_stays_deleted(rt: HostRuntime) -> Result<(), Fail> {
-    let deleted = "list 1
+// The place of drive 2 was dropped while drive 1 was lost, and wasn't blanked.
+const DROPPED: &str = "lose 1
+    move 111 11
+    write 101
+    tell
+    list 11
+    write 1
+    tell";
+
+// Whether it is the database of a set, and the rows of its life.
+const CASES: &[(bool, &[&str])] = &[
+    // A change at a lost place alone is struck.
+    (
+        false,
+        &[
+            CREATED,
+            STOPPED,
+            "lose 0
+        boot 110
+        adopts 1 0
+        crash
+        back 0
+        boot 111
+        adopts 2 0",
+        ],
+    ),
+    // A change at a place that is read is adopted.
+    (
+        false,
+        &[
+            CREATED,
+            STOPPED,
+            "boot 111
+        adopts 1 1
+        boot 110
+        adopts 2 0",
+        ],
+    ),
+    // A number is drawn again where its claim is lost.
+    (
+        false,
+        &[
+            CREATED,
+            "crash
+        read 111
+        claim 1
+        crash
+        lose 0
+        boot 110
+        adopts 1 0",
+            "list 111
+        write 110
+        tell
+        crash
+        back 0
+        boot 111
+        adopts 2 1
+        boot 111
+        adopts 3 0",
+        ],
+    ),
+    // A new list of places has its own quorum.
+    // To three places of drive 0 come four of drive 1; three of those seven aren't enough, four are.
+    (
+        false,
+        &[
+            "list 7
+        format 7
+        write 7
+        tell
+        move 7 f7
+        format f0
+        write 1
+        crash
+        lose 1
+        read 7
+        no claim f7",
+            "back 1
+        read 10
+        claim 17
+        write 17
+        tell
+        adopts 1 1
+        list f7
+        write f7
+        tell
+        boot f0
+        adopts 2 1",
+        ],
+    ),
+    // Half of the places needs a majority of the mediators.
+    (true, &[MEDIATED, "lose 1", "boot 110001\nadopts 1 2"]),
+    (
+        true,
+        &[
+            MEDIATED,
+            "lose 1\nlose 5",
+            "crash\nread 10001\nno claim 10001",
+        ],
+    ),
+    (
+        true,
+        &[MEDIATED, THIRD, "lose 1\nlose 5\nboot 1010001\nadopts 1 3"],
+    ),
+    (
+        true,
+        &[
+            MEDIATED,
+            THIRD,
+            "lose 1\ncrash\nread 100001\nno claim 100001",
+        ],
+    ),
+    (
+        true,
+        &[CREATED, "lose 1\nlose 2", "crash\nread 1\nno claim 111"],
+    ),
+    // A mediator that knows a greater mark stands against half.
+    // A change was told at one place of two and at both mediators, while the other drive was lost.
+    (
+        true,
+        &[
+            MEDIATED,
+            "lose 0
+        list 110011
+        write 110010
+        tell
+        crash
+        back 0
+        lose 1
+        read 110001
+        no claim 110001",
+            "crash
+        back 1
+        lose 0
+        boot 110010
+        adopts 1 3",
+        ],
+    ),
+    // A deleted database stays deleted.
+    (
+        false,
+        &[
+            "list 1
         format 1
         write 1
         tell
-        wipe 1";
-    play(
-        &rt,
-        rt.alloc(),
+        wipe 1",
+            NO_BEGINNING,
+            "crash",
+            NO_BEGINNING,
+        ],
+    ),
+    // A listed place is blanked only where it is the last.
+    (
         false,
-        &[deleted, NO_BEGINNING, "crash", NO_BEGINNING],
-    )?;
-    Ok(())
-}
-
-#[test]
-fn a_listed_place_is_blanked_only_where_it_is_the_last(rt: HostRuntime) -> Result<(), Fail> {
-    let row = "list 11
+        &[
+            "list 11
         format 11
         write 11
         tell
@@ -189,37 +209,49 @@ fn a_listed_place_is_blanked_only_where_it_is_the_last(rt: HostRuntime) -> Resul
         write 1
         tell
         wipe 10
-        wipe 1";
-    play(&rt, rt.alloc(), false, &[row, NO_BEGINNING])?;
-    Ok(())
-}
-
-// Without mediators half of the claims suffices for a local database, and not for that of a set.
-#[test]
-fn half_of_the_claims_suffices_for_a_local_database(rt: HostRuntime) -> Result<(), Fail> {
-    let claimed = "list 11
+        wipe 1",
+            NO_BEGINNING,
+        ],
+    ),
+    // Half of the claims suffices for a local database.
+    // Without mediators half of the claims suffices for a local database, and not for that of a set.
+    (
+        false,
+        &[
+            "list 11
         format 11
         write 11
         tell
         crash
         read 11
-        claim 1";
-    let written = "write 1
+        claim 1",
+            "write 1
         tell
-        adopts 1 0";
-    play(&rt, rt.alloc(), false, &[claimed, written])?;
-    let refused = "no write 11
+        adopts 1 0",
+        ],
+    ),
+    (
+        true,
+        &[
+            "list 11
+        format 11
+        write 11
+        tell
+        crash
+        read 11
+        claim 1",
+            "no write 11
         claim 10
         write 11
         tell
-        adopts 1 0";
-    play(&rt, rt.alloc(), true, &[claimed, refused])?;
-    Ok(())
-}
-
-#[test]
-fn a_creation_is_begun_anew_until_a_place_is_formatted(rt: HostRuntime) -> Result<(), Fail> {
-    let row = "list 1
+        adopts 1 0",
+        ],
+    ),
+    // A creation is begun anew until a place is formatted.
+    (
+        false,
+        &[
+            "list 1
         list 11
         crash
         list 1
@@ -229,15 +261,15 @@ fn a_creation_is_begun_anew_until_a_place_is_formatted(rt: HostRuntime) -> Resul
         no list 1
         no list 10
         read 1
-        no claim 1";
-    play(&rt, rt.alloc(), false, &[row])?;
-    Ok(())
-}
-
-// The places of drives 2 and 3 were dropped together and not blanked, and the last missed that.
-#[test]
-fn a_place_isnt_formatted_again_beside_an_older_table(rt: HostRuntime) -> Result<(), Fail> {
-    let dropped = "list 1111
+        no claim 1",
+        ],
+    ),
+    // A place isn't formatted again beside an older table.
+    // The places of drives 2 and 3 were dropped together and not blanked, and the last missed that.
+    (
+        false,
+        &[
+            "list 1111
         format 1111
         write 1111
         tell
@@ -246,40 +278,35 @@ fn a_place_isnt_formatted_again_beside_an_older_table(rt: HostRuntime) -> Result
         tell
         list 11
         write 11
-        tell";
-    let added = "move 11 111
+        tell",
+            "move 11 111
         no format 100
         wipe 1000
         format 100
         write 111
         tell
         boot 111
-        adopts 1 3";
-    play(&rt, rt.alloc(), false, &[dropped, added])?;
-    Ok(())
-}
-
-// The place of drive 2 was dropped while drive 1 was lost, and wasn't blanked.
-const DROPPED: &str = "lose 1
-    move 111 11
-    write 101
-    tell
-    list 11
-    write 1
-    tell";
-
-#[test]
-fn a_drive_that_missed_a_drop_stays_lost_behind_a_new_use(rt: HostRuntime) -> Result<(), Fail> {
-    let row = "move 11 111
+        adopts 1 3",
+        ],
+    ),
+    // A drive that missed a drop stays lost behind a new use.
+    (
+        false,
+        &[
+            CREATED,
+            DROPPED,
+            "move 11 111
         format 100
-        no back 1";
-    play(&rt, rt.alloc(), false, &[CREATED, DROPPED, row])?;
-    Ok(())
-}
-
-#[test]
-fn a_place_is_used_again_once_each_drive_knows_of_its_drop(rt: HostRuntime) -> Result<(), Fail> {
-    let row = "back 1
+        no back 1",
+        ],
+    ),
+    // A place is used again once each drive knows of its drop.
+    (
+        false,
+        &[
+            CREATED,
+            DROPPED,
+            "back 1
         move 11 111
         no format 100
         list 11
@@ -290,7 +317,15 @@ fn a_place_is_used_again_once_each_drive_knows_of_its_drop(rt: HostRuntime) -> R
         write 111
         tell
         boot 111
-        adopts 1 4";
-    play(&rt, rt.alloc(), false, &[CREATED, DROPPED, row])?;
+        adopts 1 4",
+        ],
+    ),
+];
+
+#[test]
+fn boots_adopt_as_worked(rt: HostRuntime) -> Result<(), Fail> {
+    for (set, rows) in CASES {
+        play(&rt, rt.alloc(), *set, rows)?;
+    }
     Ok(())
 }
