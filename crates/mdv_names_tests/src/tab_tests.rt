@@ -129,10 +129,24 @@ fn joins_lines_and_skips_comments(rt: HostRuntime) {
     }
 }
 
-#[test]
-fn keeps_the_parts(rt: HostRuntime) -> Result<(), Fail> {
-    let text = b"d10 2 1 c0t0d0s0 2 d4 d6 -i 32k -h hsp001\nmddb07 -l 16 c0t0d0s7\n";
-    let entries = read_tab(rt.alloc(), text)?;
+const KEPT: &[u8] = b"d10 2 1 c0t0d0s0 2 d4 d6 -i 32k -h hsp001\nmddb07 -l 16 c0t0d0s7\n";
+
+const OPTIONS: ReplicaOptions = ReplicaOptions {
+    count: None,
+    blocks: Some(16),
+};
+
+fn has_stripes(rows: &[Row]) -> bool {
+    let [first, second] = rows else {
+        return false;
+    };
+    let want = [Component::Volume(VolId(4)), Component::Volume(VolId(6))];
+    first.interlace.is_none()
+        && second.interlace == Some(64)
+        && second.components.as_slice() == want.as_slice()
+}
+
+fn has_parts(entries: &[Entry]) -> bool {
     let [
         Entry::Stripe { name, rows, spares },
         Entry::Replicas {
@@ -140,46 +154,48 @@ fn keeps_the_parts(rt: HostRuntime) -> Result<(), Fail> {
             options,
             ..
         },
-    ] = entries.as_slice()
+    ] = entries
     else {
-        return Err(Fail::from("other entries"));
+        return false;
     };
-    assert_eq!(rt; name.volume, VolId(10));
-    assert_eq!(rt; *spares, Some(PoolId(1)));
-    let [first, second] = rows.as_slice() else {
-        return Err(Fail::from("other stripes"));
-    };
-    assert_eq!(rt; first.interlace, None);
-    assert_eq!(rt; second.interlace, Some(64));
-    let want = [Component::Volume(VolId(4)), Component::Volume(VolId(6))];
-    assert_eq!(rt; second.components.as_slice(), want.as_slice());
-    assert_eq!(rt; *number, 7);
-    assert_eq!(rt;
-        *options,
-        ReplicaOptions {
-            count: None,
-            blocks: Some(16)
-        }
-    );
-    Ok(())
+    name.volume == VolId(10)
+        && *spares == Some(PoolId(1))
+        && has_stripes(rows.as_slice())
+        && *number == 7
+        && *options == OPTIONS
 }
 
 #[test]
+fn keeps_the_parts(rt: HostRuntime) -> Result<(), Fail> {
+    let entries = read_tab(rt.alloc(), KEPT)?;
+    assert!(rt; has_parts(entries.as_slice()));
+    Ok(())
+}
+
+// So many times the front, and the end behind it.
+fn repeated(alloc: Global, front: &[u8], times: u32, end: &[u8]) -> Result<Vec<u8>, Fail> {
+    let mut text = Vec::new(alloc);
+    for _ in 0..times {
+        text.extend_from_slice(front)?;
+    }
+    text.extend_from_slice(end)?;
+    Ok(text)
+}
+
+// A front, how many times, the end behind it, and how many entries they have.
+const LIMITS: &[(&[u8], u32, &[u8], Result<usize, TabFault>)] = &[
+    (b"hsp001\n", 1024, b"", Ok(1024)),
+    (b"hsp001\n", 1024, b"hsp001\nwhat", Err(TabFault::TooMany)),
+    (b" ", 65536, b"", Ok(0)),
+    (b" ", 65536, b" ", Err(TabFault::TooMany)),
+];
+
+#[test]
 fn keeps_the_limits(rt: HostRuntime) -> Result<(), Fail> {
-    let mut text = Vec::new(rt.alloc());
-    for _ in 0..1024 {
-        text.extend_from_slice(b"hsp001\n")?;
+    for (front, times, end, want) in LIMITS {
+        let text = repeated(rt.alloc(), front, *times, end)?;
+        assert!(rt; count(rt.alloc(), text.as_slice()) == *want, "{times}");
     }
-    assert_eq!(rt; count(rt.alloc(), text.as_slice()), Ok(1024));
-    text.extend_from_slice(b"hsp001\nwhat")?;
-    assert_eq!(rt; count(rt.alloc(), text.as_slice()), Err(TabFault::TooMany));
-    let mut long = Vec::new(rt.alloc());
-    for _ in 0..65536 {
-        long.push(b' ')?;
-    }
-    assert_eq!(rt; count(rt.alloc(), long.as_slice()), Ok(0));
-    long.push(b' ')?;
-    assert_eq!(rt; count(rt.alloc(), long.as_slice()), Err(TabFault::TooMany));
     Ok(())
 }
 
