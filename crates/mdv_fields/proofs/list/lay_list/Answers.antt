@@ -1,0 +1,12 @@
+use Rattle.std.proofs.Common.{arith}
+use Rattle.mdv_fields.proofs.Placing.{laid_none, laid_more, laid_all}
+use Rattle.mdv_fields.proofs.list.lay_list.Goals as goal
+
+pub loop-item-init : goal.loop-item-init
+loop-item-init g c = laid_none c.args.used c.args.out.now (omega arith)
+
+pub loop-item-preserved : goal.loop-item-preserved
+loop-item-preserved g c = laid_more g.T.Part.text c.args.items.now c.loop-item.item-index _ c.item-item.is c.loop-item-test.true c.loop-item.invariant c.lay-used.ensures
+
+pub returns : goal.returns
+returns g c = laid_all g.T.Part.text c.args.items.now c.loop-item.item-index (omega arith) c.loop-item.invariant
