@@ -1,12 +1,16 @@
-//! The one text of a whole configuration, each part of the plan with its state beside it: how it is spelled, and
-//! how it is read.
+//! What the text of a whole configuration says, each part of the plan with its state beside it: how it is read, and
+//! which text it is.
 #![tactic(auto)]
 
+mod order;
+mod parts;
+mod pool;
 mod record;
 mod recorded;
+mod stripe;
 mod volume;
 
-pub use record::{TooLong, read_record, record_bytes, write_record};
+pub use record::{HEAD, read_record};
 pub use recorded::{
     Recorded, RecordedColumns, RecordedFront, RecordedKind, RecordedMirror, RecordedOptions,
     RecordedPart, RecordedPool, RecordedRaid, RecordedRow, RecordedSoft, RecordedSpare,

@@ -5,7 +5,7 @@ ghost use Rattle.mdv_fields.specs.Reading.{Reads};
 
 use crate::fault::RecordError;
 use crate::laying::lay;
-use crate::part::Part;
+use crate::part::{Part, Spelled};
 use crate::reader::Reader;
 use mdv_base::{Place, SliceName, VolId};
 use mdv_extent::Run;
@@ -27,6 +27,10 @@ impl Part for Place {
             blocks,
         })
     }
+}
+
+impl Spelled for Place {
+    ghost text = { place_text };
 
     fn lay(&self, out: &mut [u8], used: usize) -> usize {
         let used = self.slice.lay(out, used);
@@ -45,6 +49,10 @@ impl Part for Run {
         let blocks = u64::read(alloc, rest)?;
         Ok(Run { at, blocks })
     }
+}
+
+impl Spelled for Run {
+    ghost text = { run_text };
 
     fn lay(&self, out: &mut [u8], used: usize) -> usize {
         let used = self.at.lay(out, used);
@@ -64,6 +72,10 @@ impl Part for Base {
             _ => Err(RecordError::NotARecord),
         }
     }
+}
+
+impl Spelled for Base {
+    ghost text = { base_text };
 
     fn lay(&self, out: &mut [u8], used: usize) -> usize {
         match self {
@@ -102,6 +114,10 @@ impl Part for Component {
         let blocks = u64::read(alloc, rest)?;
         Ok(Component { on, start, blocks })
     }
+}
+
+impl Spelled for Component {
+    ghost text = { component_text };
 
     fn lay(&self, out: &mut [u8], used: usize) -> usize {
         let used = self.on.lay(out, used);
@@ -125,6 +141,10 @@ impl Part for Spare {
             blocks,
         })
     }
+}
+
+impl Spelled for Spare {
+    ghost text = { spare_text };
 
     fn lay(&self, out: &mut [u8], used: usize) -> usize {
         let used = self.slice.lay(out, used);

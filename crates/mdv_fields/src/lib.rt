@@ -19,6 +19,6 @@ pub use fault::RecordError;
 pub use laying::lay;
 pub use list::{lay_list, lay_long, lay_short, read_list, read_long, read_short};
 pub use order::{Ordered, ascend};
-pub use part::Part;
+pub use part::{Part, Spelled};
 pub use place::are_spaced;
 pub use reader::Reader;

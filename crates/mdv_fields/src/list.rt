@@ -3,7 +3,7 @@ ghost use Rattle.mdv_fields.specs.Laying.{IsLaid};
 ghost use Rattle.mdv_fields.specs.Reading.{Reads, ListFits, ShortFits, short_text, LongFits, long_text};
 
 use crate::fault::RecordError;
-use crate::part::Part;
+use crate::part::{Part, Spelled};
 use crate::reader::Reader;
 use mdv_plan::Listed;
 use std::alloc::Global;
@@ -53,7 +53,7 @@ pub fn read_long<T: Part, const MOST: usize>(
 }
 
 /// Lays the parts' texts, one behind another, and tells where they end.
-pub fn lay_list<T: Part>(out: &mut [u8], used: usize, items: &[T]) -> usize
+pub fn lay_list<T: Spelled>(out: &mut [u8], used: usize, items: &[T]) -> usize
     ensures { IsLaid used out.old out.new (flat_map T.text items.now) result }
 {
     let mut used = used;
@@ -64,7 +64,7 @@ pub fn lay_list<T: Part>(out: &mut [u8], used: usize, items: &[T]) -> usize
 }
 
 /// Lays the number of parts, a byte, and their texts.
-pub fn lay_short<T: Part>(out: &mut [u8], used: usize, items: &[T]) -> usize
+pub fn lay_short<T: Spelled>(out: &mut [u8], used: usize, items: &[T]) -> usize
     requires { length items.now < 256 }
     ensures { IsLaid used out.old out.new (short_text T.text items.now) result }
 {
@@ -73,7 +73,7 @@ pub fn lay_short<T: Part>(out: &mut [u8], used: usize, items: &[T]) -> usize
 }
 
 /// Lays the number of parts, two bytes, and their texts.
-pub fn lay_long<T: Part>(out: &mut [u8], used: usize, items: &[T]) -> usize
+pub fn lay_long<T: Spelled>(out: &mut [u8], used: usize, items: &[T]) -> usize
     requires { length items.now < 65536 }
     ensures { IsLaid used out.old out.new (long_text T.text items.now) result }
 {

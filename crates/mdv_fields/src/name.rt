@@ -6,7 +6,7 @@ ghost use Rattle.mdv_fields.specs.Names.{pool_text, PoolFits, pool_id_text, Pool
 
 use crate::fault::RecordError;
 use crate::laying::lay;
-use crate::part::Part;
+use crate::part::{Part, Spelled};
 use crate::reader::Reader;
 use mdv_base::{DriveName, Name, PoolId, SliceName, VolId};
 use mdv_plan::{MAX_POOLS, MAX_VOLUMES};
@@ -27,6 +27,10 @@ impl Part for DriveName {
             disk,
         })
     }
+}
+
+impl Spelled for DriveName {
+    ghost text = { drive_text };
 
     fn lay(&self, out: &mut [u8], used: usize) -> usize {
         lay(out, used, &[self.controller, self.target, self.disk])
@@ -44,6 +48,10 @@ impl Part for SliceName {
         let slice = u8::read(alloc, rest)?;
         Ok(SliceName { drive, slice })
     }
+}
+
+impl Spelled for SliceName {
+    ghost text = { slice_text };
 
     fn lay(&self, out: &mut [u8], used: usize) -> usize {
         let used = self.drive.lay(out, used);
@@ -64,6 +72,10 @@ impl Part for VolId {
             Err(RecordError::NotARecord)
         }
     }
+}
+
+impl Spelled for VolId {
+    ghost text = { volume_id_text };
 
     fn lay(&self, out: &mut [u8], used: usize) -> usize {
         self.0.lay(out, used)
@@ -83,6 +95,10 @@ impl Part for PoolId {
             Err(RecordError::NotARecord)
         }
     }
+}
+
+impl Spelled for PoolId {
+    ghost text = { pool_id_text };
 
     fn lay(&self, out: &mut [u8], used: usize) -> usize {
         self.0.lay(out, used)
@@ -103,6 +119,10 @@ impl Part for Option<PoolId> {
             _ => Err(RecordError::NotARecord),
         }
     }
+}
+
+impl Spelled for Option<PoolId> {
+    ghost text = { pool_text };
 
     #[tactic(auto, unfolding(crate::specs::Numbers::u16_text))]
     fn lay(&self, out: &mut [u8], used: usize) -> usize {
@@ -128,6 +148,10 @@ impl Part for bool {
             _ => Err(RecordError::NotARecord),
         }
     }
+}
+
+impl Spelled for bool {
+    ghost text = { flag_text };
 
     fn lay(&self, out: &mut [u8], used: usize) -> usize {
         lay(out, used, &[u8::from(*self)])
@@ -146,6 +170,10 @@ impl Part for Option<Name> {
         }
         Ok(Some(read_name(rest, size)?))
     }
+}
+
+impl Spelled for Option<Name> {
+    ghost text = { owner_text };
 
     fn lay(&self, out: &mut [u8], used: usize) -> usize {
         match self {
@@ -164,6 +192,10 @@ impl Part for Name {
         let size = u8::read(alloc, rest)?;
         read_name(rest, size)
     }
+}
+
+impl Spelled for Name {
+    ghost text = { name_text };
 
     fn lay(&self, out: &mut [u8], used: usize) -> usize {
         let text = self.as_bytes();

@@ -4,7 +4,7 @@ ghost use Rattle.mdv_fields.specs.Numbers.{u16_text, u32_text, u64_text};
 
 use crate::fault::RecordError;
 use crate::laying::lay;
-use crate::part::Part;
+use crate::part::{Part, Spelled};
 use crate::reader::Reader;
 use byteorder::{BigEndian, ByteOrder};
 use std::alloc::Global;
@@ -18,6 +18,10 @@ impl Part for u8 {
         let field = rest.bytes(1)?;
         Ok(byte_of(field))
     }
+}
+
+impl Spelled for u8 {
+    ghost text = { λ n. n ∷ [] };
 
     fn lay(&self, out: &mut [u8], used: usize) -> usize {
         lay(out, used, &[*self])
@@ -34,6 +38,10 @@ impl Part for u16 {
         let field = rest.bytes(2)?;
         Ok(number16_of(field))
     }
+}
+
+impl Spelled for u16 {
+    ghost text = { u16_text };
 
     #[tactic(auto, unfolding(crate::specs::Numbers::u16_text))]
     fn lay(&self, out: &mut [u8], used: usize) -> usize {
@@ -53,6 +61,10 @@ impl Part for u32 {
         let field = rest.bytes(4)?;
         Ok(number32_of(field))
     }
+}
+
+impl Spelled for u32 {
+    ghost text = { u32_text };
 
     #[tactic(auto, unfolding(crate::specs::Numbers::u32_text))]
     fn lay(&self, out: &mut [u8], used: usize) -> usize {
@@ -72,6 +84,10 @@ impl Part for u64 {
         let field = rest.bytes(8)?;
         Ok(number64_of(field))
     }
+}
+
+impl Spelled for u64 {
+    ghost text = { u64_text };
 
     #[tactic(auto, unfolding(crate::specs::Numbers::u64_text))]
     fn lay(&self, out: &mut [u8], used: usize) -> usize {

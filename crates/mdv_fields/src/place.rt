@@ -6,7 +6,7 @@ ghost use Rattle.mdv_fields.specs.Sets.{is_spaced as spec_is_spaced, starts_well
 use crate::fault::RecordError;
 use crate::laying::lay;
 use crate::list::{lay_short, read_short};
-use crate::part::Part;
+use crate::part::{Part, Spelled};
 use crate::reader::Reader;
 use mdv_base::{MAX_PLACES, Place, Places};
 use mdv_plan::{Listed, Lists, same_slice};
@@ -21,6 +21,10 @@ impl Part for Places {
         let listed = read_short(alloc, rest)?;
         Ok(places_of(&listed))
     }
+}
+
+impl Spelled for Places {
+    ghost text = { places_text };
 
     fn lay(&self, out: &mut [u8], used: usize) -> usize {
         let _few = self.is_full();
@@ -54,6 +58,10 @@ impl Part for Lists {
             _ => Err(RecordError::NotARecord),
         }
     }
+}
+
+impl Spelled for Lists {
+    ghost text = { lists_text };
 
     fn lay(&self, out: &mut [u8], used: usize) -> usize {
         match self {

@@ -8,7 +8,7 @@ ghost use Rattle.mdv_fields.specs.Sets.{IsBehindDrive, IsBehindPending};
 use crate::fault::RecordError;
 use crate::list::{lay_long, lay_short, read_long, read_short};
 use crate::order::{Ordered, ascend};
-use crate::part::Part;
+use crate::part::{Part, Spelled};
 use crate::reader::Reader;
 use mdv_base::{DriveName, Name};
 use mdv_plan::{Mediator, Pending, SetData};
@@ -25,6 +25,10 @@ impl Part for Mediator {
         let block = u32::read(alloc, rest)?;
         Ok(Mediator { host, block })
     }
+}
+
+impl Spelled for Mediator {
+    ghost text = { mediator_text };
 
     fn lay(&self, out: &mut [u8], used: usize) -> usize {
         let used = self.host.lay(out, used);
@@ -63,6 +67,10 @@ impl Part for SetData {
             mediators,
         })
     }
+}
+
+impl Spelled for SetData {
+    ghost text = { set_text };
 
     fn lay(&self, out: &mut [u8], used: usize) -> usize {
         let used = self.owner.lay(out, used);
@@ -82,6 +90,10 @@ impl Part for Pending {
         let hosts = read_short(alloc, rest)?;
         Ok(Pending { set, hosts })
     }
+}
+
+impl Spelled for Pending {
+    ghost text = { pending_text };
 
     fn lay(&self, out: &mut [u8], used: usize) -> usize {
         let used = self.set.lay(out, used);

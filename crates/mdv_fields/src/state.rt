@@ -1,8 +1,9 @@
+ghost use Rattle.std.specs.Prelude.{◌≡◌, [], ◌∷◌};
 ghost use Rattle.mdv_fields.specs.Parts.{AreRegions, state_text, spare_use_text, SpareUseFits, part_status_text, PartStatusFits, spare_state_text, raid_state_text, read_text, write_text};
 
 use crate::fault::RecordError;
 use crate::laying::lay;
-use crate::part::Part;
+use crate::part::{Part, Spelled};
 use crate::reader::Reader;
 use mdv_base::{DriveName, SliceName};
 use mdv_plan::{
@@ -27,6 +28,10 @@ impl Part for State {
             _ => Err(RecordError::NotARecord),
         }
     }
+}
+
+impl Spelled for State {
+    ghost text = { state_text };
 
     fn lay(&self, out: &mut [u8], used: usize) -> usize {
         let bytes: [u8; 2] = match self {
@@ -65,6 +70,10 @@ impl Part for Option<SpareUse> {
             _ => Err(RecordError::NotARecord),
         }
     }
+}
+
+impl Spelled for Option<SpareUse> {
+    ghost text = { spare_use_text };
 
     fn lay(&self, out: &mut [u8], used: usize) -> usize {
         match self {
@@ -88,6 +97,10 @@ impl Part for PartStatus {
         let spare = <Option<SpareUse>>::read(alloc, rest)?;
         Ok(PartStatus { state, spare })
     }
+}
+
+impl Spelled for PartStatus {
+    ghost text = { part_status_text };
 
     fn lay(&self, out: &mut [u8], used: usize) -> usize {
         let used = self.state.lay(out, used);
@@ -108,14 +121,23 @@ impl Part for SpareState {
             _ => Err(RecordError::NotARecord),
         }
     }
+}
+
+impl Spelled for SpareState {
+    ghost text = { spare_state_text };
 
     fn lay(&self, out: &mut [u8], used: usize) -> usize {
-        let code: u8 = match self {
-            SpareState::Available => 0,
-            SpareState::InUse => 1,
-            SpareState::Broken => 2,
-        };
-        code.lay(out, used)
+        spare_state_code(*self).lay(out, used)
+    }
+}
+
+fn spare_state_code(state: SpareState) -> u8
+    ensures { result ∷ [] ≡ spare_state_text state }
+{
+    match state {
+        SpareState::Available => 0,
+        SpareState::InUse => 1,
+        SpareState::Broken => 2,
     }
 }
 
@@ -132,6 +154,10 @@ impl Part for RaidState {
             _ => Err(RecordError::NotARecord),
         }
     }
+}
+
+impl Spelled for RaidState {
+    ghost text = { raid_state_text };
 
     fn lay(&self, out: &mut [u8], used: usize) -> usize {
         let code: u8 = match self {
@@ -156,6 +182,10 @@ impl Part for ReadOption {
             _ => Err(RecordError::NotARecord),
         }
     }
+}
+
+impl Spelled for ReadOption {
+    ghost text = { read_text };
 
     fn lay(&self, out: &mut [u8], used: usize) -> usize {
         let code: u8 = match self {
@@ -179,6 +209,10 @@ impl Part for WriteOption {
             _ => Err(RecordError::NotARecord),
         }
     }
+}
+
+impl Spelled for WriteOption {
+    ghost text = { write_text };
 
     fn lay(&self, out: &mut [u8], used: usize) -> usize {
         let code: u8 = match self {
@@ -198,6 +232,10 @@ impl Part for Regions {
         let bytes = rest.bytes(128)?;
         Ok(Regions::from_slice(alloc, bytes)?)
     }
+}
+
+impl Spelled for Regions {
+    ghost text = { λ bytes. bytes };
 
     fn lay(&self, out: &mut [u8], used: usize) -> usize {
         lay(out, used, self.as_slice())

@@ -6,7 +6,7 @@ pub loop-item-init : goal.loop-item-init
 loop-item-init g c = laid_none c.args.used c.args.out.now (omega arith)
 
 pub loop-item-preserved : goal.loop-item-preserved
-loop-item-preserved g c = laid_more g.T.Part.text c.args.items.now c.loop-item.item-index _ c.item-item.is c.loop-item-test.true c.loop-item.invariant c.lay-used.ensures
+loop-item-preserved g c = laid_more g.T.Spelled.text c.args.items.now c.loop-item.item-index _ c.item-item.is c.loop-item-test.true c.loop-item.invariant c.lay-used.ensures
 
 pub returns : goal.returns
-returns g c = laid_all g.T.Part.text c.args.items.now c.loop-item.item-index (omega arith) c.loop-item.invariant
+returns g c = laid_all g.T.Spelled.text c.args.items.now c.loop-item.item-index (omega arith) c.loop-item.invariant

@@ -4,4 +4,4 @@ use Rattle.mdv_fields.specs.Laying.{IsLaid}
 use Rattle.mdv_fields.proofs.list.lay_list.Given as goal
 
 abbrev pub invariant-loop-item : goal.invariant-loop-item
-invariant-loop-item g l = IsLaid l.fn.used l.fn.out l.out (flat_map g.T.Part.text (take l.item-index l.items)) l.used
+invariant-loop-item g l = IsLaid l.fn.used l.fn.out l.out (flat_map g.T.Spelled.text (take l.item-index l.items)) l.used
