@@ -1,0 +1,4 @@
+mod Ahead
+mod Back
+mod Sorted
+mod Table

@@ -1,0 +1,5 @@
+pub mod Below
+pub mod Parted
+pub mod Settled
+pub mod Sides
+pub mod Text

@@ -1,0 +1,17 @@
+//! The one text of a whole table: `encode` spells it, plan and status side by side, and `decode` reads it again.
+#![tactic(auto)]
+
+mod beside;
+mod decoding;
+mod encoding;
+mod halves;
+mod kinds;
+mod noted;
+mod parting;
+mod pools;
+mod rows;
+mod spares;
+mod volumes;
+
+pub use decoding::decode;
+pub use encoding::{TooLong, encode, text_bytes};
