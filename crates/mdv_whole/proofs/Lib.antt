@@ -1,4 +1,5 @@
 mod Ahead
 mod Back
+mod Noting
 mod Sorted
 mod Table

@@ -6,6 +6,7 @@ mod decoding;
 mod encoding;
 mod halves;
 mod kinds;
+mod law;
 mod noted;
 mod parting;
 mod pools;
@@ -15,3 +16,4 @@ mod volumes;
 
 pub use decoding::decode;
 pub use encoding::{TooLong, encode, text_bytes};
+pub use law::{noted_tables_have_texts, reads_what_was_written};
