@@ -1,3 +1,4 @@
+use Rattle.mdv_run.proofs.Counting.{boot_calls, over_calls}
 use Rattle.mdv_engine_law.specs.declared.answer.Outcome.TheVariants as outcome
 use Rattle.std.proofs.Common.{◌≡◌, ◌≤◌, ◌+◌, [], inl, inr, Option, refl, sym, ◌∙◌, ap, subst, arith}
 use Rattle.mdv_engine_law.specs.Line.{Nothing}
@@ -120,6 +121,7 @@ returns-in-Err-clause-answer g c = record {
   same = c.in-Err.ensures.answer.host;
   well = c.in-Err.ensures.answer.well;
   begun = (let same = c.in-Err.ensures.answer.begun in omega arith);
+  counted = λ n calls. over_calls g.B.Shelf _ _ c.in-Err.end c.reboot.new.self.state c.in-Err.ensures.counted n calls;
 }
 
 pub returns-in-Ok-clause-answer : goal.returns-in-Ok-clause-answer
@@ -129,4 +131,5 @@ returns-in-Ok-clause-answer g c = record {
   same = ap (λ (e : Engine). e.host) c.accept.ensures.answer.same ∙ c.in-Ok.ensures.answer.host;
   well = subst (λ (e : Engine). IsWell c.args.engine.now.host e.state) (sym c.accept.ensures.answer.same) c.in-Ok.ensures.answer.well;
   begun = subst (λ (e : Engine). e.state.begun ≤ c.args.engine.now.state.begun + 1) (sym c.accept.ensures.answer.same) (let same = c.in-Ok.ensures.answer.begun in omega arith);
+  counted = λ n calls. boot_calls g.B.Shelf _ _ _ c.reboot.new.self.state c.in-Ok.ensures.counted c.accept.ensures.counted.most n calls;
 }
