@@ -14,7 +14,7 @@ pub record BootMoment (site : Site) (t m : Tale) : Type 0 where
   pub quiet : IsQuiet site.at t m
   pub goes : GoesOn site t m
 
--- A boot that adopted a replica made eleven calls and one for each slot of it that was open, and wrote the claim, two gates and the table's text.
+-- A boot that adopted a replica made eleven calls and one for each slot of it that was open, and wrote no more than the claim, two gates and the table's text.
 pub record AdoptedBy (Made : ℕ → ℕ → Type 0) (site : Site) (content : ℕ → List ℕ) (newest : Newest) : Type 0 where
   pub head : Head
   pub replica : IsReplica site content head

@@ -35,7 +35,7 @@ abbrev pub HasUpCause : Failures → Bool → Type 0
 HasUpCause failures true = failures.some
 HasUpCause failures false = failures.none
 
--- a boot is lost only where the drive failed
+-- a boot is lost only where a call failed, and isn't answered for another cause only where none did; one that is answered is so
 abbrev pub HasBootCause : {T : Type 0} → Failures → Bool → Result T Ended → Type 0
 HasBootCause failures unread (Ok booted) = HasUpCause failures unread
 HasBootCause failures unread (Err end) = HasEndCause failures end

@@ -186,8 +186,8 @@ HasReplyCause drive replies reply.Spent = Unit {0}
 HasReplyCause drive replies reply.NoMemory = Unit {0}
 HasReplyCause drive replies reply.Told = replies
 
--- A reply to a command tells a call on the drive that failed, or the run is over with it, where one did, and else not; and it never ends a run
--- for want of memory.
+-- A reply to a command tells a call on the drive that failed, or the run is over with it, where one did, and else not; of one whose giving
+-- failed it says nothing of the drive. No command ends a run for want of memory.
 abbrev pub HasCommandCause : Failures → Type 0 → Reply → Type 0
 HasCommandCause drive replies reply.Ok = drive.none
 HasCommandCause drive replies (reply.Refused IoFault) = drive.some
