@@ -8,7 +8,10 @@ use Rattle.mdv_run.specs.Turns.{LinesFront, at}
 use Rattle.mdv_run.proofs.Fronts.{ScriptFront}
 use Rattle.mdv_run.proofs.Shown.{shown_earlier, shown_later}
 use Rattle.mdv_run.proofs.Went.{Went, lines_shown}
-use Rattle.mdv_run_law.specs.Run.{RoseCalmly, drive_failures, no_line}
+use Rattle.mdv_engine_law.specs.Line.{drive_content}
+use Rattle.mdv_run.specs.Below.{counts}
+use Rattle.mdv_run.proofs.Whole.{point_between}
+use Rattle.mdv_run_law.specs.Run.{IsPoint, RoseCalmly, drive_failures, no_line}
 use Rattle.mdv_shelf.specs.Shelves.{AtEachMoment, AtEachTale, GoesOn}
 use Rattle.mdv_shelf.specs.Story.{Moment, OfTales, Story, tale_of}
 use Rattle.mdv_shelf.specs.declared.shelf.Shelf.{Ghosts}
@@ -90,10 +93,10 @@ module _ {S : Type 0} (shelf : Ghosts S) (telling : (s : S) → shelf.tale s ≡
   pub fronts_quiet : (stretch : Stretch) (a b : S) → GoesOn shelf a b → AtEachTale shelf (λ t m. told m ≡ told t) a b → AtEachMoment shelf (IsToldBy host stretch start script) a b
   fronts_quiet stretch a b on quiet = moment_weaker shelf (OfTales (λ t m. told m ≡ told t)) (IsToldBy host stretch start script) a b (λ t m up below here. quiet_front stretch t m here) (moments_of_tales shelf telling a b (λ t m. told m ≡ told t) on quiet)
 
-  pub fronts_whole : (a b c : S) (memory : Memory) → RoseCalmly start mid → GoesOn shelf a b → AtEachTale shelf (λ t m. told m ≡ told t) a b
+  pub fronts_whole : (a b c : S) (memory : Memory) → RoseCalmly start mid → mid ≡ counts (shelf.faults b) start.source → GoesOn shelf a b → GoesOn shelf b c → AtEachTale shelf (λ t m. told m ≡ told t) a b
       → Ends (λ t u. IsRebooted (drive_failures start mid) host (kept_at (unbooted 0) t) accepted (kept_at memory u) × Knows host memory u) (shelf.tale a) (shelf.tale b)
       → AtEachMoment shelf (RunFront host (between shelf b c) mid memory script) b c → AtEachMoment shelf (IsToldBy host (between shelf a c) start script) a c
-  fronts_whole a b c memory rose on quiet boots lines =
+  fronts_whole a b c memory rose mid_is on more quiet boots lines =
       each_joined (OfTales (λ t m. told m ≡ told t)) (RunFront host (between shelf b c) mid memory script) (IsToldBy host (between shelf a c) start script) _ _ _ _ _ _
       (λ s u v first turn last there begun ahead m here within. quiet_front (between shelf a c) (moment s _) m here)
       (λ s u v is_s is_u is_v turn m front within ahead.
@@ -108,6 +111,7 @@ module _ {S : Type 0} (shelf : Ghosts S) (telling : (s : S) → shelf.tale s ≡
           rose = rose;
           kept = kept_at memory (tale_of u);
           boots = booted.0;
+          point = subst (λ (n : Counts). IsPoint (between shelf a c) start.source n (drive_content (tale_of u))) (sym mid_is) (point_between shelf telling a b c start.source (tale_of u) (telling b ∙ ap (λ (o : Option Story). option_map tale_of o) is_u) on more);
           lines = record {
             so_far = one.lines.so_far;
             rest = one.lines.rest;

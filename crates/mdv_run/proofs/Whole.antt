@@ -1,23 +1,32 @@
 -- A whole run: its boot, and the lines behind it.
-use Rattle.std.proofs.Common.{◌≡◌, ℕ, Bool, List, [], ◌++◌, Option, Some, Err, refl, sym, ◌∙◌, ap, false, arith}
+use Rattle.std.specs.Option.{option_map}
+use Rattle.mdv_shelf.specs.Shelves.{GoesOn}
+use Rattle.mdv_shelf.specs.Story.{Story, tale_of}
+use Rattle.mdv_shelf.specs.declared.shelf.Shelf.{Ghosts}
+use Rattle.mdv_shelf.proofs.Moments.{some_is}
+use Rattle.mdv_engine_law.specs.Line.{IsSame}
+use Rattle.mdv_run.specs.Below.{counts}
+use Rattle.mdv_run.specs.Promise.{between}
+use Rattle.std.proofs.Common.{◌≡◌, ℕ, Bool, List, [], ◌++◌, Option, Some, Err, refl, sym, subst, ◌∙◌, ap, false, arith}
 use Rattle.std.proofs.lemmas.List.{append-nil}
 use Rattle.mdv_run.specs.Below.{Script, Tale, told, Ended, Host, Memory, IsRebooted, kept_at, unbooted, HasBootCause, boot_answer, RunStatus, Counts, Stretch, IsWholeRun, HasStatusCause}
-use Rattle.mdv_run_law.specs.Run.{IsLostStatus, RoseCalmly, drive_failures, status_at}
+use Rattle.mdv_engine_law.specs.Line.{drive_content}
+use Rattle.mdv_run_law.specs.Run.{IsLostStatus, IsPoint, RoseCalmly, drive_failures, status_at}
 use Rattle.mdv_engine_law.specs.Answers.{accepted}
 use Rattle.mdv_engine_law.specs.declared.answer.Ended.TheVariants as ended
 use Rattle.mdv_run.specs.Turns.{LinesRun}
 
 module _ (host : Host) (stretch : Stretch) (start : Counts) (t : Tale) (script : Script) (tale : Option Tale) where
   -- a run that is over with its boot
-  pub whole_over : (T : Type 0) (end : Counts) → RoseCalmly start end → (u : Tale) (memory : Memory) (r : Ended) → tale ≡ Some u → told u ≡ told t → IsRebooted (drive_failures start end) host (kept_at (unbooted 0) t) (boot_answer {T = T} (Err r)) (kept_at memory u) → IsWholeRun host stretch start end t script tale (status_at r)
-  whole_over T end rose u memory r is quiet rebooted = record {
+  pub whole_over : (T : Type 0) (end : Counts) → RoseCalmly start end → (u : Tale) (memory : Memory) (r : Ended) → IsPoint stretch start.source end (drive_content u) → tale ≡ Some u → told u ≡ told t → IsRebooted (drive_failures start end) host (kept_at (unbooted 0) t) (boot_answer {T = T} (Err r)) (kept_at memory u) → IsWholeRun host stretch start end t script tale (status_at r)
+  whole_over T end rose u memory r point is quiet rebooted = record {
     u = u;
     tells = is;
     more = [];
     is_told = quiet ∙ sym (append-nil (told t));
     last = kept_at memory u;
     left = record { content = λ block. refl; opened = λ known. absurd (known (lost r)) };
-    runs = record { answer = boot_answer {T = T} (Err r); booted = end; rose = rose; kept = kept_at memory u; boots = rebooted; runs = (refl, record { silent = refl; ended = refl; keeps = refl }) };
+    runs = record { answer = boot_answer {T = T} (Err r); booted = end; rose = rose; kept = kept_at memory u; boots = rebooted; point = point; runs = (refl, record { silent = refl; ended = refl; keeps = refl }) };
   } where
     lost : (r : Ended) → IsLostStatus (status_at r)
     lost (ended.Lost active listed) = tt
@@ -25,16 +34,16 @@ module _ (host : Host) (stretch : Stretch) (start : Counts) (t : Tale) (script :
     lost ended.Memory = tt
 
   -- a run that goes on to its lines
-  pub whole_lines : (mid end : Counts) → RoseCalmly start mid → (u v : Tale) (memory : Memory) (status : RunStatus) → tale ≡ Some v → told u ≡ told t → IsRebooted (drive_failures start mid) host (kept_at (unbooted 0) t) accepted (kept_at memory u)
+  pub whole_lines : (mid end : Counts) → RoseCalmly start mid → (u v : Tale) (memory : Memory) (status : RunStatus) → IsPoint stretch start.source mid (drive_content u) → tale ≡ Some v → told u ≡ told t → IsRebooted (drive_failures start mid) host (kept_at (unbooted 0) t) accepted (kept_at memory u)
       → LinesRun host stretch mid end memory false script status u v → IsWholeRun host stretch start end t script tale status
-  whole_lines mid end rose u v memory status is quiet rebooted lines = record {
+  whole_lines mid end rose u v memory status point is quiet rebooted lines = record {
     u = v;
     tells = is;
     more = lines.more;
     is_told = lines.is_told ∙ ap (λ (l : List ℕ). l ++ lines.more) quiet;
     last = lines.last;
     left = lines.left;
-    runs = record { answer = accepted; booted = mid; rose = rose; kept = kept_at memory u; boots = rebooted; runs = lines.runs };
+    runs = record { answer = accepted; booted = mid; rose = rose; kept = kept_at memory u; boots = rebooted; point = point; runs = lines.runs };
   }
 
 -- why a run is over with its boot
@@ -42,3 +51,15 @@ pub over_cause : (T : Type 0) (start end : Counts) (r : Ended) (unread : Bool) �
 over_cause T start end (ended.Lost active listed) unread why = why
 over_cause T start end ended.Spent unread why = tt
 over_cause T start end ended.Memory unread why = tt
+
+-- the point between two stretches of calls
+pub point_between : {S : Type 0} (shelf : Ghosts S) (telling : (s : S) → shelf.tale s ≡ option_map tale_of (shelf.story s)) (a b c : S) (source : ℕ) (u : Tale) → shelf.tale b ≡ Some u → GoesOn shelf a b → GoesOn shelf b c
+    → IsPoint (between shelf a c) source (counts (shelf.faults b) source) (drive_content u)
+point_between shelf telling a b c source u is before behind = record {
+  point = shelf.story b;
+  faults = shelf.faults b;
+  before = before;
+  behind = behind;
+  counts_are = refl;
+  reads = λ s at. subst (λ (t : Tale). IsSame (drive_content u) (drive_content t)) (some_is (shelf.tale b) u (tale_of s) is (telling b ∙ ap (λ (o : Option Story). option_map tale_of o) at)) (λ block. refl);
+}

@@ -2,7 +2,7 @@
 use Rattle.std.specs.Prelude.{◌≡◌, ◌≢◌, ◌⊎◌, ◌≤◌, ◌<◌, ◌+◌, ℕ, Bool, true, false, List, [], ◌++◌, take, length, Option, Some, IfSome, Contains, if◌then◌else◌}
 use Rattle.mdv_base.specs.Causes.{Failures, failures_of}
 use Rattle.mdv_run_law.specs.Below.{Rose, BadLine, LineTooLong, OutOfMemory, IsHome, Script, at_end, spent, too_long, line, Head, Part, OnDrive, OnReplies, Tale, told, replies_in, IsSound, Line, IsLine, IsFound, IsOpened, Answer, Host, site_of, Kept, IsSame, IsSameBeside, ComesTo, IsRebooted, IsTurnedDown, drive_content, unbooted}
-use Rattle.mdv_shelf.specs.Story.{Moment, Story, AtEach}
+use Rattle.mdv_shelf.specs.Story.{Moment, Story, AtEach, tale_of}
 use Rattle.mdv_engine_law.specs.Replies.{outcome_text, refusal_line, text_of}
 use Rattle.mdv_engine_law.specs.declared.answer.Answer.TheVariants.{Said, Over as Ends}
 use Rattle.mdv_engine_law.specs.declared.answer.Ended.{Ended}
@@ -146,6 +146,15 @@ pub record Stretch : Type 0 where
   pub new : Option Story
   pub after : Part → ℕ
 
+-- A point of what the bench told, by which the parts had failed so often, and the drive's blocks read so.
+pub record IsPoint (stretch : Stretch) (source : ℕ) (now : Counts) (content : ℕ → List ℕ) : Type 0 where
+  pub point : Option Story
+  pub faults : Part → ℕ
+  pub before : AtEach (λ _ _. Unit {0}) stretch.old stretch.before point faults
+  pub behind : AtEach (λ _ _. Unit {0}) point faults stretch.new stretch.after
+  pub counts_are : now ≡ counts faults source
+  pub reads : (s : Story) → point ≡ Some s → IsSame content (drive_content (tale_of s))
+
 -- the moments between show it so
 abbrev pub IsShown : Stretch → ℕ → ℕ → At → Type 0
 IsShown stretch bytes piece now = AtEach (AreShown bytes piece now) stretch.old stretch.before stretch.new stretch.after
@@ -209,13 +218,14 @@ RunsFrom host stretch end (Said other) later kept script told status last = ⊥
 RunsFrom host stretch end (Ends over) later kept script told status last = (end ≡ later) × Stops kept (status_at over) told status last
 
 -- A whole run, from these counts to those: the boot answers from what the drive's blocks held, excused by the calls that failed until the counts `booted`, and the script is run from
--- there. No moment shows those counts, as nothing is told between the boot and the first line: the two share what failed until the first reply is told.
+-- there. They are those of a point of the run, by which the drive's blocks read as the boot left them.
 pub record IsRun (host : Host) (stretch : Stretch) (start end : Counts) (content : ℕ → List ℕ) (script : Script) (told : List ℕ) (status : RunStatus) (last : Kept) : Type 0 where
   pub answer : Answer
   pub booted : Counts
   pub rose : RoseCalmly start booted
   pub kept : Kept
   pub boots : IsRebooted (drive_failures start booted) host (started content) answer kept
+  pub point : IsPoint stretch start.source booted kept.content
   pub runs : RunsFrom host stretch end answer booted kept script told status last
 
 -- Of the next line's reply nothing was told by that moment, or a front: of the reply to what it came to, where the drive had failed so often, and its blocks read as
@@ -249,6 +259,7 @@ pub record RunToldBy (host : Host) (stretch : Stretch) (start : Counts) (content
   pub rose : RoseCalmly start booted
   pub kept : Kept
   pub boots : IsRebooted (drive_failures start booted) host (started content) accepted kept
+  pub point : IsPoint stretch start.source booted kept.content
   pub lines : LinesToldBy host stretch (record { counts = booted; kept = kept; refused = false; script = script }) told m
 
 -- By a moment of a run that began at t nothing was told, or what the script asks for, as far as it had come: values that were told are those of

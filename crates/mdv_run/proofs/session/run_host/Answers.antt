@@ -1,10 +1,11 @@
+use Rattle.mdv_engine_law.proofs.Kept.{kept_itself}
 use Rattle.mdv_run.proofs.Counting.{booted_calls, ended_calls, only_boot, run_calls}
 use Rattle.std.proofs.Common.{◌≡◌, inr, false, refl, sym, ◌∙◌, ap, subst, arith}
 use Rattle.mdv_run.specs.Below.{asked_of, told, OnDrive, OnReplies, Moments, Host, unbooted, BootMoment, BootedTo, Knows, RunStatus, counts, HasStatusCause, IsWholeRun, RunMoment, LinesMoment, Engine, StaysHome}
 use Rattle.mdv_shelf.proofs.Moments.{moments_after, moments_weaker, moments_end, some_is}
 use Rattle.mdv_run.specs.Turns.{LinesRun}
 use Rattle.mdv_run_law.proofs.Booting.{boot_run, lines_run}
-use Rattle.mdv_run.proofs.Whole.{whole_over, whole_lines, over_cause}
+use Rattle.mdv_run.proofs.Whole.{point_between, whole_over, whole_lines, over_cause}
 use Rattle.mdv_run.specs.Promise.{between}
 use Rattle.mdv_shelf.specs.Shelves.{AtEachMoment}
 use Rattle.mdv_run.proofs.Fronting.{RunFront, fronts_quiet, fronts_whole}
@@ -27,7 +28,7 @@ returns-in-Ok-clause-has_run g c = record {
       let end = counts (g.B.Shelf.faults c.run_lines.new.bench) (g.I.Source.faults c.run_lines.new.script) in
       let silent = moments_weaker (BootMoment host) (λ t m. told m ≡ told t) _ _ (λ t m moment. moment.quiet) c.boot.ensures.moments in
       inr (whole_lines host (between g.B.Shelf c.args.bench.now c.run_lines.new.bench) start t (asked_of input) _ mid end (record { drive = c.boot.ensures.kept.keeps.no_fewer_faults (OnDrive 0); source = refl; replies = c.boot.ensures.kept.keeps.no_fewer_faults OnReplies })
-      done.0 lines.0 c.in-Ok.engine.state c.run_lines.result lines.1 (ap told (some_is _ done.0 quiet.0 done.1 quiet.1) ∙ quiet.2.quiet) done.2.rebooted
+      done.0 lines.0 c.in-Ok.engine.state c.run_lines.result (point_between g.B.Shelf g.met.B.Shelf.telling _ c.boot.new.shelf _ (g.I.Source.faults c.args.script.now) done.0 done.1 c.boot.ensures.kept.goes c.run_lines.ensures.kept.goes) lines.1 (ap told (some_is _ done.0 quiet.0 done.1 quiet.1) ∙ quiet.2.quiet) done.2.rebooted
       (run_earlier host (between g.B.Shelf c.boot.new.shelf c.run_lines.new.bench) (between g.B.Shelf c.args.bench.now c.run_lines.new.bench)
       (λ bytes piece shown some seen. shown_earlier g.B.Shelf g.met.B.Shelf.telling _ _ _ c.boot.ensures.kept.goes silent bytes piece shown some seen)
       (λ bytes drive content seen. last_earlier g.B.Shelf g.met.B.Shelf.telling _ _ _ c.boot.ensures.kept.goes silent bytes drive content seen)
@@ -42,7 +43,7 @@ returns-in-Ok-clause-has_run g c = record {
       c.boot.ensures.moments (λ t is. (let up = c.in-Ok.ensures.end t is in (up.0, up.1, up.2.booted refl)))
       (subst (λ (h : Host). Moments (LinesMoment h (asked_of input) c.in-Ok.engine.state) (g.B.Shelf.tale c.boot.new.shelf) (g.B.Shelf.tale c.run_lines.new.bench)) c.in-Ok.ensures.answer.engine.0 (c.run_lines.ensures.lines.moments input left)));
   tells = λ input left. fronts_whole g.B.Shelf g.met.B.Shelf.telling c.args.host (counts (g.B.Shelf.faults c.args.bench.now) (g.I.Source.faults c.args.script.now)) (counts (g.B.Shelf.faults c.boot.new.shelf) (g.I.Source.faults c.args.script.now)) (asked_of input) _ _ _ c.in-Ok.engine.state
-      (record { drive = c.boot.ensures.kept.keeps.no_fewer_faults (OnDrive 0); source = refl; replies = c.boot.ensures.kept.keeps.no_fewer_faults OnReplies }) c.boot.ensures.kept.goes (moments_weaker (BootMoment c.args.host) (λ t m. told m ≡ told t) _ _ (λ t m moment. moment.quiet) c.boot.ensures.moments)
+      (record { drive = c.boot.ensures.kept.keeps.no_fewer_faults (OnDrive 0); source = refl; replies = c.boot.ensures.kept.keeps.no_fewer_faults OnReplies }) refl c.boot.ensures.kept.goes c.run_lines.ensures.kept.goes (moments_weaker (BootMoment c.args.host) (λ t m. told m ≡ told t) _ _ (λ t m moment. moment.quiet) c.boot.ensures.moments)
       (λ t is. (let end = c.in-Ok.ensures.end t is in (end.0, end.1, (end.2.rebooted, (end.2.booted refl).knows))))
       (subst (λ (h : Host). AtEachMoment g.B.Shelf (RunFront h (between g.B.Shelf c.boot.new.shelf c.run_lines.new.bench) (counts (g.B.Shelf.faults c.boot.new.shelf) (g.I.Source.faults c.args.script.now)) c.in-Ok.engine.state (asked_of input)) c.boot.new.shelf c.run_lines.new.bench) c.in-Ok.ensures.answer.engine.0 (c.run_lines.ensures.lines.tells input left));
   home = let host = c.args.host in
@@ -64,7 +65,7 @@ returns-in-Err-clause-has_run g c = record {
       let end = counts (g.B.Shelf.faults c.boot.new.shelf) (g.I.Source.faults c.args.script.now) in
       inr (subst (λ (s : RunStatus). IsWholeRun host (between g.B.Shelf c.args.bench.now c.boot.new.shelf) start end t (asked_of input) (g.B.Shelf.tale c.boot.new.shelf) s) (sym c.over.ensures)
       (whole_over host (between g.B.Shelf c.args.bench.now c.boot.new.shelf) start t (asked_of input) _ Engine end (record { drive = c.boot.ensures.kept.keeps.no_fewer_faults (OnDrive 0); source = refl; replies = c.boot.ensures.kept.keeps.no_fewer_faults OnReplies })
-      done.0 (unbooted 0) c.in-Err.end done.1 (ap told (some_is _ done.0 quiet.0 done.1 quiet.1) ∙ quiet.2.quiet) done.2.rebooted));
+      done.0 (unbooted 0) c.in-Err.end (point_between g.B.Shelf g.met.B.Shelf.telling _ c.boot.new.shelf _ (g.I.Source.faults c.args.script.now) done.0 done.1 c.boot.ensures.kept.goes (kept_itself g.B.Shelf c.boot.new.shelf).goes) done.1 (ap told (some_is _ done.0 quiet.0 done.1 quiet.1) ∙ quiet.2.quiet) done.2.rebooted));
   stands = λ input left.
       let host = c.args.host in
       moments_of_tales g.B.Shelf g.met.B.Shelf.telling _ _ (RunMoment host (asked_of input)) c.boot.ensures.kept.goes
