@@ -1,11 +1,17 @@
-//! Tests of the script, the drive in memory, a replica on it, and the reply to a read.
+//! Tests of the script, the drive in memory, a replica on it, the reply to a read, and a database's table and its text.
 #![tactic(auto)]
 
 #[cfg(test)]
+mod drives;
+#[cfg(test)]
 mod port_tests;
+#[cfg(test)]
+mod record_tests;
 #[cfg(test)]
 mod replica_tests;
 #[cfg(test)]
 mod shelf_tests;
 #[cfg(test)]
 mod status_tests;
+#[cfg(test)]
+mod table_tests;

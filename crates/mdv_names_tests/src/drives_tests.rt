@@ -2,8 +2,7 @@
 
 use mdv_base::{DriveName, DriveNo};
 use mdv_name::*;
-use std::alloc::Global;
-use std::test::Fail;
+use std::alloc::{AllocError, Global};
 
 // The example of the documents.
 const TABLE: &[u8] = b"# two hosts, and one drive that both reach
@@ -47,16 +46,26 @@ fn is_example(geometry: &Geometry) -> bool {
 }
 
 fn is_found(geometry: &Geometry, text: &[u8], want: Option<SliceAt>) -> bool {
-    parse_slice(text).is_some_and(|slice| geometry.slice(slice) == want)
+    match parse_slice(text) {
+        Some(slice) => geometry.slice(slice) == want,
+        None => false,
+    }
+}
+
+fn reads_the_example(alloc: Global) -> bool {
+    match Geometry::read(alloc, TABLE) {
+        Ok(geometry) => {
+            is_example(&geometry)
+                && is_found(&geometry, b"c0t0d0s7", Some(DB))
+                && is_found(&geometry, b"c0t0d0s6", None)
+        }
+        Err(_) => false,
+    }
 }
 
 #[test]
-fn reads_a_table_of_drives(rt: HostRuntime) -> Result<(), Fail> {
-    let geometry = Geometry::read(rt.alloc(), TABLE)?;
-    assert!(rt; is_example(&geometry));
-    assert!(rt; is_found(&geometry, b"c0t0d0s7", Some(DB)));
-    assert!(rt; is_found(&geometry, b"c0t0d0s6", None));
-    Ok(())
+fn reads_a_table_of_drives(rt: HostRuntime) {
+    assert!(rt; reads_the_example(rt.alloc()));
 }
 
 // The line at which the text is refused.
@@ -97,7 +106,7 @@ const BAD_LINES: &[(&[u8], Option<u32>)] = &[
 #[test]
 fn tells_the_first_wrong_line(rt: HostRuntime) {
     for (text, want) in BAD_LINES {
-        assert_eq!(rt; bad_line(rt.alloc(), text), *want, "{text:?}");
+        assert!(rt; bad_line(rt.alloc(), text) == *want, "{text:?}");
     }
 }
 
@@ -106,38 +115,42 @@ const FAULTS: &[(GeometryFault, &str)] = &[
     (GeometryFault::Memory, "out of memory"),
 ];
 
+fn is_told(alloc: Global, fault: &GeometryFault, want: &str) -> Result<bool, AllocError> {
+    let text = format!(in alloc; "{fault}")?;
+    Ok(text.as_str() == want)
+}
+
 #[test]
-fn tells_a_fault(rt: HostRuntime) -> Result<(), Fail> {
+fn tells_a_fault(rt: HostRuntime) {
     for (fault, want) in FAULTS {
-        let text = format!(in rt.alloc(); "{fault}")?;
-        assert_eq!(rt; text.as_str(), *want);
+        assert!(rt; is_told(rt.alloc(), fault, want) == Ok(true), "{want}");
     }
-    Ok(())
+}
+
+// The first wrong line of so many empty ones.
+fn bad_empty_line(alloc: Global, count: usize) -> Result<Option<u32>, AllocError> {
+    let text = vec![in alloc; b'\n'; count]?;
+    Ok(bad_line(alloc, text.as_slice()))
 }
 
 #[test]
-fn a_text_past_the_limit_is_refused_at_its_line(rt: HostRuntime) -> Result<(), Fail> {
-    let mut text = vec![in rt.alloc(); b'\n'; MAX_TEXT]?;
-    assert_eq!(rt; bad_line(rt.alloc(), text.as_slice()), None);
-    text.push(b'\n')?;
-    assert_eq!(rt; bad_line(rt.alloc(), text.as_slice()), Some(65537));
-    Ok(())
+fn a_text_past_the_limit_is_refused_at_its_line(rt: HostRuntime) {
+    assert!(rt; bad_empty_line(rt.alloc(), MAX_TEXT) == Ok(None));
+    assert!(rt; bad_empty_line(rt.alloc(), MAX_TEXT + 1) == Ok(Some(65537)));
 }
 
-// So many drives, on as many targets.
-fn many_drives(alloc: Global, count: u32) -> Result<String, Fail> {
+// The first wrong line of 256 drives, on as many targets, and this text.
+fn bad_drive(alloc: Global, behind: &str) -> Result<Option<u32>, AllocError> {
     let mut text = String::new(alloc);
-    for n in 0..count {
+    for n in 0..256 {
         text.push_str(format!(in alloc; "drive c0t{n}d0 9 shared f\n")?.as_str())?;
     }
-    Ok(text)
+    text.push_str(behind)?;
+    Ok(bad_line(alloc, text.as_bytes()))
 }
 
 #[test]
-fn at_most_256_drives(rt: HostRuntime) -> Result<(), Fail> {
-    let mut text = many_drives(rt.alloc(), 256)?;
-    assert_eq!(rt; bad_line(rt.alloc(), text.as_bytes()), None);
-    text.push_str("drive c1t0d0 9 shared f\n")?;
-    assert_eq!(rt; bad_line(rt.alloc(), text.as_bytes()), Some(257));
-    Ok(())
+fn at_most_256_drives(rt: HostRuntime) {
+    assert!(rt; bad_drive(rt.alloc(), "") == Ok(None));
+    assert!(rt; bad_drive(rt.alloc(), "drive c1t0d0 9 shared f\n") == Ok(Some(257)));
 }

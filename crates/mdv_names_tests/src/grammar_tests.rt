@@ -2,7 +2,6 @@ use mdv_base::VolId;
 use mdv_command::Command;
 use mdv_grammar::*;
 use std::alloc::Global;
-use std::test::Fail;
 
 fn command_kind(command: &Command) -> &'static str {
     match command {
@@ -255,10 +254,9 @@ fn attached(alloc: Global, text: &[u8]) -> Option<(VolId, usize, Option<u64>)> {
 }
 
 #[test]
-fn keeps_the_parts_of_a_line(rt: HostRuntime) -> Result<(), Fail> {
+fn keeps_the_parts_of_a_line(rt: HostRuntime) {
     let line = b"metadb -afc2 -l 64 c0t0d0s7 c0t1d0s7";
-    assert_eq!(rt; added(rt.alloc(), line), Some((2, Some(2), Some(64), true)));
+    assert!(rt; added(rt.alloc(), line) == Some((2, Some(2), Some(64), true)));
     let line = b"metattach -s blue d10 c0t0d0s0 -i 16k";
-    assert_eq!(rt; attached(rt.alloc(), line), Some((VolId(10), 1, Some(32))));
-    Ok(())
+    assert!(rt; attached(rt.alloc(), line) == Some((VolId(10), 1, Some(32))));
 }

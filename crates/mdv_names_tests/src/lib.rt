@@ -1,10 +1,8 @@
-//! Tests of names and lines, of the table of drives, and of a database's table and its text.
+//! Tests of names and lines, of the table of drives, and of a host's home.
 #![tactic(auto)]
 
 #[cfg(test)]
 mod base_tests;
-#[cfg(test)]
-mod drives;
 #[cfg(test)]
 mod drives_tests;
 #[cfg(test)]
@@ -16,11 +14,7 @@ mod name_tests;
 #[cfg(test)]
 mod parts_tests;
 #[cfg(test)]
-mod record_tests;
-#[cfg(test)]
 mod tab_tests;
-#[cfg(test)]
-mod table_tests;
 #[cfg(test)]
 mod text_tests;
 #[cfg(test)]

@@ -1,6 +1,6 @@
 use mdv_base::{DriveName, Name, PoolId, SliceName, VolId};
 use mdv_parts::*;
-use std::alloc::Global;
+use std::alloc::{AllocError, Global};
 use std::test::Fail;
 
 const SLICE: SliceName = SliceName {
@@ -54,18 +54,20 @@ const NAMES: &[(&[u8], bool, bool, bool)] = &[
     (b"hsp001", true, false, true),
 ];
 
+fn is_taken(word: &[u8], local: bool, only: bool, within: bool) -> bool {
+    let Some(blue) = Name::new(b"blue") else {
+        return false;
+    };
+    read_part(&LOCAL, word).is_some() == local
+        && read_part(&Scope::Only(Some(blue)), word).is_some() == only
+        && read_part(&Scope::Within(blue), word).is_some() == within
+}
+
 #[test]
-fn takes_names_of_one_set(rt: HostRuntime) -> Result<(), Fail> {
-    let blue = Name::new(b"blue").ok_or("blue")?;
+fn takes_names_of_one_set(rt: HostRuntime) {
     for (word, local, only, within) in NAMES {
-        let found = [
-            read_part(&LOCAL, word).is_some(),
-            read_part(&Scope::Only(Some(blue)), word).is_some(),
-            read_part(&Scope::Within(blue), word).is_some(),
-        ];
-        assert!(rt; found == [*local, *only, *within], "{word:?}");
+        assert!(rt; is_taken(word, *local, *only, *within), "{word:?}");
     }
-    Ok(())
 }
 
 fn parts(alloc: Global, line: &[u8]) -> Result<PartList, Fail> {
@@ -74,26 +76,46 @@ fn parts(alloc: Global, line: &[u8]) -> Result<PartList, Fail> {
 
 const LINE: &[u8] = b"c0t1d2s7 d5\td6 -i 32b -h hsp001 -l 4096 -c 2";
 
-#[test]
-fn splits_a_list(rt: HostRuntime) -> Result<(), Fail> {
-    let parts = parts(rt.alloc(), LINE)?;
-    let (slices, rest) = split_slices(rt.alloc(), parts.as_slice())?;
-    assert!(rt; slices.as_slice() == [SLICE].as_slice());
-    let (volumes, _) = split_volumes(rt.alloc(), rest)?;
-    assert!(rt; volumes.as_slice() == [VolId(5), VolId(6)].as_slice());
-    Ok(())
+fn has_lists(alloc: Global, parts: &[Part]) -> Result<bool, AllocError> {
+    let (slices, rest) = split_slices(alloc, parts)?;
+    let (volumes, _) = split_volumes(alloc, rest)?;
+    Ok(
+        slices.as_slice() == [SLICE].as_slice()
+            && volumes.as_slice() == [VolId(5), VolId(6)].as_slice(),
+    )
+}
+
+fn are_counts(rest: &[Part]) -> bool {
+    match split_replica_options(rest) {
+        Some((options, _)) => options.count == Some(2) && options.blocks == Some(4096),
+        None => false,
+    }
+}
+
+fn are_pool_and_counts(rest: &[Part]) -> bool {
+    match split_pool(rest) {
+        Some((pool, rest)) => pool == Some(PoolId(1)) && are_counts(rest),
+        None => false,
+    }
+}
+
+fn are_options(rest: &[Part]) -> bool {
+    match split_interlace(rest) {
+        Some((interlace, rest)) => interlace == Some(32) && are_pool_and_counts(rest),
+        None => false,
+    }
+}
+
+fn has_options(alloc: Global, parts: &[Part]) -> Result<bool, AllocError> {
+    let (components, rest) = split_components(alloc, parts)?;
+    Ok(components.as_slice().len() == 3 && are_options(rest))
 }
 
 #[test]
-fn splits_options(rt: HostRuntime) -> Result<(), Fail> {
+fn splits_a_list_and_options(rt: HostRuntime) -> Result<(), Fail> {
     let parts = parts(rt.alloc(), LINE)?;
-    let (components, rest) = split_components(rt.alloc(), parts.as_slice())?;
-    let (interlace, rest) = split_interlace(rest).ok_or("no interlace")?;
-    let (pool, rest) = split_pool(rest).ok_or("no pool")?;
-    let (options, _) = split_replica_options(rest).ok_or("no options")?;
-    assert!(rt; components.as_slice().len() == 3);
-    assert!(rt; interlace == Some(32) && pool == Some(PoolId(1)));
-    assert!(rt; options.count == Some(2) && options.blocks == Some(4096));
+    let lists = has_lists(rt.alloc(), parts.as_slice())?;
+    assert!(rt; lists && has_options(rt.alloc(), parts.as_slice())?);
     Ok(())
 }
 
@@ -110,12 +132,15 @@ const COUNTS: &[(&[u8], bool)] = &[
     (b"-l 65552", false),
 ];
 
+fn has_counts(alloc: Global, line: &[u8]) -> Result<bool, Fail> {
+    let parts = parts(alloc, line)?;
+    Ok(split_replica_options(parts.as_slice()).is_some())
+}
+
 #[test]
 fn keeps_counts_in_range(rt: HostRuntime) -> Result<(), Fail> {
     for (line, want) in COUNTS {
-        let parts = parts(rt.alloc(), line)?;
-        let read = split_replica_options(parts.as_slice());
-        assert!(rt; read.is_some() == *want, "{line:?}");
+        assert!(rt; has_counts(rt.alloc(), line)? == *want, "{line:?}");
     }
     assert!(rt; read_parts(rt.alloc(), &LOCAL, b"d5 what")?.is_none());
     Ok(())

@@ -1,7 +1,7 @@
 use mdv_base::{PoolId, VolId};
 use mdv_parts::{Component, ReplicaOptions};
 use mdv_tab::*;
-use std::alloc::Global;
+use std::alloc::{AllocError, Global};
 use std::test::Fail;
 
 // How many entries the text has, or its fault.
@@ -165,21 +165,28 @@ fn has_parts(entries: &[Entry]) -> bool {
         && *options == OPTIONS
 }
 
-#[test]
-fn keeps_the_parts(rt: HostRuntime) -> Result<(), Fail> {
-    let entries = read_tab(rt.alloc(), KEPT)?;
-    assert!(rt; has_parts(entries.as_slice()));
-    Ok(())
+fn keeps_both(alloc: Global) -> Result<bool, TabFault> {
+    Ok(has_parts(read_tab(alloc, KEPT)?.as_slice()))
 }
 
-// So many times the front, and the end behind it.
-fn repeated(alloc: Global, front: &[u8], times: u32, end: &[u8]) -> Result<Vec<u8>, Fail> {
+#[test]
+fn keeps_the_parts(rt: HostRuntime) {
+    assert!(rt; keeps_both(rt.alloc()) == Ok(true));
+}
+
+// How many entries there are of so many times the front, and the end behind it.
+fn count_of(
+    alloc: Global,
+    front: &[u8],
+    times: u32,
+    end: &[u8],
+) -> Result<Result<usize, TabFault>, AllocError> {
     let mut text = Vec::new(alloc);
     for _ in 0..times {
         text.extend_from_slice(front)?;
     }
     text.extend_from_slice(end)?;
-    Ok(text)
+    Ok(count(alloc, text.as_slice()))
 }
 
 // A front, how many times, the end behind it, and how many entries they have.
@@ -193,8 +200,8 @@ const LIMITS: &[(&[u8], u32, &[u8], Result<usize, TabFault>)] = &[
 #[test]
 fn keeps_the_limits(rt: HostRuntime) -> Result<(), Fail> {
     for (front, times, end, want) in LIMITS {
-        let text = repeated(rt.alloc(), front, *times, end)?;
-        assert!(rt; count(rt.alloc(), text.as_slice()) == *want, "{times}");
+        let found = count_of(rt.alloc(), front, *times, end)?;
+        assert!(rt; found == *want, "{times}");
     }
     Ok(())
 }
@@ -218,12 +225,16 @@ const ORDERS: &[(&[u8], &[u32])] = &[
     (b"mddb01 c0t0d0s7\nd1 1 1 d2\nd2 1 1 c0t0d0s0\n", &[0, 2, 1]),
 ];
 
+fn is_order(alloc: Global, text: &[u8], want: &[u32]) -> Result<bool, Fail> {
+    let entries = read_tab(alloc, text)?;
+    let order = order_of_need(alloc, entries.as_slice())?;
+    Ok(order.as_slice() == want)
+}
+
 #[test]
 fn puts_entries_in_order(rt: HostRuntime) -> Result<(), Fail> {
     for (text, want) in ORDERS {
-        let entries = read_tab(rt.alloc(), text)?;
-        let order = order_of_need(rt.alloc(), entries.as_slice())?;
-        assert!(rt; order.as_slice() == *want, "{text:?}");
+        assert!(rt; is_order(rt.alloc(), text, want)?, "{text:?}");
     }
     has_one_order();
     Ok(())

@@ -1,5 +1,5 @@
 use mdv_text::*;
-use std::test::Fail;
+use std::alloc::{AllocError, Global};
 
 const NUMBERS: &[(&[u8], Option<u64>)] = &[
     (b"0", Some(0)),
@@ -19,7 +19,7 @@ const NUMBERS: &[(&[u8], Option<u64>)] = &[
 #[test]
 fn reads_numbers(rt: HostRuntime) {
     for (text, want) in NUMBERS {
-        assert_eq!(rt; number(text), *want, "{text:?}");
+        assert!(rt; number(text) == *want, "{text:?}");
     }
 }
 
@@ -30,11 +30,17 @@ const SPLIT: &[(&[u8], Option<(u64, usize)>)] = &[
     (b"d", None),
 ];
 
+fn is_split(text: &[u8], want: Option<(u64, usize)>) -> bool {
+    match split_number(text) {
+        Some((number, rest)) => want == Some((number, rest.len())),
+        None => want == None,
+    }
+}
+
 #[test]
 fn splits_a_number_from_what_follows(rt: HostRuntime) {
     for (text, want) in SPLIT {
-        let found = split_number(text).map(|r| (r.0, r.1.len()));
-        assert_eq!(rt; found, *want, "{text:?}");
+        assert!(rt; is_split(text, *want), "{text:?}");
     }
 }
 
@@ -61,7 +67,7 @@ const SIZES: &[(&[u8], Option<u64>)] = &[
 #[test]
 fn reads_sizes_in_blocks(rt: HostRuntime) {
     for (text, want) in SIZES {
-        assert_eq!(rt; size(text), *want, "{text:?}");
+        assert!(rt; size(text) == *want, "{text:?}");
     }
 }
 
@@ -79,14 +85,22 @@ const LINES: &[(&[u8], &[Token])] = &[
     (b" \t ", &[]),
 ];
 
+fn are_words(alloc: Global, line: &[u8], want: &[Token]) -> bool {
+    if line.len() > 80 {
+        return false;
+    }
+    match split(alloc, line) {
+        Ok(tokens) => tokens.as_slice() == want,
+        Err(_) => false,
+    }
+}
+
 #[test]
-fn splits_a_line_into_words(rt: HostRuntime) -> Result<(), Fail> {
+fn splits_a_line_into_words(rt: HostRuntime) {
     for (line, want) in LINES {
-        let tokens = split(rt.alloc(), line)?;
-        assert_eq!(rt; tokens.as_slice(), *want, "{line:?}");
+        assert!(rt; are_words(rt.alloc(), line, want), "{line:?}");
     }
     assert!(rt; first_word(b"\t ").is_none());
-    Ok(())
 }
 
 #[test]
@@ -100,11 +114,14 @@ const FAULTS: &[(TextFault, &str)] = &[
     (TextFault::Memory, "out of memory"),
 ];
 
+fn is_told(alloc: Global, fault: &TextFault, want: &str) -> Result<bool, AllocError> {
+    let text = format!(in alloc; "{fault}")?;
+    Ok(text.as_str() == want)
+}
+
 #[test]
-fn tells_a_fault(rt: HostRuntime) -> Result<(), Fail> {
+fn tells_a_fault(rt: HostRuntime) {
     for (fault, want) in FAULTS {
-        let text = format!(in rt.alloc(); "{fault}")?;
-        assert_eq!(rt; text.as_str(), *want);
+        assert!(rt; is_told(rt.alloc(), fault, want) == Ok(true), "{want}");
     }
-    Ok(())
 }

@@ -7,6 +7,7 @@ use crate::{PlaceBlocks, Shown, read_place};
 use mdv_base::{Block, DriveNo, ZERO_BLOCK};
 use mdv_port::MemSource;
 use mdv_run::run;
+use mdv_run_law::RunStatus;
 use mdv_shelf::{MemShelf, Shelf};
 use std::alloc::{AllocError, Global};
 use std::process::Abort;
@@ -182,8 +183,8 @@ impl Life {
         }))
     }
 
-    // What the blocks of the volume hold now is allowed.
-    fn look_at<R: Abort>(&mut self, rt: &R, volume: u8, step: &Step) -> Result<(), Fail> {
+    // Whether what the blocks of the volume hold now is allowed.
+    fn look_at(&mut self, volume: u8) -> Result<bool, Fail> {
         let number = usize::from(volume);
         let start = self.ground.starts.get(number).copied();
         let size = self.ground.sizes.get(number).copied();
@@ -193,12 +194,61 @@ impl Life {
         self.read(start.ok_or("a volume")?, blocks)?;
         for (at, block) in blocks.iter().enumerate() {
             let value = Value::of(block).ok_or("no value")?;
-            let at = at as u64;
-            let spot = self.known.spots.spot(volume, at);
-            assert!(rt; spot.allows(value), "{step:?} d{volume} {at} {value:?}");
+            let spot = self.known.spots.spot(volume, at as u64);
+            if !spot.allows(value) {
+                return Ok(false);
+            }
             spot.newest = value;
         }
-        Ok(())
+        Ok(true)
+    }
+
+    // The status of a run of these lines.
+    fn run(&mut self, alloc: Global, lines: &[Line], fresh: u64) -> Result<RunStatus, AllocError> {
+        let mut source = MemSource::new(script_of(alloc, lines)?.into_bytes());
+        let words = [format!(in alloc; "alpha")?];
+        let table = self.ground.table.as_bytes();
+        Ok(run(&words, table, &mut self.shelf, &mut source, fresh))
+    }
+
+    // What isn't as the course of the run says. The bytes told are all that the life told.
+    fn go_on(
+        &mut self,
+        alloc: Global,
+        course: &Course,
+        step: &Step,
+        fresh: u64,
+    ) -> Result<Option<&'static str>, Fail> {
+        self.ask(step.trouble)?;
+        let status = self.run(alloc, step.lines, fresh)?;
+        self.told.push_str(course.told.as_str())?;
+        if status != course.status {
+            return Ok(Some("another status"));
+        }
+        if self.shelf.told() != self.told.as_bytes() || self.shelf.short() {
+            return Ok(Some("other bytes are told"));
+        }
+        self.calls = self.calls.saturating_add(course.calls);
+        self.runs = self.runs.saturating_add(1);
+        self.end(alloc, step)?;
+        self.settle(course)
+    }
+
+    // What isn't as the course of the run allows once its time has ended.
+    fn settle(&mut self, course: &Course) -> Result<Option<&'static str>, Fail> {
+        let shown = self.look()?;
+        if !may_show(course.known.shown, course.broken, shown) {
+            return Ok(Some("the place shows something else"));
+        }
+        self.known = course.known;
+        self.known.shown = shown;
+        if !self.look_at(0)? || !self.look_at(1)? {
+            return Ok(Some("a block of a volume isn't allowed"));
+        }
+        if !has_promised(&self.known) {
+            return Ok(Some("what was promised isn't there"));
+        }
+        Ok(None)
     }
 }
 
@@ -237,44 +287,29 @@ pub(crate) fn play<R: Abort + AllocGlobal>(
 ) -> Result<Course, Fail> {
     let fresh = life.runs.saturating_add(0x0102_0304_0506_0700);
     let course = Course::of(rt.alloc(), fresh, life.known, step.lines, step.trouble)?;
-    life.ask(step.trouble)?;
-    let mut source = MemSource::new(script_of(rt.alloc(), step.lines)?.into_bytes());
-    let words = [format!(in rt.alloc(); "alpha")?];
-    let table = life.ground.table.as_bytes();
-    let status = run(&words, table, &mut life.shelf, &mut source, fresh);
-    assert_eq!(rt; status, course.status, "{step:?}");
-    life.told.push_str(course.told.as_str())?;
-    let told = std::str::from_utf8(life.shelf.told()).unwrap_or("no text");
-    assert_eq!(rt; told, life.told.as_str(), "{step:?}");
-    assert!(rt; !life.shelf.short(), "{step:?}");
-    life.calls = life.calls.saturating_add(course.calls);
-    life.runs = life.runs.saturating_add(1);
-    life.end(rt.alloc(), &step)?;
-    let shown = life.look()?;
-    assert!(rt;
-        may_show(course.known.shown, course.broken, shown),
-        "{step:?} {:?} {shown:?}",
-        course.known.shown
-    );
-    life.known = course.known;
-    life.known.shown = shown;
-    life.look_at(rt, 0, &step)?;
-    life.look_at(rt, 1, &step)?;
-    expect_promised(rt, &life.known);
+    let wrong = life.go_on(rt.alloc(), &course, &step, fresh)?;
+    assert!(rt; wrong.is_none(), "{step:?} {wrong:?}");
     Ok(course)
 }
 
-// A database whose creation was told is the one that is shown from then on, and its newest table has each volume that
-// was told.
-fn expect_promised<R: Abort>(rt: &R, known: &Known) {
+// Whether a database whose creation was told is the one that is shown from then on, and its newest table has each volume
+// that was told.
+fn has_promised(known: &Known) -> bool {
     let Promised { database, volumes } = known.promised;
-    if database.is_some() {
-        assert_eq!(rt; known.shown.map(|shown| shown.identity), database);
-    }
-    let table = known.shown.and_then(|shown| newest(&shown));
-    for (number, told) in volumes.iter().enumerate() {
-        let number = number as u16;
-        assert!(rt; !*told || table.is_some_and(|table| volume_in(&table, number).is_some()));
+    let shown = match known.shown {
+        Some(shown) => shown,
+        None => return database.is_none() && volumes == [false; 2],
+    };
+    let [lower, upper] = volumes;
+    (database.is_none() || database == Some(shown.identity))
+        && (!lower || has_volume(&shown, 0))
+        && (!upper || has_volume(&shown, 1))
+}
+
+fn has_volume(shown: &Shown, number: u16) -> bool {
+    match newest(shown) {
+        Some(table) => volume_in(&table, number).is_some(),
+        None => false,
     }
 }
 

@@ -55,14 +55,15 @@ fn step_of(lines: &[Line], state: u64) -> Step<'_> {
     }
 }
 
+const WHOLE: &[Line] = &[Line::Forced, Line::Volume(1), Line::Volume(0)];
+
 // Lives of ten runs; every other one begins with a database of two volumes.
 fn expect_drawn<R: Abort + AllocGlobal>(rt: &R, ground: Ground, lives: u64) -> Result<(), Fail> {
-    let whole = [Line::Forced, Line::Volume(1), Line::Volume(0)];
     for seed in 0..lives {
         let mut life = Life::new(rt.alloc(), ground)?;
         let mut state = next(seed);
         if seed % 2 == 0 {
-            play(rt, &mut life, calm(&whole))?;
+            play(rt, &mut life, calm(WHOLE))?;
         }
         for _ in 0..10 {
             state = next(state);

@@ -1,6 +1,5 @@
 use crate::{PlaceBlocks, Shown, ShownTable, ShownVolume, read_place};
 use mdv_base::{Block, Identity, Mark, ZERO_BLOCK};
-use std::test::Fail;
 
 const MASTER: &[u8] =
     b"MDVREPL1\x01\x02\x03\x04\x05\x06\x07\x08\0\0\0\x02\0\x05alpha\0\0\0\0\0\0\0\0\0\0\0\0\0\0\0\0\0\0\0\0\0\0\0\0\0\0\0\0\0\0\x07\0\0\0\x10\0\0\x20\0\0\x01";
@@ -36,8 +35,11 @@ fn block(text: &[u8]) -> Block {
     block
 }
 
-fn shown_of(blocks: [&[u8]; 6]) -> Option<Shown> {
-    let [master, claim, first, second, first_body, second_body] = blocks;
+// The four blocks of a head and the first ones of both bodies.
+type Blocks = [&'static [u8]; 6];
+
+fn shown_of(blocks: &Blocks) -> Option<Shown> {
+    let [master, claim, first, second, first_body, second_body] = *blocks;
     read_place(&PlaceBlocks {
         head: [block(master), block(claim), block(first), block(second)],
         first_body: block(first_body),
@@ -45,82 +47,108 @@ fn shown_of(blocks: [&[u8]; 6]) -> Option<Shown> {
     })
 }
 
-// The table of the mark (257, 3).
-fn table(lower: Option<ShownVolume>, upper: Option<ShownVolume>) -> ShownTable {
-    let mark = Mark {
-        boot: 257,
-        count: 3,
-    };
-    ShownTable { mark, lower, upper }
-}
+const MARK: Mark = Mark {
+    boot: 257,
+    count: 3,
+};
 
-fn volume(number: u16, slice: u8, blocks: u64) -> ShownVolume {
-    ShownVolume {
-        number,
-        slice,
-        blocks,
-    }
-}
+const EMPTY: ShownTable = ShownTable {
+    mark: MARK,
+    lower: None,
+    upper: None,
+};
 
-#[test]
-fn shows_the_tables_of_open_slots(rt: HostRuntime) {
-    let empty = table(None, None);
-    let with_one = table(Some(volume(0, 3, 4000)), None);
-    let with_two = table(Some(volume(5, 0, 8)), Some(volume(8191, 1, 1)));
-    let none = b"".as_slice();
-    // Two gates, the bodies behind them, and the tables shown.
-    let cases = [
-        (OPEN, CLOSED, RECORD, none, Some(empty), None),
-        (CLOSED, OPEN, b"old".as_slice(), RECORD, None, Some(empty)),
-        (OPEN, OPEN, RECORD, RECORD, Some(empty), Some(empty)),
-        (
-            OPEN_ONE,
-            OPEN,
-            RECORD_ONE,
-            RECORD,
-            Some(with_one),
-            Some(empty),
-        ),
-        (OPEN_TWO, CLOSED, RECORD_TWO, none, Some(with_two), None),
-    ];
+const WITH_ONE: ShownTable = ShownTable {
+    mark: MARK,
+    lower: Some(ShownVolume {
+        number: 0,
+        slice: 3,
+        blocks: 4000,
+    }),
+    upper: None,
+};
+
+const WITH_TWO: ShownTable = ShownTable {
+    mark: MARK,
+    lower: Some(ShownVolume {
+        number: 5,
+        slice: 0,
+        blocks: 8,
+    }),
+    upper: Some(ShownVolume {
+        number: 8191,
+        slice: 1,
+        blocks: 1,
+    }),
+};
+
+const NONE: &[u8] = b"";
+
+// The blocks, and the tables shown.
+const SHOWN: &[(Blocks, Option<ShownTable>, Option<ShownTable>)] = &[
+    (
+        [MASTER, CLAIM, OPEN, CLOSED, RECORD, NONE],
+        Some(EMPTY),
+        None,
+    ),
+    (
+        [MASTER, CLAIM, CLOSED, OPEN, b"old", RECORD],
+        None,
+        Some(EMPTY),
+    ),
+    (
+        [MASTER, CLAIM, OPEN, OPEN, RECORD, RECORD],
+        Some(EMPTY),
+        Some(EMPTY),
+    ),
+    (
+        [MASTER, CLAIM, OPEN_ONE, OPEN, RECORD_ONE, RECORD],
+        Some(WITH_ONE),
+        Some(EMPTY),
+    ),
+    (
+        [MASTER, CLAIM, OPEN_TWO, CLOSED, RECORD_TWO, NONE],
+        Some(WITH_TWO),
+        None,
+    ),
+];
+
+fn is_shown(blocks: &Blocks, first: Option<ShownTable>, second: Option<ShownTable>) -> bool {
     let identity = Identity {
         fresh: 0x0102_0304_0506_0708,
         number: 2,
     };
-    for (first_gate, second_gate, first_body, second_body, first, second) in cases {
-        let seen = shown_of([
-            MASTER,
-            CLAIM,
-            first_gate,
-            second_gate,
-            first_body,
-            second_body,
-        ]);
-        let want = Shown {
-            identity,
-            claim: 258,
-            first,
-            second,
-        };
-        assert_eq!(rt; seen, Some(want));
-    }
+    let want = Shown {
+        identity,
+        claim: 258,
+        first,
+        second,
+    };
+    shown_of(blocks) == Some(want)
 }
 
 #[test]
+fn shows_the_tables_of_open_slots(rt: HostRuntime) {
+    for (blocks, first, second) in SHOWN {
+        assert!(rt; is_shown(blocks, *first, *second), "{blocks:?}");
+    }
+}
+
+const HIDDEN: &[Blocks] = &[
+    [NONE, NONE, NONE, NONE, NONE, NONE],
+    [MASTER, CLAIM, CLOSED, CLOSED, RECORD, RECORD],
+    [NONE, CLAIM, OPEN, CLOSED, RECORD, NONE],
+    [MASTER, NONE, OPEN, CLOSED, RECORD, NONE],
+    [MASTER, CLAIM, OPEN, NONE, RECORD, NONE],
+    [MASTER, CLAIM, OPEN, CLOSED, NONE, RECORD],
+    [MASTER, CLAIM, OPEN, OPEN, RECORD, NONE],
+    [MASTER, CLAIM, OPEN_ONE, CLOSED, RECORD, NONE],
+    [MASTER, CLAIM, OPEN_ONE, CLOSED, RECORD_TWO, NONE],
+];
+
+#[test]
 fn shows_no_table(rt: HostRuntime) {
-    let none: &[u8] = b"";
-    let cases = [
-        [none, none, none, none, none, none],
-        [MASTER, CLAIM, CLOSED, CLOSED, RECORD, RECORD],
-        [none, CLAIM, OPEN, CLOSED, RECORD, none],
-        [MASTER, none, OPEN, CLOSED, RECORD, none],
-        [MASTER, CLAIM, OPEN, none, RECORD, none],
-        [MASTER, CLAIM, OPEN, CLOSED, none, RECORD],
-        [MASTER, CLAIM, OPEN, OPEN, RECORD, none],
-        [MASTER, CLAIM, OPEN_ONE, CLOSED, RECORD, none],
-        [MASTER, CLAIM, OPEN_ONE, CLOSED, RECORD_TWO, none],
-    ];
-    for blocks in cases {
-        assert_eq!(rt; shown_of(blocks), None, "{blocks:?}");
+    for blocks in HIDDEN {
+        assert!(rt; shown_of(blocks).is_none(), "{blocks:?}");
     }
 }

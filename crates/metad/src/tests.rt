@@ -1,439 +1,633 @@
-ghost use Rattle.std.specs.Prelude.{◌≡◌, IfOk};
+ghost use Rattle.std.specs.Prelude.{◌<◌, ◌^◌, IfOk, IsTrue, vec_len};
+ghost use Rattle.mdv_shelf.specs.Calls.{InDrive};
+ghost use Rattle.metad.specs.Bench.{sizes_of};
 
 use super::*;
 use crate::disk::{Disk, FileId, Locked, Unopened};
 use crate::image::Image;
+use crate::journal::Note;
 use crate::misfit::Misfit;
 use crate::opening::Start;
-use mdv_base::{DriveNo, Failed, ZERO_BLOCK};
+use mdv_base::{Block, DriveNo, Failed, Identity, ZERO_BLOCK};
 use mdv_port::Source;
-use mdv_run_law::RunStatus;
 use mdv_shelf::{Bench, Shelf};
+use std::alloc::{AllocError, Global};
+use std::fmt::Display;
 use std::fs::OpenOptions;
 use std::os::unix::fs::symlink;
-use std::process::Abort;
-use std::test::Fail;
 
-#[test]
-fn tells_each_status(rt: HostRuntime) -> Result<(), Fail> {
-    let a = mdv_base::Identity {
-        fresh: 7,
-        number: 0,
-    };
-    let b = mdv_base::Identity {
-        fresh: 18_446_744_073_709_551_615,
-        number: 3,
-    };
-    let spent = RunStatus::ScriptTooLong {
-        lines: 1_048_576,
-        bytes: 20_971_520,
-    };
-    let cases = [
-        (RunStatus::Usage, 2, "Usage\nusage: metad HOST < SCRIPT"),
-        (
-            RunStatus::NoQuorum {
-                readable: 3,
-                needed: 4,
-            },
-            3,
-            "NoQuorum 3 4",
-        ),
-        (
-            RunStatus::Panic {
-                active: 0,
-                listed: 1,
-            },
-            4,
-            "Panic 0 1",
-        ),
-        (
-            RunStatus::TwoDatabases { a, b },
-            8,
-            "TwoDatabases 7 0 18446744073709551615 3",
-        ),
-        (spent, 9, "ScriptTooLong 1048576 20971520"),
-        (RunStatus::NumbersSpent, 10, "NumbersSpent"),
-    ];
-    for (status, number, want) in cases {
-        let text = format!(in rt.alloc(); "{}", status::Report(status))?;
-        assert_eq!(rt; text.as_str(), want);
-        assert_eq!(rt; status::number(&status), number);
-        assert!(rt; status::is_failure(&status));
-    }
-    Ok(())
+const A: Identity = Identity {
+    fresh: 7,
+    number: 0,
+};
+
+const B: Identity = Identity {
+    fresh: 18_446_744_073_709_551_615,
+    number: 3,
+};
+
+// The statuses that standard error tells of, their numbers and texts.
+const STATUSES: &[(RunStatus, u8, &str)] = &[
+    (RunStatus::Usage, 2, "Usage\nusage: metad HOST < SCRIPT"),
+    (
+        RunStatus::NoQuorum {
+            readable: 3,
+            needed: 4,
+        },
+        3,
+        "NoQuorum 3 4",
+    ),
+    (
+        RunStatus::Panic {
+            active: 0,
+            listed: 1,
+        },
+        4,
+        "Panic 0 1",
+    ),
+    (
+        RunStatus::TwoDatabases { a: A, b: B },
+        8,
+        "TwoDatabases 7 0 18446744073709551615 3",
+    ),
+    (
+        RunStatus::ScriptTooLong {
+            lines: 1_048_576,
+            bytes: 20_971_520,
+        },
+        9,
+        "ScriptTooLong 1048576 20971520",
+    ),
+    (RunStatus::NumbersSpent, 10, "NumbersSpent"),
+];
+
+fn shows<T: Display + Drop>(alloc: Global, shown: T, want: &str) -> Result<bool, AllocError> {
+    let text = format!(in alloc; "{shown}")?;
+    Ok(text.as_str() == want)
 }
 
 #[test]
-fn takes_what_a_reader_gives(rt: HostRuntime) -> Result<(), Fail> {
+fn tells_each_status(rt: HostRuntime) {
+    for (status, number, want) in STATUSES {
+        let is_shown = shows(rt.alloc(), status::Report(*status), want) == Ok(true);
+        let is_told = status::is_failure(status) && status::number(status) == *number;
+        assert!(rt; is_shown && is_told, "{number}");
+    }
+}
+
+#[test]
+fn takes_what_a_reader_gives(rt: HostRuntime) {
     let mut source = FileSource::new(b"abc".as_slice());
     let mut out = [0; 2];
-    assert_eq!(rt; source.take(&mut out), Ok(2));
-    assert_eq!(rt; out, *b"ab");
-    assert_eq!(rt; source.take(&mut out), Ok(1));
-    assert_eq!(rt; source.take(&mut out), Ok(0));
-    Ok(())
+    let first = source.take(&mut out);
+    let taken = out;
+    let second = source.take(&mut out);
+    let third = source.take(&mut out);
+    assert!(rt; first == Ok(2) && taken == *b"ab" && second == Ok(1) && third == Ok(0));
 }
 
-#[test]
-fn a_lost_drive_fails_and_replies_are_told(rt: HostRuntime) -> Result<(), Fail> {
-    let images = vec![in rt.alloc(); Image::lost(8, None)]?;
-    let mut bench = FileBench::new(images, Vec::new(rt.alloc()));
-    assert_eq!(rt; bench.drives(), 1);
-    let mut out = [ZERO_BLOCK];
-    assert_eq!(rt; bench.give(b"ok\n"), Ok(()));
-    assert_eq!(rt; bench.read(DriveNo(0), 7, &mut out), Err(Failed));
-    assert_eq!(rt; bench.write(DriveNo(0), 7, &out), Err(Failed));
-    assert_eq!(rt; bench.sync(DriveNo(0)), Err(Failed));
-    Ok(())
+// A call on the only drive, which has 8 blocks.
+enum Call {
+    /// From that block on it has a block of each of these bytes.
+    Read(u64, &'static [u8]),
+    Write(u64, &'static [u8]),
+    Sync,
+    Give,
 }
 
-// A new folder of the system's for files that a test makes.
-fn new_folder(rt: &HostRuntime, name: &str) -> Result<String, Fail> {
+// What happens, or how it is then. In each text `@` stands for the folder of the scene, with a slash behind it.
+enum Step {
+    /// There is a file of so many blocks of zeros.
+    File(&'static str, u64),
+    Folder(&'static str),
+    Hard(&'static str, &'static str),
+    Soft(&'static str, &'static str),
+    /// The drives are those with which a run over such a table begins, and of which this is told.
+    Begin(&'static str, &'static str),
+    /// A run that begins beside it tells this, and ends.
+    Beside(&'static str, &'static str),
+    End,
+    /// The only drive is what is opened there, also for writing or not, and is noted by another path.
+    Open(&'static str, bool, &'static str),
+    /// The only drive was lost from the start.
+    Lost,
+    Done(Call),
+    Fails(Call),
+    /// The file has a block of each of these bytes, and no more.
+    Has(&'static str, &'static [u8]),
+    /// All that `drives.failed` has is a line of this image.
+    Remembers(&'static str),
+    /// Whether `drives.failed` has a line of this image.
+    Names(&'static str, bool),
+    /// From here on `drives.failed` has this text.
+    Remember(&'static str),
+    /// What is opened there can't be synced, which is noted by another path.
+    Unsynced(&'static str, &'static str),
+}
+
+// A folder of its own, and the drives of a run.
+#[derive(Drop)]
+struct Scene {
+    rt: HostRuntime,
+    folder: String,
+    bench: FileBench<Vec<u8>>,
+}
+
+const NO_DISK: FileId = FileId::File { dev: 0, ino: 0 };
+
+fn blocks_of(alloc: Global, bytes: &[u8]) -> Result<Vec<Block>, AllocError> {
+    let mut blocks = Vec::new(alloc);
+    for byte in bytes {
+        blocks.push([*byte; 512])?;
+    }
+    Ok(blocks)
+}
+
+fn no_drives(alloc: Global) -> FileBench<Vec<u8>> {
+    FileBench::new(Vec::new(alloc), Vec::new(alloc))
+}
+
+fn one_drive(alloc: Global, image: Image) -> Result<FileBench<Vec<u8>>, AllocError> {
+    Ok(FileBench::new(vec![in alloc; image]?, Vec::new(alloc)))
+}
+
+fn folder_name(rt: &HostRuntime, name: &str) -> io::Result<String> {
     let temp = env::temp_dir(rt)?;
-    let fresh = nanoseconds(rt).map_err(|_| "clock")?;
-    let folder = format!(in rt.alloc(); "{}/metad-{name}-{fresh}", temp.as_str())?;
-    fs::create_dir(rt, folder.as_str())?;
-    Ok(fs::canonicalize(rt, folder.as_str())?.into_string())
+    let fresh = nanoseconds(rt).unwrap_or(0);
+    Ok(format!(in rt.alloc(); "{}/metad-{name}-{fresh}", temp.as_str())?)
 }
 
-// A file of so many blocks of zeros.
-fn make_image(rt: &HostRuntime, folder: &str, name: &str, blocks: u64) -> Result<String, Fail> {
-    let path = format!(in rt.alloc(); "{folder}/{name}")?;
-    File::create(rt, path.as_str())?.set_len(blocks.wrapping_mul(512))?;
-    Ok(path)
-}
-
-fn system_in(rt: &HostRuntime, folder: &str) -> Result<io::Result<SystemStart>, Fail> {
-    let file = format!(in rt.alloc(); "{folder}/drives.failed")?;
-    Ok(SystemStart::read(rt, file.as_str(), BOOT_ID))
-}
-
-// What a table of these drives of the host a, each of 8 blocks, starts a run with.
-fn start_of(rt: &HostRuntime, folder: &str, drives: &[&str]) -> Result<Start, Fail> {
-    let mut table = String::from_str(rt.alloc(), "host a\n")?;
-    for (number, drive) in drives.iter().enumerate() {
-        table.push_str(format!(in rt.alloc(); "drive c0t{number}d0 8 a {drive}\n")?.as_str())?;
+impl Scene {
+    fn new(rt: &HostRuntime, name: &str) -> io::Result<Scene> {
+        let name = folder_name(rt, name)?;
+        fs::create_dir(rt, name.as_str())?;
+        let folder = fs::canonicalize(rt, name.as_str())?;
+        Ok(Scene {
+            rt: *rt,
+            folder: format!(in rt.alloc(); "{}/", folder.as_str())?,
+            bench: no_drives(rt.alloc()),
+        })
     }
-    let system = system_in(rt, folder)?;
-    Ok(open_table(rt, &[], table.as_bytes(), &system)?)
-}
 
-fn expect_lost(rt: &impl Abort, start: &Start, want: &[&str]) {
-    assert_eq!(rt; start.lost.len(), want.len());
-    for (line, wanted) in start.lost.iter().zip(want) {
-        assert_eq!(rt; line.as_str(), *wanted);
+    fn text(&self, text: &str) -> Result<String, AllocError> {
+        text.replace(self.rt.alloc(), '@', self.folder.as_str())
     }
-}
 
-#[test]
-fn blocks_are_kept_where_they_belong(rt: HostRuntime) -> Result<(), Fail> {
-    let folder = new_folder(&rt, "blocks")?;
-    let path = make_image(&rt, folder.as_str(), "d0.img", 8)?;
-    let written = [[0x5a; 512], [0xc3; 512]];
-    let mut start = start_of(&rt, folder.as_str(), &[path.as_str()])?;
-    expect_lost(&rt, &start, &[]);
+    fn system(&self) -> io::Result<SystemStart> {
+        let file = self.text("@drives.failed")?;
+        SystemStart::read(&self.rt, file.as_str(), BOOT_ID)
+    }
+
+    fn note(&self, path: &str) -> io::Result<Note> {
+        let path = self.text(path)?;
+        Ok(self.system()?.note(&self.rt, path.as_str())?)
+    }
+
+    fn open(&self, path: &str, writable: bool) -> io::Result<File> {
+        let path = self.text(path)?;
+        let mut options = OpenOptions::new();
+        options.read(true).write(writable);
+        options.open(&self.rt, path.as_str())
+    }
+
+    fn make_file(&self, path: &str, blocks: u64) -> io::Result<bool> {
+        let path = self.text(path)?;
+        File::create(&self.rt, path.as_str())?.set_len(blocks.wrapping_mul(512))?;
+        Ok(true)
+    }
+
+    fn make_folder(&self, path: &str) -> io::Result<bool> {
+        let path = self.text(path)?;
+        fs::create_dir(&self.rt, path.as_str())?;
+        Ok(true)
+    }
+
+    fn hard(&self, path: &str, link: &str) -> io::Result<bool> {
+        let (path, link) = (self.text(path)?, self.text(link)?);
+        fs::hard_link(&self.rt, path.as_str(), link.as_str())?;
+        Ok(true)
+    }
+
+    fn soft(&self, path: &str, link: &str) -> io::Result<bool> {
+        let (path, link) = (self.text(path)?, self.text(link)?);
+        symlink(&self.rt, path.as_str(), link.as_str())?;
+        Ok(true)
+    }
+
+    fn start(&self, table: &str) -> io::Result<Start>
+        ensures { IfOk result (λ start. vec_len start.images < 2 ^ 32) }
     {
-        let image = start.images.get_mut(0).ok_or("no image")?;
-        if image.blocks() != 8 {
-            return Err("another length".into());
-        }
-        assert_eq!(rt; image.write(3, &written), Ok(()));
-        assert_eq!(rt; image.sync(), Ok(()));
+        let table = self.text(table)?;
+        let system = self.system();
+        Ok(open_table(&self.rt, &[], table.as_bytes(), &system)?)
     }
-    drop(start);
-    let bytes = fs::read(&rt, path.as_str())?;
-    assert_eq!(rt; bytes.len(), 4096);
-    for (place, byte) in bytes.iter().enumerate() {
-        let want = match place / 512 {
-            3 => 0x5a,
-            4 => 0xc3,
-            _ => 0,
+
+    // Whether these are the lines of the drives that are lost.
+    fn tells(&self, lost: &[String], want: &str) -> io::Result<bool> {
+        let mut told = String::new(self.rt.alloc());
+        for line in lost {
+            told.push_str(line.as_str())?;
+            told.push('\n')?;
+        }
+        Ok(told.as_str() == self.text(want)?.as_str())
+    }
+
+    fn begin(&mut self, table: &str, lost: &str) -> io::Result<bool> {
+        let start = self.start(table)?;
+        let is_told = self.tells(&start.lost, lost)?;
+        self.bench = FileBench::new(start.images, Vec::new(self.rt.alloc()));
+        Ok(is_told)
+    }
+
+    fn beside(&self, table: &str, lost: &str) -> io::Result<bool> {
+        let start = self.start(table)?;
+        self.tells(&start.lost, lost)
+    }
+
+    fn hold(&mut self, path: &str, writable: bool, noted: &str) -> io::Result<bool> {
+        let file = self.open(path, writable)?;
+        let disk = Disk::new(file, NO_DISK, self.note(noted)?);
+        self.bench = one_drive(self.rt.alloc(), Image::open(disk, 8))?;
+        Ok(true)
+    }
+
+    fn lose(&mut self) -> io::Result<bool> {
+        self.bench = one_drive(self.rt.alloc(), Image::lost(8, None))?;
+        Ok(true)
+    }
+
+    fn has(&self, path: &str, bytes: &[u8]) -> io::Result<bool> {
+        let path = self.text(path)?;
+        let held = fs::read(&self.rt, path.as_str())?;
+        let want = blocks_of(self.rt.alloc(), bytes)?;
+        Ok(held.as_slice() == want.as_slice().as_flattened())
+    }
+
+    fn remembers(&self, path: &str) -> io::Result<bool> {
+        let file = self.text("@drives.failed")?;
+        let held = fs::read_to_string(&self.rt, file.as_str())?;
+        let boot_id = fs::read_to_string(&self.rt, BOOT_ID)?;
+        let path = self.text(path)?;
+        let line = format!(in self.rt.alloc(); "{} {path}\n", boot_id.as_str().trim_end())?;
+        Ok(held.as_str() == line.as_str())
+    }
+
+    fn names(&self, path: &str, want: bool) -> io::Result<bool> {
+        let note = self.note(path)?;
+        let journal = self.system()?.journal(&self.rt)?;
+        Ok(journal.has(&note) == want)
+    }
+
+    fn remember(&self, text: &str) -> io::Result<bool> {
+        let file = self.text("@drives.failed")?;
+        let text = self.text(text)?;
+        fs::write(&self.rt, file.as_str(), text.as_str())?;
+        Ok(true)
+    }
+
+    fn unsynced(&self, path: &str, noted: &str) -> io::Result<bool> {
+        let file = self.open(path, true)?;
+        let note = self.note(noted)?;
+        let journal = self.system()?.journal(&self.rt)?;
+        let Ok(locked) = Locked::new(file, NO_DISK, note) else {
+            return Ok(false);
         };
-        assert_eq!(rt; *byte, want, "byte {place}");
-    }
-    let mut start = start_of(&rt, folder.as_str(), &[path.as_str()])?;
-    let image = start.images.get_mut(0).ok_or("no image")?;
-    if image.blocks() != 8 {
-        return Err("another length".into());
-    }
-    let mut out = [ZERO_BLOCK; 5];
-    assert_eq!(rt; image.read(2, &mut out), Ok(()));
-    let want = [ZERO_BLOCK, written[0], written[1], ZERO_BLOCK, ZERO_BLOCK];
-    assert!(rt; out == want);
-    fs::remove_dir_all(&rt, folder.as_str())?;
-    Ok(())
-}
-
-#[test]
-fn what_is_no_drive_is_lost(rt: HostRuntime) -> Result<(), Fail> {
-    let folder = new_folder(&rt, "lost")?;
-    let right = make_image(&rt, folder.as_str(), "right", 8)?;
-    let short = make_image(&rt, folder.as_str(), "short", 7)?;
-    let long = make_image(&rt, folder.as_str(), "long", 9)?;
-    let hard = format!(in rt.alloc(); "{folder}/hard")?;
-    fs::hard_link(&rt, right.as_str(), hard.as_str())?;
-    let soft = format!(in rt.alloc(); "{folder}/soft")?;
-    symlink(&rt, right.as_str(), soft.as_str())?;
-    let none = format!(in rt.alloc(); "{folder}/none")?;
-    let drives = [
-        none.as_str(),
-        short.as_str(),
-        long.as_str(),
-        "/dev/null",
-        right.as_str(),
-        hard.as_str(),
-        soft.as_str(),
-    ];
-    let start = start_of(&rt, folder.as_str(), &drives)?;
-    let missing = format!(in rt.alloc(); "c0t0d0 {none}: missing")?;
-    let shorter = format!(in rt.alloc(); "c0t1d0 {short}: has 3584 bytes and the table says 4096")?;
-    let longer = format!(in rt.alloc(); "c0t2d0 {long}: has 4608 bytes and the table says 4096")?;
-    let hard_link = format!(in rt.alloc(); "c0t5d0 {hard}: the same file as drive c0t4d0")?;
-    let soft_link = format!(in rt.alloc(); "c0t6d0 {soft}: the same file as drive c0t4d0")?;
-    let want = [
-        missing.as_str(),
-        shorter.as_str(),
-        longer.as_str(),
-        "c0t3d0 /dev/null: not a file or device",
-        hard_link.as_str(),
-        soft_link.as_str(),
-    ];
-    expect_lost(&rt, &start, &want);
-    let again = start_of(&rt, folder.as_str(), &[right.as_str()])?;
-    let in_use = format!(in rt.alloc(); "c0t0d0 {right}: in use by another run")?;
-    expect_lost(&rt, &again, &[in_use.as_str()]);
-    drop(again);
-    drop(start);
-    let free = start_of(&rt, folder.as_str(), &[right.as_str()])?;
-    expect_lost(&rt, &free, &[]);
-    drop(free);
-    let broken = format!(in rt.alloc(); "{folder}/a\nb")?;
-    fs::create_dir(&rt, broken.as_str())?;
-    let odd = make_image(&rt, broken.as_str(), "d0.img", 8)?;
-    let line = format!(in rt.alloc(); "{folder}/line")?;
-    symlink(&rt, odd.as_str(), line.as_str())?;
-    let bad_path = format!(in rt.alloc(); "c0t0d0 {line}: its path has a newline")?;
-    expect_lost(
-        &rt,
-        &start_of(&rt, folder.as_str(), &[line.as_str()])?,
-        &[bad_path.as_str()],
-    );
-    fs::remove_dir_all(&rt, folder.as_str())?;
-    Ok(())
-}
-
-// The drive of 8 blocks in that file, whatever was opened with it, and what `drives.failed` is to have of it.
-fn image_on(rt: &HostRuntime, folder: &str, path: &str, file: File) -> Result<Image, Fail>
-    ensures { IfOk result (λ image. image.blocks ≡ 8) }
-{
-    let note = system_in(rt, folder)??.note(rt, path)?;
-    let disk = Disk::new(file, FileId::File { dev: 0, ino: 0 }, note);
-    Ok(Image::open(disk, 8))
-}
-
-#[test]
-fn a_failed_write_shuts_a_drive(rt: HostRuntime) -> Result<(), Fail> {
-    let folder = new_folder(&rt, "write")?;
-    let path = make_image(&rt, folder.as_str(), "d0.img", 8)?;
-    let reading = File::open(&rt, path.as_str())?;
-    let mut image = image_on(&rt, folder.as_str(), path.as_str(), reading)?;
-    let mut out = [ZERO_BLOCK];
-    assert_eq!(rt; image.read(0, &mut out), Ok(()));
-    assert_eq!(rt; image.sync(), Ok(()));
-    assert_eq!(rt; image.write(1, &out), Err(Failed));
-    let noted = format!(in rt.alloc(); "{folder}/drives.failed")?;
-    let boot_id = fs::read_to_string(&rt, BOOT_ID)?;
-    let line = format!(in rt.alloc(); "{} {path}\n", boot_id.as_str().trim_end())?;
-    assert_eq!(rt;
-        fs::read_to_string(&rt, noted.as_str())?.as_str(),
-        line.as_str()
-    );
-    if image.blocks() == 8 {
-        assert_eq!(rt; image.read(0, &mut out), Err(Failed));
-        assert_eq!(rt; image.write(1, &out), Err(Failed));
-    }
-    assert_eq!(rt; image.sync(), Err(Failed));
-    assert_eq!(rt;
-        fs::read_to_string(&rt, noted.as_str())?.as_str(),
-        line.as_str()
-    );
-    drop(image);
-    let start = start_of(&rt, folder.as_str(), &[path.as_str()])?;
-    let lost = format!(in rt.alloc();
-        "c0t0d0 {path}: a write or sync on it failed since the system started; start the program through bin/metad"
-    )?;
-    expect_lost(&rt, &start, &[lost.as_str()]);
-    drop(start);
-    let soft = format!(in rt.alloc(); "{folder}/soft")?;
-    symlink(&rt, path.as_str(), soft.as_str())?;
-    let start = start_of(&rt, folder.as_str(), &[soft.as_str()])?;
-    let linked = format!(in rt.alloc();
-        "c0t0d0 {soft}: a write or sync on it failed since the system started; start the program through bin/metad"
-    )?;
-    expect_lost(&rt, &start, &[linked.as_str()]);
-    drop(start);
-    let hard = format!(in rt.alloc(); "{folder}/hard")?;
-    fs::hard_link(&rt, path.as_str(), hard.as_str())?;
-    let start = start_of(&rt, folder.as_str(), &[path.as_str(), hard.as_str()])?;
-    let twin = format!(in rt.alloc(); "c0t1d0 {hard}: the same file as drive c0t0d0")?;
-    expect_lost(&rt, &start, &[lost.as_str(), twin.as_str()]);
-    drop(start);
-    let old = format!(in rt.alloc(); "a0a0 {path}\n")?;
-    fs::write(&rt, noted.as_str(), old.as_str())?;
-    expect_lost(&rt, &start_of(&rt, folder.as_str(), &[path.as_str()])?, &[]);
-    fs::write(&rt, noted.as_str(), "a0a0 /som")?;
-    let start = start_of(&rt, folder.as_str(), &[path.as_str()])?;
-    let lost = format!(in rt.alloc();
-        "c0t0d0 {path}: drives.failed or the boot id can't be read: the last line is cut short; start the program through bin/metad"
-    )?;
-    expect_lost(&rt, &start, &[lost.as_str()]);
-    fs::remove_dir_all(&rt, folder.as_str())?;
-    Ok(())
-}
-
-// Whether `drives.failed` in that folder has a line of an image of that path.
-fn is_noted(rt: &HostRuntime, folder: &str, path: &str) -> Result<bool, Fail> {
-    let system = system_in(rt, folder)??;
-    let note = system.note(rt, path)?;
-    let journal = system.journal(rt)?;
-    Ok(journal.has(&note))
-}
-
-// A device that takes each write or none, opened for reading and writing.
-fn open_device(rt: &HostRuntime, path: &str) -> Result<File, Fail> {
-    let mut options = OpenOptions::new();
-    options.read(true).write(true);
-    Ok(options.open(rt, path)?)
-}
-
-#[test]
-fn a_failed_sync_shuts_a_drive(rt: HostRuntime) -> Result<(), Fail> {
-    let folder = new_folder(&rt, "sync")?;
-    let sink = open_device(&rt, "/dev/null")?;
-    let image = image_on(&rt, folder.as_str(), "/some", sink)?;
-    let mut bench = FileBench::new(vec![in rt.alloc(); image]?, Vec::new(rt.alloc()));
-    assert_eq!(rt; bench.drives(), 1);
-    if bench.blocks(DriveNo(0)) == 8 {
-        assert_eq!(rt; bench.write(DriveNo(0), 1, &[ZERO_BLOCK]), Ok(()));
-        assert_eq!(rt; bench.sync(DriveNo(0)), Err(Failed));
-        assert_eq!(rt; bench.write(DriveNo(0), 1, &[ZERO_BLOCK]), Err(Failed));
-    }
-    assert!(rt; is_noted(&rt, folder.as_str(), "/some")?);
-    assert!(rt; !is_noted(&rt, folder.as_str(), "/som")?);
-    fs::remove_dir_all(&rt, folder.as_str())?;
-    Ok(())
-}
-
-#[test]
-fn a_full_disk_shuts_a_drive(rt: HostRuntime) -> Result<(), Fail> {
-    let folder = new_folder(&rt, "full")?;
-    let full = open_device(&rt, "/dev/full")?;
-    let mut image = image_on(&rt, folder.as_str(), "/other", full)?;
-    let mut out = [ZERO_BLOCK];
-    assert_eq!(rt; image.read(1, &mut out), Ok(()));
-    assert_eq!(rt; image.write(1, &out), Err(Failed));
-    if image.blocks() == 8 {
-        assert_eq!(rt; image.read(1, &mut out), Err(Failed));
-    }
-    assert!(rt; is_noted(&rt, folder.as_str(), "/other")?);
-    fs::remove_dir_all(&rt, folder.as_str())?;
-    Ok(())
-}
-
-// Why that file can't be made a drive, once it is locked, and which file is told with it.
-fn unsettled(
-    rt: &HostRuntime,
-    folder: &str,
-    file: File,
-    id: FileId,
-) -> Result<(String, bool), Fail> {
-    let system = system_in(rt, folder)??;
-    let note = system.note(rt, "/third")?;
-    let journal = system.journal(rt)?;
-    let Ok(locked) = Locked::new(file, id, note) else {
-        return Err("not locked".into());
-    };
-    match locked.settle(&journal) {
-        Err(Unopened::Lost { reason, id: told }) => {
-            let text = format!(in rt.alloc(); "{reason}")?;
-            Ok((text, told == Some(id)))
+        match locked.settle(&journal) {
+            Err(Unopened::Lost { reason, id }) => {
+                let text = format!(in self.rt.alloc(); "{reason}")?;
+                Ok(text.as_str().starts_with("can't be synced: ") && id == Some(NO_DISK))
+            }
+            _ => Ok(false),
         }
-        Err(Unopened::Memory) => Err("memory".into()),
-        Ok(_) => Err("synced".into()),
+    }
+
+    // Whether there is one drive alone that has so many blocks from that one on.
+    fn has_drive(&self, at: u64, count: usize) -> bool
+        ensures { IsTrue result → InDrive (sizes_of self.now.bench.images.items) 0 at count }
+    {
+        if count == 0 || count > 8 || at > 8 - count as u64 {
+            return false;
+        }
+        self.bench.drives() == 1 && self.bench.blocks(DriveNo(0)) == 8
+    }
+
+    // Whether the blocks are those, where the read is answered.
+    fn read(&mut self, at: u64, want: &[Block]) -> Result<bool, Failed> {
+        let Ok(mut out) = vec![in self.rt.alloc(); ZERO_BLOCK; want.len()] else {
+            return Ok(false);
+        };
+        if !self.has_drive(at, out.len()) {
+            return Ok(false);
+        }
+        self.bench.read(DriveNo(0), at, &mut out)?;
+        Ok(out.as_slice().as_flattened() == want.as_flattened())
+    }
+
+    fn write(&mut self, at: u64, blocks: &[Block]) -> Result<bool, Failed> {
+        if !self.has_drive(at, blocks.len()) {
+            return Ok(false);
+        }
+        self.bench.write(DriveNo(0), at, blocks)?;
+        Ok(true)
+    }
+
+    fn sync(&mut self) -> Result<bool, Failed> {
+        if !self.has_drive(0, 1) {
+            return Ok(false);
+        }
+        self.bench.sync(DriveNo(0))?;
+        Ok(true)
+    }
+
+    // Whether the call is answered, and is as it says.
+    fn call(&mut self, call: &Call) -> Result<bool, Failed> {
+        match *call {
+            Call::Read(at, bytes) => match blocks_of(self.rt.alloc(), bytes) {
+                Ok(blocks) => self.read(at, &blocks),
+                Err(_) => Ok(false),
+            },
+            Call::Write(at, bytes) => match blocks_of(self.rt.alloc(), bytes) {
+                Ok(blocks) => self.write(at, &blocks),
+                Err(_) => Ok(false),
+            },
+            Call::Sync => self.sync(),
+            Call::Give => match self.bench.give(b"ok\n") {
+                Ok(()) => Ok(true),
+                Err(Failed) => Err(Failed),
+            },
+        }
+    }
+
+    fn is_so(&mut self, step: &Step) -> io::Result<bool> {
+        match step {
+            Step::File(path, blocks) => self.make_file(path, *blocks),
+            Step::Folder(path) => self.make_folder(path),
+            Step::Hard(path, link) => self.hard(path, link),
+            Step::Soft(path, link) => self.soft(path, link),
+            Step::Begin(table, lost) => self.begin(table, lost),
+            Step::Beside(table, lost) => self.beside(table, lost),
+            Step::Open(path, writable, noted) => self.hold(path, *writable, noted),
+            Step::Lost => self.lose(),
+            Step::Has(path, bytes) => self.has(path, bytes),
+            Step::Remembers(path) => self.remembers(path),
+            Step::Names(path, want) => self.names(path, *want),
+            Step::Remember(text) => self.remember(text),
+            Step::Unsynced(path, noted) => self.unsynced(path, noted),
+            Step::Done(call) => Ok(self.call(call) == Ok(true)),
+            Step::Fails(call) => Ok(self.call(call) == Err(Failed)),
+            Step::End => {
+                self.bench = no_drives(self.rt.alloc());
+                Ok(true)
+            }
+        }
+    }
+
+    // The place of the first step that isn't so.
+    fn first_wrong(&mut self, steps: &[Step]) -> Option<usize> {
+        for place in 0..steps.len() {
+            match self.is_so(&steps[place]) {
+                Ok(true) => {}
+                _ => return Some(place),
+            }
+        }
+        None
     }
 }
 
-#[test]
-fn a_file_that_cannot_be_synced_is_no_drive(rt: HostRuntime) -> Result<(), Fail> {
-    let folder = new_folder(&rt, "third")?;
-    let sink = open_device(&rt, "/dev/null")?;
-    let id = FileId::File { dev: 0, ino: 0 };
-    let (reason, is_told) = unsettled(&rt, folder.as_str(), sink, id)?;
-    assert!(rt; reason.as_str().starts_with("can't be synced: "));
-    assert!(rt; is_told);
-    assert!(rt; is_noted(&rt, folder.as_str(), "/third")?);
-    fs::remove_dir_all(&rt, folder.as_str())?;
-    Ok(())
+const ONE: &str = "host a
+drive c0t0d0 8 a @d0.img
+";
+
+const BLOCKS: &[Step] = &[
+    Step::File("@d0.img", 8),
+    Step::Begin(ONE, ""),
+    Step::Done(Call::Write(3, &[0x5a, 0xc3])),
+    Step::Done(Call::Sync),
+    Step::End,
+    Step::Has("@d0.img", &[0, 0, 0, 0x5a, 0xc3, 0, 0, 0]),
+    Step::Begin(ONE, ""),
+    Step::Done(Call::Read(2, &[0, 0x5a, 0xc3, 0, 0])),
+];
+
+const SEVEN: &str = "host a
+drive c0t0d0 8 a @none
+drive c0t1d0 8 a @short
+drive c0t2d0 8 a @long
+drive c0t3d0 8 a /dev/null
+drive c0t4d0 8 a @right
+drive c0t5d0 8 a @hard
+drive c0t6d0 8 a @soft
+";
+
+const SIX_LOST: &str = "c0t0d0 @none: missing
+c0t1d0 @short: has 3584 bytes and the table says 4096
+c0t2d0 @long: has 4608 bytes and the table says 4096
+c0t3d0 /dev/null: not a file or device
+c0t5d0 @hard: the same file as drive c0t4d0
+c0t6d0 @soft: the same file as drive c0t4d0
+";
+
+const RIGHT: &str = "host a
+drive c0t0d0 8 a @right
+";
+
+const NO_DRIVES: &[Step] = &[
+    Step::File("@right", 8),
+    Step::File("@short", 7),
+    Step::File("@long", 9),
+    Step::Hard("@right", "@hard"),
+    Step::Soft("@right", "@soft"),
+    Step::Begin(SEVEN, SIX_LOST),
+    Step::Beside(RIGHT, "c0t0d0 @right: in use by another run\n"),
+    Step::End,
+    Step::Beside(RIGHT, ""),
+    Step::Folder("@a\nb"),
+    Step::File("@a\nb/d0.img", 8),
+    Step::Soft("@a\nb/d0.img", "@line"),
+    Step::Beside(
+        "host a\ndrive c0t0d0 8 a @line\n",
+        "c0t0d0 @line: its path has a newline\n",
+    ),
+];
+
+const FAILED_BEFORE: &str =
+    "c0t0d0 @d0.img: a write or sync on it failed since the system started; start the program through bin/metad
+";
+
+const LINK_FAILED: &str =
+    "c0t0d0 @soft: a write or sync on it failed since the system started; start the program through bin/metad
+";
+
+const BOTH_LOST: &str =
+    "c0t0d0 @d0.img: a write or sync on it failed since the system started; start the program through bin/metad
+c0t1d0 @hard: the same file as drive c0t0d0
+";
+
+const CUT_SHORT: &str =
+    "c0t0d0 @d0.img: drives.failed or the boot id can't be read: the last line is cut short; start the program through bin/metad
+";
+
+const FAILED_WRITE: &[Step] = &[
+    Step::File("@d0.img", 8),
+    Step::Open("@d0.img", false, "@d0.img"),
+    Step::Done(Call::Read(0, &[0])),
+    Step::Done(Call::Sync),
+    Step::Fails(Call::Write(1, &[0])),
+    Step::Remembers("@d0.img"),
+    Step::Fails(Call::Read(0, &[0])),
+    Step::Fails(Call::Write(1, &[0])),
+    Step::Fails(Call::Sync),
+    Step::Remembers("@d0.img"),
+    Step::End,
+    Step::Beside(ONE, FAILED_BEFORE),
+    Step::Soft("@d0.img", "@soft"),
+    Step::Beside("host a\ndrive c0t0d0 8 a @soft\n", LINK_FAILED),
+    Step::Hard("@d0.img", "@hard"),
+    Step::Beside(
+        "host a\ndrive c0t0d0 8 a @d0.img\ndrive c0t1d0 8 a @hard\n",
+        BOTH_LOST,
+    ),
+    Step::Remember("a0a0 @d0.img\n"),
+    Step::Beside(ONE, ""),
+    Step::Remember("a0a0 /som"),
+    Step::Beside(ONE, CUT_SHORT),
+];
+
+const FAILED_SYNC: &[Step] = &[
+    Step::Open("/dev/null", true, "/some"),
+    Step::Done(Call::Write(1, &[0])),
+    Step::Fails(Call::Sync),
+    Step::Fails(Call::Write(1, &[0])),
+    Step::Names("/some", true),
+    Step::Names("/som", false),
+];
+
+const FULL_DISK: &[Step] = &[
+    Step::Open("/dev/full", true, "/other"),
+    Step::Done(Call::Read(1, &[0])),
+    Step::Fails(Call::Write(1, &[0])),
+    Step::Fails(Call::Read(1, &[0])),
+    Step::Names("/other", true),
+];
+
+const LOST_DRIVE: &[Step] = &[
+    Step::Lost,
+    Step::Done(Call::Give),
+    Step::Fails(Call::Read(7, &[0])),
+    Step::Fails(Call::Write(7, &[0])),
+    Step::Fails(Call::Sync),
+];
+
+const UNSYNCED: &[Step] = &[
+    Step::Unsynced("/dev/null", "/third"),
+    Step::Names("/third", true),
+];
+
+const SCENES: &[(&str, &[Step])] = &[
+    ("blocks_are_kept_where_they_belong", BLOCKS),
+    ("what_is_no_drive_is_lost", NO_DRIVES),
+    ("a_failed_write_shuts_a_drive", FAILED_WRITE),
+    ("a_failed_sync_shuts_a_drive", FAILED_SYNC),
+    ("a_full_disk_shuts_a_drive", FULL_DISK),
+    ("a_lost_drive_fails_and_replies_are_told", LOST_DRIVE),
+    ("a_file_that_cannot_be_synced_is_no_drive", UNSYNCED),
+];
+
+// The place of the first step that isn't so. Where there is none, the folder goes.
+fn wrong_step(rt: &HostRuntime, name: &str, steps: &[Step]) -> io::Result<Option<usize>> {
+    let mut scene = Scene::new(rt, name)?;
+    let wrong = scene.first_wrong(steps);
+    if wrong.is_none() {
+        fs::remove_dir_all(rt, scene.folder.as_str())?;
+    }
+    Ok(wrong)
 }
 
-// What standard error has behind Usage.
-fn misfit(rt: &HostRuntime, words: &[&str], table: &[u8]) -> Result<String, Fail> {
-    let mut strings = Vec::new(rt.alloc());
+#[test]
+fn scenes_go_as_they_are_written(rt: HostRuntime) {
+    for (name, steps) in SCENES {
+        let wrong = wrong_step(&rt, name, steps);
+        assert!(rt; matches!(wrong, Ok(None)), "{name} at {wrong:?}");
+    }
+}
+
+const HOME: &str = "host a
+drive c0t0d0 8 a none
+slice c0t0d0s7 0 8 db
+";
+
+// The words, the table of drives, and what standard error has behind Usage.
+const MISFITS: &[(&[&str], &str, &str)] = &[
+    (&[], HOME, "words: 0 in place of the one host"),
+    (&["a", "b"], HOME, "words: 2 in place of the one host"),
+    (
+        &["b"],
+        HOME,
+        "host: drives.tab doesn't have this host alone",
+    ),
+    (&["a"], "host a\n", "drives: 0 in place of one"),
+    (
+        &["a"],
+        "host a\ndrive c0t0d0 8 a none\n",
+        "home: not exactly one slice of the host's own drive is marked db, or another has a block of it",
+    ),
+    (
+        &["a"],
+        "host a\ndrive c0t0d0 8 b none\n",
+        "drives.tab: line 2 is wrong: drive c0t0d0 8 b none",
+    ),
+];
+
+fn strings(alloc: Global, words: &[&str]) -> Result<Vec<String>, AllocError> {
+    let mut strings = Vec::new(alloc);
     for word in words {
-        strings.push(String::from_str(rt.alloc(), word)?)?;
+        strings.push(String::from_str(alloc, word)?)?;
     }
-    let folder = new_folder(rt, "misfit")?;
-    let system = system_in(rt, folder.as_str())?;
-    let start = open_table(rt, &strings, table, &system)?;
-    fs::remove_dir_all(rt, folder.as_str())?;
-    Ok(start.misfit.ok_or("it fits")?)
+    Ok(strings)
+}
+
+fn misfit(rt: &HostRuntime, words: &[&str], table: &str) -> io::Result<Option<String>> {
+    let words = strings(rt.alloc(), words)?;
+    let system = SystemStart::read(rt, JOURNAL, BOOT_ID);
+    Ok(open_table(rt, &words, table.as_bytes(), &system)?.misfit)
+}
+
+fn has_misfit(rt: &HostRuntime, words: &[&str], table: &str, want: &str) -> bool {
+    match misfit(rt, words, table) {
+        Ok(Some(told)) => told.as_str() == want,
+        _ => false,
+    }
 }
 
 #[test]
-fn tells_what_does_not_fit(rt: HostRuntime) -> Result<(), Fail> {
-    let home: &[u8] = b"host a\ndrive c0t0d0 8 a none\nslice c0t0d0s7 0 8 db\n";
-    let cases: [(&[&str], &[u8], &str); 6] = [
-        (&[], home, "words: 0 in place of the one host"),
-        (&["a", "b"], home, "words: 2 in place of the one host"),
-        (
-            &["b"],
-            home,
-            "host: drives.tab doesn't have this host alone",
-        ),
-        (&["a"], b"host a\n", "drives: 0 in place of one"),
-        (
-            &["a"],
-            b"host a\ndrive c0t0d0 8 a none\n",
-            "home: not exactly one slice of the host's own drive is marked db, or another has a block of it",
-        ),
-        (
-            &["a"],
-            b"host a\ndrive c0t0d0 8 b none\n",
-            "drives.tab: line 2 is wrong: drive c0t0d0 8 b none",
-        ),
-    ];
-    for (words, table, want) in cases {
-        assert_eq!(rt; misfit(&rt, words, table)?.as_str(), want);
+fn tells_what_does_not_fit(rt: HostRuntime) {
+    for (words, table, want) in MISFITS {
+        assert!(rt; has_misfit(&rt, words, table, want), "{want}");
     }
-    let text = format!(in rt.alloc(); "{}", Misfit::Drives(3))?;
-    assert_eq!(rt; text.as_str(), "drives: 3 in place of one");
-    Ok(())
+    let three = shows(rt.alloc(), Misfit::Drives(3), "drives: 3 in place of one");
+    assert!(rt; three == Ok(true));
+}
+
+const NO_IMAGE: &[u8] = b"host a
+drive c0t0d0 8 a no-such-image
+slice c0t0d0s7 0 8 db
+";
+
+fn is_faulty_use(ending: &Ending) -> bool {
+    let (Some(misfit), [lost]) = (&ending.misfit, ending.lost.as_slice()) else {
+        return false;
+    };
+    status::number(&ending.status) == 2
+        && misfit.as_str() == "host: drives.tab doesn't have this host alone"
+        && lost.as_str() == "c0t0d0 no-such-image: missing"
 }
 
 #[test]
-fn a_faulty_use_is_told_with_its_causes(rt: HostRuntime) -> Result<(), Fail> {
-    let words = vec![in rt.alloc(); String::from_str(rt.alloc(), "b")?]?;
-    let table: &[u8] = b"host a\ndrive c0t0d0 8 a no-such-image\nslice c0t0d0s7 0 8 db\n";
-    let ending = run_with(&rt, &words, table);
-    assert_eq!(rt; status::number(&ending.status), 2);
-    let told = ending.misfit.ok_or("it fits")?;
-    assert_eq!(rt;
-        told.as_str(),
-        "host: drives.tab doesn't have this host alone"
-    );
-    assert_eq!(rt; ending.lost.len(), 1);
-    for line in &ending.lost {
-        assert_eq!(rt; line.as_str(), "c0t0d0 no-such-image: missing");
-    }
-    Ok(())
+fn a_faulty_use_is_told_with_its_causes(rt: HostRuntime) {
+    let Ok(words) = strings(rt.alloc(), &["b"]) else {
+        assert!(rt; false);
+        return;
+    };
+    let ending = run_with(&rt, &words, NO_IMAGE);
+    assert!(rt; is_faulty_use(&ending));
 }
