@@ -1,5 +1,5 @@
 -- What a boot leaves: its look, and its adoption.
-use Rattle.std.proofs.Common.{◌≡◌, ℕ, ◌+◌, ◌<◌, ◌≤◌, ◌^◌, List, [], length, slice_index_or, refl, sym, ◌∙◌, subst, Option, Some, None, Ok}
+use Rattle.std.proofs.Common.{◌≡◌, ℕ, ◌+◌, ◌<◌, ◌≤◌, ◌^◌, List, [], length, slice_index_or, refl, sym, ◌∙◌, subst, Option, Some, None, Ok, Err}
 use Rattle.mdv_base.proofs.Causes.{IsWithin}
 use Rattle.mdv_database.specs.Below.{Failures, record_text, Mark, Key, Geometry, KeptOutside, nowhere, Moments, Ends, IsSynced, Tale, last, PlaceAt, Slot, IsSpareSlot, greatest, Leaves, Claims, with_blocks, Table, IsSound, Adopts, drawn, NoCreation, Site, IsFound, IsTableAt, Anything, Newest, GoesOnTo, IsOpened, ShowsNothing, IsAdopted, MayTake, Takes, Rewriting, Rewritten, Rewrites, adopted_newest}
 use Rattle.mdv_shelf.proofs.Moments.{moments_after, moments_end, moments_none, moments_weaker, ends_both, ends_more}
@@ -10,11 +10,13 @@ use Rattle.mdv_store_law.proofs.Covering.{kept_covers, kept_goes_on, goes_from_m
 use Rattle.mdv_database.specs.declared.database.BootEnd.{BootEnd}
 use Rattle.mdv_database.specs.declared.database.BootEnd.TheVariants.{Adopted, Empty, Down, Lost, Spent, Memory}
 use Rattle.mdv_database.specs.declared.looking.Found.{Found}
-use Rattle.mdv_database.specs.Boot.{AdoptEnds, AdoptMoment, AdoptedBy, BootAnswer, BootEnds, BootMoment, IsAdoption, RewriteEnds, RewriteMoment}
+use Rattle.mdv_database.specs.Boot.{AdoptEnds, AdoptMoment, BootAnswer, BootEnds, BootMoment, BootedBy, IsAdoption, RewriteEnds, RewriteMoment}
 use Rattle.mdv_database.specs.Database.{IfAdopted, IsBooted, IsBootedTo, IsCertain, IsDrawn, IsFoundIn, IsInHand, IsLookedAt, IsQuiet, IsUnwritten, site_of}
 use Rattle.mdv_database.specs.Looks.{LookEnds}
-use Rattle.mdv_database.specs.Counts.{open_slots}
+use Rattle.mdv_database.specs.Counts.{Made, open_slots}
+use Rattle.mdv_database.specs.declared.body.ReadFault.TheVariants.{Memory as Wanting}
 use Rattle.mdv_database.specs.Slots.{blocks_for}
+use Rattle.mdv_database.proofs.Counting.{AdoptsBy}
 use Rattle.mdv_database.proofs.Quiet.{quiet_more, quiet_same, quiet_sized, unwritten_quiet}
 
 -- a claim, and then the table
@@ -145,22 +147,22 @@ module _ (drives : Geometry) (key : Key) (at : PlaceAt) (sizes : List ℕ) (foun
       never_empty : (answer : BootEnd) → IsAdoption before sizes at found answer → answer ≡ Empty → ⊥
       never_empty answer is same = subst (IsAdoption before sizes at found) same is
 
-      adopted_made : (Made : ℕ → ℕ → Type 0) (answer : BootEnd) (content : ℕ → List ℕ) → IsAdoption before sizes at found answer → IsLookedAt site_there content (Some found)
-          → IfAdopted answer (λ newest. Made (11 + open_slots found.head) (3 + blocks_for (length (record_text found.table)))) → IfAdopted answer (AdoptedBy Made site_there content)
-      adopted_made Made (Adopted newest) content is the made = record {
+      adopted_by : (made : Made) (answer : BootEnd) (content : ℕ → List ℕ) → IsAdoption before sizes at found answer → IsLookedAt site_there content (Some found)
+          → AdoptsBy made (open_slots found.head) (3 + blocks_for (length (record_text found.table))) answer → BootedBy made site_there content answer
+      adopted_by made (Adopted newest) content is the by = record {
         head = found.head;
         replica = the.replica;
         shown = the.shown;
-        made = subst (λ (n : Newest). Made (11 + open_slots found.head) (3 + blocks_for (length (record_text n.table)))) (sym is.1.is) made;
+        calls = subst (λ (n : Newest). made.exactly (11 + open_slots found.head) (3 + blocks_for (length (record_text n.table)))) (sym is.1.is) by;
       }
-      adopted_made Made Empty content is the made = tt
-      adopted_made Made Down content is the made = tt
-      adopted_made Made Lost content is the made = tt
-      adopted_made Made Spent content is the made = tt
-      adopted_made Made Memory content is the made = tt
+      adopted_by made Empty content is the by = absurd is
+      adopted_by made Down content is the by = absurd is
+      adopted_by made Lost content is the by = record { head = found.head; replica = the.replica; shown = the.shown; calls = by.0; wrote = by.1 }
+      adopted_by made Spent content is the by = record { head = found.head; replica = the.replica; shown = the.shown; spent = is.1; calls = by }
+      adopted_by made Memory content is the by = absurd is
 
-      adopted_boot : (Made : ℕ → ℕ → Type 0) (answer : BootEnd) (t u v : Tale) → IfAdopted answer (λ newest. Made (11 + open_slots found.head) (3 + blocks_for (length (record_text found.table)))) → IsSound drives → IsAdoption before sizes at found answer → HasLooked site_there (Some found) t u → AdoptEnds at sizes found answer u v → BootEnds failures Made site_there answer t v
-      adopted_boot Made answer t u v made sound is looked ends =
+      adopted_boot : (made : Made) (answer : BootEnd) (t u v : Tale) → AdoptsBy made (open_slots found.head) (3 + blocks_for (length (record_text found.table))) answer → IsSound drives → IsAdoption before sizes at found answer → HasLooked site_there (Some found) t u → AdoptEnds at sizes found answer u v → BootEnds failures made site_there answer t v
+      adopted_boot made answer t u v by sound is looked ends =
           let was = found_in t u sound looked in
           record {
             shown = adoption_shown answer (last t at.drive.0) is looked.is_found;
@@ -171,12 +173,12 @@ module _ (drives : Geometry) (key : Key) (at : PlaceAt) (sizes : List ℕ) (foun
             empty = λ same. absurd (never_empty answer is same);
             goes = goes_from_more site_there Anything NoCreation [] (IsBootedTo answer) t u v looked.unwritten.kept (ends.goes drives key was);
             refuses = λ refused. subst (λ (w : Tale). KeptOutside nowhere t w) (sym (ends.refuses refused)) looked.unwritten.kept;
-            made = adopted_made Made answer (last t at.drive.0) is looked.is_found made;
+            booted = adopted_by made answer (last t at.drive.0) is looked.is_found by;
           }
 
-      pub adopted_ends : (Made : ℕ → ℕ → Type 0) (answer : BootEnd) (old mid new : Option Tale) → IfAdopted answer (λ newest. Made (11 + open_slots found.head) (3 + blocks_for (length (record_text found.table)))) → IsSound drives → IsAdoption before sizes at found answer → Ends (HasLooked site_there (Some found)) old mid → Ends (AdoptEnds at sizes found answer) mid new
-          → Ends (BootEnds failures Made site_there answer) old new
-      adopted_ends Made answer old mid new made sound is = ends_more (HasLooked site_there (Some found)) (AdoptEnds at sizes found answer) (BootEnds failures Made site_there answer) old mid new (λ t u v was ends. adopted_boot Made answer t u v made sound is was ends)
+      pub adopted_ends : (made : Made) (answer : BootEnd) (old mid new : Option Tale) → AdoptsBy made (open_slots found.head) (3 + blocks_for (length (record_text found.table))) answer → IsSound drives → IsAdoption before sizes at found answer → Ends (HasLooked site_there (Some found)) old mid → Ends (AdoptEnds at sizes found answer) mid new
+          → Ends (BootEnds failures made site_there answer) old new
+      adopted_ends made answer old mid new by sound is = ends_more (HasLooked site_there (Some found)) (AdoptEnds at sizes found answer) (BootEnds failures made site_there answer) old mid new (λ t u v was ends. adopted_boot made answer t u v by sound is was ends)
 
   pub adopted_moments : (old mid new : Option Tale) → IsSound drives → Moments IsUnwritten old mid → Ends (HasLooked site_there (Some found)) old mid → Moments (AdoptMoment at sizes found) mid new → Moments (BootMoment site_there) old new
   adopted_moments old mid new sound = moments_after IsUnwritten (HasLooked site_there (Some found)) (AdoptMoment at sizes found) (BootMoment site_there) old mid new (look_moment site_there)
@@ -190,9 +192,9 @@ module _ (site : Site) (old new : Option Tale) (looked : Moments IsUnwritten old
   looked_moments = moments_weaker IsUnwritten (BootMoment site) old new (look_moment site) looked
 
   -- what a look that was answered leaves
-  pub looked_from : (found : Option Found) → Ends (LookEnds site (Ok found)) old new → Ends (HasLooked site found) old new
-  looked_from found ends =
-      ends_both IsUnwritten (LookEnds site (Ok found)) (HasLooked site found) old new (λ t u kept look. record { synced = look.synced; unwritten = kept; is_found = look.found }) (moments_end IsUnwritten old new looked) ends
+  pub looked_from : (made : Made) (found : Option Found) → Ends (LookEnds made site (Ok found)) old new → Ends (HasLooked site found) old new
+  looked_from made found ends =
+      ends_both IsUnwritten (LookEnds made site (Ok found)) (HasLooked site found) old new (λ t u kept look. record { synced = look.synced; unwritten = kept; is_found = look.finds.found }) (moments_end IsUnwritten old new looked) ends
 
   -- nothing was found
   nothing_found : (t u : Tale) → HasLooked site None t u → ShowsNothing site u
@@ -204,9 +206,9 @@ module _ (site : Site) (old new : Option Tale) (looked : Moments IsUnwritten old
       let after = kept_covers site log t u was.unwritten.kept covers in
       record { es = []; course = tt; come = record { tells = refl; issues = tt; begins = tt }; stands = after; after = not_firm site log u after (nothing_found t u was) }
 
-  pub empty_ends : (failures : Failures) (Made : ℕ → ℕ → Type 0) → Ends (LookEnds site (Ok None)) old new → Ends (BootEnds failures Made site Empty) old new
-  empty_ends failures Made ends t is =
-      let end = looked_from None ends t is in (
+  pub empty_ends : (failures : Failures) (made : Made) → Ends (LookEnds made site (Ok None)) old new → Ends (BootEnds failures made site Empty) old new
+  empty_ends failures made ends t is =
+      let end = looked_from made None ends t is in (
         end.0,
         end.1,
         record {
@@ -217,13 +219,13 @@ module _ (site : Site) (old new : Option Tale) (looked : Moments IsUnwritten old
           empty = λ same. nothing_found t end.0 end.2;
           goes = empty_goes_on t end.0 end.2;
           refuses = λ refused. end.2.unwritten.kept;
-          made = tt;
+          booted = (ends t is).2.finds.looked;
         },
       )
 
   -- the look failed, or memory was wanting
-  pub down_ends : (failures : Failures) (Made : ℕ → ℕ → Type 0) → failures.some → Ends (BootEnds failures Made site Down) old new
-  down_ends failures Made so t is =
+  pub down_ends : (failures : Failures) (made : Made) → failures.some → Ends (BootEnds failures made site Down) old new
+  down_ends failures made so t is =
       let end = moments_end IsUnwritten old new looked t is in (
         end.0,
         end.1,
@@ -235,23 +237,24 @@ module _ (site : Site) (old new : Option Tale) (looked : Moments IsUnwritten old
           empty = λ same. absurd (cc (same));
           goes = kept_goes_on site t end.0 end.2.kept;
           refuses = λ refused. end.2.kept;
-          made = tt;
+          booted = tt;
         },
       )
 
-  pub memory_ends : (failures : Failures) (Made : ℕ → ℕ → Type 0) → Ends (BootEnds failures Made site Memory) old new
-  memory_ends failures Made t is =
-      let end = moments_end IsUnwritten old new looked t is in (
+  pub memory_ends : (failures : Failures) (made : Made) → Ends (LookEnds made site (Err Wanting)) old new → Ends (BootEnds failures made site Memory) old new
+  memory_ends failures made ends t is =
+      let end = moments_end IsUnwritten old new looked t is in
+      let wanting = (ends t is).2.finds.looked in (
         end.0,
         end.1,
         record {
-          shown = tt;
+          shown = wanting.headed;
           synced = λ known. absurd known;
           adopted = tt;
           opened = tt;
           empty = λ same. absurd (cc (same));
           goes = kept_goes_on site t end.0 end.2.kept;
           refuses = λ refused. end.2.kept;
-          made = tt;
+          booted = wanting;
         },
       )

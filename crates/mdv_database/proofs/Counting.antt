@@ -1,7 +1,10 @@
 -- How the calls of a look, an adoption and a boot add up.
-use Rattle.std.proofs.Common.{◌≡◌, ℕ, ◌+◌, ◌≤◌, ◌||◌, true, refl, ap, ◌∙◌, Some, None, Option, Result, Ok, Err, IsErr, arith}
-use Rattle.mdv_shelf.specs.Shelves.{MadeCallsAtMost}
-use Rattle.mdv_shelf.proofs.Between.{between_of, between_then, between_none}
+use Rattle.std.proofs.Common.{◌≡◌, ℕ, zero, suc, ◌+◌, ◌-◌, ◌<◌, ◌≤◌, ◌^◌, min, ◌||◌, true, refl, sym, ap, subst, ◌∙◌, Some, None, Option, Result, Ok, Err, IfOk, IfSome, IsErrAnd, arith}
+use Rattle.mdv_shelf.specs.Calls.{RoseBy}
+use Rattle.mdv_shelf.specs.Shelves.{MadeCalls, MadeCallsAtMost}
+use Rattle.mdv_shelf.specs.Between.{RoseByAtLeast}
+use Rattle.mdv_shelf.proofs.Between.{between_of, between_then, between_none, between_wider}
+use Rattle.mdv_shelf.proofs.Counts.{took_more}
 use Rattle.mdv_replica.specs.Form.{room_of}
 use Rattle.mdv_database.specs.declared.body.ReadFault.{ReadFault}
 use Rattle.mdv_database.specs.declared.body.ReadFault.TheVariants.{Failed, Memory}
@@ -10,19 +13,12 @@ use Rattle.mdv_database.specs.declared.database.BootEnd.TheVariants as end
 use Rattle.mdv_database.specs.declared.looking.Found.{Found}
 use Rattle.mdv_database.specs.declared.looking.Held.{Held}
 use Rattle.mdv_database.specs.declared.looking.Held.TheVariants.{Nothing, Kept, Other}
-use Rattle.mdv_shelf.specs.Between.{TookBetween}
 use Rattle.mdv_database.specs.declared.database.CommitFault.{CommitFault}
 use Rattle.mdv_database.specs.declared.database.CommitFault.TheVariants as unwritten
 use Rattle.mdv_database.specs.Below.{Gate, Closed, Open, Ghosts, Head, Slot, First, Second, gate_of, other_slot, shows}
 use Rattle.mdv_replica.specs.Form.{is_open}
-use Rattle.mdv_database.specs.Database.{IfAdopted}
-use Rattle.mdv_database.specs.Counts.{MadeCallsBetween, if_found, if_held, least_found, least_looked, most_found, most_looked, open_slots, reads_of, IsAdoptionCounted, IsBootCounted, IsCommitCounted}
+use Rattle.mdv_database.specs.Counts.{AreReadFor, Made, MadeCallsBetween, MadeReads, head_reads, made_of, open_slots, reads_of, IsAdoptionCounted, IsBootCounted, IsCommitCounted, IsFindCounted, IsHeldCounted, IsLookCounted}
 use Rattle.mdv_database.specs.Slots.{blocks_for}
-
-pub found_few : {T E : Type 0} (count : ℕ) (found : Result (Option T) E) → if_found count found ≤ count
-found_few count (Ok (Some found)) = omega arith
-found_few count (Ok None) = omega arith
-found_few count (Err fault) = omega arith
 
 -- a slot takes one read at most
 pub reads_few : (gate : Gate) → reads_of gate ≤ 1
@@ -49,48 +45,106 @@ both_slots head Second = swapped (reads_of head.first) (reads_of head.second)
     swapped : (n m : ℕ) → m + n ≡ n + m
     swapped n m = omega arith
 
--- a slot that was read, or had no open gate
-pub slot_read : (E : Type 0) (gate : Gate) (held : Held) → (held ≡ Other → ⊥) → if_held {E = E} gate (Ok held) ≡ reads_of gate
-slot_read E gate Nothing never = refl
-slot_read E gate (Kept table) never = refl
-slot_read E gate Other never = absurd (never refl)
+-- an answer that is this fault
+pub err_is : {T E : Type 0} (result : Result T E) (fault : E) → IsErrAnd result (λ e. e ≡ fault) → result ≡ Err fault
+err_is (Ok done) fault is = absurd is
+err_is (Err e) fault is = ap Err is
 
--- and then the other one
-pub both_read : {S : Type 0} (E : Type 0) (calls written : S → Option ℕ) (a b c : S) (head : Head) (spare : Slot) (one two : Gate) (older : Held) → one ≡ gate_of head spare → two ≡ gate_of head (other_slot spare) → (older ≡ Other → ⊥)
-    → TookBetween calls written a b (if_held {E = E} one (Ok older)) (reads_of one) 0 → TookBetween calls written b c (reads_of two) (reads_of two) 0 → TookBetween calls written a c (open_slots head) (open_slots head) 0
-both_read {S} E calls written a b c head spare one two older one_is two_is never first second =
-    let all : reads_of one + reads_of two ≡ open_slots head = ap (λ (x : Gate). reads_of x + reads_of two) one_is ∙ ap (λ (x : Gate). reads_of (gate_of head spare) + reads_of x) two_is ∙ both_slots head spare in
-    let least : if_held {E = E} one (Ok older) ≡ reads_of one = slot_read E one older never in
-    between_then calls written a b c (if_held {E = E} one (Ok older)) (reads_of one) 0 (reads_of two) (reads_of two) 0 (open_slots head) (open_slots head) 0 (omega (arith, all, least)) (omega (arith, all)) (omega arith) first second
+-- reads behind calls that wrote nothing, and behind other reads
+module _ {S : Type 0} (shelf : Ghosts S) where
+  pub reads_behind : (a b c : S) (j k m : ℕ) → j + k ≡ m → MadeCalls shelf a b j 0 → MadeReads shelf b c k → MadeCalls shelf a c m 0
+  reads_behind a b c j zero m all first same = subst (λ (s : S). MadeCalls shelf a s m 0) (sym same) (subst (λ (n : ℕ). MadeCalls shelf a b n 0) (omega (arith, all)) first)
+  reads_behind a b c j (suc k) m all first took = took_more shelf.calls shelf.written a b c j (suc k) 0 0 m 0 all (omega arith) first took
 
-pub found_least : {T E : Type 0} (count : ℕ) (found : Result (Option T) E) → if_found count found ≤ count
-found_least count (Ok (Some found)) = omega arith
-found_least count (Ok None) = omega arith
-found_least count (Err fault) = omega arith
+  pub reads_more : (a b c : S) (j k m : ℕ) → j + k ≡ m → MadeReads shelf a b j → MadeReads shelf b c k → MadeReads shelf a c m
+  reads_more a b c zero k m all same second =
+      let same_count : k ≡ m = omega (arith, all) in
+      subst (λ (s : S). MadeReads shelf s c m) same (subst (λ (n : ℕ). MadeReads shelf b c n) same_count second)
+  reads_more a b c (suc j) k m all first second =
+      let same_count : suc (j + k) ≡ m = omega (arith, all) in
+      let both : MadeReads shelf a c (suc (j + k)) = reads_behind a b c (suc j) k (suc (j + k)) (omega arith) first second in
+      subst (λ (n : ℕ). MadeReads shelf a c n) same_count both
 
--- a look makes two calls before it looks at the place, unless one fails
-pub looked_least : (found : Result (Option Found) ReadFault) → least_looked found ≤ 2 + least_found 1 found
-looked_least (Ok (Some found)) = omega arith
-looked_least (Ok None) = omega arith
-looked_least (Err Failed) = omega arith
-looked_least (Err Memory) = omega arith
+  pub reads_between : (a b : S) (k least most : ℕ) → least ≤ k → k ≤ most → MadeReads shelf a b k → MadeCallsBetween shelf a b least most 0
+  reads_between a b zero least most low high same =
+      between_wider shelf.calls shelf.written a b 0 0 0 least most 0 low (omega arith) (omega arith) (between_none shelf.calls shelf.written a b 0 0 same)
+  reads_between a b (suc k) least most low high took = between_of shelf.calls shelf.written a b (suc k) 0 least most 0 low high (omega arith) took
 
-pub looked_most : (found : Result (Option Found) ReadFault) → 2 + most_found 1 found ≤ most_looked found
-looked_most (Ok (Some found)) = omega arith
-looked_most (Ok None) = omega arith
-looked_most (Err Failed) = omega arith
-looked_most (Err Memory) = omega arith
+  -- so many slots were read, whatever was found
+  pub read_for : {T E : Type 0} (a b : S) (slots : ℕ) (result : Result (Option T) E) → MadeReads shelf a b slots → AreReadFor shelf a b slots result
+  read_for a b slots (Ok (Some found)) reads = reads
+  read_for a b slots (Ok None) reads = reads_between a b slots 0 slots (omega arith) (omega arith) reads
+  read_for a b slots (Err fault) reads = reads_between a b slots 0 slots (omega arith) (omega arith) reads
 
--- one that isn't answered
-pub looked_err : (found : Result (Option Found) ReadFault) → IsErr found → least_looked found ≤ 2
-looked_err (Ok found) is = cc (is)
-looked_err (Err Failed) is = omega arith
-looked_err (Err Memory) is = omega arith
+  pub few_held : {E : Type 0} (a b : S) (gate : Gate) (result : Result Held E) → IsHeldCounted shelf a b gate result → MadeCallsBetween shelf a b 0 (reads_of gate) 0
+  few_held a b gate (Ok Nothing) reads = reads_between a b (reads_of gate) 0 (reads_of gate) (omega arith) (omega arith) reads
+  few_held a b gate (Ok (Kept table)) reads = reads_between a b (reads_of gate) 0 (reads_of gate) (omega arith) (omega arith) reads
+  few_held a b gate (Ok Other) took = took
+  few_held a b gate (Err fault) took = took
 
-pub looked_wide : (found : Result (Option Found) ReadFault) → IsErr found → 5 ≤ most_looked found
-looked_wide (Ok found) is = cc (is)
-looked_wide (Err Failed) is = omega arith
-looked_wide (Err Memory) is = omega arith
+  -- a slot that was read, or had no open gate
+  slot_read : (E : Type 0) (a b : S) (gate : Gate) (held : Held) → (held ≡ Other → ⊥) → IsHeldCounted {E = E} shelf a b gate (Ok held) → MadeReads shelf a b (reads_of gate)
+  slot_read E a b gate Nothing never reads = reads
+  slot_read E a b gate (Kept table) never reads = reads
+  slot_read E a b gate Other never took = absurd (never refl)
+
+  -- one slot of a replica, and then the other
+  module _ (a b c : S) (head : Head) (spare : Slot) (one two : Gate) (one_is : one ≡ gate_of head spare) (two_is : two ≡ gate_of head (other_slot spare)) where
+    all_slots : reads_of one + reads_of two ≡ open_slots head
+    all_slots = ap (λ (x : Gate). reads_of x + reads_of two) one_is ∙ ap (λ (x : Gate). reads_of (gate_of head spare) + reads_of x) two_is ∙ both_slots head spare
+
+    pub both_read : (E : Type 0) (older : Held) → (older ≡ Other → ⊥) → IsHeldCounted {E = E} shelf a b one (Ok older) → MadeReads shelf b c (reads_of two) → MadeReads shelf a c (open_slots head)
+    both_read E older never first second = reads_more a b c (reads_of one) (reads_of two) (open_slots head) all_slots (slot_read E a b one older never first) second
+
+    pub both_few : (E : Type 0) (older newer : Result Held E) → IsHeldCounted shelf a b one older → IsHeldCounted shelf b c two newer → MadeCallsBetween shelf a c 0 (open_slots head) 0
+    both_few E older newer first second =
+        between_then shelf.calls shelf.written a b c 0 (reads_of one) 0 0 (reads_of two) 0 0 (open_slots head) 0 (omega arith) (omega (arith, all_slots)) (omega arith) (few_held a b one older first) (few_held b c two newer second)
+
+  -- the head's read, and then the slots'
+  pub found_counted : (a b c : S) (head : Head) (first size : ℕ) (found : Result (Option Found) ReadFault) → first < size → IfOk found (λ seen. IfSome seen (λ f. f.head ≡ head))
+      → MadeReads shelf a b (head_reads first size) → AreReadFor shelf b c (open_slots head) found → IsFindCounted shelf a c found
+  found_counted a b c head first size found there same one slots = by found same slots
+    where
+      once : MadeReads shelf a b 1
+      once = let is_one : head_reads first size ≡ 1 = omega (arith, there) in subst (λ (n : ℕ). MadeReads shelf a b n) is_one one
+
+      few : (least : ℕ) → least ≤ 1 → MadeCallsBetween shelf b c 0 (open_slots head) 0 → MadeCallsBetween shelf a c least 3 0
+      few least low took =
+          let most = slots_few head in
+          between_then shelf.calls shelf.written a b c 1 1 0 0 (open_slots head) 0 least 3 0 (omega (arith, low)) (omega (arith, most)) (omega arith) (reads_between a b 1 1 1 (omega arith) (omega arith) once) took
+
+      by : (result : Result (Option Found) ReadFault) → IfOk result (λ seen. IfSome seen (λ f. f.head ≡ head)) → AreReadFor shelf b c (open_slots head) result → IsFindCounted shelf a c result
+      by (Ok (Some found)) same reads = reads_more a b c 1 (open_slots head) (1 + open_slots found.head) (ap (λ (h : Head). 1 + open_slots h) (sym same)) once reads
+      by (Ok None) same took = few 0 (omega arith) took
+      by (Err Failed) same took = few 0 (omega arith) took
+      by (Err Memory) same took = few 1 (omega arith) took
+
+  -- the head alone, or not even that
+  pub head_counted : (a b : S) (first size : ℕ) → MadeReads shelf a b (head_reads first size) → MadeCallsBetween shelf a b 0 3 0
+  head_counted a b first size reads = reads_between a b (head_reads first size) 0 3 (omega arith) (omega arith) reads
+
+  -- a look makes two calls before it looks at the place
+  pub looked_counted : (a b c : S) (found : Result (Option Found) ReadFault) → MadeCalls shelf a b 2 0 → IsFindCounted shelf b c found → IsLookCounted shelf a c found
+  looked_counted a b c found two counted = by found counted
+    where
+      behind : (more least : ℕ) → least ≤ 2 + more → MadeCallsBetween shelf b c more 3 0 → MadeCallsBetween shelf a c least 5 0
+      behind more least low took =
+          between_then shelf.calls shelf.written a b c 2 2 0 more 3 0 least 5 0 low (omega arith) (omega arith) (between_of shelf.calls shelf.written a b 2 0 2 2 0 (omega arith) (omega arith) (omega arith) two) took
+
+      by : (result : Result (Option Found) ReadFault) → IsFindCounted shelf b c result → IsLookCounted shelf a c result
+      by (Ok (Some found)) reads = reads_behind a b c 2 (1 + open_slots found.head) (3 + open_slots found.head) (omega arith) two reads
+      by (Ok None) took = behind 0 2 (omega arith) took
+      by (Err Failed) took = behind 0 1 (omega arith) took
+      by (Err Memory) took = behind 1 3 (omega arith) took
+
+-- no more were counted, and then some
+pub some_behind : (k : ℕ) (a b c : Option ℕ) → RoseBy k a b → RoseByAtLeast 1 b c → RoseByAtLeast 1 a c
+some_behind k a b c first second n is =
+    let two = second (min (n + k) (2 ^ 64 - 1)) (first n is) in
+    (two.0, two.1, below n two.0 (2 ^ 64 - 1) two.2)
+  where
+    below : (n m top : ℕ) → min (min (n + k) top + 1) top ≤ m → min (n + 1) top ≤ m
+    below n m top two = omega (arith, two)
 
 -- the blocks that an adoption writes: the claim, two gates, and the text
 pub few_blocks : (bytes blocks : ℕ) → bytes ≤ room_of blocks → blocks ≤ 8192 → 3 + blocks_for bytes ≤ 4097
@@ -100,31 +154,48 @@ few_blocks bytes blocks fits few = omega (arith, fits, few)
 pub few_text : (bytes blocks : ℕ) → bytes ≤ room_of blocks → blocks ≤ 8192 → 2 + blocks_for bytes ≤ 4096
 few_text bytes blocks fits few = omega (arith, fits, few)
 
-module _ {S : Type 0} (shelf : Ghosts S) (old mid new : S) (blocks : ℕ) (few : blocks ≤ 4097) (slots : ℕ) (some : 1 ≤ slots) (most : slots ≤ 2) (before : MadeCallsBetween shelf old mid (3 + slots) (3 + slots) 0) where
-  nothing_more : (least : ℕ) → least ≤ 4 → new ≡ mid → MadeCallsBetween shelf old new least 5 0
-  nothing_more least low same =
-      between_then shelf.calls shelf.written old mid new (3 + slots) (3 + slots) 0 0 0 0 least 5 0 (omega (arith, low, some)) (omega (arith, most)) (omega arith) before (between_none shelf.calls shelf.written mid new 0 0 same)
+-- what is told of the calls of a boot that found a replica with so many open slots, whose adoption writes so many blocks
+abbrev pub AdoptsBy : Made → ℕ → ℕ → BootEnd → Type 0
+AdoptsBy made slots blocks (end.Adopted newest) = made.exactly (11 + slots) blocks
+AdoptsBy made slots blocks end.Empty = Unit {0}
+AdoptsBy made slots blocks end.Down = Unit {0}
+AdoptsBy made slots blocks end.Lost = made.within (4 + slots) (11 + slots) 4097 × made.wrote
+AdoptsBy made slots blocks end.Spent = made.exactly (3 + slots) 0
+AdoptsBy made slots blocks end.Memory = Unit {0}
 
-  pub boot_counted : (what : BootEnd) → IsAdoptionCounted shelf mid new blocks what → IsBootCounted shelf old new what
-  boot_counted (end.Adopted newest) took =
-      between_then shelf.calls shelf.written old mid new (3 + slots) (3 + slots) 0 8 8 blocks 12 13 4097 (omega (arith, some)) (omega (arith, most)) (omega (arith, few)) before
-      (between_of shelf.calls shelf.written mid new 8 blocks 8 8 blocks (omega arith) (omega arith) (omega arith) took)
-  boot_counted end.Empty same = nothing_more 2 (omega arith) same
-  boot_counted end.Down same = nothing_more 1 (omega arith) same
-  boot_counted end.Lost took = between_then shelf.calls shelf.written old mid new (3 + slots) (3 + slots) 0 1 8 blocks 5 13 4097 (omega (arith, some)) (omega (arith, most)) (omega (arith, few)) before took
-  boot_counted end.Spent same = nothing_more 4 (omega arith) same
-  boot_counted end.Memory same = nothing_more 2 (omega arith) same
+module _ {S : Type 0} (shelf : Ghosts S) (old mid new : S) (blocks : ℕ) (few : blocks ≤ 4097) (slots : ℕ) (before : MadeCalls shelf old mid (3 + slots) 0) where
+  looked_before : MadeCallsBetween shelf old mid (3 + slots) (3 + slots) 0
+  looked_before = between_of shelf.calls shelf.written old mid (3 + slots) 0 (3 + slots) (3 + slots) 0 (omega arith) (omega arith) (omega arith) before
 
-  -- exactly, where it adopted
-  pub boot_made : (what : BootEnd) → IsAdoptionCounted shelf mid new blocks what → IfAdopted what (λ newest. MadeCallsBetween shelf old new (11 + slots) (11 + slots) blocks)
-  boot_made (end.Adopted newest) took =
-      between_then shelf.calls shelf.written old mid new (3 + slots) (3 + slots) 0 8 8 blocks (11 + slots) (11 + slots) blocks (omega arith) (omega arith) (omega arith) before
-      (between_of shelf.calls shelf.written mid new 8 blocks 8 8 blocks (omega arith) (omega arith) (omega arith) took)
+  boot_lost : (least most : ℕ) → least ≤ 4 + slots → 11 + slots ≤ most → MadeCallsBetween shelf mid new 1 8 blocks → MadeCallsBetween shelf old new least most 4097
+  boot_lost least most low high took = between_then shelf.calls shelf.written old mid new (3 + slots) (3 + slots) 0 1 8 blocks least most 4097 (omega (arith, low)) (omega (arith, high)) (omega (arith, few)) looked_before took
+
+  -- by its answer
+  pub boot_made : (what : BootEnd) → IsAdoptionCounted shelf mid new blocks what → AdoptsBy (made_of shelf old new) slots blocks what
+  boot_made (end.Adopted newest) took = took_more shelf.calls shelf.written old mid new (3 + slots) 8 0 blocks (11 + slots) blocks (omega arith) (omega arith) before took
   boot_made end.Empty same = tt
   boot_made end.Down same = tt
-  boot_made end.Lost took = tt
-  boot_made end.Spent same = tt
+  boot_made end.Lost took = (
+    boot_lost (4 + slots) (11 + slots) (omega arith) (omega arith) took.0,
+    some_behind 0 (shelf.written old) (shelf.written mid) (shelf.written new) before.in_blocks took.1,
+  )
+  boot_made end.Spent same = subst (λ (s : S). MadeCalls shelf old s (3 + slots) 0) (sym same) before
   boot_made end.Memory same = tt
+
+  module _ (some : 1 ≤ slots) (most : slots ≤ 2) where
+    nothing_more : (least : ℕ) → least ≤ 4 → new ≡ mid → MadeCallsBetween shelf old new least 5 0
+    nothing_more least low same =
+        between_then shelf.calls shelf.written old mid new (3 + slots) (3 + slots) 0 0 0 0 least 5 0 (omega (arith, low, some)) (omega (arith, most)) (omega arith) looked_before (between_none shelf.calls shelf.written mid new 0 0 same)
+
+    pub boot_counted : (what : BootEnd) → IsAdoptionCounted shelf mid new blocks what → IsBootCounted shelf old new what
+    boot_counted (end.Adopted newest) took =
+        between_then shelf.calls shelf.written old mid new (3 + slots) (3 + slots) 0 8 8 blocks 12 13 4097 (omega (arith, some)) (omega (arith, most)) (omega (arith, few)) looked_before
+        (between_of shelf.calls shelf.written mid new 8 blocks 8 8 blocks (omega arith) (omega arith) (omega arith) took)
+    boot_counted end.Empty same = nothing_more 2 (omega arith) same
+    boot_counted end.Down same = nothing_more 1 (omega arith) same
+    boot_counted end.Lost took = boot_lost 5 13 (omega (arith, some)) (omega (arith, most)) took.0
+    boot_counted end.Spent same = nothing_more 4 (omega arith) same
+    boot_counted end.Memory same = nothing_more 3 (omega arith) same
 
 -- a commit never takes more than six calls, whatever it answers
 pub commit_at_most : {S T : Type 0} (shelf : Ghosts S) (old new : S) (bytes : ℕ) (result : Result T CommitFault) → IsCommitCounted shelf old new bytes result → MadeCallsAtMost shelf old new 6 4096

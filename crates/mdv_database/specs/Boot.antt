@@ -5,7 +5,8 @@ use Rattle.mdv_database.specs.Below.{Failures, Ghosts, Head, IsReplica, record_t
 use Rattle.mdv_database.specs.declared.database.BootEnd.{BootEnd}
 use Rattle.mdv_database.specs.declared.database.BootEnd.TheVariants as end
 use Rattle.mdv_database.specs.declared.looking.Found.{Found}
-use Rattle.mdv_database.specs.Counts.{MadeCallsBetween, open_slots}
+use Rattle.mdv_database.specs.Counts.{Made, made_of, open_slots}
+use Rattle.mdv_store_law.specs.Adoptable.{IsHeaded}
 use Rattle.mdv_database.specs.Slots.{blocks_for}
 use Rattle.mdv_database.specs.Database.{IsQuiet, IsFoundIn, IsBooted, IsBootedTo, IsRefusal, IsCertain, IsLaid, IfAdopted, site_of}
 
@@ -14,16 +15,53 @@ pub record BootMoment (site : Site) (t m : Tale) : Type 0 where
   pub quiet : IsQuiet site.at t m
   pub goes : GoesOn site t m
 
--- A boot that adopted a replica made eleven calls and one for each slot of it that was open, and wrote no more than the claim, two gates and the table's text.
-pub record AdoptedBy (Made : ℕ → ℕ → Type 0) (site : Site) (content : ℕ → List ℕ) (newest : Newest) : Type 0 where
+-- A boot that adopted a replica made eleven calls and one for each slot of it that was open, and wrote as many blocks as the claim, two gates and the table's text have.
+pub record AdoptedBy (made : Made) (site : Site) (content : ℕ → List ℕ) (newest : Newest) : Type 0 where
   pub head : Head
   pub replica : IsReplica site content head
   pub shown : shows head ≡ true
-  pub made : Made (11 + open_slots head) (3 + blocks_for (length (record_text newest.table)))
+  pub calls : made.exactly (11 + open_slots head) (3 + blocks_for (length (record_text newest.table)))
+
+-- One that found none made two calls, a third for the head where the drive has a block of the place, and then no more than one for each open slot
+-- of a head that shows a table.
+pub record EmptyBy (made : Made) (site : Site) (content : ℕ → List ℕ) : Type 0 where
+  pub beyond : site.size ≤ site.at.first → made.exactly 2 0
+  pub headless : site.at.first < site.size → (IsHeaded site content → ⊥) → made.exactly 3 0
+  pub headed : (headed : IsHeaded site content) → made.within 3 (3 + open_slots headed.head) 0
+
+-- one that is lost made a call more at least than a look at all of a replica takes, and began to write
+pub record LostBy (made : Made) (site : Site) (content : ℕ → List ℕ) : Type 0 where
+  pub head : Head
+  pub replica : IsReplica site content head
+  pub shown : shows head ≡ true
+  pub calls : made.within (4 + open_slots head) (11 + open_slots head) 4097
+  pub wrote : made.wrote
+
+-- one that is spent made as many calls as that look takes
+pub record SpentBy (made : Made) (site : Site) (content : ℕ → List ℕ) : Type 0 where
+  pub head : Head
+  pub replica : IsReplica site content head
+  pub shown : shows head ≡ true
+  pub spent : 2 ^ 63 ≤ greatest head + 1
+  pub calls : made.exactly (3 + open_slots head) 0
+
+-- one that wants memory made no more than that look takes, of a head that shows a table, and three at least
+pub record WantingBy (made : Made) (site : Site) (content : ℕ → List ℕ) : Type 0 where
+  pub headed : IsHeaded site content
+  pub calls : made.within 3 (3 + open_slots headed.head) 0
+
+-- the calls of a boot, by its answer and what the blocks held; of one that is down no more is said than how many it made
+abbrev pub BootedBy : Made → Site → (ℕ → List ℕ) → BootEnd → Type 0
+BootedBy made site content (end.Adopted newest) = AdoptedBy made site content newest
+BootedBy made site content end.Empty = EmptyBy made site content
+BootedBy made site content end.Down = Unit {0}
+BootedBy made site content end.Lost = LostBy made site content
+BootedBy made site content end.Spent = SpentBy made site content
+BootedBy made site content end.Memory = WantingBy made site content
 
 -- In the end the answer is what the blocks showed at the start, and what was found, or that nothing is there, is on the
 -- disk; the log went on to it, and what adopts nothing wrote nothing.
-pub record BootEnds (failures : Failures) (Made : ℕ → ℕ → Type 0) (site : Site) (answer : BootEnd) (t u : Tale) : Type 0 where
+pub record BootEnds (failures : Failures) (made : Made) (site : Site) (answer : BootEnd) (t u : Tale) : Type 0 where
   pub shown : IsBooted failures site (last t site.at.drive.0) answer
   pub synced : IsCertain answer → IsSynced site.at.drive.0 u
   pub adopted : IfAdopted answer (λ newest. IsAdopted site (last t site.at.drive.0) newest u)
@@ -31,11 +69,11 @@ pub record BootEnds (failures : Failures) (Made : ℕ → ℕ → Type 0) (site 
   pub empty : answer ≡ end.Empty → ShowsNothing site u
   pub goes : GoesOnTo site (IsBootedTo answer) t u
   pub refuses : IsRefusal answer → KeptOutside nowhere t u
-  pub made : IfAdopted answer (AdoptedBy Made site (last t site.at.drive.0))
+  pub booted : BootedBy made site (last t site.at.drive.0) answer
 
 abbrev pub BootEndsAs : {S : Type 0} → Ghosts S → S → S → Site → BootEnd → Type 0
 BootEndsAs shelf old new site answer =
-    AtEnd shelf (BootEnds (DriveFailures shelf old new site.at.drive.0) (λ calls blocks. MadeCallsBetween shelf old new calls calls blocks) site answer) old new
+    AtEnd shelf (BootEnds (DriveFailures shelf old new site.at.drive.0) (made_of shelf old new) site answer) old new
 
 -- a boot knows nothing of the drive, or is lost, only where a call failed; and comes to anything else only where none did
 abbrev pub HasBootCause : Failures → BootEnd → Type 0

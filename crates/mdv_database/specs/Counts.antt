@@ -1,6 +1,6 @@
 -- How many calls on the drive a boot, a creation and a commit make, and how many blocks they write.
-use Rattle.std.specs.Prelude.{◌≡◌, ℕ, ◌+◌, ◌≤◌, Option, Some, None, Result, Ok, Err}
-use Rattle.mdv_shelf.specs.Between.{TookBetween}
+use Rattle.std.specs.Prelude.{◌≡◌, ℕ, zero, suc, ◌+◌, ◌-◌, ◌≤◌, min, Option, Some, None, Result, Ok, Err}
+use Rattle.mdv_shelf.specs.Between.{RoseByAtLeast, TookBetween}
 use Rattle.mdv_shelf.specs.Shelves.{MadeCalls}
 use Rattle.mdv_database.specs.Below.{Gate, Closed, Open, Ghosts, Head}
 use Rattle.mdv_database.specs.declared.database.BootEnd.{BootEnd}
@@ -20,11 +20,27 @@ use Rattle.mdv_database.specs.Slots.{blocks_for}
 abbrev pub MadeCallsBetween : {S : Type 0} → Ghosts S → S → S → ℕ → ℕ → ℕ → Type 0
 MadeCallsBetween shelf old new least most blocks = TookBetween shelf.calls shelf.written old new least most blocks
 
--- so many calls at least, where something was found
-abbrev pub if_found : {T E : Type 0} → ℕ → Result (Option T) E → ℕ
-if_found count (Ok (Some found)) = count
-if_found count (Ok None) = 0
-if_found count (Err fault) = 0
+-- what is told of the calls of a stretch: exactly so many, with so many blocks written; so many at least and at most; and that it began to write
+pub record Made : Type 1 where
+  pub exactly : ℕ → ℕ → Type 0
+  pub within : ℕ → ℕ → ℕ → Type 0
+  pub wrote : Type 0
+
+-- as the shelf counts them
+abbrev pub made_of : {S : Type 0} → Ghosts S → S → S → Made
+made_of shelf old new = record {
+  exactly = λ calls blocks. MadeCalls shelf old new calls blocks;
+  within = λ least most blocks. MadeCallsBetween shelf old new least most blocks;
+  wrote = RoseByAtLeast 1 (shelf.written old) (shelf.written new);
+}
+
+-- The same of a longer stretch, whose first calls were so many and wrote nothing.
+abbrev pub made_behind : {S : Type 0} → Ghosts S → ℕ → S → S → Made
+made_behind {S} shelf before old new = record {
+  exactly = λ calls blocks. (start : S) → MadeCalls shelf start old before 0 → MadeCalls shelf start new calls blocks;
+  within = λ least most blocks. (start : S) → MadeCalls shelf start old before 0 → MadeCallsBetween shelf start new least most blocks;
+  wrote = (start : S) → MadeCalls shelf start old before 0 → RoseByAtLeast 1 (shelf.written start) (shelf.written new);
+}
 
 -- one read of a slot whose gate is open, and none of another
 abbrev pub reads_of : Gate → ℕ
@@ -35,45 +51,50 @@ reads_of (Open mark bytes) = 1
 abbrev pub open_slots : Head → ℕ
 open_slots head = reads_of head.first + reads_of head.second
 
--- an open slot is read, unless its text has no room there, or a call fails
-abbrev pub if_held : {E : Type 0} → Gate → Result Held E → ℕ
-if_held gate (Ok Nothing) = reads_of gate
-if_held gate (Ok (Kept table)) = reads_of gate
-if_held gate (Ok Other) = 0
-if_held gate (Err fault) = 0
+-- exactly so many reads; where there is none the shelf is as it was
+abbrev pub MadeReads : {S : Type 0} → Ghosts S → S → S → ℕ → Type 0
+MadeReads shelf old new zero = new ≡ old
+MadeReads shelf old new (suc more) = MadeCalls shelf old new (suc more) 0
 
--- where a table was found, behind so many calls, each open slot was read once
-abbrev pub least_found : {E : Type 0} → ℕ → Result (Option Found) E → ℕ
-least_found before (Ok (Some found)) = before + open_slots found.head
-least_found before (Ok None) = 0
-least_found before (Err fault) = 0
+-- one read of the head, where the drive has a block of the place
+abbrev pub head_reads : ℕ → ℕ → ℕ
+head_reads first size = min 1 (size - first)
 
-abbrev pub most_found : {E : Type 0} → ℕ → Result (Option Found) E → ℕ
-most_found before (Ok (Some found)) = before + open_slots found.head
-most_found before (Ok None) = before + 2
-most_found before (Err fault) = before + 2
+-- an open slot is read once, unless its text has no room there, or the read fails
+abbrev pub IsHeldCounted : {S E : Type 0} → Ghosts S → S → S → Gate → Result Held E → Type 0
+IsHeldCounted shelf old new gate (Ok Nothing) = MadeReads shelf old new (reads_of gate)
+IsHeldCounted shelf old new gate (Ok (Kept table)) = MadeReads shelf old new (reads_of gate)
+IsHeldCounted shelf old new gate (Ok Other) = MadeCallsBetween shelf old new 0 (reads_of gate) 0
+IsHeldCounted shelf old new gate (Err fault) = MadeCallsBetween shelf old new 0 (reads_of gate) 0
 
--- a look reads the drive's first block, syncs the drive, and reads the head and each open slot; where it finds none it makes
--- no more than it would for two, and two at least, unless a call fails
-abbrev pub least_looked : Result (Option Found) ReadFault → ℕ
-least_looked (Ok (Some found)) = 3 + open_slots found.head
-least_looked (Ok None) = 2
-least_looked (Err Failed) = 1
-least_looked (Err Memory) = 2
+-- so many slots were read where a table was found, and else no more
+abbrev pub AreReadFor : {S T E : Type 0} → Ghosts S → S → S → ℕ → Result (Option T) E → Type 0
+AreReadFor shelf old new slots (Ok (Some found)) = MadeReads shelf old new slots
+AreReadFor shelf old new slots (Ok None) = MadeCallsBetween shelf old new 0 slots 0
+AreReadFor shelf old new slots (Err fault) = MadeCallsBetween shelf old new 0 slots 0
 
-abbrev pub most_looked : Result (Option Found) ReadFault → ℕ
-most_looked (Ok (Some found)) = 3 + open_slots found.head
-most_looked (Ok None) = 5
-most_looked (Err Failed) = 5
-most_looked (Err Memory) = 5
+-- where a table was found, the head and each open slot of it were read; else no more than two slots, and the head at least for want of memory
+abbrev pub IsFindCounted : {S : Type 0} → Ghosts S → S → S → Result (Option Found) ReadFault → Type 0
+IsFindCounted shelf old new (Ok (Some found)) = MadeReads shelf old new (1 + open_slots found.head)
+IsFindCounted shelf old new (Ok None) = MadeCallsBetween shelf old new 0 3 0
+IsFindCounted shelf old new (Err Failed) = MadeCallsBetween shelf old new 0 3 0
+IsFindCounted shelf old new (Err Memory) = MadeCallsBetween shelf old new 1 3 0
 
--- A table that is written anew takes eight calls, the claim's and the slot's; where one failed one at least and no more,
--- and none where the number is spent.
+-- A look reads the drive's first block, syncs the drive, and reads the head and each open slot. Where it finds none it makes no more
+-- than it would for two, and the first two at least, unless one of these fails.
+abbrev pub IsLookCounted : {S : Type 0} → Ghosts S → S → S → Result (Option Found) ReadFault → Type 0
+IsLookCounted shelf old new (Ok (Some found)) = MadeCalls shelf old new (3 + open_slots found.head) 0
+IsLookCounted shelf old new (Ok None) = MadeCallsBetween shelf old new 2 5 0
+IsLookCounted shelf old new (Err Failed) = MadeCallsBetween shelf old new 1 5 0
+IsLookCounted shelf old new (Err Memory) = MadeCallsBetween shelf old new 3 5 0
+
+-- A table that is written anew takes eight calls, the claim's and the slot's; where one failed one at least and no more, and it began to
+-- write; none where the number is spent.
 abbrev pub IsAdoptionCounted : {S : Type 0} → Ghosts S → S → S → ℕ → BootEnd → Type 0
 IsAdoptionCounted shelf old new blocks (end.Adopted newest) = MadeCalls shelf old new 8 blocks
 IsAdoptionCounted shelf old new blocks end.Empty = new ≡ old
 IsAdoptionCounted shelf old new blocks end.Down = new ≡ old
-IsAdoptionCounted shelf old new blocks end.Lost = MadeCallsBetween shelf old new 1 8 blocks
+IsAdoptionCounted shelf old new blocks end.Lost = MadeCallsBetween shelf old new 1 8 blocks × RoseByAtLeast 1 (shelf.written old) (shelf.written new)
 IsAdoptionCounted shelf old new blocks end.Spent = new ≡ old
 IsAdoptionCounted shelf old new blocks end.Memory = new ≡ old
 
@@ -85,7 +106,7 @@ IsBootCounted shelf old new end.Empty = MadeCallsBetween shelf old new 2 5 0
 IsBootCounted shelf old new end.Down = MadeCallsBetween shelf old new 1 5 0
 IsBootCounted shelf old new end.Lost = MadeCallsBetween shelf old new 5 13 4097
 IsBootCounted shelf old new end.Spent = MadeCallsBetween shelf old new 4 5 0
-IsBootCounted shelf old new end.Memory = MadeCallsBetween shelf old new 2 5 0
+IsBootCounted shelf old new end.Memory = MadeCallsBetween shelf old new 3 5 0
 
 -- A creation takes twelve calls, six of them for the format. One that failed there took no more than these, and one that is
 -- lost took them and one more at least. Without memory it makes none.

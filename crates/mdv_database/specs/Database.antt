@@ -1,7 +1,7 @@
 -- The database of one place: what a boot finds and leaves, and what a creation and a commit leave.
 use Rattle.std.specs.Prelude.{◌≡◌, ℕ, ◌+◌, ◌≤◌, ◌<◌, ◌^◌, true, false, List, [], ◌∷◌, length, slice_index_or, Option, Some, None, Result, Ok, Err}
 use Rattle.mdv_database.specs.Below.{Failures, Identity, Key, Place, Geometry, record_text, PlaceAt, Head, First, Second, IsSpareSlot, greatest, other_slot, room_of, shows, Everywhere, IsFormed, IsPlaced, slot_blocks, with_blocks, range, KeptOutside, nowhere, IsSynced, Tale, last, told, Change, One, Table, IsSound, IsCreated, created_head, first_mark, Log, IsMade, IsNewestTellable, is_firm, Site, IsFound, IsNewestOf, IsReplica, IsTableAt, Newest, IsNewestIn, IsOpened, IsTheReplica, adopted_newest, next_newest}
-use Rattle.mdv_store_law.specs.Adoptable.{IsAdoptable}
+use Rattle.mdv_store_law.specs.Adoptable.{IsAdoptable, IsHeaded}
 use Rattle.mdv_database.specs.declared.database.BootEnd.{BootEnd}
 use Rattle.mdv_database.specs.declared.database.BootEnd.TheVariants as end
 use Rattle.mdv_database.specs.declared.database.CreateFault.{CreateFault}
@@ -18,7 +18,7 @@ pub record IsOnDrive (sizes : List ℕ) (at : PlaceAt) : Type 0 where
   pub some : 0 < slice_index_or sizes at.drive.0 0
   pub size : slice_index_or sizes at.drive.0 0 < 2 ^ 64
 
--- nothing is told, and nothing happens outside the blocks of the place, the most that a replica there may have
+-- nothing is told, and each block is kept outside those of the place, the most that a replica there may have
 pub record IsQuiet (at : PlaceAt) (t m : Tale) : Type 0 where
   pub outside : KeptOutside (range at.drive.0 at.first at.place.blocks) t m
   pub quiet : told m ≡ told t
@@ -70,14 +70,14 @@ pub record IsSpent (site : Site) (content : ℕ → List ℕ) : Type 0 where
   pub spent : 2 ^ 63 ≤ greatest head + 1
 
 -- What a boot answers, from what the drive's blocks held; where a call failed it answers Down instead, or, where it found a
--- replica to adopt, Lost.
+-- replica to adopt, Lost. Memory is wanting only where a head shows a table.
 abbrev pub IsBooted : Failures → Site → (ℕ → List ℕ) → BootEnd → Type 0
 IsBooted failures site content (end.Adopted newest) = IsDrawn site content newest
 IsBooted failures site content end.Empty = IsFound site content None
 IsBooted failures site content end.Down = failures.some
 IsBooted failures site content end.Lost = failures.some × IsAdoptable site content
 IsBooted failures site content end.Spent = IsSpent site content
-IsBooted failures site content end.Memory = Unit {0}
+IsBooted failures site content end.Memory = IsHeaded site content
 
 abbrev pub IfAdopted : BootEnd → (Newest → Type 0) → Type 0
 IfAdopted (end.Adopted newest) P = P newest

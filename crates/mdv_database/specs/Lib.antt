@@ -3,8 +3,8 @@ pub mod Open
 pub mod Slots
 pub mod Database
 pub mod Counts
+pub mod Boot
 pub mod Looks
 pub mod Write
-pub mod Boot
 pub mod Create
 pub mod Commit

@@ -3,7 +3,7 @@ ghost use Rattle.std.specs.Prelude.{◌≡◌, ◌↔◌, ◌<◌, ◌≤◌, �
 ghost use Rattle.std.specs.List.{flat_map};
 ghost use Rattle.mdv_base.specs.Causes.{HasCause};
 ghost use Rattle.mdv_shelf.specs.Calls.{OnDrive};
-ghost use Rattle.mdv_shelf.specs.Shelves.{AtEachTale, AtEnd, DriveFailures, Kept};
+ghost use Rattle.mdv_shelf.specs.Shelves.{AtEachTale, AtEnd, DriveFailures, KeptOn, MadeCalls};
 ghost use Rattle.mdv_shelf.specs.Tale.{last};
 ghost use Rattle.mdv_shelf.specs.Between.{MakesCalls};
 ghost use Rattle.mdv_replica.specs.Forms.{IsMark};
@@ -13,7 +13,7 @@ ghost use Rattle.mdv_record.specs.Text.{record_text};
 ghost use Rattle.mdv_table.specs.declared.plan.Lists.TheVariants.{One};
 ghost use Rattle.mdv_table.specs.Slices.{IsSound};
 ghost use Rattle.mdv_store_law.specs.Site.{IsRecordAt, IsTableAt};
-ghost use Rattle.mdv_database.specs.Counts.{MadeCallsBetween, if_found};
+ghost use Rattle.mdv_database.specs.Counts.{AreReadFor};
 ghost use Rattle.mdv_database.specs.Looks.{OnlyReads, ReadAnswer};
 ghost use Rattle.mdv_database.specs.Slots.{blocks_for as spec_blocks_for, IsFitting, IsRead};
 ghost use Rattle.mdv_database.specs.Write.{WriteAnswer, WriteEnds, WriteMoment};
@@ -86,8 +86,8 @@ impl Body {
         ensures whole { self.new ≡ self.old }
         ensures answer { ReadAnswer (DriveFailures S.Shelf shelf.old shelf.new at.drive.0) (λ found. IfSome found (IsFitting drives.now at)) result }
         ensures reads { OnlyReads S.Shelf (λ t. IfOk result (IsRead drives.now at slot bytes (last t at.drive.0))) shelf.old shelf.new }
-        ensures counted { MadeCallsBetween S.Shelf shelf.old shelf.new (if_found 1 result) 1 0 }
-        ensures kept { Kept S.Shelf shelf.old shelf.new }
+        ensures counted { AreReadFor S.Shelf shelf.old shelf.new 1 result }
+        ensures kept { KeptOn S.Shelf shelf.old shelf.new (OnDrive at.drive.0) }
     {
         let count = blocks_for(bytes);
         if self.blocks.len() < count {
@@ -122,7 +122,7 @@ impl Body {
         ensures moments { AtEachTale S.Shelf (WriteMoment at slot mark table.now) shelf.old shelf.new }
         ensures end { OnOk result (AtEnd S.Shelf (WriteEnds at slot mark table.now) shelf.old shelf.new) }
         ensures counted { MakesCalls S.Shelf shelf.old shelf.new 6 (2 + spec_blocks_for (length (record_text table.now))) result }
-        ensures kept { Kept S.Shelf shelf.old shelf.new }
+        ensures kept { KeptOn S.Shelf shelf.old shelf.new (OnDrive at.drive.0) }
     {
         write_table(shelf, at, slot, mark, table, self.blocks.as_mut_slice())
     }
@@ -157,8 +157,8 @@ fn read_table<S: Shelf>(
     requires in_slot { length body.old ≤ spec_slot_blocks at.place.blocks }
     ensures answer { ReadAnswer (DriveFailures S.Shelf shelf.old shelf.new at.drive.0) (λ found. IfSome found (IsFitting drives.now at)) result }
     ensures reads { OnlyReads S.Shelf (λ t. IfOk result (IsRead drives.now at slot bytes (last t at.drive.0))) shelf.old shelf.new }
-    ensures counted { MadeCallsBetween S.Shelf shelf.old shelf.new (if_found 1 result) 1 0 }
-    ensures kept { Kept S.Shelf shelf.old shelf.new }
+    ensures counted { MadeCalls S.Shelf shelf.old shelf.new 1 0 }
+    ensures kept { KeptOn S.Shelf shelf.old shelf.new (OnDrive at.drive.0) }
 {
     match read_body(shelf, at, slot, body) {
         Ok(()) => table_in(alloc, drives, &at.place, bytes, body),
@@ -222,7 +222,7 @@ fn write_table<S: Shelf>(
     ensures end { OnOk result (AtEnd S.Shelf (WriteEnds at slot mark table.now) shelf.old shelf.new) }
     ensures cause { HasCause (S.faults shelf.old (OnDrive at.drive.0)) (S.faults shelf.new (OnDrive at.drive.0)) result }
     ensures counted { MakesCalls S.Shelf shelf.old shelf.new 6 (2 + spec_blocks_for (length (record_text table.now))) result }
-    ensures kept { Kept S.Shelf shelf.old shelf.new }
+    ensures kept { KeptOn S.Shelf shelf.old shelf.new (OnDrive at.drive.0) }
 {
     let text = body.as_flattened_mut();
     let bytes = lay(table, text);

@@ -2,7 +2,7 @@ ghost use Rattle.std.specs.Prelude.{◌≡◌, ◌<◌, ◌≤◌, ◌+◌, ◌^
 ghost use Rattle.mdv_name.specs.declared.geometry.Geometry.{Geometry as Drives};
 ghost use Rattle.mdv_record.specs.Text.{record_text};
 ghost use Rattle.mdv_shelf.specs.Calls.{OnDrive};
-ghost use Rattle.mdv_shelf.specs.Shelves.{AtEachTale, AtEnd, DriveFailures, Kept};
+ghost use Rattle.mdv_shelf.specs.Shelves.{AtEachTale, AtEnd, DriveFailures, KeptOn};
 ghost use Rattle.mdv_shelf.specs.Between.{MakesCalls};
 ghost use Rattle.mdv_replica.specs.Form.{room_of};
 ghost use Rattle.mdv_replica.specs.Forms.{IsMark};
@@ -111,7 +111,6 @@ impl From<TooLong> for CommitFault {
 
 /// Looks for a replica of the database at its place. One that shows a table is adopted: the boot draws one
 /// more than the greatest number there, and writes it and the newest table under it.
-#[tactic(auto, using(mdv_shelf::proofs::Noted::kept_more))]
 pub fn boot<S: Shelf>(
     shelf: &mut S,
     alloc: Global,
@@ -125,7 +124,7 @@ pub fn boot<S: Shelf>(
     ensures moments { AtEachTale S.Shelf (BootMoment (site_of drives.now key.now at (S.sizes shelf.old))) shelf.old shelf.new }
     ensures end { BootEndsAs S.Shelf shelf.old shelf.new (site_of drives.now key.now at (S.sizes shelf.old)) result }
     ensures counted { IsBootCounted S.Shelf shelf.old shelf.new result }
-    ensures kept { Kept S.Shelf shelf.old shelf.new }
+    ensures kept { KeptOn S.Shelf shelf.old shelf.new (OnDrive at.drive.0) }
 {
     match look(shelf, alloc, drives, at, key) {
         Ok(Some(found)) => adopt(shelf, at, found),
@@ -144,7 +143,7 @@ fn adopt<S: Shelf>(shelf: &mut S, at: PlaceAt, found: Found) -> BootEnd
     ensures moments { AtEachTale S.Shelf (AdoptMoment at (S.sizes shelf.old) found) shelf.old shelf.new }
     ensures end { AtEnd S.Shelf (AdoptEnds at (S.sizes shelf.old) found result) shelf.old shelf.new }
     ensures counted { IsAdoptionCounted S.Shelf shelf.old shelf.new (3 + blocks_for (length (record_text found.table))) result }
-    ensures kept { Kept S.Shelf shelf.old shelf.new }
+    ensures kept { KeptOn S.Shelf shelf.old shelf.new (OnDrive at.drive.0) }
 {
     let Found {
         head,
@@ -173,7 +172,6 @@ fn adopt<S: Shelf>(shelf: &mut S, at: PlaceAt, found: Found) -> BootEnd
     }
 }
 
-#[tactic(auto, using(mdv_shelf::proofs::Noted::kept_more))]
 fn rewrite<S: Shelf>(
     shelf: &mut S,
     at: PlaceAt,
@@ -191,7 +189,7 @@ fn rewrite<S: Shelf>(
     ensures moments { AtEachTale S.Shelf (RewriteMoment at slot mark table.now) shelf.old shelf.new }
     ensures end { OnOk result (AtEnd S.Shelf (RewriteEnds at slot mark table.now) shelf.old shelf.new) }
     ensures counted { MakesCalls S.Shelf shelf.old shelf.new 8 (3 + blocks_for (length (record_text table.now))) result }
-    ensures kept { Kept S.Shelf shelf.old shelf.new }
+    ensures kept { KeptOn S.Shelf shelf.old shelf.new (OnDrive at.drive.0) }
 {
     write_claim(shelf, at, mark.boot)?;
     body.write(shelf, at, slot, mark, table)?;
@@ -200,7 +198,6 @@ fn rewrite<S: Shelf>(
 
 /// Makes the database: a replica is formatted with claim 1, and the table without volumes is written under
 /// the mark (1, 0).
-#[tactic(auto, using(mdv_shelf::proofs::Noted::kept_more))]
 pub fn create<S: Shelf>(
     shelf: &mut S,
     alloc: Global,
@@ -214,7 +211,7 @@ pub fn create<S: Shelf>(
     ensures moments { AtEachTale S.Shelf (CreateMoment at key.now (S.sizes shelf.old) identity) shelf.old shelf.new }
     ensures end { AtEnd S.Shelf (CreateEnds at key.now (S.sizes shelf.old) identity result) shelf.old shelf.new }
     ensures counted { IsCreationCounted S.Shelf shelf.old shelf.new result }
-    ensures kept { Kept S.Shelf shelf.old shelf.new }
+    ensures kept { KeptOn S.Shelf shelf.old shelf.new (OnDrive at.drive.0) }
 {
     let mut body = Body::new(alloc, at.place.blocks)?;
     let table = first_table(alloc, at.place);
@@ -266,7 +263,7 @@ impl Database {
         ensures moments { AtEachTale S.Shelf (CommitMoment at (S.sizes shelf.old) self.old next) shelf.old shelf.new }
         ensures end { OnOk result (AtEnd S.Shelf (CommitDone at (S.sizes shelf.old) self.old next) shelf.old shelf.new) }
         ensures counted { IsCommitCounted S.Shelf shelf.old shelf.new (length (record_text next)) result }
-        ensures kept { Kept S.Shelf shelf.old shelf.new }
+        ensures kept { KeptOn S.Shelf shelf.old shelf.new (OnDrive at.drive.0) }
     {
         self.check_room(&next)?;
         let count = self.mark.count + 1;

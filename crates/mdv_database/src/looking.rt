@@ -2,14 +2,14 @@
 ghost use Rattle.std.specs.Prelude.{◌≡◌, true, slice_index_or, IfOk, IfSome};
 ghost use Rattle.mdv_base.specs.Causes.{HasCause};
 ghost use Rattle.mdv_shelf.specs.Calls.{OnDrive};
-ghost use Rattle.mdv_shelf.specs.Shelves.{AtEachTale, AtEnd, DriveFailures, Kept};
+ghost use Rattle.mdv_shelf.specs.Shelves.{AtEachTale, AtEnd, DriveFailures, KeptOn};
 ghost use Rattle.mdv_shelf.specs.Tale.{last};
 ghost use Rattle.mdv_replica.specs.Form.{IsSpareSlot, shows};
 ghost use Rattle.mdv_replica.specs.Replica.{IsFormed, IsPlaced, slot_blocks};
 ghost use Rattle.mdv_table.specs.Slices.{IsSound};
-ghost use Rattle.mdv_database.specs.Counts.{MadeCallsBetween, if_found, if_held, least_found, least_looked, most_found, most_looked, open_slots, reads_of};
-ghost use Rattle.mdv_database.specs.Database.{IsLookedAt, IsOnDrive, IsUnwritten, site_of};
-ghost use Rattle.mdv_database.specs.Looks.{IsFoundAt, IsHeadThere, LookEnds, OnlyReads, ReadAnswer};
+ghost use Rattle.mdv_database.specs.Counts.{AreReadFor, IsFindCounted, IsHeldCounted, IsLookCounted, MadeReads, head_reads, made_behind, made_of, open_slots};
+ghost use Rattle.mdv_database.specs.Database.{IsOnDrive, IsUnwritten, site_of};
+ghost use Rattle.mdv_database.specs.Looks.{Finds, IsFoundAt, IsHeadThere, LookEnds, OnlyReads, ReadAnswer};
 ghost use Rattle.mdv_database.specs.Slots.{AreHeld, IfKept, IsFitting, IsHeld, IsTableOf};
 
 use crate::body::{Body, ReadFault};
@@ -52,9 +52,9 @@ pub(crate) fn look<S: Shelf>(
     requires on_drive { IsOnDrive (S.sizes shelf.old) at }
     ensures answer { ReadAnswer (DriveFailures S.Shelf shelf.old shelf.new at.drive.0) (λ seen. IfSome seen (IsFoundAt drives.now (S.sizes shelf.old) at)) result }
     ensures moments { AtEachTale S.Shelf IsUnwritten shelf.old shelf.new }
-    ensures end { AtEnd S.Shelf (LookEnds (site_of drives.now key.now at (S.sizes shelf.old)) result) shelf.old shelf.new }
-    ensures counted { MadeCallsBetween S.Shelf shelf.old shelf.new (least_looked result) (most_looked result) 0 }
-    ensures kept { Kept S.Shelf shelf.old shelf.new }
+    ensures end { AtEnd S.Shelf (LookEnds (made_of S.Shelf shelf.old shelf.new) (site_of drives.now key.now at (S.sizes shelf.old)) result) shelf.old shelf.new }
+    ensures counted { IsLookCounted S.Shelf shelf.old shelf.new result }
+    ensures kept { KeptOn S.Shelf shelf.old shelf.new (OnDrive at.drive.0) }
 {
     let mut first = [ZERO_BLOCK];
     match shelf.read(at.drive, 0, &mut first) {
@@ -79,9 +79,9 @@ fn find<S: Shelf>(
     requires sound { IsSound drives.now }
     requires on_drive { IsOnDrive (S.sizes shelf.old) at }
     ensures answer { ReadAnswer (DriveFailures S.Shelf shelf.old shelf.new at.drive.0) (λ seen. IfSome seen (IsFoundAt drives.now (S.sizes shelf.old) at)) result }
-    ensures reads { OnlyReads S.Shelf (λ t. IfOk result (IsLookedAt (site_of drives.now key.now at (S.sizes shelf.old)) (last t at.drive.0))) shelf.old shelf.new }
-    ensures counted { MadeCallsBetween S.Shelf shelf.old shelf.new (least_found 1 result) (most_found 1 result) 0 }
-    ensures kept { Kept S.Shelf shelf.old shelf.new }
+    ensures reads { OnlyReads S.Shelf (λ t. Finds (made_behind S.Shelf 2 shelf.old shelf.new) (site_of drives.now key.now at (S.sizes shelf.old)) (last t at.drive.0) result) shelf.old shelf.new }
+    ensures counted { IsFindCounted S.Shelf shelf.old shelf.new result }
+    ensures kept { KeptOn S.Shelf shelf.old shelf.new (OnDrive at.drive.0) }
 {
     match head_at(shelf, at) {
         Ok(Some(head)) => {
@@ -102,8 +102,8 @@ fn head_at<S: Shelf>(shelf: &mut S, at: PlaceAt) -> Result<Option<Head>, Failed>
     ensures form { IfOk result (λ seen. IfSome seen (IsFormed at (slice_index_or (S.sizes shelf.old) at.drive.0 0))) }
     ensures cause { HasCause (S.faults shelf.old (OnDrive at.drive.0)) (S.faults shelf.new (OnDrive at.drive.0)) result }
     ensures reads { OnlyReads S.Shelf (λ t. IfOk result (IsHeadThere at (slice_index_or (S.sizes shelf.old) at.drive.0 0) (last t at.drive.0))) shelf.old shelf.new }
-    ensures counted { MadeCallsBetween S.Shelf shelf.old shelf.new (if_found 1 result) 1 0 }
-    ensures kept { Kept S.Shelf shelf.old shelf.new }
+    ensures counted { MadeReads S.Shelf shelf.old shelf.new (head_reads at.first (slice_index_or (S.sizes shelf.old) at.drive.0 0)) }
+    ensures kept { KeptOn S.Shelf shelf.old shelf.new (OnDrive at.drive.0) }
 {
     if shelf.blocks(at.drive) <= at.first {
         return Ok(None);
@@ -128,8 +128,9 @@ fn find_table<S: Shelf>(
     requires shown { shows head ≡ true }
     ensures answer { ReadAnswer (DriveFailures S.Shelf shelf.old shelf.new at.drive.0) (λ seen. IfSome seen (IsFoundAt drives.now (S.sizes shelf.old) at)) result }
     ensures reads { OnlyReads S.Shelf (λ t. IfOk result (IsTableOf drives.now at head (last t at.drive.0))) shelf.old shelf.new }
-    ensures counted { MadeCallsBetween S.Shelf shelf.old shelf.new (least_found 0 result) (most_found 0 result) 0 }
-    ensures kept { Kept S.Shelf shelf.old shelf.new }
+    ensures same { IfOk result (λ seen. IfSome seen (λ found. found.head ≡ head)) }
+    ensures counted { AreReadFor S.Shelf shelf.old shelf.new (open_slots head) result }
+    ensures kept { KeptOn S.Shelf shelf.old shelf.new (OnDrive at.drive.0) }
 {
     let sized = at_length(at, head.master.blocks);
     let spare = spare_slot(&head);
@@ -147,7 +148,6 @@ fn find_table<S: Shelf>(
 }
 
 // The table of the slot that isn't spare, where both slots fit.
-#[tactic(auto, using(mdv_shelf::proofs::Noted::kept_more))]
 fn newest_table<S: Shelf>(
     shelf: &mut S,
     alloc: Global,
@@ -165,8 +165,8 @@ fn newest_table<S: Shelf>(
     ensures whole { body.new ≡ body.old }
     ensures answer { ReadAnswer (DriveFailures S.Shelf shelf.old shelf.new at.drive.0) (λ found. IfSome found (IsFitting drives.now at)) result }
     ensures reads { OnlyReads S.Shelf (λ t. IfOk result (AreHeld drives.now at head.now spare (last t at.drive.0))) shelf.old shelf.new }
-    ensures counted { MadeCallsBetween S.Shelf shelf.old shelf.new (if_found (open_slots head.now) result) (open_slots head.now) 0 }
-    ensures kept { Kept S.Shelf shelf.old shelf.new }
+    ensures counted { AreReadFor S.Shelf shelf.old shelf.new (open_slots head.now) result }
+    ensures kept { KeptOn S.Shelf shelf.old shelf.new (OnDrive at.drive.0) }
 {
     let older = read_slot(
         shelf,
@@ -210,8 +210,8 @@ fn read_slot<S: Shelf>(
     ensures whole { body.new ≡ body.old }
     ensures answer { ReadAnswer (DriveFailures S.Shelf shelf.old shelf.new at.drive.0) (λ held. IfKept held (IsFitting drives.now at)) result }
     ensures reads { OnlyReads S.Shelf (λ t. IfOk result (IsHeld drives.now at slot gate (last t at.drive.0))) shelf.old shelf.new }
-    ensures counted { MadeCallsBetween S.Shelf shelf.old shelf.new (if_held gate result) (reads_of gate) 0 }
-    ensures kept { Kept S.Shelf shelf.old shelf.new }
+    ensures counted { IsHeldCounted S.Shelf shelf.old shelf.new gate result }
+    ensures kept { KeptOn S.Shelf shelf.old shelf.new (OnDrive at.drive.0) }
 {
     match gate {
         Gate::Closed => Ok(Held::Nothing),

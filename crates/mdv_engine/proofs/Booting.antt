@@ -1,11 +1,15 @@
 -- What a boot of the host's database leaves, told of the host.
 use Rattle.std.proofs.Common.{◌≡◌, ℕ, false, List, Option, Some, None, refl, sym, subst, ap, ◌∙◌}
-use Rattle.mdv_store_law.specs.Adoptable.{IsAdoptable}
+use Rattle.mdv_database.specs.Boot.{BootedBy}
+use Rattle.mdv_database.specs.Counts.{Made}
+use Rattle.mdv_database.specs.declared.database.BootEnd.{BootEnd}
+use Rattle.mdv_store_law.specs.Adoptable.{IsAdoptable, IsHeaded}
+use Rattle.mdv_engine_law.specs.Line.{IsSameBeside, drive_content}
 use Rattle.mdv_engine.specs.Below.{Failures, place_of, PlaceAt, with_blocks, other_slot, KeptOutside, nowhere, Moments, Ends, IsSynced, Tale, last, is_firm, Site, Newest, IsFound, IsTableAt, GoesOn, GoesOnTo, IsNewestIn, IsOpened, ShowsNothing, IsAdopted, IsDrawn, IsQuiet, IsSpent, Host, IsReady, site_of, Memory, IsRebooted, IsUsedUp, adopted, empty, down, kept_at, unbooted, BootMoment, BootedTo}
 use Rattle.mdv_shelf.proofs.Moments.{moments_both, moments_weaker, moments_end, ends_both}
 use Rattle.mdv_engine_law.specs.Answers.{accepted}
 use Rattle.mdv_engine_law.proofs.Booting.{boot_moment, booted, booted_adopted, booted_down, booted_empty, unread}
-use Rattle.mdv_engine_law.proofs.Keeping.{rewritten_newest, same_content}
+use Rattle.mdv_engine_law.proofs.Keeping.{rewritten_newest, same_beside, same_content}
 use Rattle.mdv_engine.specs.Engine.{IsWell}
 use Rattle.mdv_engine.proofs.Sites.{here, told_site, quiet_here}
 
@@ -74,6 +78,18 @@ module _ (host : Host) (sizes : List ℕ) (ready : IsReady host sizes) (at : Pla
   -- one that was there to be adopted
   pub adoptable_here : (t : Tale) → IsAdoptable site (last t at.drive.0) → IsAdoptable (site_of host) (last t 0)
   adoptable_here t found = to_host (λ s. IsAdoptable s (last t s.at.drive.0)) found
+
+  -- a head that shows a table
+  pub headed_here : (t : Tale) → IsHeaded site (last t at.drive.0) → IsHeaded (site_of host) (last t 0)
+  headed_here t headed = to_host (λ s. IsHeaded s (last t s.at.drive.0)) headed
+
+  -- the calls of a boot, by what the drive held
+  pub by_here : (made : Made) (end : BootEnd) (t : Tale) → BootedBy made site (last t at.drive.0) end → BootedBy made (site_of host) (drive_content t) end
+  by_here made end t by = to_host (λ s. BootedBy made s (last t s.at.drive.0) end) by
+
+  -- no block outside the replica's changed
+  pub beside_here : (t u : Tale) → IsQuiet at t u → IsSameBeside (site_of host) (drive_content t) (drive_content u)
+  beside_here t u quiet = same_beside host t u (quiet_here host sizes ready at at_is t u quiet)
 
 -- an adopted database is in order
 pub adopted_well : (host : Host) (begun : ℕ) (newest : Newest) (at : PlaceAt) → at ≡ place_of host.home → IsTableAt host.drives (with_blocks at newest.blocks).place newest.table → IsWell host (booted (Some newest) begun) × (begun ≡ begun)

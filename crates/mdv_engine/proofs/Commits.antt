@@ -1,14 +1,15 @@
 -- What a commit of the open database answers and leaves, told of the host, by the answer of the database.
 use Rattle.mdv_engine_law.specs.Line.{ToDo}
 use Rattle.std.proofs.Common.{◌≡◌, Option, Some, refl, sym, subst, ap, ◌∙◌}
-use Rattle.mdv_engine.specs.Below.{Failures, VolId, SliceName, CameTo, Refusal, Ends, Tale, Change, Newest, Changed, Answer, Host, Memory, kept_at, CarriedTo, CarryEnd, Knows}
-use Rattle.mdv_shelf.proofs.Moments.{ends_both}
+use Rattle.mdv_engine.specs.Below.{Failures, VolId, SliceName, CameTo, Refusal, Ends, Tale, Change, Newest, Changed, Answer, Host, Memory, kept_at, CarriedTo, Knows}
 use Rattle.mdv_table.specs.declared.change.Change.TheVariants as change
 use Rattle.mdv_words.specs.declared.command.Command.TheVariants.{MakeStripe}
 use Rattle.mdv_engine_law.specs.Answers.{refusing}
 use Rattle.mdv_engine_law.specs.declared.answer.Answer.TheVariants.{Over}
 use Rattle.mdv_engine_law.specs.declared.answer.Ended.TheVariants as ended
 use Rattle.mdv_engine_law.proofs.Refusing.{refused_still, spent_still}
+use Rattle.mdv_engine.specs.Ends.{CommandEnd}
+use Rattle.mdv_engine.proofs.Ending.{other_ends}
 
 -- what is in memory, where another database is open
 pub opened_as : (old memory : Memory) → old ≡ memory → (n m : Newest) → n ≡ m → record old { opened = Some n } ≡ record memory { opened = Some m }
@@ -33,11 +34,9 @@ module _ (host : Host) (memory : Memory) (volume : VolId) (slice : SliceName) wh
     carried_as : Carried answer after → Carried result real
     carried_as is = subst (λ (x : Answer). Carried x real) (sym result_is) (subst (λ (m : Memory). Carried answer m) (sym real_is) is)
 
-    pub end_as : (failures : Failures) → Committed failures answer after → Carried answer after → Ends (CarryEnd (λ kept x next. CameTo failures host kept (MakeStripe volume slice) x next) host (ToDo (Changed (change.MakeStripe volume slice))) memory result real) a b
+    pub end_as : (failures : Failures) → Committed failures answer after → Carried answer after → Ends (CommandEnd failures (record { host = host; state = memory }) (MakeStripe volume slice) result (record { host = host; state = real })) a b
     end_as failures is carried =
-        ends_both (λ t u. Knows host memory t → CameTo failures host (kept_at memory t) (MakeStripe volume slice) result (kept_at real u)) (CarriedTo host (ToDo (Changed (change.MakeStripe volume slice))) memory result real)
-        (CarryEnd (λ kept x next. CameTo failures host kept (MakeStripe volume slice) x next) host (ToDo (Changed (change.MakeStripe volume slice))) memory result real) a b
-        (λ t u one two. record { answered = one; carried = two }) (commit_as failures is) (carried_as carried)
+        other_ends failures (record { host = host; state = memory }) (MakeStripe volume slice) result (record { host = host; state = real }) a b (commit_as failures is) (carried_as carried) (λ active listed lost u. tt)
 
 -- nothing was done
 module _ (host : Host) (memory : Memory) (change : Change) (a b : Option Tale) (same : b ≡ a) where

@@ -8,7 +8,7 @@ use Rattle.mdv_engine_law.specs.Answers.{accepted, refusing}
 use Rattle.mdv_engine_law.specs.declared.answer.Answer.TheVariants.{Over}
 use Rattle.mdv_engine_law.specs.declared.answer.Ended.TheVariants as ended
 use Rattle.mdv_engine_law.proofs.Changing.{Commits, IsCommittedTo, changing_moment, changed, changed_or_lost}
-use Rattle.mdv_engine_law.proofs.Keeping.{committed}
+use Rattle.mdv_engine_law.proofs.Keeping.{committed, same_beside}
 use Rattle.mdv_engine_law.proofs.Plain.{memory_plain, refusal_plain}
 use Rattle.std.proofs.lemmas.Bool.Decides.{nat_tests}
 use Rattle.std.proofs.lemmas.List.{append-nil}
@@ -211,7 +211,8 @@ module _ (host : Host) (sizes : List ℕ) (ready : IsReady host sizes) (at : Pla
 
     -- a call on the drive failed
     pub lost_answer : (failures : Failures) (after : Memory) → failures.some → Ends (Comes failures (Over (ended.Lost 0 1)) after) a b
-    lost_answer failures after so t start = (let end = quiet t start in (end.0, end.1, λ known. came.over (ended.Lost 0 1) (free fits) refl (so, refl, refl)))
+    lost_answer failures after so t start =
+        (let end = moments_end (IsQuiet at) a b quiet t start in (end.0, end.1, λ known. came.over (ended.Lost 0 1) (free fits) refl (so, refl, refl, same_beside host t end.0 (quiet_here host sizes ready at at_is t end.0 end.2))))
 
   -- nothing was done: the text is too long, or the count would reach its limit
   module _ (a b : Option Tale) (same : b ≡ a) where

@@ -1,10 +1,9 @@
 -- How the calls of a command add up, and what a refusal says of them.
-use Rattle.std.proofs.Common.{◌≡◌, ◌≤◌, inl, inr, ◌+◌, ℕ, List, Option, Some, refl, sym, subst, ap, arith}
-use Rattle.mdv_shelf.specs.Calls.{Took, TookAtMost}
-use Rattle.mdv_shelf.specs.Between.{TookBetween}
+use Rattle.std.proofs.Common.{◌≡◌, ◌≢◌, ◌⊎◌, ◌≤◌, inl, inr, ◌+◌, ℕ, List, Option, Some, refl, sym, subst, ap, length, arith}
+use Rattle.mdv_shelf.specs.Calls.{OnReplies, Part, Took, TookAtMost}
 use Rattle.mdv_shelf.proofs.Between.{between_none, between_of, between_then}
-use Rattle.mdv_shelf.proofs.Counts.{at_most_then, took_at_most, took_wider}
-use Rattle.mdv_engine.specs.Below.{Failures, Refusal, IoFault, OutOfMemory, VolId, Tale, Answer, Host, Memory}
+use Rattle.mdv_shelf.proofs.Counts.{at_most_then, took_at_most, took_more, took_wider}
+use Rattle.mdv_engine.specs.Below.{SliceName, Table, record_text, Failures, Refusal, IoFault, OutOfMemory, VolId, Tale, Newest, Answer, Host, Memory}
 use Rattle.mdv_words.specs.declared.command.Command.{Command}
 use Rattle.mdv_words.specs.declared.command.Command.TheVariants.{Create, MakeStripe, Read, Write}
 use Rattle.mdv_engine_law.specs.Answers.{refusing}
@@ -16,9 +15,23 @@ use Rattle.mdv_engine_law.specs.declared.answer.Outcome.{Outcome}
 use Rattle.mdv_engine_law.specs.declared.answer.Outcome.TheVariants as outcome
 use Rattle.mdv_engine_law.specs.declared.answer.Reply.{Reply}
 use Rattle.mdv_engine_law.specs.declared.answer.Reply.TheVariants as reply
-use Rattle.mdv_engine_law.specs.Replies.{IsTold, reply_at, reply_to}
-use Rattle.mdv_engine.specs.Counts.{IsCommandCounted, IsFaultCounted, IsLossCounted, IsQuietRefusal, IsUnlooked, blocks_of, calls_of, wanting_calls}
+use Rattle.mdv_engine_law.specs.Replies.{IsLost, IsReplied, IsTold, reply_at, reply_to}
+use Rattle.mdv_engine.specs.Counts.{IsCommandCounted, IsDoneCounted, IsFaultCounted, IsLossCounted, IsQuietRefusal, IsUnlooked, blocks_of, calls_of, wanting_calls, written_by}
+use Rattle.mdv_database.specs.Slots.{blocks_for}
 use Rattle.mdv_engine.specs.Engine.{HasBlocksCause}
+
+-- no giving of replies failed where none did in the calls before it, nor in its own
+pub calm_given : {S : Type 0} (faults : S → Part → ℕ) (a b c : S) → faults b OnReplies ≡ faults a OnReplies → faults b OnReplies ≤ faults c OnReplies → faults c OnReplies ≤ faults b OnReplies → faults c OnReplies ≡ faults a OnReplies
+calm_given faults a b c before low high = omega (arith, before, low, high)
+
+-- a reply that wasn't cut short was told whole, or there is none
+pub whole_or_lost : (given : Reply) → given ≢ reply.Told → IsReplied given ⊎ IsLost given
+whole_or_lost reply.Ok uncut = inl tt
+whole_or_lost (reply.Refused refusal) uncut = inl tt
+whole_or_lost (reply.Panic active listed) uncut = inr tt
+whole_or_lost reply.Spent uncut = inr tt
+whole_or_lost reply.NoMemory uncut = inr tt
+whole_or_lost reply.Told uncut = absurd (uncut refl)
 
 -- the answer behind a refusal that was told
 told_refusal : (failed : Type 0) (answer : Answer) (refusal : Refusal) (piece : List ℕ) → IsTold failed answer (reply.Refused refusal) piece → answer ≡ refusing refusal
@@ -34,6 +47,20 @@ told_refusal failed (Over end) refusal piece told = absurd (by end told.0) where
   by ended.Spent is = absurd (cc (is))
   by ended.Memory is = absurd (cc (is))
 
+-- and behind a run that is over, for a place was lost
+pub told_lost : (failed : Type 0) (answer : Answer) (active listed : ℕ) (piece : List ℕ) → IsTold failed answer (reply.Panic active listed) piece → answer ≡ Over (ended.Lost active listed)
+told_lost failed (Said this) active listed piece (inl whole) = absurd (by this whole.0) where
+  by : (this : Outcome) → reply.Panic active listed ≡ reply_to this → ⊥
+  by outcome.Ok is = absurd (cc (is))
+  by (outcome.Values text) is = absurd (cc (is))
+  by (outcome.Refused refusal) is = absurd (cc (is))
+told_lost failed (Said this) active listed piece (inr cut) = absurd (let is = cut.given_is in cc (is))
+told_lost failed (Over end) active listed piece told = by end told.0 where
+  by : (end : Ended) → reply.Panic active listed ≡ reply_at end → Over end ≡ Over (ended.Lost active listed)
+  by (ended.Lost one two) is = cc (is)
+  by ended.Spent is = absurd (cc (is))
+  by ended.Memory is = absurd (cc (is))
+
 module _ {S : Type 0} (tale : S → Option Tale) (calls written : S → Option ℕ) where
   -- nothing was done
   pub none_at_most : (old new : S) (count blocks : ℕ) → new ≡ old → TookAtMost calls written old new count blocks
@@ -46,18 +73,29 @@ module _ {S : Type 0} (tale : S → Option Tale) (calls written : S → Option �
   fault_then a b c (Read volume at count) took told = at_most_then calls written a b c 1 1 0 0 2 0 (omega arith) (omega arith) took (took_at_most calls written b c 1 0 1 0 (omega arith) (omega arith) told)
   fault_then a b c (Write volume at block) took told = at_most_then calls written a b c 2 1 1 0 3 1 (omega arith) (omega arith) took (took_at_most calls written b c 1 0 1 0 (omega arith) (omega arith) told)
 
+  -- and behind one that was done
+  pub done_then : (a b c : S) (command : Command) (opened : Option Newest) → IsDoneCounted calls written a b 0 command opened → Took calls written b c 1 0 → IsDoneCounted calls written a c 1 command opened
+  done_then a b c command opened done told = record {
+    exactly = took_more calls written a b c (calls_of command + 0) 1 (written_by command opened) 0 (calls_of command + 1) (written_by command opened) (omega arith) (omega arith) done.exactly told;
+    few = done.few;
+  }
+
+  -- the calls by an answer that is this one
+  pub counted_as : (old new : S) (command : Command) (this answer : Answer) → answer ≡ this → (opened : Option Newest) → IsCommandCounted tale calls written old new command this opened → IsCommandCounted tale calls written old new command answer opened
+  counted_as old new command this answer is opened counted = subst (λ (x : Answer). IsCommandCounted tale calls written old new command x opened) (sym is) counted
+
   module _ (old new : S) where
     -- a refusal before any call
-    pub refused_counted : (command : Command) (refusal : Refusal) → (refusal ≡ IoFault → IsFaultCounted calls written old new 0 command) → new ≡ old → IsCommandCounted tale calls written old new command (refusing refusal)
-    refused_counted command IoFault fault same = fault refl
-    refused_counted command OutOfMemory fault same = (none_at_most old new (wanting_calls command) 0 same, ap tale same)
-    refused_counted command other fault same = same
+    pub refused_counted : (command : Command) (refusal : Refusal) (opened : Option Newest) → (refusal ≡ IoFault → IsFaultCounted calls written old new 0 command) → new ≡ old → IsCommandCounted tale calls written old new command (refusing refusal) opened
+    refused_counted command IoFault opened fault same = fault refl
+    refused_counted command OutOfMemory opened fault same = (none_at_most old new (wanting_calls command) 0 same, ap tale same)
+    refused_counted command other opened fault same = same
 
     -- blocks that aren't read or written
-    pub blocks_counted : (command : Command) (failures : Failures) (host : Host) (memory : Memory) (volume : VolId) (at n : ℕ) (refusal : Refusal) → HasBlocksCause failures host memory volume at n refusal
-        → (blocks_refusal memory.opened volume (at + n) ≡ Some refusal → new ≡ old) → IsFaultCounted calls written old new 0 command → IsCommandCounted tale calls written old new command (refusing refusal)
-    blocks_counted command failures host memory volume at n refusal (inl is) none took = refused_counted command refusal (λ fault. took) (none is.1)
-    blocks_counted command failures host memory volume at n refusal (inr (so, has, fault)) none took = subst (λ (x : Refusal). IsCommandCounted tale calls written old new command (refusing x)) (sym fault) took
+    pub blocks_counted : (command : Command) (failures : Failures) (host : Host) (memory : Memory) (volume : VolId) (at n : ℕ) (refusal : Refusal) (opened : Option Newest) → HasBlocksCause failures host memory volume at n refusal
+        → (blocks_refusal memory.opened volume (at + n) ≡ Some refusal → new ≡ old) → IsFaultCounted calls written old new 0 command → IsCommandCounted tale calls written old new command (refusing refusal) opened
+    blocks_counted command failures host memory volume at n refusal opened (inl is) none took = refused_counted command refusal opened (λ fault. took) (none is.1)
+    blocks_counted command failures host memory volume at n refusal opened (inr (so, has, fault)) none took = subst (λ (x : Refusal). IsCommandCounted tale calls written old new command (refusing x) opened) (sym fault) took
 
     fault_most : (command : Command) → IsFaultCounted calls written old new 0 command → TookAtMost calls written old new (calls_of command) (blocks_of command)
     fault_most (Create slice force) took = took_wider calls written old new 6 5 12 8 (omega arith) (omega arith) took.at_most
@@ -77,10 +115,13 @@ module _ {S : Type 0} (tale : S → Option Tale) (calls written : S → Option �
     wanting_less (Read volume at count) = omega arith
     wanting_less (Write volume at block) = omega arith
 
-  module _ (old new : S) (command : Command) where
-    pub command_most : (answer : Answer) → IsCommandCounted tale calls written old new command answer → TookAtMost calls written old new (calls_of command) (blocks_of command)
-    command_most (Said outcome.Ok) took = took.at_most
-    command_most (Said (outcome.Values text)) took = took.at_most
+  module _ (old new : S) (command : Command) (opened : Option Newest) where
+    done_most : IsDoneCounted calls written old new 0 command opened → TookAtMost calls written old new (calls_of command) (blocks_of command)
+    done_most took = took_at_most calls written old new (calls_of command + 0) (written_by command opened) (calls_of command) (blocks_of command) (omega arith) took.few took.exactly
+
+    pub command_most : (answer : Answer) → IsCommandCounted tale calls written old new command answer opened → TookAtMost calls written old new (calls_of command) (blocks_of command)
+    command_most (Said outcome.Ok) took = done_most took
+    command_most (Said (outcome.Values text)) took = done_most took
     command_most (Said (outcome.Refused IoFault)) took = fault_most old new command took
     command_most (Said (outcome.Refused OutOfMemory)) took = took_wider calls written old new (wanting_calls command) 0 (calls_of command) (blocks_of command) (wanting_less old new command) (omega arith) took.0
     command_most (Said (outcome.Refused other)) same = none_at_most old new (calls_of command) (blocks_of command) same
@@ -89,25 +130,17 @@ module _ {S : Type 0} (tale : S → Option Tale) (calls written : S → Option �
     command_most (Over ended.Memory) same = none_at_most old new (calls_of command) (blocks_of command) same
 
     -- by what was told: a call failed, or memory was wanting
-    pub fault_told : (failed : Type 0) (answer : Answer) (piece : List ℕ) → IsTold failed answer (reply.Refused IoFault) piece → IsCommandCounted tale calls written old new command answer → IsFaultCounted calls written old new 0 command
-    fault_told failed answer piece told counted = subst (IsCommandCounted tale calls written old new command) (told_refusal failed answer IoFault piece told) counted
+    pub fault_told : (failed : Type 0) (answer : Answer) (piece : List ℕ) → IsTold failed answer (reply.Refused IoFault) piece → IsCommandCounted tale calls written old new command answer opened → IsFaultCounted calls written old new 0 command
+    fault_told failed answer piece told counted = subst (λ (x : Answer). IsCommandCounted tale calls written old new command x opened) (told_refusal failed answer IoFault piece told) counted
 
-    pub wanting_told : (failed : Type 0) (answer : Answer) (piece : List ℕ) → IsTold failed answer (reply.Refused OutOfMemory) piece → IsCommandCounted tale calls written old new command answer → TookAtMost calls written old new (wanting_calls command) 0
-    wanting_told failed answer piece told counted = (subst (IsCommandCounted tale calls written old new command) (told_refusal failed answer OutOfMemory piece told) counted).0
+    pub wanting_told : (failed : Type 0) (answer : Answer) (piece : List ℕ) → IsTold failed answer (reply.Refused OutOfMemory) piece → IsCommandCounted tale calls written old new command answer opened → TookAtMost calls written old new (wanting_calls command) 0
+    wanting_told failed answer piece told counted = (subst (λ (x : Answer). IsCommandCounted tale calls written old new command x opened) (told_refusal failed answer OutOfMemory piece told) counted).0
 
     -- and where the run is over
-    pub lost_told : (failed : Type 0) (answer : Answer) (active listed : ℕ) (piece : List ℕ) → IsTold failed answer (reply.Panic active listed) piece → IsCommandCounted tale calls written old new command answer → IsLossCounted calls written old new command
-    lost_told failed (Said this) active listed piece (inl whole) counted = absurd (by this whole.0) where
-      by : (this : Outcome) → reply.Panic active listed ≡ reply_to this → ⊥
-      by outcome.Ok is = absurd (cc (is))
-      by (outcome.Values text) is = absurd (cc (is))
-      by (outcome.Refused refusal) is = absurd (cc (is))
-    lost_told failed (Said this) active listed piece (inr cut) counted = absurd (let is = cut.given_is in cc (is))
-    lost_told failed (Over (ended.Lost one two)) active listed piece told counted = counted
-    lost_told failed (Over ended.Spent) active listed piece told counted = absurd (let is = told.0 in cc (is))
-    lost_told failed (Over ended.Memory) active listed piece told counted = absurd (let is = told.0 in cc (is))
+    pub lost_told : (failed : Type 0) (answer : Answer) (active listed : ℕ) (piece : List ℕ) → IsTold failed answer (reply.Panic active listed) piece → IsCommandCounted tale calls written old new command answer opened → IsLossCounted calls written old new command
+    lost_told failed answer active listed piece told counted = subst (λ (x : Answer). IsCommandCounted tale calls written old new command x opened) (told_lost failed answer active listed piece told) counted
 
-    pub spent_told : (failed : Type 0) (answer : Answer) (piece : List ℕ) → IsTold failed answer reply.Spent piece → IsCommandCounted tale calls written old new command answer → new ≡ old
+    pub spent_told : (failed : Type 0) (answer : Answer) (piece : List ℕ) → IsTold failed answer reply.Spent piece → IsCommandCounted tale calls written old new command answer opened → new ≡ old
     spent_told failed (Said this) piece (inl whole) counted = absurd (by this whole.0) where
       by : (this : Outcome) → reply.Spent ≡ reply_to this → ⊥
       by outcome.Ok is = absurd (cc (is))
@@ -118,53 +151,53 @@ module _ {S : Type 0} (tale : S → Option Tale) (calls written : S → Option �
     spent_told failed (Over ended.Spent) piece told counted = counted
     spent_told failed (Over ended.Memory) piece told counted = absurd (let is = told.0 in cc (is))
 
-    unlooked : (refusal : Refusal) → IsUnlooked (reply.Refused refusal) → IsCommandCounted tale calls written old new command (refusing refusal) → new ≡ old
+    unlooked : (refusal : Refusal) → IsUnlooked (reply.Refused refusal) → IsCommandCounted tale calls written old new command (refusing refusal) opened → new ≡ old
     unlooked IoFault is counted = absurd is
     unlooked OutOfMemory is counted = absurd is
     unlooked other is counted = counted
 
-    quiet : (refusal : Refusal) → IsQuietRefusal (reply.Refused refusal) → IsCommandCounted tale calls written old new command (refusing refusal) → tale new ≡ tale old
+    quiet : (refusal : Refusal) → IsQuietRefusal (reply.Refused refusal) → IsCommandCounted tale calls written old new command (refusing refusal) opened → tale new ≡ tale old
     quiet IoFault is counted = absurd is
     quiet OutOfMemory is counted = counted.1
     quiet other is counted = ap tale counted
 
     -- a refusal that was told, of a command that makes no call for it, or writes nothing
-    pub unlooked_told : (failed : Type 0) (answer : Answer) (given : Reply) (piece : List ℕ) → IsTold failed answer given piece → IsUnlooked given → IsCommandCounted tale calls written old new command answer → new ≡ old
+    pub unlooked_told : (failed : Type 0) (answer : Answer) (given : Reply) (piece : List ℕ) → IsTold failed answer given piece → IsUnlooked given → IsCommandCounted tale calls written old new command answer opened → new ≡ old
     unlooked_told failed answer reply.Ok piece told is counted = absurd is
     unlooked_told failed answer (reply.Refused refusal) piece told is counted =
-        unlooked refusal is (subst (IsCommandCounted tale calls written old new command) (told_refusal failed answer refusal piece told) counted)
+        unlooked refusal is (subst (λ (x : Answer). IsCommandCounted tale calls written old new command x opened) (told_refusal failed answer refusal piece told) counted)
     unlooked_told failed answer (reply.Panic active listed) piece told is counted = absurd is
     unlooked_told failed answer reply.Spent piece told is counted = absurd is
     unlooked_told failed answer reply.NoMemory piece told is counted = absurd is
     unlooked_told failed answer reply.Told piece told is counted = absurd is
 
-    pub quiet_told : (failed : Type 0) (answer : Answer) (given : Reply) (piece : List ℕ) → IsTold failed answer given piece → IsQuietRefusal given → IsCommandCounted tale calls written old new command answer → tale new ≡ tale old
+    pub quiet_told : (failed : Type 0) (answer : Answer) (given : Reply) (piece : List ℕ) → IsTold failed answer given piece → IsQuietRefusal given → IsCommandCounted tale calls written old new command answer opened → tale new ≡ tale old
     quiet_told failed answer reply.Ok piece told is counted = absurd is
     quiet_told failed answer (reply.Refused refusal) piece told is counted =
-        quiet refusal is (subst (IsCommandCounted tale calls written old new command) (told_refusal failed answer refusal piece told) counted)
+        quiet refusal is (subst (λ (x : Answer). IsCommandCounted tale calls written old new command x opened) (told_refusal failed answer refusal piece told) counted)
     quiet_told failed answer (reply.Panic active listed) piece told is counted = absurd is
     quiet_told failed answer reply.Spent piece told is counted = absurd is
     quiet_told failed answer reply.NoMemory piece told is counted = absurd is
     quiet_told failed answer reply.Told piece told is counted = absurd is
 
-    unwritten : (refusal : Refusal) → IsQuietRefusal (reply.Refused refusal) → IsCommandCounted tale calls written old new command (refusing refusal) → TookAtMost calls written old new (calls_of command) 0
+    unwritten : (refusal : Refusal) → IsQuietRefusal (reply.Refused refusal) → IsCommandCounted tale calls written old new command (refusing refusal) opened → TookAtMost calls written old new (calls_of command) 0
     unwritten IoFault is counted = absurd is
     unwritten OutOfMemory is counted = took_wider calls written old new (wanting_calls command) 0 (calls_of command) 0 (wanting_less old new command) (omega arith) counted.0
     unwritten other is counted = none_at_most old new (calls_of command) 0 counted
 
-    pub unwritten_told : (failed : Type 0) (answer : Answer) (given : Reply) (piece : List ℕ) → IsTold failed answer given piece → IsQuietRefusal given → IsCommandCounted tale calls written old new command answer → TookAtMost calls written old new (calls_of command) 0
+    pub unwritten_told : (failed : Type 0) (answer : Answer) (given : Reply) (piece : List ℕ) → IsTold failed answer given piece → IsQuietRefusal given → IsCommandCounted tale calls written old new command answer opened → TookAtMost calls written old new (calls_of command) 0
     unwritten_told failed answer reply.Ok piece told is counted = absurd is
     unwritten_told failed answer (reply.Refused refusal) piece told is counted =
-        unwritten refusal is (subst (IsCommandCounted tale calls written old new command) (told_refusal failed answer refusal piece told) counted)
+        unwritten refusal is (subst (λ (x : Answer). IsCommandCounted tale calls written old new command x opened) (told_refusal failed answer refusal piece told) counted)
     unwritten_told failed answer (reply.Panic active listed) piece told is counted = absurd is
     unwritten_told failed answer reply.Spent piece told is counted = absurd is
     unwritten_told failed answer reply.NoMemory piece told is counted = absurd is
     unwritten_told failed answer reply.Told piece told is counted = absurd is
 
     -- a command that was done
-    pub done_told : (failed : Type 0) (answer : Answer) (piece : List ℕ) → IsTold failed answer reply.Ok piece → IsCommandCounted tale calls written old new command answer → TookBetween calls written old new (calls_of command) (calls_of command) (blocks_of command)
+    pub done_told : (failed : Type 0) (answer : Answer) (piece : List ℕ) → IsTold failed answer reply.Ok piece → IsCommandCounted tale calls written old new command answer opened → IsDoneCounted calls written old new 0 command opened
     done_told failed (Said this) piece (inl whole) counted = by this whole.0 counted where
-      by : (this : Outcome) → reply.Ok ≡ reply_to this → IsCommandCounted tale calls written old new command (Said this) → TookBetween calls written old new (calls_of command) (calls_of command) (blocks_of command)
+      by : (this : Outcome) → reply.Ok ≡ reply_to this → IsCommandCounted tale calls written old new command (Said this) opened → IsDoneCounted calls written old new 0 command opened
       by outcome.Ok is counted = counted
       by (outcome.Values text) is counted = counted
       by (outcome.Refused refusal) is counted = absurd (cc (is))
@@ -174,3 +207,10 @@ module _ {S : Type 0} (tale : S → Option Tale) (calls written : S → Option �
       by (ended.Lost active listed) is = absurd (cc (is))
       by ended.Spent is = absurd (cc (is))
       by ended.Memory is = absurd (cc (is))
+
+-- a commit of the next table, which is open then
+pub committed_counted : {S : Type 0} (calls written : S → Option ℕ) (old new : S) (volume : VolId) (slice : SliceName) (newest : Newest) (next : Table) → newest.table ≡ next
+    → Took calls written old new 6 (2 + blocks_for (length (record_text next))) → 2 + blocks_for (length (record_text next)) ≤ 4096 → IsDoneCounted calls written old new 0 (MakeStripe volume slice) (Some newest)
+committed_counted calls written old new volume slice newest next is took few =
+    let count = λ (t : Table). 2 + blocks_for (length (record_text t)) in
+    record { exactly = subst (λ (t : Table). Took calls written old new 6 (count t)) (sym is) took; few = subst (λ (t : Table). count t ≤ 4096) (sym is) few }

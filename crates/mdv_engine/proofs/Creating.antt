@@ -7,7 +7,7 @@ use Rattle.mdv_shelf.proofs.Moments.{moments_both, moments_weaker, moments_end, 
 use Rattle.mdv_engine_law.specs.Answers.{accepted, refusing}
 use Rattle.mdv_engine_law.specs.declared.answer.Answer.TheVariants.{Over}
 use Rattle.mdv_engine_law.specs.declared.answer.Ended.TheVariants as ended
-use Rattle.mdv_engine_law.proofs.Keeping.{created, uncreated}
+use Rattle.mdv_engine_law.proofs.Keeping.{created, same_beside, uncreated}
 use Rattle.mdv_engine_law.proofs.Making.{Makes, making_moment, made, unmade, made_or_lost}
 use Rattle.mdv_engine_law.proofs.Refusing.{refused_still}
 use Rattle.mdv_shelf.specs.Tale.{last}
@@ -85,8 +85,12 @@ module _ (host : Host) (sizes : List ℕ) (ready : IsReady host sizes) (at : Pla
   pub lost_creation : (slice : SliceName) (force : Bool) → IsAllowed (record { host = host; memory = memory }) (Create slice force) → (failures : Failures) → failures.some → Ends (λ _ u. ShowsReplica site identity u) a b → Ends (λ t u. Knows host memory t → CameTo failures host (kept_at memory t) (Create slice force) (Over (ended.Lost 0 1)) (kept_at (begun memory) u)) a b
   lost_creation slice force free failures so shows =
       ends_both (IsQuiet at) (λ _ u. ShowsReplica site identity u) (λ t u. Knows host memory t → CameTo failures host (kept_at memory t) (Create slice force) (Over (ended.Lost 0 1)) (kept_at (begun memory) u)) a b
-      (λ t u q s known. came.over (ended.Lost 0 1) free refl (so, refl, refl, to_host (λ x. ShowsReplica x identity u) s (last u) (last_image u)))
+      (λ t u q s known. came.over (ended.Lost 0 1) free refl (so, refl, refl, to_host (λ x. ShowsReplica x identity u) s (last u) (last_image u), same_beside host t u (quiet_here host sizes ready at at_is t u q)))
       (moments_end (IsQuiet at) a b quiet) shows
+
+  -- whatever a crash leaves then
+  pub lost_leaves : Ends (λ _ u. ShowsReplica site identity u) a b → Ends (λ _ u. ShowsReplica (site_of host) identity u) a b
+  lost_leaves shows t start = (let end = shows t start in (end.0, end.1, to_host (λ x. ShowsReplica x identity end.0) end.2))
 
   pub lost_carried : (next : Memory) → Moments (Goes Anything) a b → Ends (CarriedTo host (ToDo Created) memory (Over (ended.Lost 0 1)) next) a b
   lost_carried next goes =

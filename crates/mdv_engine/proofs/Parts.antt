@@ -4,8 +4,9 @@ use Rattle.mdv_engine.specs.Below.{Failures, Identity, PlaceAt, KeptOutside, now
 use Rattle.mdv_store_law.specs.Going.{created_head}
 use Rattle.mdv_store_law.specs.Standing.{ShowsReplica}
 use Rattle.mdv_shelf.proofs.Moments.{moments_weaker}
-use Rattle.mdv_database.specs.Database.{IfAdopted, IsBooted, IsBootedTo, IsCertain, IsCreatedTo, IsRefusal, site_of}
-use Rattle.mdv_database.specs.Boot.{AdoptedBy, BootMoment, BootEnds}
+use Rattle.mdv_database.specs.Database.{IsBooted, IsBootedTo, IsCertain, IsCreatedTo, IsRefusal, site_of}
+use Rattle.mdv_database.specs.Boot.{BootedBy, BootMoment, BootEnds}
+use Rattle.mdv_database.specs.Counts.{Made}
 use Rattle.mdv_database.specs.Commit.{CommitMoment, CommitDone}
 use Rattle.mdv_database.specs.Create.{CreateMoment, CreateEnds}
 use Rattle.mdv_database.specs.declared.database.BootEnd.{BootEnd}
@@ -24,28 +25,28 @@ module _ (site : Site) (a b : Option Tale) where
   pub boot_goes : Moments (BootMoment site) a b → Moments (GoesOn site) a b
   boot_goes moments = moments_weaker (BootMoment site) (GoesOn site) a b (λ t m is. is.goes) moments
 
-  module _ (failures : Failures) (Made : ℕ → ℕ → Type 0) (answer : BootEnd) (ends : Ends (BootEnds failures Made site answer) a b) where
+  module _ (failures : Failures) (calls : Made) (answer : BootEnd) (ends : Ends (BootEnds failures calls site answer) a b) where
     pub shown : (t : Tale) → a ≡ Some t → IsBooted failures site (last t site.at.drive.0) answer
     shown t is = (ends t is).2.shown
 
-    pub made_by : (t : Tale) → a ≡ Some t → IfAdopted answer (AdoptedBy Made site (last t site.at.drive.0))
-    made_by t is = (ends t is).2.made
+    pub booted_by : (t : Tale) → a ≡ Some t → BootedBy calls site (last t site.at.drive.0) answer
+    booted_by t is = (ends t is).2.booted
 
     pub synced : IsCertain answer → Ends (λ _ u. IsSynced site.at.drive.0 u) a b
-    synced certain = ends_of (BootEnds failures Made site answer) (λ _ u. IsSynced site.at.drive.0 u) a b (λ t u is. is.synced certain) ends
+    synced certain = ends_of (BootEnds failures calls site answer) (λ _ u. IsSynced site.at.drive.0 u) a b (λ t u is. is.synced certain) ends
 
     pub goes_to : Ends (GoesOnTo site (IsBootedTo answer)) a b
-    goes_to = ends_of (BootEnds failures Made site answer) (GoesOnTo site (IsBootedTo answer)) a b (λ t u is. is.goes) ends
+    goes_to = ends_of (BootEnds failures calls site answer) (GoesOnTo site (IsBootedTo answer)) a b (λ t u is. is.goes) ends
 
     pub unwritten : IsRefusal answer → Ends (KeptOutside nowhere) a b
-    unwritten refusal = ends_of (BootEnds failures Made site answer) (KeptOutside nowhere) a b (λ t u is. is.refuses refusal) ends
+    unwritten refusal = ends_of (BootEnds failures calls site answer) (KeptOutside nowhere) a b (λ t u is. is.refuses refusal) ends
 
     pub shows_nothing : answer ≡ end.Empty → Ends (λ _ u. ShowsNothing site u) a b
-    shows_nothing empty = ends_of (BootEnds failures Made site answer) (λ _ u. ShowsNothing site u) a b (λ t u is. is.empty empty) ends
+    shows_nothing empty = ends_of (BootEnds failures calls site answer) (λ _ u. ShowsNothing site u) a b (λ t u is. is.empty empty) ends
 
-  pub adopted_there : (failures : Failures) (Made : ℕ → ℕ → Type 0) (newest : Newest) → Ends (BootEnds failures Made site (end.Adopted newest)) a b → Ends (λ t u. IsAdopted site (last t site.at.drive.0) newest u × IsOpened site newest u) a b
-  adopted_there failures Made newest ends =
-      ends_of (BootEnds failures Made site (end.Adopted newest)) (λ t u. IsAdopted site (last t site.at.drive.0) newest u × IsOpened site newest u) a b (λ t u is. (is.adopted, is.opened)) ends
+  pub adopted_there : (failures : Failures) (calls : Made) (newest : Newest) → Ends (BootEnds failures calls site (end.Adopted newest)) a b → Ends (λ t u. IsAdopted site (last t site.at.drive.0) newest u × IsOpened site newest u) a b
+  adopted_there failures calls newest ends =
+      ends_of (BootEnds failures calls site (end.Adopted newest)) (λ t u. IsAdopted site (last t site.at.drive.0) newest u × IsOpened site newest u) a b (λ t u is. (is.adopted, is.opened)) ends
 
 -- a creation
 module _ (at : PlaceAt) (key : Key) (sizes : List ℕ) (identity : Identity) (a b : Option Tale) where

@@ -3,10 +3,16 @@ use Rattle.std.proofs.Math.Nat.{le-min, min-le_left}
 use Rattle.mdv_home.proofs.Places.{whole_place}
 use Rattle.std.proofs.Common.{◌≡◌, ◌+◌, ◌-◌, ◌≤◌, ℕ, List, [], ◌∷◌, refl, sym, subst, ap, arith}
 use Rattle.std.proofs.lemmas.List.Elements.{All-head}
-use Rattle.mdv_engine.specs.Below.{Local, Place, line_of, place_of, SliceAt, PlaceAt, IsPlaced, with_blocks, KeptOutside, Tale, One, Table, IsListsOf, IsPlaceOf, Site, area_of, IsLaid, IsOnDrive, IsQuiet, Host, IsReady, site_of}
+use Rattle.mdv_engine.specs.Below.{OnDrive, Local, Place, line_of, place_of, SliceAt, PlaceAt, IsPlaced, with_blocks, KeptOutside, Tale, One, Table, IsListsOf, IsPlaceOf, Site, area_of, IsLaid, IsOnDrive, IsQuiet, Host, IsReady, site_of}
 use Rattle.mdv_database.specs.Database as database
+use Rattle.mdv_shelf.specs.Shelves.{KeptOn}
+use Rattle.mdv_shelf.specs.declared.shelf.Shelf.{Ghosts}
 use Rattle.mdv_engine_law.proofs.Lifting.{site_here}
 use Rattle.mdv_engine.specs.Engine.{IsTableOf}
+
+-- what is kept on the drive of the place that the code computed
+pub kept_here : {S : Type 0} {shelf : Ghosts S} {a b : S} {place : PlaceAt} (at : PlaceAt) → at ≡ place → KeptOn shelf a b (OnDrive at.drive.0) → KeptOn shelf a b (OnDrive place.drive.0)
+kept_here {S} {shelf} {a} {b} {place} at is kept = subst (λ (p : PlaceAt). KeptOn shelf a b (OnDrive p.drive.0)) is kept
 
 module _ (host : Host) (sizes : List ℕ) (ready : IsReady host sizes) (at : PlaceAt) (at_is : at ≡ place_of host.home) where
   -- the site that the database is told

@@ -1,15 +1,18 @@
 -- What the calls of an engine say of their answers, and of the drive in the end.
 use Rattle.mdv_engine_law.specs.Line.{Ask, deeds}
-use Rattle.std.specs.Prelude.{◌≡◌, ◌≤◌, ◌+◌, ℕ, Bool, List, Some, None, Result, Ok, Err, IfOk, IfErr, IfSome, OnOk, Contains, length}
-use Rattle.mdv_shelf.specs.Between.{TookBetween}
-use Rattle.mdv_shelf.specs.Shelves.{AtEachMoment, AtEachTale, AtEnd, DriveFailures, EndsTold, MadeCalls, MadeCallsAtMost, RestsOnceTold}
+use Rattle.std.specs.Prelude.{◌≡◌, ◌≢◌, ◌≤◌, ◌+◌, ℕ, Bool, true, false, List, Option, Some, None, Result, Ok, Err, IfOk, IfErr, OnOk, Contains, length}
+use Rattle.mdv_shelf.specs.Shelves.{AtEachMoment, AtEachTale, AtEnd, DriveFailures, EndsTold, GivingFailures, MadeCalls, MadeCallsAtMost, RestsOnceTold}
 use Rattle.mdv_shelf.specs.declared.shelf.Shelf.{Ghosts}
 use Rattle.mdv_words.specs.declared.command.Command.{Command}
 use Rattle.mdv_words.specs.declared.command.Command.TheVariants.{Create, MakeStripe}
 use Rattle.mdv_words.specs.declared.command.Line.TheVariants as words
-use Rattle.mdv_engine.specs.Below.{Failures, site_of, SliceName, VolId, Refusal, IoFault, OutOfMemory, KeptOutside, nowhere, IsSettled, Settling, Tale, last, Change, Table, Created, Answer, Ended, Host, Kept, Memory, kept_at, unbooted, asked_by, blocks_of, AreBlocksAt, CameTo, IsRebooted, IsPlainAnswer, BootedTo, CarryEnd, Executed, Knows, TellsFront, TurnMoment, Turned}
-use Rattle.mdv_database.specs.Boot.{AdoptedBy}
-use Rattle.mdv_database.specs.Counts.{MadeCallsBetween}
+use Rattle.mdv_engine.specs.Below.{Failures, site_of, identity_of, SliceName, VolId, Refusal, IoFault, OutOfMemory, KeptOutside, nowhere, IsSettled, Settling, Tale, last, Change, Table, Created, Answer, Ended, Host, Kept, Memory, kept_at, unbooted, asked_by, blocks_of, AreBlocksAt, CameTo, IsRebooted, IsPlainAnswer, BootedTo, CarryEnd, Executed, Knows, TellsFront, TurnMoment, Turned}
+use Rattle.mdv_store_law.specs.Site.{Newest}
+use Rattle.mdv_store_law.specs.Standing.{ShowsReplica}
+use Rattle.mdv_database.specs.Boot.{AdoptedBy, EmptyBy, LostBy, SpentBy, WantingBy}
+use Rattle.mdv_database.specs.Counts.{Made, made_of}
+use Rattle.mdv_engine_law.specs.declared.answer.Answer.TheVariants.{Said, Over}
+use Rattle.mdv_engine_law.specs.declared.answer.Ended.TheVariants as ended
 use Rattle.mdv_engine_law.specs.Line.{drive_content}
 use Rattle.mdv_engine_law.specs.Answers.{accepted}
 use Rattle.mdv_engine_law.specs.Commands.{IsAllowed}
@@ -21,12 +24,22 @@ use Rattle.mdv_engine_law.specs.Replies.{HasAnswerCause, HasCommandCause, IsAcce
 use Rattle.mdv_engine_law.specs.Standing.{IsAwake}
 use Rattle.mdv_engine.specs.declared.engine.Engine.{Engine}
 use Rattle.mdv_engine.specs.Counts as counts
-use Rattle.mdv_engine.specs.Counts.{IsFaultCounted, IsLossCounted, IsQuietRefusal, IsUnlooked, calls_of, wanting_calls}
+use Rattle.mdv_engine.specs.Counts.{IsDoneCounted, IsFaultCounted, IsLossCounted, IsQuietRefusal, IsUnlooked, calls_of, wanting_calls}
 use Rattle.mdv_engine.specs.Engine.{HasBootCause, IsNextTable, IsWell, case_at}
+
+-- what a command leaves that the run is over with, for a place was lost: each crash then leaves the new replica of a creation
+abbrev pub LeavesMade : Host → Memory → Command → Tale → Type 0
+LeavesMade host old (Create slice force) u = ShowsReplica (site_of host) (identity_of host old.begun) u
+LeavesMade host old other u = Unit {0}
+
+-- a command that was carried out: what it came to and led to, and what it left where the run is over, for a place was lost
+pub record CarriedOut (failures : Failures) (host : Host) (command : Command) (old : Memory) (answer : Answer) (new : Memory) (t u : Tale) : Type 0 where
+  pub carry : CarryEnd (λ kept a next. CameTo failures host kept command a next) host (asked_by command) old answer new t u
+  pub lost : (active listed : ℕ) → answer ≡ Over (ended.Lost active listed) → LeavesMade host old command u
 
 -- the end of a command
 abbrev pub CommandEnd : Failures → Engine → Command → Answer → Engine → Tale → Tale → Type 0
-CommandEnd failures old command answer new t u = CarryEnd (λ kept a next. CameTo failures old.host kept command a next) old.host (asked_by command) old.state answer new.state t u
+CommandEnd failures old command answer new t u = CarriedOut failures old.host command old.state answer new.state t u
 
 -- the table that the change makes of the engine's
 abbrev pub IsNext : Engine → Change → Table → Type 0
@@ -66,13 +79,14 @@ CarriesOut host command failures kept answer next = CameTo failures host kept co
 abbrev pub OnlyAnswers : Answer → Failures → Kept → Answer → Kept → Type 0
 OnlyAnswers this failures kept answer next = failures.none × (answer ≡ this) × (next ≡ kept)
 
--- The end of a command and its reply: what it came to, what it led to, what is known where the run isn't lost; and a refusal behind which
--- nothing was written.
+-- The end of a command and its reply: what it came to, what it led to, what is known where the run isn't lost; a refusal behind which
+-- nothing was written; and what a command left that lost a place.
 pub record TurnEnd (drive : Failures) (replies : Type 0) (old : Engine) (command : Command) (given : Reply) (new : Engine) (t u : Tale) : Type 0 where
   pub answered : Knows old.host old.state t → Executed drive replies old.host (words.Command command) old.state new.state given t u
   pub turned : IsReplied given → Turned old.host (asked_by command) old.state new.state t u
   pub knows : (IsLost given → ⊥) → Knows old.host old.state t → Knows old.host new.state u
   pub quiet : IsQuietRefusal given → KeptOutside nowhere t u
+  pub lost : (active listed : ℕ) → given ≡ reply.Panic active listed → LeavesMade old.host old.state command u
 
 -- a reply to a command has its cause, and what the engine keeps
 pub record HasReplied (drive : Failures) (replies : Type 0) (old : Engine) (given : Reply) (new : Engine) : Type 0 where
@@ -87,24 +101,27 @@ pub record HasOnlyReplied (drive : Failures) (replies : Type 0) (said : Outcome)
   pub calm : drive.none
   pub same : new ≡ old
 
--- The calls of a command and of its reply: as many as the command takes, and one. A refused command writes nothing, unless a call failed, and
--- makes no call on the drive, unless memory was wanting behind it; where a call failed it made what it makes until then. A count that is
--- spent takes no call. Where the reply was told whole, none failed behind its first byte.
-pub record IsTurnCounted {S : Type 0} (shelf : Ghosts S) (old new : S) (command : Command) (given : Reply) : Type 0 where
+-- The calls of a command that left this open, and of its reply: as many as the command takes, and one; where it was done, just these, and just
+-- its blocks. A refused command writes nothing, unless a call failed, and
+-- makes no call on the drive, unless memory was wanting behind it; where a call failed it made no more than it makes then. A count that is
+-- spent takes no call. Where the reply was told whole, none failed behind its first byte; and unless it was cut short no giving failed.
+pub record IsTurnCounted {S : Type 0} (shelf : Ghosts S) (old new : S) (command : Command) (r : Reply) (opened : Option Newest) : Type 0 where
   pub most : MadeCallsAtMost shelf old new (1 + calls_of command) (counts.blocks_of command)
-  pub done : given ≡ reply.Ok → TookBetween shelf.calls shelf.written old new (1 + calls_of command) (1 + calls_of command) (counts.blocks_of command)
-  pub unlooked : IsUnlooked given → MadeCallsAtMost shelf old new 1 0
-  pub unwritten : IsQuietRefusal given → MadeCallsAtMost shelf old new (1 + calls_of command) 0
-  pub wanting : given ≡ reply.Refused OutOfMemory → MadeCallsAtMost shelf old new (1 + wanting_calls command) 0
-  pub faulted : given ≡ reply.Refused IoFault → IsFaultCounted shelf.calls shelf.written old new 1 command
-  pub lost : (active listed : ℕ) → given ≡ reply.Panic active listed → IsLossCounted shelf.calls shelf.written old new command
-  pub spent : given ≡ reply.Spent → MadeCallsAtMost shelf old new 0 0
-  pub told : IsReplied given → EndsTold shelf old new
+  pub done : r ≡ reply.Ok → IsDoneCounted shelf.calls shelf.written old new 1 command opened
+  pub unlooked : IsUnlooked r → MadeCallsAtMost shelf old new 1 0
+  pub unwritten : IsQuietRefusal r → MadeCallsAtMost shelf old new (1 + calls_of command) 0
+  pub wanting : r ≡ reply.Refused OutOfMemory → MadeCallsAtMost shelf old new (1 + wanting_calls command) 0
+  pub faulted : r ≡ reply.Refused IoFault → IsFaultCounted shelf.calls shelf.written old new 1 command
+  pub lost : (active listed : ℕ) → r ≡ reply.Panic active listed → IsLossCounted shelf.calls shelf.written old new command
+  pub spent : r ≡ reply.Spent → MadeCallsAtMost shelf old new 0 0
+  pub told : IsReplied r → EndsTold shelf old new
+  pub given : r ≢ reply.Told → (GivingFailures shelf old new).none
 
 -- The call of a reply alone, where the same holds.
-pub record IsReplyCounted {S : Type 0} (shelf : Ghosts S) (old new : S) (given : Reply) : Type 0 where
+pub record IsReplyCounted {S : Type 0} (shelf : Ghosts S) (old new : S) (r : Reply) : Type 0 where
   pub most : MadeCallsAtMost shelf old new 1 0
-  pub told : IsReplied given → EndsTold shelf old new
+  pub told : IsReplied r → EndsTold shelf old new
+  pub given : IsReplied r → (GivingFailures shelf old new).none
 
 -- what a boot leaves in memory: how many creations were begun alone, where it isn't answered
 abbrev pub kept_by : ℕ → Result Memory Ended → Memory
@@ -115,14 +132,27 @@ abbrev pub left_by : Result Engine Ended → Memory
 left_by (Ok engine) = engine.state
 left_by (Err end) = unbooted 0
 
--- the end of a boot: what it came to; where it was answered, what is known; and where it adopted a replica, how many calls it made for it
-pub record IsBootEnd (failures : Failures) (Made : ℕ → ℕ → Type 0) (host : Host) (old : Memory) (answer : Answer) (new : Memory) (t u : Tale) : Type 0 where
+-- the calls of a boot that opened this, or none, and read the drive or not
+abbrev pub OpenedBy : Made → Host → (ℕ → List ℕ) → Option Newest → Bool → Type 0
+OpenedBy made host content (Some newest) unread = AdoptedBy made (site_of host) content newest
+OpenedBy made host content None false = EmptyBy made (site_of host) content
+OpenedBy made host content None true = Unit {0}
+
+-- and of a boot by its answer
+abbrev pub BootCalls : Made → Host → Answer → Memory → (ℕ → List ℕ) → Type 0
+BootCalls made host (Said this) memory content = OpenedBy made host content memory.opened memory.down
+BootCalls made host (Over (ended.Lost active listed)) memory content = LostBy made (site_of host) content
+BootCalls made host (Over ended.Spent) memory content = SpentBy made (site_of host) content
+BootCalls made host (Over ended.Memory) memory content = WantingBy made (site_of host) content
+
+-- the end of a boot: what it came to; where it was answered, what is known; and how many calls it made, by what the drive held
+pub record IsBootEnd (failures : Failures) (made : Made) (host : Host) (old : Memory) (answer : Answer) (new : Memory) (t u : Tale) : Type 0 where
   pub rebooted : IsRebooted failures host (kept_at old t) answer (kept_at new u)
   pub booted : answer ≡ accepted → BootedTo host new t u
-  pub made : IfSome new.opened (AdoptedBy Made (site_of host) (drive_content t))
+  pub calls : BootCalls made host answer new (drive_content t)
 
 abbrev pub BootEndsAs : {S : Type 0} → Ghosts S → S → S → Host → Memory → Answer → Memory → Type 0
-BootEndsAs shelf from to host old answer new = AtEnd shelf (IsBootEnd (DriveFailures shelf from to 0) (λ calls blocks. MadeCallsBetween shelf from to calls calls blocks) host old answer new) from to
+BootEndsAs shelf from to host old answer new = AtEnd shelf (IsBootEnd (DriveFailures shelf from to 0) (made_of shelf from to) host old answer new) from to
 
 -- why a boot isn't answered, and what it leaves that is
 pub record HasBootedFrom (failures : Failures) (host : Host) (begun : ℕ) (result : Result Memory Ended) : Type 0 where

@@ -9,7 +9,8 @@ ghost use Rattle.mdv_words.specs.declared.command.Command.TheVariants as command
 ghost use Rattle.mdv_history.specs.History.{Changed};
 ghost use Rattle.mdv_engine_law.specs.Line.{ToDo};
 ghost use Rattle.mdv_engine.specs.Counts.{IsCommandCounted};
-ghost use Rattle.mdv_shelf.specs.Shelves.{AtEachTale, AtEnd, DriveFailures, Kept};
+ghost use Rattle.mdv_shelf.specs.Calls.{OnDrive};
+ghost use Rattle.mdv_shelf.specs.Shelves.{AtEachTale, AtEnd, DriveFailures, KeptOn};
 ghost use Rattle.mdv_engine_law.specs.Home.{IsReady};
 ghost use Rattle.mdv_engine_law.specs.Standing.{CarryMoment};
 ghost use Rattle.mdv_engine.specs.Ends.{CommandEnd, StripeEnds, HasAnswered, IsNext};
@@ -27,7 +28,7 @@ use std::alloc::Global;
 
 impl Engine {
     // `metainit dN 1 1 SLICE`.
-    #[tactic(auto, using(mdv_shelf::proofs::Noted::kept_more))]
+    #[tactic(auto, using(mdv_engine_law::proofs::Kept::kept_on_itself))]
     pub(crate) fn make_stripe<S: Shelf>(
         &mut self,
         shelf: &mut S,
@@ -41,8 +42,8 @@ impl Engine {
         ensures moments { AtEachTale S.Shelf (CarryMoment self.old.host (ToDo (Changed (Change.MakeStripe volume slice))) self.old.state) shelf.old shelf.new }
         ensures end { AtEnd S.Shelf (CommandEnd (DriveFailures S.Shelf shelf.old shelf.new 0) self.old (command.MakeStripe volume slice) result self.new) shelf.old shelf.new }
         ensures answer { HasAnswered (DriveFailures S.Shelf shelf.old shelf.new 0) (ToDo (Changed (Change.MakeStripe volume slice))) self.old result self.new }
-        ensures counted { IsCommandCounted S.tale S.calls S.written shelf.old shelf.new (command.MakeStripe volume slice) result }
-        ensures kept { Kept S.Shelf shelf.old shelf.new }
+        ensures counted { IsCommandCounted S.tale S.calls S.written shelf.old shelf.new (command.MakeStripe volume slice) result self.new.state.opened }
+        ensures kept { KeptOn S.Shelf shelf.old shelf.new (OnDrive 0) }
     {
         let change = Change::MakeStripe { volume, slice };
         match self.next_table(alloc, &change) {
@@ -70,7 +71,7 @@ impl Engine {
     }
 
     // Commits the next table. Where writing it failed it is open which table a crash leaves, so the run ends.
-    #[tactic(auto, using(mdv_shelf::proofs::Noted::kept_more))]
+    #[tactic(auto, using(mdv_engine_law::proofs::Kept::kept_on_itself))]
     fn commit<S: Shelf>(&mut self, shelf: &mut S, next: Table) -> Answer
         requires ready { IsReady self.old.host (S.sizes shelf.old) }
         requires well { IsWell self.old.host self.old.state }
@@ -78,8 +79,8 @@ impl Engine {
         ensures moments { (change : AnyChange) → IsNext self.old change next → AtEachTale S.Shelf (CarryMoment self.old.host (ToDo (Changed change)) self.old.state) shelf.old shelf.new }
         ensures end { (volume : VolId) (slice : SliceName) → IsNext self.old (Change.MakeStripe volume slice) next → StripeEnds S.Shelf shelf.old shelf.new self.old volume slice result self.new }
         ensures answer { (change : AnyChange) → HasAnswered (DriveFailures S.Shelf shelf.old shelf.new 0) (ToDo (Changed change)) self.old result self.new }
-        ensures counted { (volume : VolId) (slice : SliceName) → IsCommandCounted S.tale S.calls S.written shelf.old shelf.new (command.MakeStripe volume slice) result }
-        ensures kept { Kept S.Shelf shelf.old shelf.new }
+        ensures counted { (volume : VolId) (slice : SliceName) → IsCommandCounted S.tale S.calls S.written shelf.old shelf.new (command.MakeStripe volume slice) result self.new.state.opened }
+        ensures kept { KeptOn S.Shelf shelf.old shelf.new (OnDrive 0) }
     {
         let at = place_at(&self.host.home);
         let Some(database) = &mut self.state.database else {

@@ -4,7 +4,8 @@ ghost use Rattle.mdv_words.specs.declared.command.Command.TheVariants.{Create};
 ghost use Rattle.mdv_history.specs.History.{Created};
 ghost use Rattle.mdv_engine.specs.Counts.{IsCommandCounted};
 ghost use Rattle.mdv_engine.specs.Engine.{IsWell, case_at};
-ghost use Rattle.mdv_shelf.specs.Shelves.{AtEachTale, AtEnd, DriveFailures, Kept};
+ghost use Rattle.mdv_shelf.specs.Calls.{OnDrive};
+ghost use Rattle.mdv_shelf.specs.Shelves.{AtEachTale, AtEnd, DriveFailures, KeptOn};
 ghost use Rattle.mdv_engine_law.specs.Home.{IsReady};
 ghost use Rattle.mdv_engine_law.specs.Line.{ToDo};
 ghost use Rattle.mdv_engine_law.specs.Refusals.{refusal_of};
@@ -26,7 +27,7 @@ const SLICE_BLOCKS: u64 = 8208;
 
 impl Engine {
     // `metadb -a SLICE`, or with `-f`.
-    #[tactic(auto, using(mdv_shelf::proofs::Noted::kept_more))]
+    #[tactic(auto, using(mdv_engine_law::proofs::Kept::kept_on_itself))]
     pub(crate) fn make<S: Shelf>(
         &mut self,
         shelf: &mut S,
@@ -40,8 +41,8 @@ impl Engine {
         ensures moments { AtEachTale S.Shelf (CarryMoment self.old.host (ToDo Created) self.old.state) shelf.old shelf.new }
         ensures end { AtEnd S.Shelf (CommandEnd (DriveFailures S.Shelf shelf.old shelf.new 0) self.old (Create slice force) result self.new) shelf.old shelf.new }
         ensures answer { HasAnswered (DriveFailures S.Shelf shelf.old shelf.new 0) (ToDo Created) self.old result self.new }
-        ensures counted { IsCommandCounted S.tale S.calls S.written shelf.old shelf.new (Create slice force) result }
-        ensures kept { Kept S.Shelf shelf.old shelf.new }
+        ensures counted { IsCommandCounted S.tale S.calls S.written shelf.old shelf.new (Create slice force) result self.new.state.opened }
+        ensures kept { KeptOn S.Shelf shelf.old shelf.new (OnDrive 0) }
     {
         match self.creation_refusal(slice, force) {
             Some(refusal) => Answer::Said(Outcome::Refused(refusal)),
@@ -78,7 +79,6 @@ impl Engine {
 
     // Makes the database. A failed format leaves none; a failed write of its table may leave one that nobody
     // was told of, so the run ends.
-    #[tactic(auto, using(mdv_shelf::proofs::Noted::kept_more))]
     fn make_database<S: Shelf>(&mut self, shelf: &mut S, alloc: Global) -> Answer
         requires ready { IsReady self.old.host (S.sizes shelf.old) }
         requires begun { self.old.state.begun + 1 < 2 ^ 32 }
@@ -88,8 +88,8 @@ impl Engine {
         ensures moments { AtEachTale S.Shelf (CarryMoment self.old.host (ToDo Created) self.old.state) shelf.old shelf.new }
         ensures end { CreationEnds S.Shelf shelf.old shelf.new self.old result self.new }
         ensures answer { HasAnswered (DriveFailures S.Shelf shelf.old shelf.new 0) (ToDo Created) self.old result self.new }
-        ensures counted { (slice : SliceName) (force : Bool) → IsCommandCounted S.tale S.calls S.written shelf.old shelf.new (Create slice force) result }
-        ensures kept { Kept S.Shelf shelf.old shelf.new }
+        ensures counted { (slice : SliceName) (force : Bool) → IsCommandCounted S.tale S.calls S.written shelf.old shelf.new (Create slice force) result self.new.state.opened }
+        ensures kept { KeptOn S.Shelf shelf.old shelf.new (OnDrive 0) }
     {
         let identity = Identity {
             fresh: self.host.fresh,

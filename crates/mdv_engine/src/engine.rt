@@ -1,5 +1,6 @@
 ghost use Rattle.std.specs.Prelude.{◌<◌, ◌+◌, ◌^◌, [], List};
-ghost use Rattle.mdv_shelf.specs.Shelves.{AtEachTale, AtEnd, DriveFailures, GivingFailed, Kept};
+ghost use Rattle.mdv_shelf.specs.Calls.{OnDrive, OnReplies};
+ghost use Rattle.mdv_shelf.specs.Shelves.{AtEachTale, AtEnd, DriveFailures, GivingFailed, KeptOn, KeptInTime};
 ghost use Rattle.mdv_engine_law.specs.Answers.{accepted, refusing};
 ghost use Rattle.mdv_engine_law.specs.Home.{IsReady};
 ghost use Rattle.mdv_engine_law.specs.Line.{IsExecuted, asked_by, unbooted, Ask, Nothing};
@@ -28,14 +29,13 @@ pub struct Engine {
 impl Engine {
     /// Boots the host: a database that its drive shows is adopted, under a new number. A drive that shows none
     /// gives an engine without a database.
-    #[tactic(auto, using(mdv_shelf::proofs::Noted::kept_more))]
     pub fn boot<S: Shelf>(shelf: &mut S, alloc: Global, host: Host) -> Result<Engine, Ended>
         requires { IsReady host (S.sizes shelf.old) }
         ensures moments { AtEachTale S.Shelf (BootMoment host) shelf.old shelf.new }
         ensures end { BootEndsAs S.Shelf shelf.old shelf.new host (unbooted 0) (boot_answer result) (left_by result) }
         ensures answer { HasBooted (DriveFailures S.Shelf shelf.old shelf.new 0) host result }
         ensures counted { IsBootedCounted S.calls S.written shelf.old shelf.new (boot_answer result) (left_by result) }
-        ensures kept { Kept S.Shelf shelf.old shelf.new }
+        ensures kept { KeptOn S.Shelf shelf.old shelf.new (OnDrive 0) }
     {
         match boot_from(shelf, alloc, &host, 0) {
             Ok(state) => Ok(Engine { host, state }),
@@ -44,14 +44,13 @@ impl Engine {
     }
 
     /// Boots the host anew: all is forgotten but how many creations were begun. Where it isn't answered no database is open.
-    #[tactic(auto, using(mdv_shelf::proofs::Noted::kept_more))]
     pub fn reboot<S: Shelf>(&mut self, shelf: &mut S, alloc: Global) -> Result<(), Ended>
         requires { IsReady self.old.host (S.sizes shelf.old) }
         ensures moments { AtEachTale S.Shelf (BootMoment self.old.host) shelf.old shelf.new }
         ensures end { BootEndsAs S.Shelf shelf.old shelf.new self.old.host self.old.state (boot_answer result) self.new.state }
         ensures answer { HasRebooted (DriveFailures S.Shelf shelf.old shelf.new 0) self.old result self.new }
         ensures counted { IsBootedCounted S.calls S.written shelf.old shelf.new (boot_answer result) self.new.state }
-        ensures kept { Kept S.Shelf shelf.old shelf.new }
+        ensures kept { KeptOn S.Shelf shelf.old shelf.new (OnDrive 0) }
     {
         let begun = self.state.begun;
         self.state = State::without_database(false, begun);
@@ -65,7 +64,6 @@ impl Engine {
     }
 
     /// Carries a command out, and tells its reply.
-    #[tactic(auto, using(mdv_shelf::proofs::Noted::kept_more))]
     pub fn exec<B: Bench>(&mut self, bench: &mut B, alloc: Global, command: &Command) -> Reply
         requires ready { IsReady self.old.host (B.sizes bench.old) }
         requires well { IsWell self.old.host self.old.state }
@@ -74,40 +72,37 @@ impl Engine {
         ensures moments { LineMoments B.Shelf self.old.host (asked_by command.now) self.old.state (CarriesOut self.old.host command.now) bench.old bench.new }
         ensures end { AtEnd B.Shelf (TurnEnd (DriveFailures B.Shelf bench.old bench.new 0) (GivingFailed B.Shelf bench.old bench.new) self.old command.now result self.new) bench.old bench.new }
         ensures answer { HasReplied (DriveFailures B.Shelf bench.old bench.new 0) (GivingFailed B.Shelf bench.old bench.new) self.old result self.new }
-        ensures counted { IsTurnCounted B.Shelf bench.old bench.new command.now result }
-        ensures kept { Kept B.Shelf bench.old bench.new }
+        ensures counted { IsTurnCounted B.Shelf bench.old bench.new command.now result self.new.state.opened }
+        ensures kept { KeptInTime B.Shelf bench.old bench.new }
     {
         let answer = self.carry_out(bench, alloc, command);
         tell(bench, &answer)
     }
 
     /// Tells this refusal, whose text is one line.
-    #[tactic(auto, using(mdv_shelf::proofs::Noted::kept_more))]
     pub fn refuse<B: Bench>(&mut self, bench: &mut B, refusal: &Refusal) -> Reply
         requires { IsPlain refusal.now }
         ensures moments { (ask : Ask) → LineMoments B.Shelf self.old.host ask self.old.state (OnlyAnswers (refusing refusal.now)) bench.old bench.new }
         ensures end { AtEnd B.Shelf (OnlyReplied (GivingFailed B.Shelf bench.old bench.new) (refusing refusal.now) result) bench.old bench.new }
         ensures answer { HasOnlyReplied (DriveFailures B.Shelf bench.old bench.new 0) (GivingFailed B.Shelf bench.old bench.new) (Outcome.Refused refusal.now) self.old result self.new }
         ensures counted { IsReplyCounted B.Shelf bench.old bench.new result }
-        ensures kept { Kept B.Shelf bench.old bench.new }
+        ensures kept { KeptInTime B.Shelf bench.old bench.new }
     {
         tell(bench, &Answer::Said(Outcome::Refused(*refusal)))
     }
 
     /// Tells `ok`, as of a boot that was answered.
-    #[tactic(auto, using(mdv_shelf::proofs::Noted::kept_more))]
     pub fn accept<B: Bench>(&mut self, bench: &mut B) -> Reply
         ensures moments { LineMoments B.Shelf self.old.host Nothing self.old.state (OnlyAnswers accepted) bench.old bench.new }
         ensures end { AtEnd B.Shelf (OnlyReplied (GivingFailed B.Shelf bench.old bench.new) accepted result) bench.old bench.new }
         ensures answer { HasOnlyReplied (DriveFailures B.Shelf bench.old bench.new 0) (GivingFailed B.Shelf bench.old bench.new) Outcome.Ok self.old result self.new }
         ensures counted { IsReplyCounted B.Shelf bench.old bench.new result }
-        ensures kept { Kept B.Shelf bench.old bench.new }
+        ensures kept { KeptOn B.Shelf bench.old bench.new OnReplies }
     {
         tell(bench, &Answer::Said(Outcome::Ok))
     }
 
     // Carries a command out, with nothing told.
-    #[tactic(auto, using(mdv_shelf::proofs::Noted::kept_more))]
     fn carry_out<S: Shelf>(&mut self, shelf: &mut S, alloc: Global, command: &Command) -> Answer
         requires ready { IsReady self.old.host (S.sizes shelf.old) }
         requires well { IsWell self.old.host self.old.state }
@@ -116,8 +111,8 @@ impl Engine {
         ensures moments { AtEachTale S.Shelf (CarryMoment self.old.host (asked_by command.now) self.old.state) shelf.old shelf.new }
         ensures end { AtEnd S.Shelf (CommandEnd (DriveFailures S.Shelf shelf.old shelf.new 0) self.old command.now result self.new) shelf.old shelf.new }
         ensures answer { HasAnswered (DriveFailures S.Shelf shelf.old shelf.new 0) (asked_by command.now) self.old result self.new }
-        ensures counted { IsCommandCounted S.tale S.calls S.written shelf.old shelf.new command.now result }
-        ensures kept { Kept S.Shelf shelf.old shelf.new }
+        ensures counted { IsCommandCounted S.tale S.calls S.written shelf.old shelf.new command.now result self.new.state.opened }
+        ensures kept { KeptOn S.Shelf shelf.old shelf.new (OnDrive 0) }
     {
         match command {
             Command::Create { slice, force } => self.make(shelf, alloc, *slice, *force),
@@ -131,7 +126,6 @@ impl Engine {
 }
 
 // What a boot finds, and what is kept then.
-#[tactic(auto, using(mdv_shelf::proofs::Noted::kept_more))]
 fn boot_from<S: Shelf>(
     shelf: &mut S,
     alloc: Global,
@@ -143,7 +137,7 @@ fn boot_from<S: Shelf>(
     ensures end { BootEndsAs S.Shelf shelf.old shelf.new host.now (unbooted begun) (boot_answer result) (kept_by begun result) }
     ensures answer { HasBootedFrom (DriveFailures S.Shelf shelf.old shelf.new 0) host.now begun result }
     ensures counted { IsBootedCounted S.calls S.written shelf.old shelf.new (boot_answer result) (kept_by begun result) }
-    ensures kept { Kept S.Shelf shelf.old shelf.new }
+    ensures kept { KeptOn S.Shelf shelf.old shelf.new (OnDrive 0) }
 {
     let key = Key::Local(host.home.host);
     match boot(shelf, alloc, &host.drives, place_at(&host.home), &key) {

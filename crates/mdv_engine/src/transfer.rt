@@ -10,7 +10,8 @@ ghost use Rattle.mdv_words.specs.declared.command.Command.TheVariants.{Read, Wri
 ghost use Rattle.mdv_history.specs.History.{LiesOn, Wrote};
 ghost use Rattle.mdv_engine.specs.Counts.{HasReadCounts, IsCommandCounted};
 ghost use Rattle.mdv_engine.specs.Engine.{HasBlocksCause, HasReadCause, IsCount, IsWell};
-ghost use Rattle.mdv_shelf.specs.Shelves.{AtEachTale, AtEnd, DriveFailures, Kept};
+ghost use Rattle.mdv_shelf.specs.Calls.{OnDrive};
+ghost use Rattle.mdv_shelf.specs.Shelves.{AtEachTale, AtEnd, DriveFailures, KeptOn};
 ghost use Rattle.mdv_engine_law.specs.Home.{IsReady, site_of};
 ghost use Rattle.mdv_engine_law.specs.Line.{AreBlocksAt, ToDo, ToSee};
 ghost use Rattle.mdv_engine_law.specs.Refusals.{blocks_refusal, size_of};
@@ -31,7 +32,7 @@ const DRIVE: DriveNo = DriveNo(0);
 impl Engine {
     /// Reads blocks of a volume, from block `at` of it on: 1 to 1024 of them, with one call on the drive. No memory
     /// is taken. After a fault `out` holds anything.
-    #[tactic(auto, using(mdv_shelf::proofs::Noted::kept_more))]
+    #[tactic(auto, using(mdv_engine_law::proofs::Kept::kept_on_itself))]
     pub fn read_blocks<S: Shelf>(
         &self,
         shelf: &mut S,
@@ -46,7 +47,7 @@ impl Engine {
         ensures err { IfErr result (HasBlocksCause (DriveFailures S.Shelf shelf.old shelf.new 0) self.now.host self.now.state volume at (length out.new)) }
         ensures same { S.tale shelf.new ≡ S.tale shelf.old }
         ensures counted { AreBlocksCounted S.Shelf shelf.old shelf.new 1 0 self.now volume at (length out.new) result }
-        ensures kept { Kept S.Shelf shelf.old shelf.new }
+        ensures kept { KeptOn S.Shelf shelf.old shelf.new (OnDrive 0) }
     {
         let first = self.place_of(volume, at, out.len() as u64)?;
         match shelf.read(DRIVE, first, out) {
@@ -57,7 +58,7 @@ impl Engine {
 
     /// Writes blocks of a volume, from block `at` of it on: 1 to 1024 of them, with one write and one sync of the
     /// drive. No memory is taken. Where a call failed, each of the blocks may be old or new.
-    #[tactic(auto, using(mdv_shelf::proofs::Noted::kept_more))]
+    #[tactic(auto, using(mdv_engine_law::proofs::Kept::kept_on_itself))]
     pub fn write_blocks<S: Shelf>(
         &mut self,
         shelf: &mut S,
@@ -72,7 +73,7 @@ impl Engine {
         ensures err { IfErr result (HasBlocksCause (DriveFailures S.Shelf shelf.old shelf.new 0) self.old.host self.old.state volume at (length from.now)) }
         ensures same { self.new ≡ self.old }
         ensures counted { AreBlocksCounted S.Shelf shelf.old shelf.new 2 (length from.now) self.old volume at (length from.now) result }
-        ensures kept { Kept S.Shelf shelf.old shelf.new }
+        ensures kept { KeptOn S.Shelf shelf.old shelf.new (OnDrive 0) }
     {
         let first = self.place_of(volume, at, from.len() as u64)?;
         match settle(shelf, DRIVE, first, from) {
@@ -82,7 +83,6 @@ impl Engine {
     }
 
     // `read dN AT COUNT`.
-    #[tactic(auto, using(mdv_shelf::proofs::Noted::kept_more))]
     pub(crate) fn read<S: Shelf>(
         &self,
         shelf: &mut S,
@@ -97,8 +97,8 @@ impl Engine {
         ensures moments { AtEachTale S.Shelf (CarryMoment self.now.host (ToSee volume at count) self.now.state) shelf.old shelf.new }
         ensures end { AtEnd S.Shelf (CommandEnd (DriveFailures S.Shelf shelf.old shelf.new 0) self.now (Read volume at count) result self.now) shelf.old shelf.new }
         ensures answer { HasAnswered (DriveFailures S.Shelf shelf.old shelf.new 0) (ToSee volume at count) self.now result self.now }
-        ensures counted { IsCommandCounted S.tale S.calls S.written shelf.old shelf.new (Read volume at count) result }
-        ensures kept { Kept S.Shelf shelf.old shelf.new }
+        ensures counted { IsCommandCounted S.tale S.calls S.written shelf.old shelf.new (Read volume at count) result self.now.state.opened }
+        ensures kept { KeptOn S.Shelf shelf.old shelf.new (OnDrive 0) }
     {
         match self.values(shelf, alloc, volume, at, count) {
             Ok(text) => Answer::Said(Outcome::Values(text)),
@@ -106,7 +106,7 @@ impl Engine {
         }
     }
 
-    #[tactic(auto, using(mdv_shelf::proofs::Noted::kept_more))]
+    #[tactic(auto, using(mdv_engine_law::proofs::Kept::kept_on_itself))]
     fn values<S: Shelf>(
         &self,
         shelf: &mut S,
@@ -121,8 +121,8 @@ impl Engine {
         ensures ok { IfOk result (λ text. AreRead S.Shelf shelf.old shelf.new self.now volume at count (λ blocks. text ≡ values_reply at blocks)) }
         ensures err { IfErr result (HasReadCause (DriveFailures S.Shelf shelf.old shelf.new 0) self.now.host self.now.state volume at count) }
         ensures same { S.tale shelf.new ≡ S.tale shelf.old }
-        ensures counted { HasReadCounts S.tale S.calls S.written shelf.old shelf.new volume at count result }
-        ensures kept { Kept S.Shelf shelf.old shelf.new }
+        ensures counted { HasReadCounts S.tale S.calls S.written shelf.old shelf.new volume at count result self.now.state.opened }
+        ensures kept { KeptOn S.Shelf shelf.old shelf.new (OnDrive 0) }
     {
         let _first = self.place_of(volume, at, u64::from(count))?;
         let mut blocks = buffer(alloc, count)?;
@@ -137,7 +137,6 @@ impl Engine {
     }
 
     // `write dN AT HEX`.
-    #[tactic(auto, using(mdv_shelf::proofs::Noted::kept_more))]
     pub(crate) fn write<S: Shelf>(
         &mut self,
         shelf: &mut S,
@@ -150,8 +149,8 @@ impl Engine {
         ensures moments { AtEachTale S.Shelf (CarryMoment self.old.host (ToDo (Wrote volume at (block.now ∷ []))) self.old.state) shelf.old shelf.new }
         ensures end { AtEnd S.Shelf (CommandEnd (DriveFailures S.Shelf shelf.old shelf.new 0) self.old (Write volume at block.now) result self.new) shelf.old shelf.new }
         ensures answer { HasAnswered (DriveFailures S.Shelf shelf.old shelf.new 0) (ToDo (Wrote volume at (block.now ∷ []))) self.old result self.new }
-        ensures counted { IsCommandCounted S.tale S.calls S.written shelf.old shelf.new (Write volume at block.now) result }
-        ensures kept { Kept S.Shelf shelf.old shelf.new }
+        ensures counted { IsCommandCounted S.tale S.calls S.written shelf.old shelf.new (Write volume at block.now) result self.new.state.opened }
+        ensures kept { KeptOn S.Shelf shelf.old shelf.new (OnDrive 0) }
     {
         match self.write_blocks(shelf, volume, at, &[*block]) {
             Ok(()) => Answer::Said(Outcome::Ok),

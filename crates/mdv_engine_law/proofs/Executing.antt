@@ -32,15 +32,15 @@ module _ (failed more : Failures) (cause : IsWithin failed more) (host : Host) (
   rebooted_more (adopted calm newest ok memory is) = adopted (cause.none calm) newest ok memory is
   rebooted_more (empty calm ok memory is same) = empty (cause.none calm) ok memory is same
   rebooted_more (down so ok memory same) = down (cause.some so) ok memory same
-  rebooted_more (lost so found panic) = lost (cause.some so) found panic
+  rebooted_more (lost so found panic beside) = lost (cause.some so) found panic beside
   rebooted_more (spent calm is used same) = spent (cause.none calm) is used same
-  rebooted_more (wanting calm is same) = wanting (cause.none calm) is same
+  rebooted_more (wanting calm headed is same) = wanting (cause.none calm) headed is same
 
   gives_up_more : (command : Command) (end : Ended) → GivesUp failed host kept command end next → GivesUp more host kept command end next
-  gives_up_more (Create slice force) (ended.Lost active listed) is = (cause.some is.0, is.1, is.2, is.3)
+  gives_up_more (Create slice force) (ended.Lost active listed) is = (cause.some is.0, is.1, is.2, is.3, is.4)
   gives_up_more (Create slice force) ended.Spent is = absurd is
   gives_up_more (Create slice force) ended.Memory is = absurd is
-  gives_up_more (MakeStripe volume slice) (ended.Lost active listed) is = (cause.some is.0, is.1, is.2)
+  gives_up_more (MakeStripe volume slice) (ended.Lost active listed) is = (cause.some is.0, is.1, is.2, is.3)
   gives_up_more (MakeStripe volume slice) ended.Spent is = (cause.none is.0, is.1, is.2, is.3, is.4)
   gives_up_more (MakeStripe volume slice) ended.Memory is = absurd is
   gives_up_more (Read volume at count) end is = absurd is

@@ -35,12 +35,13 @@ module _ (t u : Tale) where
       elsewhere = λ b out. (settling.outside 0 b out).last;
     }
 
+-- no block outside a replica's changed
+pub same_beside : (host : Host) (t u : Tale) → KeptOutside (area_of (site_of host)) t u → IsSameBeside (site_of host) (drive_content t) (drive_content u)
+same_beside host t u kept block out = (kept 0 block out).last
+
 module _ (host : Host) (memory next : Memory) (t u : Tale) where
   pub stays : next ≡ memory → KeptOutside nowhere t u → Stays (kept_at memory t) (kept_at next u)
   stays same kept = record { memory = same; content = same_content t u kept }
-
-  beside : KeptOutside (area_of (site_of host)) t u → IsSameBeside (site_of host) (drive_content t) (drive_content u)
-  beside kept block out = (kept 0 block out).last
 
   pub created : (table : Table) → 8208 ≤ host.home.blocks → KeptOutside (area_of (site_of host)) t u → next ≡ record { opened = Some (created_newest (site_of host) table); down = false; begun = memory.begun + 1 } → table.plan.lists ≡ One ((site_of host).at.place ∷ []) → table.plan.volumes ≡ []
       → Everywhere (λ image. IsNewestOf (site_of host) (image 0) (created_head (site_of host) (identity_of host memory.begun) table) (created_newest (site_of host) table)) u → IsCreated host (kept_at memory t) (kept_at next u)
@@ -51,14 +52,14 @@ module _ (host : Host) (memory next : Memory) (t u : Tale) where
     head = created_head (site_of host) (identity_of host memory.begun) table;
     identity = refl;
     content = each (last u) (last_image u);
-    beside = beside kept;
+    beside = same_beside host t u kept;
   }
 
   pub uncreated : KeptOutside (area_of (site_of host)) t u → next ≡ record memory { begun = memory.begun + 1 } → ShowsNothing (site_of host) u → IsUncreated host (kept_at memory t) (kept_at next u)
-  uncreated kept is nothing = record { memory = is; content = nothing (last u) (last_image u); beside = beside kept }
+  uncreated kept is nothing = record { memory = is; content = nothing (last u) (last_image u); beside = same_beside host t u kept }
 
   pub committed : (newest : Newest) (table : Table) → KeptOutside (area_of (site_of host)) t u → next ≡ record memory { opened = Some (next_newest newest table) } → IsOpened (site_of host) (next_newest newest table) u → IsCommitted host newest table (kept_at memory t) (kept_at next u)
-  committed newest table kept is opened = record { memory = is; head = opened.head; content = opened.each (last u) (last_image u); beside = beside kept }
+  committed newest table kept is opened = record { memory = is; head = opened.head; content = opened.each (last u) (last_image u); beside = same_beside host t u kept }
 
   -- a boot adopted the one replica that was there, and its next number is one
   pub rewritten_newest : (newest : Newest) (head : Head) (slot : Slot) (table : Table) → KeptOutside (area_of (site_of host)) t u → (newest.slot ≡ Second → IsSpareSlot head First → ⊥) → IsTheReplica (site_of host) (drive_content t) head slot table → greatest head + 1 < 2 ^ 63 → IsAdopted (site_of host) (drive_content t) newest u
@@ -74,7 +75,7 @@ module _ (host : Host) (memory next : Memory) (t u : Tale) where
     is = is.is;
     fits = subst (λ (h : Head). greatest h + 1 < 2 ^ 63) (sym (the.only is.head is.replica)) fits;
     written = is.each (last u) (last_image u);
-    beside = beside kept;
+    beside = same_beside host t u kept;
   }
 
 -- a read told what is there

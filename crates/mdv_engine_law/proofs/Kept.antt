@@ -1,10 +1,27 @@
--- What a stretch of no calls keeps.
-use Rattle.std.proofs.Common.{[], refl, arith}
-use Rattle.mdv_shelf.specs.Shelves.{Kept}
+-- What a stretch of no calls keeps, and that a giving of replies changes no other count.
+use Rattle.std.proofs.Common.{◌≡◌, ◌≢◌, ℕ, [], refl, arith}
+use Rattle.mdv_shelf.specs.Calls.{Part, OnDrive, OnReplies}
+use Rattle.mdv_shelf.specs.Shelves.{Kept, KeptOn}
 use Rattle.mdv_shelf.specs.declared.shelf.Shelf.{Ghosts}
+use Rattle.mdv_shelf.proofs.InTime.{in_time_none}
 
 pub kept_itself : {S : Type 0} (shelf : Ghosts S) (s : S) → Kept shelf s s
 kept_itself shelf s = record {
   keeps = record { same_sizes = refl; same_rest = refl; same_held = refl; no_fewer_faults = λ part. omega arith };
   goes = λ story is. (story, is, record { marks = []; led = refl; rising = λ part. omega arith; first = tt; each = tt; last = tt });
 }
+
+-- it is one on any part
+pub kept_on_itself : {S : Type 0} (shelf : Ghosts S) (s : S) (part : Part) → KeptOn shelf s s part
+kept_on_itself shelf s part = record {
+  keeps = (kept_itself shelf s).keeps;
+  goes = (kept_itself shelf s).goes;
+  in_time = in_time_none part (shelf.faults s part) (shelf.story s) (shelf.story s) refl;
+  others = λ other differs. refl;
+  elsewhere = λ other differs count. in_time_none other count (shelf.story s) (shelf.story s) refl;
+}
+
+-- where no drive's count changed, none but the replies' did
+pub replies_alone : (before now : Part → ℕ) → ((drive : ℕ) → now (OnDrive drive) ≡ before (OnDrive drive)) → (other : Part) → other ≢ OnReplies → now other ≡ before other
+replies_alone before now drives (OnDrive drive) differs = drives drive
+replies_alone before now drives OnReplies differs = absurd (differs refl)

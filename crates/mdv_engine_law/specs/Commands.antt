@@ -12,7 +12,7 @@ use Rattle.mdv_engine_law.specs.declared.answer.Ended.TheVariants as ended
 use Rattle.mdv_engine_law.specs.declared.host.Host.{Host}
 use Rattle.mdv_engine_law.specs.Answers.{accepted, refusing, telling}
 use Rattle.mdv_engine_law.specs.Home.{site_of, identity_of}
-use Rattle.mdv_engine_law.specs.Line.{Kept, Stays, IsCreated, IsUncreated, IsUnbegun, IsCommitted, AreBlocksAt, ArePut, MayBePut, IsRebooted, IsTurnedDown, blocks_of}
+use Rattle.mdv_engine_law.specs.Line.{Kept, IsSameBeside, Stays, IsCreated, IsUncreated, IsUnbegun, IsCommitted, AreBlocksAt, ArePut, MayBePut, IsRebooted, IsTurnedDown, blocks_of}
 use Rattle.mdv_engine_law.specs.Refusals.{Case, refusal_of}
 
 -- by what a command is judged that is carried out where this is kept
@@ -48,11 +48,11 @@ Wanting host kept (command.MakeStripe volume slice) next = (kept.memory.opened �
 Wanting host kept (Read volume at count) next = IsAllowed (case_of host kept) (Read volume at count) × Stays kept next
 Wanting host kept (Write volume at block) next = ⊥
 
--- Why the run is over with a command: the one place is lost, whose new replica is there where a creation's format was answered; or the count
--- would reach its limit, and nothing was done.
+-- Why the run is over with a command: the one place is lost, whose new replica is there where a creation's format was answered, and each block that no
+-- replica may have reads as it did; or the count would reach its limit, and nothing was done.
 abbrev pub GivesUp : Failures → Host → Kept → Command → Ended → Kept → Type 0
-GivesUp failures host kept (Create slice force) (ended.Lost active listed) next = failures.some × (active ≡ 0) × (listed ≡ 1) × IsReplicaMade (site_of host) (identity_of host kept.memory.begun) next.content
-GivesUp failures host kept (command.MakeStripe volume slice) (ended.Lost active listed) next = failures.some × (active ≡ 0) × (listed ≡ 1)
+GivesUp failures host kept (Create slice force) (ended.Lost active listed) next = failures.some × (active ≡ 0) × (listed ≡ 1) × IsReplicaMade (site_of host) (identity_of host kept.memory.begun) next.content × IsSameBeside (site_of host) kept.content next.content
+GivesUp failures host kept (command.MakeStripe volume slice) (ended.Lost active listed) next = failures.some × (active ≡ 0) × (listed ≡ 1) × IsSameBeside (site_of host) kept.content next.content
 GivesUp failures host kept (command.MakeStripe volume slice) ended.Spent next = failures.none × (newest : Newest) × (kept.memory.opened ≡ Some newest) × (2 ^ 63 ≤ newest.mark.count + 1) × Stays kept next
 GivesUp failures host kept command end next = ⊥
 

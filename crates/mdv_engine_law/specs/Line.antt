@@ -2,7 +2,7 @@
 use Rattle.std.specs.Prelude.{◌≡◌, ◌⊎◌, ◌+◌, ◌<◌, ◌≤◌, ◌^◌, ℕ, Bool, true, false, List, [], ◌∷◌, length, map, Option, Some, None, slice_index_or}
 use Rattle.std.specs.List.{range_with_len}
 use Rattle.mdv_engine_law.specs.Below.{Failures, Mark, VolId, Refusal, record_text, Head, First, Second, IsSpareSlot, greatest, other_slot, room_of, shows, Tale, covers, last, MakeStripe, One, Table, Command, Create, Read, Write, Line, Site, Newest, IsReplica, IsFound, HasTable, IsNewestOf, area_of, adopted_newest, next_newest, rewritten, Deed, Created, Changed, Wrote, LiesOn}
-use Rattle.mdv_store_law.specs.Adoptable.{IsAdoptable}
+use Rattle.mdv_store_law.specs.Adoptable.{IsAdoptable, IsHeaded}
 use Rattle.mdv_words.specs.declared.command.Command.TheVariants as command
 use Rattle.mdv_words.specs.declared.command.Line.TheVariants as words
 use Rattle.mdv_engine_law.specs.declared.answer.Answer.{Answer}
@@ -136,17 +136,17 @@ pub record IsUsedUp (site : Site) (content : ℕ → List ℕ) : Type 0 where
   pub spent : 2 ^ 63 ≤ greatest head + 1
 
 -- What a boot comes to, from what the drive's blocks hold: nothing else in memory than what it found and how many creations
--- were begun before. Where a call on the drive failed it is down, or lost, if there was a replica to adopt, and else neither; want of
--- memory is free. A boot that is spent or wants memory has written nothing.
+-- were begun before. Where a call on the drive failed it is down, or lost, if there was a replica to adopt, and else neither; memory is
+-- wanting only where a head shows a table. A boot that is spent or wants memory has written nothing, and behind one that is lost each block that no replica may have reads as it did.
 pub data IsRebooted (failures : Failures) (host : Host) (kept : Kept) (answer : Answer) (next : Kept) : Type 0 where
   adopted : failures.none → (newest : Newest) → answer ≡ accepted → next.memory ≡ record { opened = Some newest; down = false; begun = kept.memory.begun } → IsRewritten (site_of host) kept.content next.content newest
       → IsRebooted failures host kept answer next
   empty : failures.none → answer ≡ accepted → next.memory ≡ record { opened = None; down = false; begun = kept.memory.begun } → IsFound (site_of host) kept.content None → IsSame kept.content next.content
       → IsRebooted failures host kept answer next
   down : failures.some → answer ≡ accepted → next.memory ≡ record { opened = None; down = true; begun = kept.memory.begun } → IsSame kept.content next.content → IsRebooted failures host kept answer next
-  lost : failures.some → IsAdoptable (site_of host) kept.content → answer ≡ Over (ended.Lost 0 1) → IsRebooted failures host kept answer next
+  lost : failures.some → IsAdoptable (site_of host) kept.content → answer ≡ Over (ended.Lost 0 1) → IsSameBeside (site_of host) kept.content next.content → IsRebooted failures host kept answer next
   spent : failures.none → answer ≡ Over ended.Spent → IsUsedUp (site_of host) kept.content → IsSame kept.content next.content → IsRebooted failures host kept answer next
-  wanting : failures.none → answer ≡ Over ended.Memory → IsSame kept.content next.content → IsRebooted failures host kept answer next
+  wanting : failures.none → IsHeaded (site_of host) kept.content → answer ≡ Over ended.Memory → IsSame kept.content next.content → IsRebooted failures host kept answer next
 
 -- the first of the causes for which it is refused
 abbrev pub IsTurnedDown : Refusal → Kept → Answer → Kept → Type 0

@@ -2,7 +2,7 @@ ghost use Rattle.std.specs.Prelude.{◌≡◌, ℕ, List};
 ghost use Rattle.mdv_base.specs.Causes.{Rose};
 ghost use Rattle.mdv_shelf.specs.Calls.{Gives, HasGivingCause, IsCounted, OnReplies};
 ghost use Rattle.mdv_shelf.specs.Moments.{Moments, Ends};
-ghost use Rattle.mdv_shelf.specs.Shelves.{Keeps, Kept};
+ghost use Rattle.mdv_shelf.specs.Shelves.{Keeps, KeptOn};
 ghost use Rattle.mdv_shelf.specs.Story.{IsNoted};
 ghost use Rattle.mdv_engine_law.specs.Replies.{refusal_line, reply_at as spec_reply_at, reply_to as spec_reply_to, IsTold, IsTellingCounted, outcome_text, text_of};
 ghost use Rattle.mdv_engine_law.specs.Standing.{OnlyReplied, TellMoment};
@@ -19,7 +19,7 @@ pub fn tell<B: Bench>(bench: &mut B, answer: &Answer) -> Reply
     ensures fronts { Moments (TellMoment (text_of answer.now)) (B.tale bench.old) (B.tale bench.new) }
     ensures answers { (piece : List ℕ) × IsTold (Rose (B.faults bench.old OnReplies) (B.faults bench.new OnReplies)) answer.now result piece }
     ensures counted { IsTellingCounted B.Shelf bench.old bench.new result }
-    ensures kept { Kept B.Shelf bench.old bench.new }
+    ensures kept { KeptOn B.Shelf bench.old bench.new OnReplies }
 {
     match answer {
         Answer::Said(outcome) => match give(bench, outcome) {
@@ -36,7 +36,7 @@ fn give<B: Bench>(bench: &mut B, outcome: &Outcome) -> Result<(), Failed>
     ensures cause { HasGivingCause (B.faults bench.old) (B.faults bench.new) result }
     ensures counted { IsCounted B.calls B.written bench.old bench.new 0 }
     ensures keeps { Keeps B.Shelf bench.old bench.new }
-    ensures noted { IsNoted B.story B.faults bench.old bench.new }
+    ensures noted { IsNoted B.story B.faults OnReplies bench.old bench.new }
 {
     match outcome {
         Outcome::Ok => bench.give(OK),

@@ -1,8 +1,8 @@
 // What the head of a replica says, and the letters that a place is told with.
 ghost use Rattle.std.specs.Prelude.{◌≡◌, ◌↔◌, ◌<◌, ◌-◌, min, ℕ, List, length, slice_index_or, is_some, is_none, IsTrue, IfSome, MatchOption, Some, None};
 ghost use Rattle.mdv_shelf.specs.Tale.{Tale, last};
-ghost use Rattle.mdv_shelf.specs.Calls.{Took};
-ghost use Rattle.mdv_shelf.specs.Shelves.{DriveFailures, Kept};
+ghost use Rattle.mdv_shelf.specs.Calls.{OnDrive, Took};
+ghost use Rattle.mdv_shelf.specs.Shelves.{DriveFailures, KeptOn};
 ghost use Rattle.mdv_replica.specs.Replica.{LiesAt, with_blocks};
 ghost use Rattle.mdv_replica.specs.Seen.{AreBehindFirst, AreBlocksOf, HasLookCause, IsMasterAt, IsSeen, IsLook, head_flags, head_with, unread_at};
 
@@ -42,7 +42,7 @@ pub fn inspect<S: Shelf>(shelf: &mut S, at: PlaceAt) -> Seen
     ensures cause { HasLookCause (DriveFailures S.Shelf shelf.old shelf.new at.drive.0) result.flags.read_error }
     ensures same { S.tale shelf.new ≡ S.tale shelf.old }
     ensures counted { Took S.calls S.written shelf.old shelf.new 1 0 }
-    ensures kept { Kept S.Shelf shelf.old shelf.new }
+    ensures kept { KeptOn S.Shelf shelf.old shelf.new (OnDrive at.drive.0) }
 {
     let size = shelf.blocks(at.drive);
     let count = HEAD_BLOCKS.min(size - at.first) as usize;

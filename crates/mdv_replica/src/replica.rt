@@ -4,7 +4,7 @@ ghost use Rattle.std.specs.Prelude.{◌≡◌, ◌<◌, ◌≤◌, ◌+◌, ◌^
 ghost use Rattle.mdv_base.specs.Causes.{HasCause};
 ghost use Rattle.mdv_shelf.specs.Calls.{OnDrive, Reads, Took};
 ghost use Rattle.mdv_shelf.specs.Moments.{Moments, Ends};
-ghost use Rattle.mdv_shelf.specs.Shelves.{Kept};
+ghost use Rattle.mdv_shelf.specs.Shelves.{KeptOn};
 ghost use Rattle.mdv_shelf.specs.Between.{MakesCalls};
 ghost use Rattle.mdv_replica.specs.Forms.{IsMaster, IsMark};
 ghost use Rattle.mdv_replica.specs.Replica.{IsPlaced, Claiming, IsClaimed, Wiping, IsWiped, Formatting, IsFormatAnswer, IsFormatted, SlotWriting, IsSlotWritten, gate_at, body_at, slot_blocks, master_of};
@@ -94,7 +94,7 @@ pub fn write_claim<S: Shelf>(shelf: &mut S, at: PlaceAt, number: u64) -> Result<
     ensures settled { OnOk result (Ends (λ _ u. IsClaimed at number u) (S.tale shelf.old) (S.tale shelf.new)) }
     ensures cause { HasCause (S.faults shelf.old (OnDrive at.drive.0)) (S.faults shelf.new (OnDrive at.drive.0)) result }
     ensures counted { MakesCalls S.Shelf shelf.old shelf.new 2 1 result }
-    ensures kept { Kept S.Shelf shelf.old shelf.new }
+    ensures kept { KeptOn S.Shelf shelf.old shelf.new (OnDrive at.drive.0) }
 {
     settle(shelf, at.drive, at.first + 1, &[claim_block(number)])?;
     Ok(())
@@ -119,7 +119,7 @@ pub fn write_slot<S: Shelf>(
     ensures settled { OnOk result (Ends (λ _ u. IsSlotWritten at slot mark bytes body.now u) (S.tale shelf.old) (S.tale shelf.new)) }
     ensures cause { HasCause (S.faults shelf.old (OnDrive at.drive.0)) (S.faults shelf.new (OnDrive at.drive.0)) result }
     ensures counted { MakesCalls S.Shelf shelf.old shelf.new 6 (2 + length body.now) result }
-    ensures kept { Kept S.Shelf shelf.old shelf.new }
+    ensures kept { KeptOn S.Shelf shelf.old shelf.new (OnDrive at.drive.0) }
 {
     let gate = at.gate_block_of(slot);
     let first = at.body_block_of(slot);
@@ -150,7 +150,7 @@ pub fn format<S: Shelf>(
     ensures settled { OnOk result (Ends (λ _ u. IsFormatted at (master_of at key.now identity) claim u) (S.tale shelf.old) (S.tale shelf.new)) }
     ensures answer { IsFormatAnswer (S.faults shelf.old (OnDrive at.drive.0)) (S.faults shelf.new (OnDrive at.drive.0)) (master_of at key.now identity) result }
     ensures counted { MakesCalls S.Shelf shelf.old shelf.new 6 5 result }
-    ensures kept { Kept S.Shelf shelf.old shelf.new }
+    ensures kept { KeptOn S.Shelf shelf.old shelf.new (OnDrive at.drive.0) }
 {
     let master = master_block(&at.master_of(key, identity));
     let closed = gate_block(Gate::Closed);
@@ -173,7 +173,7 @@ pub fn wipe<S: Shelf>(shelf: &mut S, at: PlaceAt) -> Result<(), Failed>
     ensures settled { OnOk result (Ends (λ _ u. IsWiped at u) (S.tale shelf.old) (S.tale shelf.new)) }
     ensures cause { HasCause (S.faults shelf.old (OnDrive at.drive.0)) (S.faults shelf.new (OnDrive at.drive.0)) result }
     ensures counted { MakesCalls S.Shelf shelf.old shelf.new 2 1 result }
-    ensures kept { Kept S.Shelf shelf.old shelf.new }
+    ensures kept { KeptOn S.Shelf shelf.old shelf.new (OnDrive at.drive.0) }
 {
     settle(shelf, at.drive, at.first, &[ZERO_BLOCK])?;
     Ok(())
@@ -192,7 +192,7 @@ pub fn read_body<S: Shelf>(
     ensures reads { Reads (S.tale shelf.old) at.drive.0 (body_at at slot) result out.new (S.tale shelf.new) }
     ensures cause { HasCause (S.faults shelf.old (OnDrive at.drive.0)) (S.faults shelf.new (OnDrive at.drive.0)) result }
     ensures counted { Took S.calls S.written shelf.old shelf.new 1 0 }
-    ensures kept { Kept S.Shelf shelf.old shelf.new }
+    ensures kept { KeptOn S.Shelf shelf.old shelf.new (OnDrive at.drive.0) }
 {
     let first = at.body_block_of(slot);
     shelf.read(at.drive, first, out)?;

@@ -9,6 +9,7 @@ use Rattle.mdv_engine_law.specs.declared.answer.Reply.TheVariants as reply
 use Rattle.mdv_engine_law.specs.Line.{Nothing, Ask}
 use Rattle.std.proofs.Common.{inl, inr, ℕ, List, [], refl, sym, ◌∙◌, ap, subst}
 use Rattle.mdv_run.specs.Below.{Script, line, Tale, Command, Create, MakeStripe, Read, Write, Spelled, Boot, IsCommand, IsLine, Reply, IsReplied, IsTurnedDown, Host, Memory, IsExecuted, Executed, Knows, IsAwake, Turned, Asks, RanTo, behind, kept_at}
+use Rattle.mdv_run.specs.Promise.{IsUncut}
 use Rattle.mdv_run.specs.Turns.{LineAnswered}
 use Rattle.mdv_shelf.proofs.Blocks.{both_ways}
 use Rattle.mdv_words.specs.declared.command.Line.TheVariants as words
@@ -94,6 +95,15 @@ said_reply drive replies (outcome.Refused refusal) = tt
 pub told_reply : (drive replies : Type 0) (said : Outcome) (given : Reply) → IsReplyTo replies said given → HasReplyCause drive replies given
 told_reply drive replies said given (inl whole) = subst (HasReplyCause drive replies) (sym whole) (said_reply drive replies said)
 told_reply drive replies said given (inr cut) = subst (HasReplyCause drive replies) (sym cut.0) cut.1
+
+-- a reply to what is only said was told whole, unless it was cut short
+pub uncut_replied : (replies : Type 0) (said : Outcome) (given : Reply) → IsReplyTo replies said given → IsUncut given → IsReplied given
+uncut_replied replies said given (inl whole) uncut = subst IsReplied (sym whole) (by said) where
+  by : (said : Outcome) → IsReplied (reply_to said)
+  by outcome.Ok = tt
+  by (outcome.Values text) = tt
+  by (outcome.Refused refusal) = tt
+uncut_replied replies said given (inr cut) uncut = absurd (uncut cut.0)
 
 -- a giving that failed in a stretch failed in the longer one
 pub reply_more : (replies more : Type 0) → (replies → more) → (said : Outcome) (given : Reply) → IsReplyTo replies said given → IsReplyTo more said given

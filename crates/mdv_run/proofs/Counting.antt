@@ -1,12 +1,11 @@
 -- How the calls of a run's turns add up.
-use Rattle.std.proofs.Common.{◌≡◌, ◌≤◌, ◌+◌, inl, inr, ℕ, Bool, true, false, List, Option, None, Some, refl, sym, ◌∙◌, ap, subst, arith}
-use Rattle.mdv_base.specs.declared.refusal.Refusal.{Refusal}
+use Rattle.std.proofs.Common.{◌≡◌, ◌≤◌, ◌+◌, inl, inr, ℕ, Bool, true, false, List, Option, None, Some, ◌∙◌, ap, subst, arith}
 use Rattle.mdv_shelf.specs.Calls.{RoseByAtMost}
 use Rattle.mdv_shelf.specs.Shelves.{MadeCallsAtMost}
 use Rattle.mdv_shelf.specs.declared.shelf.Shelf.{Ghosts}
 use Rattle.mdv_engine.specs.Below.{Newest}
 use Rattle.mdv_shelf.proofs.Counts.{at_most_more}
-use Rattle.mdv_engine.specs.Counts.{IsBootedCounted, IsOpenedCounted, calls_of}
+use Rattle.mdv_engine.specs.Counts.{IsBootedCounted, IsOpenedCounted}
 use Rattle.mdv_engine_law.specs.Answers.{accepted}
 use Rattle.mdv_engine_law.specs.Line.{Memory}
 use Rattle.mdv_engine_law.specs.declared.answer.Answer.TheVariants.{Over as Ends}
@@ -14,11 +13,9 @@ use Rattle.mdv_engine_law.specs.declared.answer.Ended.{Ended}
 use Rattle.mdv_engine_law.specs.declared.answer.Ended.TheVariants as ended
 use Rattle.mdv_engine_law.specs.declared.answer.Reply.{Reply}
 use Rattle.mdv_engine_law.specs.declared.answer.Reply.TheVariants as reply
-use Rattle.mdv_run.specs.Below.{Script, at_end, spent, too_long, line, Spelled, Boot, IsLine, RunStatus}
+use Rattle.mdv_run.specs.Below.{Script, too_long, line, Spelled, IsLine}
 use Rattle.mdv_run.specs.Calls.{CallsLeft, ScriptCalls, TextCalls, TurnTook, line_calls}
 use Rattle.mdv_run.specs.Turns.{turn_of}
-use Rattle.mdv_run.specs.declared.session.Turn.{Turn}
-use Rattle.mdv_run.specs.declared.session.Turn.TheVariants.{On, Over}
 use Rattle.mdv_run_law.specs.Run.{IsNoCommand}
 use Rattle.mdv_words.proofs.Lines.{one_line}
 

@@ -2,10 +2,10 @@
 use Rattle.mdv_base.specs.Causes.{Failures, failures_of}
 use Rattle.mdv_base.proofs.Causes.{within_calm}
 use Rattle.mdv_run_law.specs.Run.{RoseCalmly}
-use Rattle.std.proofs.Common.{◌≡◌, inl, inr, ℕ, Bool, List, [], ◌++◌, take, refl, sym, ◌∙◌, ap, subst, arith}
+use Rattle.std.proofs.Common.{◌≡◌, inl, inr, ℕ, Bool, List, [], ◌++◌, take, Option, refl, sym, ◌∙◌, ap, subst, arith}
 use Rattle.std.proofs.lemmas.List.{append-nil}
 use Rattle.mdv_run.specs.Below.{Answer, Boot, Counts, Host, IsAnswered, IsLine, IsRebooted, IsSame, IsTurnedDown, Kept, Knows, LineTooLong, Memory, OnDrive, Script, TellsFront, counts, drive_content, kept_at, line, told, too_long}
-use Rattle.mdv_run.specs.Turns.{TurnFront, at}
+use Rattle.mdv_run.specs.Turns.{Point, TurnFront, at}
 use Rattle.mdv_shelf.specs.Calls.{Part}
 use Rattle.mdv_shelf.specs.Shelves.{AtEachMoment}
 use Rattle.mdv_shelf.specs.Story.{FailuresBy, Moment, NoFewer, Story}
@@ -25,7 +25,7 @@ LineFront host text old t m = Knows host old t.tale → TellsFront (λ failures 
 abbrev pub AnswerFront : Host → Answer → Memory → Moment → Moment → Type 0
 AnswerFront host answer old t m = Knows host old t.tale → TellsFront (OnlyAnswers answer) old t m
 
-abbrev pub ScriptFront : Host → Counts → Memory → Bool → Script → Moment → Moment → Type 0
+abbrev pub ScriptFront : Host → Point → Memory → Bool → Script → Moment → Moment → Type 0
 ScriptFront host now old refused script t m = Knows host old t.tale → TurnFront host (at now (kept_at old t.tale) refused script) t m
 
 pub front_of : (Comes More : Failures → Kept → Answer → Kept → Type 0) (old : Memory) (t m : Moment) → ((failures : Failures) (kept : Kept) (answer : Answer) (next : Kept) → Comes failures kept answer next → More failures kept answer next)
@@ -54,9 +54,9 @@ boot_front host old new text boots t u m quiet rebooted (inr front) = inr (recor
 abbrev by_then : Counts → Moment → Counts
 by_then now m = record { drive = m.faults (OnDrive 0); source = now.source; replies = now.replies }
 
-module _ (host : Host) (old : Memory) (now : Counts) (refused : Bool) (t m : Moment) (drive : now.drive ≡ t.faults (OnDrive 0)) (rise : NoFewer t.faults m.faults) where
-  rose : RoseCalmly now (by_then now m)
-  rose = let le = rise (OnDrive 0) in record { drive = omega (arith, drive, le); source = refl; replies = omega arith }
+module _ (host : Host) (old : Memory) (now : Point) (refused : Bool) (t m : Moment) (drive : now.counts.drive ≡ t.faults (OnDrive 0)) (rise : NoFewer t.faults m.faults) where
+  rose : RoseCalmly now.counts (by_then now.counts m)
+  rose = let le = rise (OnDrive 0) in record { drive = omega (arith, drive, le); source = refl; replies = refl }
 
   -- nothing is told
   pub no_front : (script : Script) → told m.tale ≡ told t.tale → TurnFront host (at now (kept_at old t.tale) refused script) t m
@@ -70,7 +70,7 @@ module _ (host : Host) (old : Memory) (now : Counts) (refused : Bool) (t m : Mom
     is_told = front.is_told;
     front = inr (record {
       answer = front.answer;
-      later = by_then now m;
+      later = by_then now.counts m;
       next = front.next;
       more = more;
       comes = (refl, rose, subst (λ (d : ℕ). IsAnswered (failures_of d (m.faults (OnDrive 0))) host (kept_at old t.tale) text front.answer front.next) (sym drive) front.came);
@@ -89,7 +89,7 @@ module _ (host : Host) (old : Memory) (now : Counts) (refused : Bool) (t m : Mom
     is_told = front.is_told;
     front = inr (record {
       answer = front.answer;
-      later = by_then now m;
+      later = by_then now.counts m;
       next = front.next;
       more = more;
       comes = (refl, rose, front.came.0 ∙ sym drive, only_refused LineTooLong (FailuresBy t m (OnDrive 0)) (kept_at old t.tale) front.answer front.next front.came);
@@ -101,8 +101,10 @@ module _ (host : Host) (old : Memory) (now : Counts) (refused : Bool) (t m : Mom
   })
 
 -- a turn without a call
-pub still_front : {S : Type 0} (shelf : Ghosts S) (host : Host) (old : Memory) (source : ℕ) (refused : Bool) (script : Script) (s : S) → AtEachMoment shelf (ScriptFront host (counts (shelf.faults s) source) old refused script) s s
+pub still_front : {S : Type 0} (shelf : Ghosts S) (host : Host) (old : Memory) (source : ℕ) (refused : Bool) (script : Script) (s : S) → AtEachMoment shelf (ScriptFront host (record { counts = counts (shelf.faults s) source; story = shelf.story s }) old refused script) s s
 still_front shelf host old source refused script s =
-    each_none (ScriptFront host (counts (shelf.faults s) source) old refused script) _ _ _ _ refl (λ part. omega arith) (still host old source refused script) (still host old source refused script) where
-      still : {faults : Part → ℕ} (host : Host) (old : Memory) (source : ℕ) (refused : Bool) (script : Script) (x : Story) → ScriptFront host (counts faults source) old refused script (moment x faults) (moment x faults)
-      still {faults} host old source refused script x known = no_front host old (counts faults source) refused (moment x faults) (moment x faults) refl (λ part. omega arith) script refl
+    each_none (ScriptFront host (record { counts = counts (shelf.faults s) source; story = shelf.story s }) old refused script) _ _ _ _ refl (λ part. omega arith) (still host old source (shelf.story s) refused script) (still host old source (shelf.story s) refused script) where
+      still : {faults : Part → ℕ} (host : Host) (old : Memory) (source : ℕ) (story : Option Story) (refused : Bool) (script : Script) (x : Story)
+          → ScriptFront host (record { counts = counts faults source; story = story }) old refused script (moment x faults) (moment x faults)
+      still {faults} host old source story refused script x known =
+          no_front host old (record { counts = counts faults source; story = story }) refused (moment x faults) (moment x faults) refl (λ part. omega arith) script refl

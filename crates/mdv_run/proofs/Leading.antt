@@ -1,8 +1,8 @@
 -- How one turn of a run goes on from the script that is before it.
 use Rattle.mdv_base.specs.Causes.{failures_of}
-use Rattle.std.proofs.Common.{◌≡◌, inl, inr, ℕ, Bool, true, List, [], Option, Some, refl, sym, ◌∙◌, ap, subst, arith}
-use Rattle.mdv_run.specs.Below.{LineTooLong, Reader, Script, at_end, spent, too_long, line, asked_before, IsAskedTurn, Line, TooLong, End, Spent, Tale, told, Answer, Reply, Host, Memory, IsTold, IsReplied, Kept, IsTurnedDown, kept_at, Replied, RunStatus, Panic, ReadFault, WriteFault, NoMemory, NumbersSpent, At, Counts, NextLine, Stretch, IsAnswered, drive_failed, replies_failed}
-use Rattle.mdv_run_law.specs.Run.{OnlyUngiven, OnlyUnread, RoseCalmly, drive_failures, Over as IsOver, broken, ended as script_ended, unread, EndsAs, EndsWith, IsSaid, refused_by}
+use Rattle.std.proofs.Common.{◌≡◌, ◌≤◌, inl, inr, ℕ, Bool, true, List, [], ◌++◌, Option, Some, refl, sym, ◌∙◌, ap, subst}
+use Rattle.mdv_run.specs.Below.{LineTooLong, Reader, Script, at_end, spent, too_long, line, asked_before, IsAskedTurn, Line, TooLong, End, Spent, Tale, told, Answer, Reply, Host, Memory, IsTold, IsReplied, Kept, IsTurnedDown, kept_at, Replied, RunStatus, Panic, ReadFault, WriteFault, NoMemory, NumbersSpent, At, Counts, NextLine, OnDrive, OnReplies, Stretch, IsAnswered, IsSame, counts, drive_content, drive_failed, replies_failed}
+use Rattle.mdv_run_law.specs.Run.{AreInTime, IsPassage, OnlyReplying, OnlyUngiven, OnlyUnread, RoseCalmly, drive_failures, Over as IsOver, broken, ended as script_ended, unread, EndsAs, EndsWith, IsSaid, refused_by}
 use Rattle.mdv_engine_law.specs.Answers.{refusing}
 use Rattle.mdv_engine_law.specs.Replies.{HasReplyCause, IsLost, outcome_text, reply_at, reply_to, text_of}
 use Rattle.mdv_engine_law.specs.declared.answer.Answer.TheVariants.{Said, Over as Ends}
@@ -13,8 +13,14 @@ use Rattle.mdv_engine_law.specs.declared.answer.Outcome.TheVariants as outcome
 use Rattle.mdv_engine_law.specs.declared.answer.Reply.TheVariants as reply
 use Rattle.mdv_run.specs.declared.session.Turn.{Turn}
 use Rattle.mdv_run.specs.declared.session.Turn.TheVariants.{On, Over}
-use Rattle.mdv_run.specs.Turns.{LineAnswered, Leads, Turns, at, turn_of, HasTurnCause, IsOn, IsLostTurn}
+use Rattle.mdv_run.specs.Promise.{IsUncut}
+use Rattle.mdv_run.specs.Turns.{LineAnswered, Leads, Point, Turns, at, turn_of, HasTurnCause, IsOn, IsLostTurn}
 use Rattle.std.proofs.lemmas.List.{append-nil}
+use Rattle.std.specs.Option.{option_map}
+use Rattle.mdv_shelf.specs.Shelves.{KeptInTime}
+use Rattle.mdv_shelf.specs.Story.{Story, tale_of}
+use Rattle.mdv_shelf.specs.declared.shelf.Shelf.{Ghosts}
+use Rattle.mdv_shelf.proofs.Moments.{some_is}
 
 -- the script that each answer of the reader comes from
 pub end_is : (s : Script) (new : Reader) (left : Option (List ℕ)) → IsAskedTurn s End new left → s ≡ at_end
@@ -45,60 +51,130 @@ line_is (line other more) text new left shown is = (more, ap (λ (l : List ℕ).
 abbrev carried_by : Counts → Counts → Counts
 carried_by now then = record { drive = then.drive; source = then.source; replies = now.replies }
 
-rose_carried : (now then : Counts) → RoseCalmly now then → RoseCalmly now (carried_by now then)
-rose_carried now then rose = record { drive = rose.drive; source = rose.source; replies = omega arith }
+-- the counts behind a line's turn: no taking failed, and no giving unless its reply was cut short
+pub record RoseInTurn (now then : Counts) (r : Reply) : Type 0 where
+  pub drive : now.drive ≤ then.drive
+  pub source : then.source ≡ now.source
+  pub replies : now.replies ≤ then.replies
+  pub given : IsUncut r → then.replies ≡ now.replies
 
-rose_told : (now then : Counts) → RoseCalmly now then → OnlyUngiven (carried_by now then) then
-rose_told now then rose = record { drive = refl; source = refl; replies = rose.replies }
+rose_carried : (now then : Counts) (r : Reply) → RoseInTurn now then r → RoseCalmly now (carried_by now then)
+rose_carried now then r rose = record { drive = rose.drive; source = rose.source; replies = refl }
+
+rose_told : (now then : Counts) (r : Reply) → RoseInTurn now then r → OnlyUngiven (carried_by now then) then
+rose_told now then r rose = record { drive = refl; source = refl; replies = rose.replies }
+
+rose_whole : (now then : Counts) (r : Reply) → RoseInTurn now then r → IsReplied r → RoseCalmly now then
+rose_whole now then r rose on = record { drive = rose.drive; source = rose.source; replies = rose.given (λ is. subst IsReplied is on) }
+
+-- where no giving failed the counts are those with the giving left out
+same_carried : (now then : Counts) → then.replies ≡ now.replies → then ≡ carried_by now then
+same_carried now then same = ap (λ (n : ℕ). let counted : Counts = record { drive = then.drive; source = then.source; replies = n } in counted) same
+
+-- what was told whole was replied to
+replied_whole : (this : Outcome) (r : Reply) → r ≡ reply_to this → IsReplied r
+replied_whole this r is = subst IsReplied (sym is) (by this) where
+  by : (this : Outcome) → IsReplied (reply_to this)
+  by outcome.Ok = tt
+  by (outcome.Values text) = tt
+  by (outcome.Refused refusal) = tt
+
+-- a turn's calls, from a point with this tale to one with that
+pub record Passes (now then : Point) (t u : Tale) : Type 0 where
+  pub in_time : AreInTime now.counts now.story then.story
+  pub first : (s : Story) → now.story ≡ Some s → tale_of s ≡ t
+  pub last : (s : Story) → then.story ≡ Some s → tale_of s ≡ u
+
+pub passes_in_time : {S : Type 0} (shelf : Ghosts S) (telling : (s : S) → shelf.tale s ≡ option_map tale_of (shelf.story s)) (a b : S) (from to : ℕ) (t u : Tale) → KeptInTime shelf a b → shelf.tale a ≡ Some t → shelf.tale b ≡ Some u
+    → Passes (record { counts = counts (shelf.faults a) from; story = shelf.story a }) (record { counts = counts (shelf.faults b) to; story = shelf.story b }) t u
+passes_in_time shelf telling a b from to t u kept is_t is_u = record {
+  in_time = record { drive = kept.in_time (OnDrive 0); replies = kept.in_time OnReplies };
+  first = λ s is. some_is (shelf.tale a) (tale_of s) t (telling a ∙ ap (λ (o : Option Story). option_map tale_of o) is) is_t;
+  last = λ s is. some_is (shelf.tale b) (tale_of s) u (telling b ∙ ap (λ (o : Option Story). option_map tale_of o) is) is_u;
+}
+
+passage_of : (now then : Point) (t u : Tale) → Passes now then t u → (old new : Memory) (any : Bool) (script more : Script) (piece : List ℕ) → told u ≡ told t ++ piece → IsPassage (at now (kept_at old t) any script) piece (at then (kept_at new u) any more)
+passage_of now then t u passes old new any script more piece is_told = record {
+  in_time = passes.in_time;
+  told = λ s v is_s is_v. ap told (passes.last v is_v) ∙ is_told ∙ ap (λ (x : Tale). told x ++ piece) (sym (passes.first s is_s));
+  reads = λ v is_v. subst (λ (x : Tale). IsSame (drive_content u) (drive_content x)) (sym (passes.last v is_v)) (λ block. refl);
+}
+
+-- a run that is over with an answer tells no reply that could be cut short
+ended_uncut : (end : Ended) (r : Reply) → r ≡ reply_at end → IsUncut r
+ended_uncut (ended.Lost active listed) r is told = absurd (cc (is, told))
+ended_uncut ended.Spent r is told = absurd (cc (is, told))
+ended_uncut ended.Memory r is told = absurd (cc (is, told))
 
 -- how one turn leads on: its answer is the next line's, by whatever counts the drive failed as often
-module _ (host : Host) (from : At) (then : Counts) (rose : RoseCalmly from.counts then) (next : Kept) (more : Script) (before : Option Script) (before_is : before ≡ Some more) (answer : Answer)
-    (comes : (c : Counts) → RoseCalmly from.counts c → c.drive ≡ then.drive → NextLine host from.counts from.kept from.script answer c next more)
+module _ (host : Host) (from : At) (then : Point) (r : Reply) (rose : RoseInTurn from.counts then.counts r) (next : Kept) (more : Script) (before : Option Script) (before_is : before ≡ Some more) (answer : Answer)
+    (comes : (c : Counts) → RoseCalmly from.counts c → c.drive ≡ then.counts.drive → NextLine host from.counts from.kept from.script answer c next more) (piece : List ℕ) (passage : IsPassage from piece (at then next from.refused more))
   where
-    line_on : (any : Bool) (piece : List ℕ) → IsSaid answer → piece ≡ text_of answer → any ≡ refused_by answer from.refused → Leads host from piece then next before (On any)
-    line_on any piece said text is = (more, before_is, record { answer = answer; comes = comes then rose refl; said = said; as_text = text; as_refused = is })
+    line_on : IsReplied r → (any : Bool) → IsSaid answer → piece ≡ text_of answer → any ≡ refused_by answer from.refused → Leads host from piece then next before (On any)
+    line_on on any said text is = (
+      more,
+      before_is,
+      record {
+        answer = answer;
+        comes = comes then.counts (rose_whole from.counts then.counts r rose on) refl;
+        said = said;
+        as_text = text;
+        as_refused = is;
+        passage = record { in_time = passage.in_time; told = passage.told; reads = passage.reads };
+      },
+    )
 
-    over_by : (status : RunStatus) (piece : List ℕ) → EndsWith (replies_failed from.counts then) answer next piece status next → Leads host from piece then next before (Over status)
-    over_by status piece with = λ stretch bytes shown. broken answer (carried_by from.counts then) next more (comes (carried_by from.counts then) (rose_carried from.counts then rose) refl) shown (rose_told from.counts then rose) with
+    over_by : OnlyReplying answer (carried_by from.counts then.counts) then.counts → (status : RunStatus) → EndsWith (replies_failed from.counts then.counts) answer next piece status next → Leads host from piece then next before (Over status)
+    over_by only status with = λ stretch bytes ends shown.
+        broken answer (carried_by from.counts then.counts) next more (comes (carried_by from.counts then.counts) (rose_carried from.counts then.counts r rose) refl) shown only
+        (subst (λ (o : Option Story). AreInTime from.counts from.story o) (sym ends) passage.in_time) with
 
 -- what a reply leads to, by its answer
-leads : (host : Host) (from : At) (then : Counts) → RoseCalmly from.counts then → (next : Kept) (more : Script) (before : Option Script) → before ≡ Some more → (answer : Answer) (r : Reply) (piece : List ℕ)
-    → ((c : Counts) → RoseCalmly from.counts c → c.drive ≡ then.drive → NextLine host from.counts from.kept from.script answer c next more) → IsTold (replies_failed from.counts then) answer r piece → Leads host from piece then next before (turn_of r from.refused)
-leads host from then rose next more before is (Said this) r piece comes (inl whole) = subst (λ (x : Reply). Leads host from piece then next before (turn_of x from.refused)) (sym whole.0) (by this comes whole.1) where
-  by : (this : Outcome) → ((c : Counts) → RoseCalmly from.counts c → c.drive ≡ then.drive → NextLine host from.counts from.kept from.script (Said this) c next more) → piece ≡ outcome_text this → Leads host from piece then next before (turn_of (reply_to this) from.refused)
-  by outcome.Ok comes is_text = line_on host from then rose next more before is (Said outcome.Ok) comes from.refused piece tt is_text refl
-  by (outcome.Values text) comes is_text = line_on host from then rose next more before is (Said (outcome.Values text)) comes from.refused piece tt is_text refl
-  by (outcome.Refused refusal) comes is_text = line_on host from then rose next more before is (Said (outcome.Refused refusal)) comes true piece tt is_text refl
-leads host from then rose next more before is (Said this) r piece comes (inr cut) =
+leads : (host : Host) (from : At) (then : Point) (r : Reply) → RoseInTurn from.counts then.counts r → (next : Kept) (more : Script) (before : Option Script) → before ≡ Some more → (answer : Answer) (piece : List ℕ)
+    → ((c : Counts) → RoseCalmly from.counts c → c.drive ≡ then.counts.drive → NextLine host from.counts from.kept from.script answer c next more) → IsPassage from piece (at then next from.refused more)
+    → IsTold (replies_failed from.counts then.counts) answer r piece → Leads host from piece then next before (turn_of r from.refused)
+leads host from then r rose next more before is (Said this) piece comes passage (inl whole) = subst (λ (x : Reply). Leads host from piece then next before (turn_of x from.refused)) (sym whole.0) (by this comes whole.1) where
+  on : IsReplied r
+  on = replied_whole this r whole.0
+
+  by : (this : Outcome) → ((c : Counts) → RoseCalmly from.counts c → c.drive ≡ then.counts.drive → NextLine host from.counts from.kept from.script (Said this) c next more) → piece ≡ outcome_text this → Leads host from piece then next before (turn_of (reply_to this) from.refused)
+  by outcome.Ok comes is_text = line_on host from then r rose next more before is (Said outcome.Ok) comes piece passage on from.refused tt is_text refl
+  by (outcome.Values text) comes is_text = line_on host from then r rose next more before is (Said (outcome.Values text)) comes piece passage on from.refused tt is_text refl
+  by (outcome.Refused refusal) comes is_text = line_on host from then r rose next more before is (Said (outcome.Refused refusal)) comes piece passage on true tt is_text refl
+leads host from then r rose next more before is (Said this) piece comes passage (inr cut) =
     subst (λ (x : Reply). Leads host from piece then next before (turn_of x from.refused)) (sym cut.given_is)
-    (over_by host from then rose next more before is (Said this) comes WriteFault piece (record { cause = cut.cause; count = cut.count; front = cut.front; ended = refl; keeps = refl }))
-leads host from then rose next more before is (Ends end) r piece comes told = subst (λ (x : Reply). Leads host from piece then next before (turn_of x from.refused)) (sym told.0) (by end comes) where
-  by : (end : Ended) → ((c : Counts) → RoseCalmly from.counts c → c.drive ≡ then.drive → NextLine host from.counts from.kept from.script (Ends end) c next more) → Leads host from piece then next before (turn_of (reply_at end) from.refused)
-  by (ended.Lost active listed) comes = over_by host from then rose next more before is (Ends (ended.Lost active listed)) comes (Panic active listed) piece (record { silent = told.1; ended = refl; keeps = refl })
-  by ended.Spent comes = over_by host from then rose next more before is (Ends ended.Spent) comes NumbersSpent piece (record { silent = told.1; ended = refl; keeps = refl })
-  by ended.Memory comes = over_by host from then rose next more before is (Ends ended.Memory) comes NoMemory piece (record { silent = told.1; ended = refl; keeps = refl })
+    (over_by host from then r rose next more before is (Said this) comes piece passage (rose_told from.counts then.counts r rose) WriteFault (record { cause = cut.cause; count = cut.count; front = cut.front; ended = refl; keeps = refl }))
+leads host from then r rose next more before is (Ends end) piece comes passage told = subst (λ (x : Reply). Leads host from piece then next before (turn_of x from.refused)) (sym told.0) (by end comes) where
+  only : then.counts ≡ carried_by from.counts then.counts
+  only = same_carried from.counts then.counts (rose.given (ended_uncut end r told.0))
+
+  by : (end : Ended) → ((c : Counts) → RoseCalmly from.counts c → c.drive ≡ then.counts.drive → NextLine host from.counts from.kept from.script (Ends end) c next more) → Leads host from piece then next before (turn_of (reply_at end) from.refused)
+  by (ended.Lost active listed) comes = over_by host from then r rose next more before is (Ends (ended.Lost active listed)) comes piece passage only (Panic active listed) (record { silent = told.1; ended = refl; keeps = refl })
+  by ended.Spent comes = over_by host from then r rose next more before is (Ends ended.Spent) comes piece passage only NumbersSpent (record { silent = told.1; ended = refl; keeps = refl })
+  by ended.Memory comes = over_by host from then r rose next more before is (Ends ended.Memory) comes piece passage only NoMemory (record { silent = told.1; ended = refl; keeps = refl })
 
 -- a line
-pub leads_line : (now then : Counts) → RoseCalmly now then → (host : Host) (old new : Memory) (any : Bool) (s more : Script) (text : List ℕ) (r : Reply) (before : Option Script) (t u : Tale)
-    → s ≡ line text more → before ≡ Some more → LineAnswered (drive_failures now then) (replies_failed now then) host text old new r t u → Turns host now then old new any s before (turn_of r any) t u
-leads_line now then rose host old new any s more text r before t u is next done = record {
+pub leads_line : (now then : Point) (r : Reply) → RoseInTurn now.counts then.counts r → (host : Host) (old new : Memory) (any : Bool) (s more : Script) (text : List ℕ) (before : Option Script) (t u : Tale) → Passes now then t u
+    → s ≡ line text more → before ≡ Some more → LineAnswered (drive_failures now.counts then.counts) (replies_failed now.counts then.counts) host text old new r t u → Turns host now then old new any s before (turn_of r any) t u
+leads_line now then r rose host old new any s more text before t u passes is next done = record {
   piece = done.replied.piece;
   is_told = done.replied.is_told;
-  leads = leads host (at now (kept_at old t) any s) then rose (kept_at new u) more before next done.answer r done.replied.piece
-      (λ c up same. subst (λ (x : Script). NextLine host now (kept_at old t) x done.answer c (kept_at new u) more) (sym is)
-      (refl, up, subst (λ (d : ℕ). IsAnswered (failures_of now.drive d) host (kept_at old t) text done.answer (kept_at new u)) (sym same) done.done))
-      done.replied.as_told;
+  leads = leads host (at now (kept_at old t) any s) then r rose (kept_at new u) more before next done.answer done.replied.piece
+      (λ c up same. subst (λ (x : Script). NextLine host now.counts (kept_at old t) x done.answer c (kept_at new u) more) (sym is)
+      (refl, up, subst (λ (d : ℕ). IsAnswered (failures_of now.counts.drive d) host (kept_at old t) text done.answer (kept_at new u)) (sym same) done.done))
+      (passage_of now then t u passes old new any s more done.replied.piece done.replied.is_told) done.replied.as_told;
 }
 
 -- a line that was too long
-pub leads_long : (now then : Counts) → RoseCalmly now then → then.drive ≡ now.drive → (host : Host) (old : Memory) (any : Bool) (s more : Script) (r : Reply) (before : Option Script) (t u : Tale)
-    → s ≡ too_long more → before ≡ Some more → IsTurnedDown LineTooLong (kept_at old t) (refusing LineTooLong) (kept_at old u) → Replied (replies_failed now then) (refusing LineTooLong) r t u
+pub leads_long : (now then : Point) (r : Reply) → RoseInTurn now.counts then.counts r → then.counts.drive ≡ now.counts.drive → (host : Host) (old : Memory) (any : Bool) (s more : Script) (before : Option Script) (t u : Tale) → Passes now then t u
+    → s ≡ too_long more → before ≡ Some more → IsTurnedDown LineTooLong (kept_at old t) (refusing LineTooLong) (kept_at old u) → Replied (replies_failed now.counts then.counts) (refusing LineTooLong) r t u
     → Turns host now then old old any s before (turn_of r any) t u
-leads_long now then rose still host old any s more r before t u is next down replied = record {
+leads_long now then r rose still host old any s more before t u passes is next down replied = record {
   piece = replied.piece;
   is_told = replied.is_told;
-  leads = leads host (at now (kept_at old t) any s) then rose (kept_at old u) more before next (refusing LineTooLong) r replied.piece
-      (λ c up same. subst (λ (x : Script). NextLine host now (kept_at old t) x (refusing LineTooLong) c (kept_at old u) more) (sym is) (refl, up, same ∙ still, down)) replied.as_told;
+  leads = leads host (at now (kept_at old t) any s) then r rose (kept_at old u) more before next (refusing LineTooLong) replied.piece
+      (λ c up same. subst (λ (x : Script). NextLine host now.counts (kept_at old t) x (refusing LineTooLong) c (kept_at old u) more) (sym is) (refl, up, same ∙ still, down))
+      (passage_of now then t u passes old old any s more replied.piece replied.is_told) replied.as_told;
 }
 
 -- a turn on which the run goes on was replied to
@@ -113,18 +189,18 @@ on_replied r any turn is on = by r (subst IsOn is on) where
   by reply.Told on = on
 
 -- a turn with which the run is over, and nothing is told
-over_turn : (host : Host) (now then : Counts) (memory : Memory) (any : Bool) (script : Script) (before : Option Script) (status : RunStatus) (t : Tale)
-    → ((stretch : Stretch) (bytes : ℕ) → IsOver host stretch bytes then (at now (kept_at memory t) any script) [] status (kept_at memory t)) → Turns host now then memory memory any script before (Over status) t t
-over_turn host now then memory any script before status t over = record { piece = []; is_told = sym (append-nil (told t)); leads = λ stretch bytes shown. over stretch bytes }
+over_turn : (host : Host) (now then : Point) (memory : Memory) (any : Bool) (script : Script) (before : Option Script) (status : RunStatus) (t : Tale)
+    → ((stretch : Stretch) (bytes : ℕ) → stretch.new ≡ then.story → IsOver host stretch bytes then.counts (at now (kept_at memory t) any script) [] status (kept_at memory t)) → Turns host now then memory memory any script before (Over status) t t
+over_turn host now then memory any script before status t over = record { piece = []; is_told = sym (append-nil (told t)); leads = λ stretch bytes ends shown. over stretch bytes ends }
 
 -- the source failed
-pub unread_turn : (host : Host) (now then : Counts) → OnlyUnread now then → (memory : Memory) (any : Bool) (script : Script) (before : Option Script) (t : Tale) → Turns host now then memory memory any script before (Over ReadFault) t t
-unread_turn host now then so memory any script before t = over_turn host now then memory any script before ReadFault t (λ stretch bytes. unread so (record { silent = refl; ended = refl; keeps = refl }))
+pub unread_turn : (host : Host) (now then : Point) → OnlyUnread now.counts then.counts → then.story ≡ now.story → (memory : Memory) (any : Bool) (script : Script) (before : Option Script) (t : Tale) → Turns host now then memory memory any script before (Over ReadFault) t t
+unread_turn host now then so still memory any script before t = over_turn host now then memory any script before ReadFault t (λ stretch bytes ends. unread so (ends ∙ still) (record { silent = refl; ended = refl; keeps = refl }))
 
 -- the script is at its end, or past its limit
-pub ended_turn : (host : Host) (now then : Counts) → then ≡ now → (memory : Memory) (any : Bool) (script : Script) (before : Option Script) (status : RunStatus) (t : Tale)
+pub ended_turn : (host : Host) (now then : Point) → then.counts ≡ now.counts → then.story ≡ now.story → (memory : Memory) (any : Bool) (script : Script) (before : Option Script) (status : RunStatus) (t : Tale)
     → EndsAs any script status → Turns host now then memory memory any script before (Over status) t t
-ended_turn host now then same memory any script before status t how = over_turn host now then memory any script before status t (λ stretch bytes. script_ended how same (record { silent = refl; ended = refl; keeps = refl }))
+ended_turn host now then same still memory any script before status t how = over_turn host now then memory any script before status t (λ stretch bytes ends. script_ended how same (ends ∙ still) (record { silent = refl; ended = refl; keeps = refl }))
 
 -- a turn is lost where its reply is
 pub lost_reply : (r : Reply) (any : Bool) → IsLost r → IsLostTurn (turn_of r any)

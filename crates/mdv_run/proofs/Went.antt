@@ -2,11 +2,12 @@
 use Rattle.std.proofs.Common.{◌≡◌, ℕ, ◌+◌, ◌≤◌, ◌<◌, Bool, false, List, [], ◌++◌, length, Option, Some, refl, sym, ◌∙◌, ap, subst, append_assoc, arith}
 use Rattle.std.proofs.lemmas.List.{append-nil, length-append}
 use Rattle.mdv_run.specs.Below.{Reader, Script, asked_before, asked_of, Tale, told, Moments, Ends, Host, Memory, kept_at, Knows, RunStatus, Done, SomeRefused, Usage, NoQuorum, Panic, ReadFault, WriteFault, NoMemory, TwoDatabases, ScriptTooLong, NumbersSpent, At, Counts, Kept, RoseTo, LineTold, LinesTold, Stretch, IsLastShown, IsShown, drive_content, HasStatusCause, LinesMoment, RanTo}
-use Rattle.mdv_run_law.specs.Run.{Over as IsOver, broken, ended, no_line, one_more, unread}
+use Rattle.mdv_run_law.specs.Run.{AreInTime, Over as IsOver, broken, ended, no_line, one_more, unread}
 use Rattle.mdv_shelf.proofs.Moments.{moments_none, moments_after, ends_more, some_is}
 use Rattle.mdv_base.proofs.Causes.{rose_within}
 use Rattle.mdv_run.specs.declared.session.Turn.TheVariants.{On, Over}
-use Rattle.mdv_run.specs.Turns.{at, Turns, LinesRun}
+use Rattle.mdv_run.specs.Turns.{at, Point, Turns, LinesRun}
+use Rattle.mdv_shelf.specs.Story.{Story}
 use Rattle.mdv_run.specs.Promise.{TurnEnd}
 use Rattle.mdv_run_law.proofs.Lining.{lines_start, ran_start, lines_more_moment, ran_more}
 
@@ -38,20 +39,20 @@ module _ (host : Host) (stretch : Stretch) where
       (lines_shown other top shows (n + length first) mid to rest (omega (arith, le, length-append first rest)) lines)
 
 -- the turns so far, and what they told
-pub record Went (host : Host) (stretch : Stretch) (start here : Counts) (first now : Memory) (any : Bool) (script left : Script) (t u : Tale) : Type 0 where
+pub record Went (host : Host) (stretch : Stretch) (start here : Point) (first now : Memory) (any : Bool) (script left : Script) (t u : Tale) : Type 0 where
   pub so_far : List ℕ
   pub is_told : told u ≡ told t ++ so_far
   pub lines : LinesTold host stretch 0 (at start (kept_at first t) false script) so_far (at here (kept_at now u) any left)
 
 -- the same of a shelf and a source that tell what they hold, with what is known of the history
-pub record SoFar (host : Host) (stretch : Stretch) (start here : Counts) (first now : Memory) (any : Bool) (input : List ℕ) (before : Option Script) (a b : Option Tale) : Type 0 where
+pub record SoFar (host : Host) (stretch : Stretch) (start here : Point) (first now : Memory) (any : Bool) (input : List ℕ) (before : Option Script) (a b : Option Tale) : Type 0 where
   pub left : Script
   pub comes : before ≡ Some left
   pub moments : Moments (LinesMoment host (asked_of input) first) a b
   pub ran : Ends (RanTo host (asked_of input) first now left) a b
   pub went : Ends (λ t u. Knows host first t → Went host stretch start here first now any (asked_of input) left t u) a b
 
-module _ (host : Host) (first : Memory) (input : List ℕ) (start : Counts) where
+module _ (host : Host) (first : Memory) (input : List ℕ) (start : Point) where
   pub so_far_start : (stretch : Stretch) (before : Option Script) (a : Option Tale) → before ≡ Some (asked_of input) → SoFar host stretch start start first first false input before a a
   so_far_start stretch before a comes = record {
     left = asked_of input;
@@ -61,7 +62,7 @@ module _ (host : Host) (first : Memory) (input : List ℕ) (start : Counts) wher
     went = λ t is. (t, is, λ knows. record { so_far = []; is_told = sym (append-nil (told t)); lines = no_line 0 (at start (kept_at first t) false (asked_of input)) });
   }
 
-  module _ (here end : Counts) (now new : Memory) (any : Bool) (before then : Option Script) (a b c : Option Tale) (stretch : Stretch) (so_far : SoFar host stretch start here first now any input before a b) where
+  module _ (here end : Point) (now new : Memory) (any : Bool) (before then : Option Script) (a b c : Option Tale) (stretch : Stretch) (so_far : SoFar host stretch start here first now any input before a b) where
     -- a longer stretch shows what the one before did
     abbrev pub ShowsStill : Stretch → Type 0
     ShowsStill other = (t u : Tale) → a ≡ Some t → b ≡ Some u → (bytes piece : ℕ) (at : At) → 0 < piece → length (told t) + (bytes + piece) ≤ length (told u) → IsShown stretch bytes piece at → IsShown other bytes piece at
@@ -73,10 +74,11 @@ module _ (host : Host) (first : Memory) (input : List ℕ) (start : Counts) wher
       pub last : (t u v : Tale) → a ≡ Some t → b ≡ Some u → c ≡ Some v → (bytes piece : ℕ) → length (told t) + bytes ≡ length (told u) → length (told u) + piece ≡ length (told v)
           → (r : Bool) (script : Script) → IsShown other bytes piece (at end (kept_at new v) r script)
 
-    -- or the line with which it is over
+    -- or the line with which it is over, whose story it ends with
     pub record ShowsOver (other : Stretch) : Type 0 where
       pub still : ShowsStill other
-      pub last : (t u v : Tale) → a ≡ Some t → b ≡ Some u → c ≡ Some v → (bytes : ℕ) → length (told t) + bytes ≡ length (told u) → IsLastShown other bytes end.drive (drive_content v)
+      pub ends : other.new ≡ end.story
+      pub last : (t u v : Tale) → a ≡ Some t → b ≡ Some u → c ≡ Some v → (bytes : ℕ) → length (told t) + bytes ≡ length (told u) → IsLastShown other bytes end.counts.drive (drive_content v)
 
     went_more : (other : Stretch) → Shows other → (r : Bool) (left : Script) (t u v : Tale) → a ≡ Some t → b ≡ Some u → c ≡ Some v → then ≡ Some left → Went host stretch start here first now any (asked_of input) so_far.left t u
         → Turns host here end now new any so_far.left then (On r) u v → Went host other start end first new r (asked_of input) left t v
@@ -123,7 +125,7 @@ module _ (host : Host) (first : Memory) (input : List ℕ) (start : Counts) wher
         (λ t u m before more. lines_more_moment host (asked_of input) first t now so_far.left u before m more) so_far.moments so_far.ran (moments so_far.left so_far.comes)
 
     -- the turn that ends the run
-    pub over_ends : (other : Stretch) (status : RunStatus) → ShowsOver other → ((lines : Script) → before ≡ Some lines → Ends (TurnEnd host here end now new any lines then (Over status)) b c) → Ends (λ t u. Knows host first t → LinesRun host other start end first false (asked_of input) status t u) a c
+    pub over_ends : (other : Stretch) (status : RunStatus) → ShowsOver other → ((lines : Script) → before ≡ Some lines → Ends (TurnEnd host here end now new any lines then (Over status)) b c) → Ends (λ t u. Knows host first t → LinesRun host other start end.counts first false (asked_of input) status t u) a c
     over_ends other status shows turns t is =
         let one = so_far.went t is in
         let known = so_far.ran t is in
@@ -139,7 +141,7 @@ module _ (host : Host) (first : Memory) (input : List ℕ) (start : Counts) wher
                 is_told = turn.is_told ∙ ap (λ (l : List ℕ). l ++ turn.piece) went.is_told ∙ append_assoc (told t) went.so_far turn.piece;
                 last = kept_at new two.0;
                 left = record { content = λ block. refl; opened = λ not_lost. (two.2.knows not_lost (knows_so first_known)).opened };
-                runs = record { so_far = went.so_far; rest = turn.piece; parts = refl; at = at here (kept_at now one.0) any so_far.left; lines = still t one.0 is one.1 went; over = turn.leads other (length went.so_far) (shows.last t one.0 two.0 is one.1 two.1 (length went.so_far) (until t one.0 went)) };
+                runs = record { so_far = went.so_far; rest = turn.piece; parts = refl; at = at here (kept_at now one.0) any so_far.left; lines = still t one.0 is one.1 went; over = turn.leads other (length went.so_far) shows.ends (shows.last t one.0 two.0 is one.1 two.1 (length went.so_far) (until t one.0 went)) };
               },
         )
       where
@@ -151,17 +153,18 @@ module _ (host : Host) (first : Memory) (input : List ℕ) (start : Counts) wher
             lines_shown host stretch other (length went.so_far) (λ bytes piece c some le seen. shows.still t u is_t is_u bytes piece c some (omega (arith, until t u went, le)) seen) 0 _ _ went.so_far (omega arith) went.lines
 
 -- the same end of a run, by another stretch
-over_shown : (host : Host) (stretch other : Stretch) (bytes : ℕ) → ((drive : ℕ) (content : ℕ → List ℕ) → IsLastShown stretch bytes drive content → IsLastShown other bytes drive content) → (end : Counts) (now : At) (told : List ℕ) (status : RunStatus) (last : Kept)
+over_shown : (host : Host) (stretch other : Stretch) (bytes : ℕ) → other.new ≡ stretch.new → ((drive : ℕ) (content : ℕ → List ℕ) → IsLastShown stretch bytes drive content → IsLastShown other bytes drive content) → (end : Counts) (now : At) (told : List ℕ) (status : RunStatus) (last : Kept)
     → IsOver host stretch bytes end now told status last → IsOver host other bytes end now told status last
-over_shown host stretch other bytes shows end now told status last (unread so stops) = unread so stops
-over_shown host stretch other bytes shows end now told status last (ended how same stops) = ended how same stops
-over_shown host stretch other bytes shows end now told status last (broken answer later next more comes shown rose with) = broken answer later next more comes (shows later.drive next.content shown) rose with
+over_shown host stretch other bytes ends shows end now told status last (unread so still stops) = unread so (ends ∙ still) stops
+over_shown host stretch other bytes ends shows end now told status last (ended how same still stops) = ended how same (ends ∙ still) stops
+over_shown host stretch other bytes ends shows end now told status last (broken answer later next more comes shown rose led with) =
+    broken answer later next more comes (shows later.drive next.content shown) rose (subst (λ (o : Option Story). AreInTime now.counts now.story o) (sym ends) led) with
 
 -- the same lines, by a stretch that begins earlier
-pub run_earlier : (host : Host) (stretch other : Stretch) → ((bytes piece : ℕ) (shown : At) → 0 < piece → IsShown stretch bytes piece shown → IsShown other bytes piece shown)
-    → ((bytes drive : ℕ) (content : ℕ → List ℕ) → IsLastShown stretch bytes drive content → IsLastShown other bytes drive content) → (now end : Counts) (memory : Memory) (script : Script) (status : RunStatus) (t u : Tale)
+pub run_earlier : (host : Host) (stretch other : Stretch) → other.new ≡ stretch.new → ((bytes piece : ℕ) (shown : At) → 0 < piece → IsShown stretch bytes piece shown → IsShown other bytes piece shown)
+    → ((bytes drive : ℕ) (content : ℕ → List ℕ) → IsLastShown stretch bytes drive content → IsLastShown other bytes drive content) → (now : Point) (end : Counts) (memory : Memory) (script : Script) (status : RunStatus) (t u : Tale)
     → LinesRun host stretch now end memory false script status t u → LinesRun host other now end memory false script status t u
-run_earlier host stretch other shows last now end memory script status t u run = record {
+run_earlier host stretch other ends shows last now end memory script status t u run = record {
   more = run.more;
   is_told = run.is_told;
   last = run.last;
@@ -172,7 +175,7 @@ run_earlier host stretch other shows last now end memory script status t u run =
     parts = run.runs.parts;
     at = run.runs.at;
     lines = lines_shown host stretch other (length run.runs.so_far) (λ bytes piece shown some le seen. shows bytes piece shown some seen) 0 _ _ run.runs.so_far (omega arith) run.runs.lines;
-    over = over_shown host stretch other (length run.runs.so_far) (last (length run.runs.so_far)) end run.runs.at run.runs.rest status run.last run.runs.over;
+    over = over_shown host stretch other (length run.runs.so_far) ends (last (length run.runs.so_far)) end run.runs.at run.runs.rest status run.last run.runs.over;
   };
 }
 

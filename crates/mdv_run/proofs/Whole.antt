@@ -1,13 +1,15 @@
 -- A whole run: its boot, and the lines behind it.
 use Rattle.std.specs.Option.{option_map}
-use Rattle.mdv_shelf.specs.Shelves.{GoesOn}
+use Rattle.mdv_shelf.specs.Calls.{OnDrive, OnReplies}
+use Rattle.mdv_shelf.specs.Shelves.{AtEachTale, GoesOn, KeptOn}
+use Rattle.mdv_run.proofs.Keeping.{replies_apart}
 use Rattle.mdv_shelf.specs.Story.{Story, tale_of}
 use Rattle.mdv_shelf.specs.declared.shelf.Shelf.{Ghosts}
-use Rattle.mdv_shelf.proofs.Moments.{some_is}
+use Rattle.mdv_shelf.proofs.Moments.{moments_end, some_is}
 use Rattle.mdv_engine_law.specs.Line.{IsSame}
 use Rattle.mdv_run.specs.Below.{counts}
 use Rattle.mdv_run.specs.Promise.{between}
-use Rattle.std.proofs.Common.{◌≡◌, ℕ, Bool, List, [], ◌++◌, Option, Some, Err, refl, sym, subst, ◌∙◌, ap, false, arith}
+use Rattle.std.proofs.Common.{◌≡◌, ℕ, Bool, List, [], ◌++◌, Option, Some, Err, refl, sym, subst, ◌∙◌, ap, false}
 use Rattle.std.proofs.lemmas.List.{append-nil}
 use Rattle.mdv_run.specs.Below.{Script, Tale, told, Ended, Host, Memory, IsRebooted, kept_at, unbooted, HasBootCause, boot_answer, RunStatus, Counts, Stretch, IsWholeRun, HasStatusCause}
 use Rattle.mdv_engine_law.specs.Line.{drive_content}
@@ -18,7 +20,7 @@ use Rattle.mdv_run.specs.Turns.{LinesRun}
 
 module _ (host : Host) (stretch : Stretch) (start : Counts) (t : Tale) (script : Script) (tale : Option Tale) where
   -- a run that is over with its boot
-  pub whole_over : (T : Type 0) (end : Counts) → RoseCalmly start end → (u : Tale) (memory : Memory) (r : Ended) → IsPoint stretch start.source end (drive_content u) → tale ≡ Some u → told u ≡ told t → IsRebooted (drive_failures start end) host (kept_at (unbooted 0) t) (boot_answer {T = T} (Err r)) (kept_at memory u) → IsWholeRun host stretch start end t script tale (status_at r)
+  pub whole_over : (T : Type 0) (end : Counts) → RoseCalmly start end → (u : Tale) (memory : Memory) (r : Ended) → IsPoint stretch start.source end stretch.new (drive_content u) → tale ≡ Some u → told u ≡ told t → IsRebooted (drive_failures start end) host (kept_at (unbooted 0) t) (boot_answer {T = T} (Err r)) (kept_at memory u) → IsWholeRun host stretch start end t script tale (status_at r)
   whole_over T end rose u memory r point is quiet rebooted = record {
     u = u;
     tells = is;
@@ -26,7 +28,7 @@ module _ (host : Host) (stretch : Stretch) (start : Counts) (t : Tale) (script :
     is_told = quiet ∙ sym (append-nil (told t));
     last = kept_at memory u;
     left = record { content = λ block. refl; opened = λ known. absurd (known (lost r)) };
-    runs = record { answer = boot_answer {T = T} (Err r); booted = end; rose = rose; kept = kept_at memory u; boots = rebooted; point = point; runs = (refl, record { silent = refl; ended = refl; keeps = refl }) };
+    runs = record { answer = boot_answer {T = T} (Err r); booted = end; rose = rose; kept = kept_at memory u; boots = rebooted; story = stretch.new; point = point; runs = (refl, refl, record { silent = refl; ended = refl; keeps = refl }) };
   } where
     lost : (r : Ended) → IsLostStatus (status_at r)
     lost (ended.Lost active listed) = tt
@@ -34,16 +36,16 @@ module _ (host : Host) (stretch : Stretch) (start : Counts) (t : Tale) (script :
     lost ended.Memory = tt
 
   -- a run that goes on to its lines
-  pub whole_lines : (mid end : Counts) → RoseCalmly start mid → (u v : Tale) (memory : Memory) (status : RunStatus) → IsPoint stretch start.source mid (drive_content u) → tale ≡ Some v → told u ≡ told t → IsRebooted (drive_failures start mid) host (kept_at (unbooted 0) t) accepted (kept_at memory u)
-      → LinesRun host stretch mid end memory false script status u v → IsWholeRun host stretch start end t script tale status
-  whole_lines mid end rose u v memory status point is quiet rebooted lines = record {
+  pub whole_lines : (mid end : Counts) → RoseCalmly start mid → (u v : Tale) (memory : Memory) (status : RunStatus) (story : Option Story) → IsPoint stretch start.source mid story (drive_content u) → tale ≡ Some v → told u ≡ told t → IsRebooted (drive_failures start mid) host (kept_at (unbooted 0) t) accepted (kept_at memory u)
+      → LinesRun host stretch (record { counts = mid; story = story }) end memory false script status u v → IsWholeRun host stretch start end t script tale status
+  whole_lines mid end rose u v memory status story point is quiet rebooted lines = record {
     u = v;
     tells = is;
     more = lines.more;
     is_told = lines.is_told ∙ ap (λ (l : List ℕ). l ++ lines.more) quiet;
     last = lines.last;
     left = lines.left;
-    runs = record { answer = accepted; booted = mid; rose = rose; kept = kept_at memory u; boots = rebooted; point = point; runs = lines.runs };
+    runs = record { answer = accepted; booted = mid; rose = rose; kept = kept_at memory u; boots = rebooted; story = story; point = point; runs = lines.runs };
   }
 
 -- why a run is over with its boot
@@ -52,14 +54,20 @@ over_cause T start end (ended.Lost active listed) unread why = why
 over_cause T start end ended.Spent unread why = tt
 over_cause T start end ended.Memory unread why = tt
 
--- the point between two stretches of calls
-pub point_between : {S : Type 0} (shelf : Ghosts S) (telling : (s : S) → shelf.tale s ≡ option_map tale_of (shelf.story s)) (a b c : S) (source : ℕ) (u : Tale) → shelf.tale b ≡ Some u → GoesOn shelf a b → GoesOn shelf b c
-    → IsPoint (between shelf a c) source (counts (shelf.faults b) source) (drive_content u)
-point_between shelf telling a b c source u is before behind = record {
-  point = shelf.story b;
-  faults = shelf.faults b;
-  before = before;
-  behind = behind;
-  counts_are = refl;
-  reads = λ s at. subst (λ (t : Tale). IsSame (drive_content u) (drive_content t)) (some_is (shelf.tale b) u (tale_of s) is (telling b ∙ ap (λ (o : Option Story). option_map tale_of o) at)) (λ block. refl);
-}
+-- the point between a boot and the calls behind it
+module _ {S : Type 0} (shelf : Ghosts S) (telling : (s : S) → shelf.tale s ≡ option_map tale_of (shelf.story s)) (a b c : S) (source : ℕ) (u : Tale) (is : shelf.tale b ≡ Some u) (on : KeptOn shelf a b (OnDrive 0)) where
+  tale_there : (s : S) (x : Story) → shelf.story s ≡ Some x → shelf.tale s ≡ Some (tale_of x)
+  tale_there s x at = telling s ∙ ap (λ (o : Option Story). option_map tale_of o) at
+
+  pub point_between : AtEachTale shelf (λ t m. told m ≡ told t) a b → GoesOn shelf b c → IsPoint (between shelf a c) source (counts (shelf.faults b) source) (shelf.story b) (drive_content u)
+  point_between quiet behind = record {
+    faults = shelf.faults b;
+    before = on.goes;
+    behind = behind;
+    counts_are = refl;
+    in_time = record { drive = on.in_time; replies = on.elsewhere OnReplies replies_apart (shelf.faults a OnReplies) };
+    quiet = λ s x at there.
+        let end = moments_end (λ t m. told m ≡ told t) (shelf.tale a) (shelf.tale b) quiet (tale_of s) (tale_there a s at) in
+        ap told (some_is (shelf.tale b) (tale_of x) end.0 (tale_there b x there) end.1) ∙ end.2;
+    reads = λ s at. subst (λ (t : Tale). IsSame (drive_content u) (drive_content t)) (some_is (shelf.tale b) u (tale_of s) is (tale_there b s at)) (λ block. refl);
+  }

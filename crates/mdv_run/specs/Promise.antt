@@ -2,7 +2,7 @@
 use Rattle.mdv_base.specs.Causes.{Failures}
 use Rattle.std.specs.Prelude.{◌≡◌, ◌≢◌, ◌⊎◌, ◌↔◌, ◌≤◌, ◌<◌, ◌+◌, ℕ, Bool, false, List, Option, Some}
 use Rattle.mdv_run.specs.Below.{Reader, Script, line, asked_before, asked_of, Tale, Reply, IsReplied, Host, Memory, Engine, Knows, IsWell, StaysHome, TellsFront, IsAnswered, IsToldBy, kept_at, RunStatus, NoMemory, Usage, Counts, Stretch, counts, HasStatusCause, IsWholeRun, RunMoment, LinesMoment, RanTo}
-use Rattle.mdv_shelf.specs.Shelves.{AtEachMoment, AtEachTale, AtEnd, DriveFailed, DriveFailures, EndsTold, GivingFailed, RestsOnceTold}
+use Rattle.mdv_shelf.specs.Shelves.{AtEachMoment, AtEachTale, AtEnd, DriveFailed, DriveFailures, EndsTold, GivingFailed, GivingFailures, RestsOnceTold}
 use Rattle.mdv_shelf.specs.Calls.{RoseByAtMost}
 use Rattle.mdv_run.specs.Calls.{ScriptCalls, TurnTook}
 use Rattle.mdv_shelf.specs.Story.{OfTales}
@@ -13,11 +13,16 @@ use Rattle.mdv_home.specs.declared.geometry.Home.{Home}
 use Rattle.mdv_name.specs.declared.geometry.Geometry.{Geometry}
 use Rattle.mdv_run.specs.declared.session.Turn.{Turn}
 use Rattle.mdv_engine_law.specs.Replies.{IsLost, HasReplyCause}
-use Rattle.mdv_run.specs.Turns.{LineAnswered, LinesFront, LinesRun, TurnFront, Turns, at, HasTurnCause, IsOn, IsLostTurn}
+use Rattle.mdv_engine_law.specs.declared.answer.Reply.TheVariants as reply
+use Rattle.mdv_run.specs.Turns.{LineAnswered, LinesFront, LinesRun, Point, TurnFront, Turns, at, HasTurnCause, IsOn, IsLostTurn}
 
 -- how often each part had failed by then
 abbrev pub by : {B I : Type 0} → Shelf B → Source I → B → I → Counts
 by shelf source bench script = counts (shelf.faults bench) (source.faults script)
+
+-- and where they are
+abbrev pub point_at : {B I : Type 0} → Shelf B → Source I → B → I → Point
+point_at shelf source bench script = record { counts = by shelf source bench script; story = shelf.story bench }
 
 -- what the bench told and counted, from one point to another
 abbrev pub between : {B : Type 0} → Shelf B → B → B → Stretch
@@ -57,16 +62,16 @@ pub record HasRun {B I : Type 0} (shelf : Shelf B) (source : Source I) (host : H
 -- the lines of a run behind its boot, which left this memory
 pub record HaveRun {B I : Type 0} (shelf : Shelf B) (source : Source I) (host : Host) (memory : Memory) (old : B) (from : I) (new : B) (to : I) (status : RunStatus) : Type 0 where
   pub runs : (input : List ℕ) → source.left from ≡ Some input
-      → AtEnd shelf (λ t u. Knows host memory t → LinesRun host (between shelf old new) (by shelf source old from) (by shelf source new to) memory false (asked_of input) status t u) old new
+      → AtEnd shelf (λ t u. Knows host memory t → LinesRun host (between shelf old new) (point_at shelf source old from) (by shelf source new to) memory false (asked_of input) status t u) old new
   pub moments : (input : List ℕ) → source.left from ≡ Some input → AtEachTale shelf (LinesMoment host (asked_of input) memory) old new
   pub tells : (input : List ℕ) → source.left from ≡ Some input
-      → AtEachMoment shelf (λ t m. Knows host memory t.tale → LinesFront host (between shelf old new) (at (by shelf source old from) (kept_at memory t.tale) false (asked_of input)) t m) old new
+      → AtEachMoment shelf (λ t m. Knows host memory t.tale → LinesFront host (between shelf old new) (at (point_at shelf source old from) (kept_at memory t.tale) false (asked_of input)) t m) old new
   pub home : AtEachTale shelf (StaysHome host) old new
   pub causes : HasStatusCause (by shelf source old from) (by shelf source new to) status
   pub counted : (input : List ℕ) → source.left from ≡ Some input → (n : ℕ) → ScriptCalls (asked_of input) n → RoseByAtMost n (shelf.calls old) (shelf.calls new)
 
 -- one turn, in the end: what it told and led to, by the script before it, and what is known of the drive then
-pub record TurnEnd (host : Host) (now later : Counts) (old new : Memory) (refused : Bool) (script : Script) (before : Option Script) (turn : Turn) (t u : Tale) : Type 0 where
+pub record TurnEnd (host : Host) (now later : Point) (old new : Memory) (refused : Bool) (script : Script) (before : Option Script) (turn : Turn) (t u : Tale) : Type 0 where
   pub turns : Knows host old t → Turns host now later old new refused script before turn t u
   pub ran : IsOn turn → (left : Script) → before ≡ Some left → RanTo host script old new left t u
   pub knows : (IsLostTurn turn → ⊥) → Knows host old t → Knows host new u
@@ -75,7 +80,7 @@ pub record TurnEnd (host : Host) (now later : Counts) (old new : Memory) (refuse
 abbrev pub TurnEnds : {B I : Type 0} → Shelf B → Source I → Engine → Engine → B → B → I → I → Reader → Reader → Bool → Turn → Type 0
 TurnEnds shelf source engine then bench on from to before after refused turn =
     (script : Script) → asked_before before (source.left from) ≡ Some script
-    → AtEnd shelf (TurnEnd engine.host (by shelf source bench from) (by shelf source on to) engine.state then.state refused script (asked_before after (source.left to)) turn) bench on
+    → AtEnd shelf (TurnEnd engine.host (point_at shelf source bench from) (point_at shelf source on to) engine.state then.state refused script (asked_before after (source.left to)) turn) bench on
 
 -- what a turn says whatever bench and source tell: its cause, and what the engine and the reader are then
 pub record TurnAnswer (now later : Counts) (host : Host) (engine : Engine) (before after : Reader) (left rest : Option (List ℕ)) (calls made : Option ℕ) (turn : Turn) : Type 0 where
@@ -95,18 +100,23 @@ TurnAnswers shelf source host engine bench on from to before after turn = TurnAn
 abbrev pub TurnTells : {B I : Type 0} → Shelf B → Source I → Engine → B → B → I → Reader → Bool → Type 0
 TurnTells shelf source engine bench on from before refused =
     (script : Script) → asked_before before (source.left from) ≡ Some script
-    → AtEachMoment shelf (λ t m. Knows engine.host engine.state t.tale → TurnFront engine.host (at (by shelf source bench from) (kept_at engine.state t.tale) refused script) t m) bench on
+    → AtEachMoment shelf (λ t m. Knows engine.host engine.state t.tale → TurnFront engine.host (at (point_at shelf source bench from) (kept_at engine.state t.tale) refused script) t m) bench on
 
 -- a front of a line's reply
 abbrev pub LineTells : {B : Type 0} → Shelf B → Engine → List ℕ → B → B → Type 0
 LineTells shelf engine text bench on =
     AtEachMoment shelf (λ t m. Knows engine.host engine.state t.tale → TellsFront (λ failures kept answer next. IsAnswered failures engine.host kept text answer next) engine.state t m) bench on
 
+-- the giving of a reply didn't fail, or there was none
+abbrev pub IsUncut : Reply → Type 0
+IsUncut given = given ≢ reply.Told
+
 -- A line, or a turn: outside the host's area nothing happens; from the first byte of its reply on the drives are at rest, and where it was told whole no
--- call failed; and a front of it is told by each moment.
-pub record LineStays {B : Type 0} (shelf : Shelf B) (host : Host) (replied Tells : Type 0) (old new : B) : Type 0 where
+-- call failed; unless it was cut short no giving failed at all; and a front of it is told by each moment.
+pub record LineStays {B : Type 0} (shelf : Shelf B) (host : Host) (replied uncut Tells : Type 0) (old new : B) : Type 0 where
   pub home : AtEachTale shelf (StaysHome host) old new
   pub told : replied → EndsTold shelf old new
+  pub given : uncut → (GivingFailures shelf old new).none
   pub rests : RestsOnceTold shelf old new
   pub tells : Tells
 

@@ -2,7 +2,7 @@
 use Rattle.mdv_base.specs.Causes.{Failures}
 use Rattle.std.specs.Prelude.{◌≡◌, ℕ, Bool, true, List, ◌++◌, Option, Some}
 use Rattle.mdv_run.specs.Below.{Script, Tale, told, Answer, Reply, Host, Kept, Memory, kept_at, Replied, RunStatus, Panic, WriteFault, NoMemory, NumbersSpent, At, Counts, IsNextFront, LinesToldBy, LineTold, Runs, Stretch, IsAnswered, IsLeft, HasStatusCause}
-use Rattle.mdv_shelf.specs.Story.{Moment}
+use Rattle.mdv_shelf.specs.Story.{Moment, Story}
 use Rattle.mdv_run_law.specs.Run.{IsLastShown, IsLostStatus, Over as IsOver}
 use Rattle.mdv_engine_law.specs.declared.answer.Reply.TheVariants as reply
 use Rattle.mdv_run.specs.declared.session.Turn.{Turn}
@@ -28,18 +28,23 @@ abbrev pub IsLostTurn : Turn → Type 0
 IsLostTurn (On r) = ⊥
 IsLostTurn (Over status) = IsLostStatus status
 
+-- where bench and source are: how often each part had failed, and the bench's story
+pub record Point : Type 0 where
+  pub counts : Counts
+  pub story : Option Story
+
 -- where a run is before a turn
-abbrev pub at : Counts → Kept → Bool → Script → At
-at now kept refused script = record { counts = now; kept = kept; refused = refused; script = script }
+abbrev pub at : Point → Kept → Bool → Script → At
+at now kept refused script = record { counts = now.counts; story = now.story; kept = kept; refused = refused; script = script }
 
--- One turn told this piece: a line's reply, and the run goes on; or the run is over with it, by each stretch that shows how often the drive
+-- One turn told this piece: a line's reply, and the run goes on; or the run is over with it, by each stretch that ends there, and shows how often the drive
 -- failed, and what it has.
-abbrev pub Leads : Host → At → List ℕ → Counts → Kept → Option Script → Turn → Type 0
+abbrev pub Leads : Host → At → List ℕ → Point → Kept → Option Script → Turn → Type 0
 Leads host from piece then kept before (On r) = (more : Script) × (before ≡ Some more) × LineTold host from piece (at then kept r more)
-Leads host from piece then kept before (Over status) = (stretch : Stretch) (bytes : ℕ) → IsLastShown stretch bytes then.drive kept.content → IsOver host stretch bytes then from piece status kept
+Leads host from piece then kept before (Over status) = (stretch : Stretch) (bytes : ℕ) → stretch.new ≡ then.story → IsLastShown stretch bytes then.counts.drive kept.content → IsOver host stretch bytes then.counts from piece status kept
 
--- a turn, from these counts to those, told by the script before it
-pub record Turns (host : Host) (now then : Counts) (old new : Memory) (refused : Bool) (script : Script) (before : Option Script) (turn : Turn) (t u : Tale) : Type 0 where
+-- a turn, from one point to another, told by the script before it
+pub record Turns (host : Host) (now then : Point) (old new : Memory) (refused : Bool) (script : Script) (before : Option Script) (turn : Turn) (t u : Tale) : Type 0 where
   pub piece : List ℕ
   pub is_told : told u ≡ told t ++ piece
   pub leads : Leads host (at now (kept_at old t) refused script) piece then (kept_at new u) before turn
@@ -53,7 +58,7 @@ IsOn (On r) = Unit {0}
 IsOn (Over status) = ⊥
 
 -- the lines of a run from that state on
-pub record LinesRun (host : Host) (stretch : Stretch) (now then : Counts) (old : Memory) (refused : Bool) (script : Script) (status : RunStatus) (t u : Tale) : Type 0 where
+pub record LinesRun (host : Host) (stretch : Stretch) (now : Point) (then : Counts) (old : Memory) (refused : Bool) (script : Script) (status : RunStatus) (t u : Tale) : Type 0 where
   pub more : List ℕ
   pub is_told : told u ≡ told t ++ more
   pub last : Kept

@@ -1,5 +1,5 @@
 ghost use Rattle.std.specs.Prelude.{◌≡◌, Err, IfOk, ◌<◌, ◌≤◌, ◌+◌, ◌^◌, ◌↔◌, ℕ, List, [], ◌∷◌, map, string_bytes, Some, IsTrue};
-ghost use Rattle.mdv_shelf.specs.Shelves.{AtEachTale, Kept};
+ghost use Rattle.mdv_shelf.specs.Shelves.{AtEachTale, Kept, KeptInTime};
 ghost use Rattle.mdv_port.specs.Script.{Script, line as line_of};
 ghost use Rattle.mdv_run.specs.Lines.{asked_before};
 ghost use Rattle.mdv_run.specs.Calls.{TextCalls};
@@ -17,7 +17,7 @@ ghost use Rattle.mdv_run_law.specs.Lives.{host_of};
 ghost use Rattle.mdv_run_law.specs.Usage.{IsUsed};
 ghost use Rattle.mdv_run_law.specs.Run.{status_at, status_of};
 ghost use Rattle.mdv_run_law.specs.Standing.{LinesMoment};
-ghost use Rattle.mdv_run.specs.Promise.{HasRun, HaveRun, IsUntouched, IsUsageOf, LineEnds, LineReplies, LineStays, LineTells, OfEachUse, TurnAnswers, TurnEnds, TurnTells};
+ghost use Rattle.mdv_run.specs.Promise.{HasRun, HaveRun, IsUncut, IsUntouched, IsUsageOf, LineEnds, LineReplies, LineStays, LineTells, OfEachUse, TurnAnswers, TurnEnds, TurnTells};
 ghost use Rattle.mdv_run.specs.Turns.{IsOn, turn_of as spec_turn_of};
 
 use crate::lines::next_asked;
@@ -69,7 +69,6 @@ pub fn run<B: Bench, I: Source>(
 }
 
 // The run of this host on its drive.
-#[tactic(auto, using(mdv_shelf::proofs::Noted::kept_more))]
 fn run_host<B: Bench, I: Source>(
     host: Host,
     alloc: Global,
@@ -153,7 +152,6 @@ fn has_drive<B: Bench>(bench: &B, blocks: u64) -> bool
     bench.drives() == 1 && bench.blocks(DriveNo(0)) == blocks
 }
 
-#[tactic(auto, using(mdv_shelf::proofs::Noted::kept_more))]
 fn run_lines<B: Bench, I: Source>(
     engine: &mut Engine,
     alloc: Global,
@@ -183,7 +181,6 @@ enum Turn {
 }
 
 // One line: it is taken, carried out and answered.
-#[tactic(auto, using(mdv_shelf::proofs::Noted::kept_more))]
 fn take_turn<B: Bench, I: Source>(
     engine: &mut Engine,
     alloc: Global,
@@ -197,9 +194,9 @@ fn take_turn<B: Bench, I: Source>(
     requires begun { engine.old.state.begun ≤ reader.old.lines }
     ensures moments { (lines : Script) → asked_before reader.old (I.left script.old) ≡ Some lines → AtEachTale B.Shelf (LinesMoment engine.old.host lines engine.old.state) bench.old bench.new }
     ensures end { TurnEnds B.Shelf I.Source engine.old engine.new bench.old bench.new script.old script.new reader.old reader.new any_refused result }
-    ensures stays { LineStays B.Shelf engine.old.host (IsOn result) (TurnTells B.Shelf I.Source engine.old bench.old bench.new script.old reader.old any_refused) bench.old bench.new }
+    ensures stays { LineStays B.Shelf engine.old.host (IsOn result) (IsOn result) (TurnTells B.Shelf I.Source engine.old bench.old bench.new script.old reader.old any_refused) bench.old bench.new }
     ensures answer { TurnAnswers B.Shelf I.Source engine.old.host engine.new bench.old bench.new script.old script.new reader.old reader.new result }
-    ensures kept { Kept B.Shelf bench.old bench.new }
+    ensures kept { KeptInTime B.Shelf bench.old bench.new }
 {
     match next_asked(reader, script) {
         Ok(LineEnd::Line) => turn_of(answer(engine, alloc, bench, reader.line()), any_refused),
@@ -214,16 +211,15 @@ fn take_turn<B: Bench, I: Source>(
 }
 
 // Carries a line out and replies to it.
-#[tactic(auto, using(mdv_shelf::proofs::Noted::kept_more))]
 fn answer<B: Bench>(engine: &mut Engine, alloc: Global, bench: &mut B, line: &[u8]) -> Reply
     requires ready { IsReady engine.old.host (B.sizes bench.old) }
     requires well { IsWell engine.old.host engine.old.state }
     requires begun { engine.old.state.begun + 1 < 2 ^ 32 }
     ensures moments { (more : Script) → AtEachTale B.Shelf (LinesMoment engine.old.host (line_of line.now more) engine.old.state) bench.old bench.new }
     ensures end { LineEnds B.Shelf bench.old bench.new engine.old.host line.now engine.old.state engine.new.state result }
-    ensures stays { LineStays B.Shelf engine.old.host (IsReplied result) (LineTells B.Shelf engine.old line.now bench.old bench.new) bench.old bench.new }
+    ensures stays { LineStays B.Shelf engine.old.host (IsReplied result) (IsUncut result) (LineTells B.Shelf engine.old line.now bench.old bench.new) bench.old bench.new }
     ensures answer { LineReplies B.Shelf engine.old bench.old bench.new (TextCalls line.now) engine.new result }
-    ensures kept { Kept B.Shelf bench.old bench.new }
+    ensures kept { KeptInTime B.Shelf bench.old bench.new }
 {
     let Some(spelled) = read_line(line) else {
         return engine.refuse(bench, &Refusal::BadLine);
@@ -234,15 +230,14 @@ fn answer<B: Bench>(engine: &mut Engine, alloc: Global, bench: &mut B, line: &[u
     }
 }
 
-#[tactic(auto, using(mdv_shelf::proofs::Noted::kept_more))]
 fn boot_anew<B: Bench>(engine: &mut Engine, alloc: Global, bench: &mut B) -> Reply
     requires ready { IsReady engine.old.host (B.sizes bench.old) }
     requires well { IsWell engine.old.host engine.old.state }
     ensures moments { AtEachTale B.Shelf (TurnMoment engine.old.host Nothing engine.old.state) bench.old bench.new }
     ensures end { (text : List ℕ) → IsLine text Boot → LineEnds B.Shelf bench.old bench.new engine.old.host text engine.old.state engine.new.state result }
-    ensures stays { (text : List ℕ) → IsLine text Boot → LineStays B.Shelf engine.old.host (IsReplied result) (LineTells B.Shelf engine.old text bench.old bench.new) bench.old bench.new }
+    ensures stays { (text : List ℕ) → IsLine text Boot → LineStays B.Shelf engine.old.host (IsReplied result) (IsUncut result) (LineTells B.Shelf engine.old text bench.old bench.new) bench.old bench.new }
     ensures answer { LineReplies B.Shelf engine.old bench.old bench.new (λ n. n ≡ 14) engine.new result }
-    ensures kept { Kept B.Shelf bench.old bench.new }
+    ensures kept { KeptInTime B.Shelf bench.old bench.new }
 {
     match engine.reboot(bench, alloc) {
         Ok(()) => engine.accept(bench),

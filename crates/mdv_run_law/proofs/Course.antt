@@ -1,5 +1,5 @@
 -- Where nothing failed and memory was never wanting, a run has one course.
-use Rattle.std.proofs.Common.{◌≡◌, inl, inr, ℕ, Bool, false, List, [], ◌∷◌, ◌++◌, length, ◌+◌, ◌≤◌, Contains, refl, sym, ◌∙◌, ap, subst, append_assoc, arith}
+use Rattle.std.proofs.Common.{◌≡◌, inl, inr, ℕ, Bool, List, [], ◌∷◌, ◌++◌, length, ◌+◌, ◌≤◌, Option, Contains, refl, sym, ◌∙◌, ap, subst, append_assoc, arith}
 use Rattle.std.proofs.lemmas.List.Elements.{Contains-append_right}
 use Rattle.mdv_base.specs.Causes.{Failures}
 use Rattle.mdv_base.proofs.Causes.{IsWithin, rose_within}
@@ -13,13 +13,14 @@ use Rattle.mdv_engine_law.specs.Answers.{accepted, refusing}
 use Rattle.mdv_engine_law.specs.Commands as came
 use Rattle.mdv_engine_law.specs.Commands.{Effect, case_of}
 use Rattle.mdv_engine_law.specs.Line as boot
+use Rattle.mdv_shelf.specs.Story.{Story}
 use Rattle.mdv_status.specs.Telling.{Said as SaidBytes}
 use Rattle.mdv_engine_law.specs.Replies.{text_of}
 use Rattle.mdv_engine_law.proofs.Executing.{comes_more, rebooted_more}
 use Rattle.mdv_engine_law.proofs.Plain.{bad_line_plain, too_long_plain, memory_plain, refusal_plain, ok_reply, values_are_reply, refusal_reply}
 use Rattle.mdv_run_law.specs.declared.status.RunStatus.{RunStatus}
 use Rattle.mdv_run_law.specs.declared.status.RunStatus.TheVariants.{NoMemory}
-use Rattle.mdv_run_law.specs.Run.{Counts, RoseTo, RoseCalmly, OnlyUngiven, IsUndisturbed, IsSated, Stops, At, NextLine, IsSaid, refused_by, LineTold, LinesTold, Stretch, no_line, one_more, EndsAs, EndsWith, Over, unread, ended as script_ended, broken, Runs, RunsFrom, IsAnswered, IsLostStatus, IsSameEnd, HasHome, OneCourse, started, drive_failed, drive_failures, status_at}
+use Rattle.mdv_run_law.specs.Run.{Counts, RoseTo, RoseCalmly, OnlyReplying, IsUndisturbed, IsSated, Stops, At, NextLine, IsSaid, refused_by, LineTold, LinesTold, Stretch, no_line, one_more, EndsAs, EndsWith, Over, unread, ended as script_ended, broken, Runs, RunsFrom, behind_boot, IsAnswered, IsLostStatus, IsSameEnd, HasHome, OneCourse, started, drive_failed, drive_failures, status_at}
 use Rattle.mdv_run_law.proofs.Again.{Alike, neither, alike_itself}
 use Rattle.mdv_run_law.proofs.Carrying.{one_answer}
 use Rattle.mdv_run_law.proofs.Keeping.{IsSatisfied, Same, One, stays_same, one_boot}
@@ -36,9 +37,9 @@ module _ (failures : Failures) (calm : failures.some → ⊥) (host : Host) (kep
   booted_plain (adopted quiet newest ok memory is) = ok_plain ok
   booted_plain (empty quiet ok memory none same) = ok_plain ok
   booted_plain (down so ok memory same) = absurd (calm so)
-  booted_plain (lost so found panic) = absurd (calm so)
+  booted_plain (lost so found panic left) = absurd (calm so)
   booted_plain (boot.spent quiet is used same) = subst IsPlainAnswer (sym is) tt
-  booted_plain (wanting quiet is same) = subst IsPlainAnswer (sym is) tt
+  booted_plain (wanting quiet headed is same) = subst IsPlainAnswer (sym is) tt
 
   effect_plain : (command : Command) → Effect host kept command answer next → IsPlainAnswer answer
   effect_plain (Create slice force) is = ok_plain is.0
@@ -106,7 +107,7 @@ rose_to_more a b c one other = record {
 }
 
 calmly_rose : (a b : Counts) → RoseCalmly a b → RoseTo a b
-calmly_rose a b is = record { drive = is.drive; source = let same = is.source in omega arith; replies = is.replies }
+calmly_rose a b is = record { drive = is.drive; source = let same = is.source in omega arith; replies = let same = is.replies in omega arith }
 
 calm_within : (a b c d : Counts) → RoseTo a b → RoseTo c d → IsUndisturbed a d → IsUndisturbed b c
 calm_within a b c d before behind calm = record {
@@ -119,8 +120,9 @@ calm_within a b c d before behind calm = record {
 drive_calm : (a b c d : Counts) → a.drive ≤ b.drive → c.drive ≤ d.drive → IsUndisturbed a d → drive_failed b c → ⊥
 drive_calm a b c d before behind calm rose = calm.drive (rose_within _ _ _ _ before behind rose)
 
-drive_given : (a b : Counts) → OnlyUngiven a b → a.drive ≤ b.drive
-drive_given a b given = let same = given.drive in omega arith
+drive_replying : (answer : Answer) (a b : Counts) → OnlyReplying answer a b → a.drive ≤ b.drive
+drive_replying (Said this) a b given = let same = given.drive in omega arith
+drive_replying (Ends end) a b same = let drives = ap (λ (x : Counts). x.drive) same in omega arith
 
 rose_itself : (a : Counts) → RoseTo a a
 rose_itself a = record { drive = omega arith; source = omega arith; replies = omega arith }
@@ -133,11 +135,11 @@ module _ (host : Host) where
   next_rose now then kept next (line text left) rest answer is = calmly_rose now then is.1
 
   over_rose : (w : Stretch) (n : ℕ) (end : Counts) (now : At) (told : List ℕ) (status : RunStatus) (last : Kept) → Over host w n end now told status last → now.counts.drive ≤ end.drive
-  over_rose w n end now told status last (unread only stops) = let same = only.drive in omega arith
-  over_rose w n end now told status last (script_ended how same stops) = let drives = ap (λ (x : Counts). x.drive) same in omega arith
-  over_rose w n end now told status last (broken answer then next left is shown given with) =
+  over_rose w n end now told status last (unread only quiet stops) = let same = only.drive in omega arith
+  over_rose w n end now told status last (script_ended how same quiet stops) = let drives = ap (λ (x : Counts). x.drive) same in omega arith
+  over_rose w n end now told status last (broken answer then next left is shown given led with) =
       let before = (next_rose now.counts then now.kept next now.script left answer is).drive in
-      let behind = given.drive in
+      let behind = drive_replying answer then end given in
       omega arith
 
   lines_rose : (w : Stretch) (n : ℕ) (now then : At) (told : List ℕ) → LinesTold host w n now told then → RoseTo now.counts then.counts
@@ -240,18 +242,18 @@ module _ (host : Host) (content : ℕ → List ℕ) (has : HasHome host content)
   module _ (w v : Stretch) (c d : ℕ) (e f : Counts) (s r : RunStatus) (k j : Kept) where
     -- both are over before a line, or with its answer
     one_over : (n m : At) (a b : List ℕ) → Beside n m → IsUndisturbed n.counts e → IsUndisturbed m.counts f → IsSated a s → IsSated b r → Over host w c e n a s k → Over host v d f m b r j → SameEnds host a b s r k j
-    one_over n m a b beside calm calm_too sated sated_too (unread only stops) two = absurd (calm.source only.source)
-    one_over n m a b beside calm calm_too sated sated_too one (unread only stops) = absurd (calm_too.source only.source)
-    one_over n m a b beside calm calm_too sated sated_too (script_ended how same_counts stops) (script_ended how_too same_too stops_too) =
+    one_over n m a b beside calm calm_too sated sated_too (unread only quiet stops) two = absurd (calm.source only.source)
+    one_over n m a b beside calm calm_too sated sated_too one (unread only quiet stops) = absurd (calm_too.source only.source)
+    one_over n m a b beside calm calm_too sated sated_too (script_ended how same_counts quiet stops) (script_ended how_too same_too quiet_too stops_too) =
         let same = one_end n.refused m.refused n.script m.script s r beside.refused beside.script how how_too in
         (stops.silent ∙ sym stops_too.silent, same, λ known. subst (λ (x : Kept). IsSameEnd host x j) (sym stops.keeps) (subst (λ (x : Kept). IsSameEnd host n.kept x) (sym stops_too.keeps) (beside.kept.memory, beside.kept.beside)))
-    one_over n m a b beside calm calm_too sated sated_too (script_ended how same stops) (broken answer then next left is shown given with) =
+    one_over n m a b beside calm calm_too sated sated_too (script_ended how same quiet stops) (broken answer then next left is shown given led with) =
         absurd (never_next n.refused n.script m.script s m.counts then m.kept next left answer beside.script how is)
-    one_over n m a b beside calm calm_too sated sated_too (broken answer then next left is shown given with) (script_ended how same stops) =
+    one_over n m a b beside calm calm_too sated sated_too (broken answer then next left is shown given led with) (script_ended how same quiet stops) =
         absurd (never_next m.refused m.script n.script r n.counts then n.kept next left answer (sym beside.script) how is)
-    one_over n m a b beside calm calm_too sated sated_too (broken answer then next left is shown given with) (broken other to also behind is_too shown_too given_too with_too) =
-        let here = drive_calm n.counts n.counts then e (omega arith) (drive_given _ _ given) calm in
-        let there = drive_calm m.counts m.counts to f (omega arith) (drive_given _ _ given_too) calm_too in
+    one_over n m a b beside calm calm_too sated sated_too (broken answer then next left is shown given led with) (broken other to also behind is_too shown_too given_too led_too with_too) =
+        let here = drive_calm n.counts n.counts then e (omega arith) (drive_replying answer then e given) calm in
+        let there = drive_calm m.counts m.counts to f (omega arith) (drive_replying other to f given_too) calm_too in
         let last = calm_within n.counts then e e (next_rose host n.counts then n.kept next n.script left answer is) (rose_itself e) calm in
         let last_too = calm_within m.counts to f f (next_rose host m.counts to m.kept also m.script behind other is_too) (rose_itself f) calm_too in
         let both = one_next n.counts then m.counts to here there n.kept m.kept next also beside.kept n.script left behind answer other (end_satisfied _ last.replies answer next a s k with sated) (end_satisfied _ last_too.replies other also b r j with_too sated_too)
@@ -260,11 +262,11 @@ module _ (host : Host) (content : ℕ → List ℕ) (has : HasHome host content)
 
     -- one is over where the other goes on
     one_stays : (n m then : At) (a piece rest : List ℕ) → Beside n m → IsUndisturbed n.counts e → IsUndisturbed m.counts f → then.counts.drive ≤ f.drive → IsSated a s → IsSated (piece ++ rest) r → Over host w c e n a s k → LineTold host m piece then → ⊥
-    one_stays n m then a piece rest beside calm calm_too rose_too sated sated_too (unread only stops) two = calm.source only.source
-    one_stays n m then a piece rest beside calm calm_too rose_too sated sated_too (script_ended how same stops) two =
+    one_stays n m then a piece rest beside calm calm_too rose_too sated sated_too (unread only quiet stops) two = calm.source only.source
+    one_stays n m then a piece rest beside calm calm_too rose_too sated sated_too (script_ended how same quiet stops) two =
         never_next n.refused n.script m.script s m.counts then.counts m.kept then.kept then.script two.answer beside.script how two.comes
-    one_stays n m then a piece rest beside calm calm_too rose_too sated sated_too (broken answer to next left is shown given with) two =
-        let here = drive_calm n.counts n.counts to e (omega arith) (drive_given _ _ given) calm in
+    one_stays n m then a piece rest beside calm calm_too rose_too sated sated_too (broken answer to next left is shown given led with) two =
+        let here = drive_calm n.counts n.counts to e (omega arith) (drive_replying answer to e given) calm in
         let there = drive_calm m.counts m.counts then.counts f (omega arith) rose_too calm_too in
         let last = calm_within n.counts to e e (next_rose host n.counts to n.kept next n.script left answer is) (rose_itself e) calm in
         let both = one_next n.counts to m.counts then.counts here there n.kept m.kept next then.kept beside.kept n.script left then.script answer two.answer (end_satisfied _ last.replies answer next a s k with sated) (line_satisfied two.answer piece rest r two.said two.as_text sated_too)
@@ -311,37 +313,37 @@ module _ (host : Host) (content : ℕ → List ℕ) (has : HasHome host content)
     runs_rose : (w : Stretch) (n : At) (told : List ℕ) → Runs host w e n told s k → n.counts.drive ≤ e.drive
     runs_rose w n told runs = drive_on n.counts runs.at.counts e (lines_rose host w 0 n runs.at runs.so_far runs.lines) (over_rose host w (length runs.so_far) e runs.at runs.rest s k runs.over)
 
-    one_from : (w v : Stretch) (answer : Answer) (now from : Counts) (n m : Kept) → (IsSaid answer → Same host n m) → (script : Script) (a b : List ℕ) → IsUndisturbed now e → IsUndisturbed from f → IsSated a s → IsSated b r
-        → RunsFrom host w e answer now n script a s k → RunsFrom host v f answer from m script b r j → SameEnds host a b s r k j
-    one_from w v (Said outcome.Ok) now from n m same script a b calm calm_too sated sated_too one two =
-        let ends = one_run w v 0 0 (length one.so_far) (length two.so_far) (record { counts = now; kept = n; refused = false; script = script }) (record { counts = from; kept = m; refused = false; script = script }) one.at two.at one.so_far two.so_far one.rest two.rest
+    one_from : (w v : Stretch) (answer : Answer) (now from : Counts) (p q : Option Story) (n m : Kept) → (IsSaid answer → Same host n m) → (script : Script) (a b : List ℕ) → IsUndisturbed now e → IsUndisturbed from f → IsSated a s → IsSated b r
+        → RunsFrom host w e answer now p n script a s k → RunsFrom host v f answer from q m script b r j → SameEnds host a b s r k j
+    one_from w v (Said outcome.Ok) now from p q n m same script a b calm calm_too sated sated_too one two =
+        let ends = one_run w v 0 0 (length one.so_far) (length two.so_far) (behind_boot now p n script) (behind_boot from q m script) one.at two.at one.so_far two.so_far one.rest two.rest
         (record { script = refl; refused = refl; kept = same tt }) calm calm_too (subst (λ (l : List ℕ). IsSated l s) one.parts sated) (subst (λ (l : List ℕ). IsSated l r) two.parts sated_too) one.lines two.lines one.over two.over in
         (one.parts ∙ ends.0 ∙ sym two.parts, ends.1, ends.2)
-    one_from w v (Said (outcome.Values text)) now from n m same script a b calm calm_too sated sated_too one two = absurd one
-    one_from w v (Said (outcome.Refused refusal)) now from n m same script a b calm calm_too sated sated_too one two = absurd one
-    one_from w v (Ends end) now from n m same script a b calm calm_too sated sated_too one two = one_stop host n m (status_at end) a b s r k j (ended_status end) one.1 two.1
+    one_from w v (Said (outcome.Values text)) now from p q n m same script a b calm calm_too sated sated_too one two = absurd one
+    one_from w v (Said (outcome.Refused refusal)) now from p q n m same script a b calm calm_too sated sated_too one two = absurd one
+    one_from w v (Ends end) now from p q n m same script a b calm calm_too sated sated_too one two = one_stop host n m (status_at end) a b s r k j (ended_status end) one.2 two.2
 
   -- the boot at a run's start
   module _ (e : Counts) (s : RunStatus) (k : Kept) where
-    from_rose : (w : Stretch) (answer : Answer) (now : Counts) (n : Kept) (script : Script) (told : List ℕ) → RunsFrom host w e answer now n script told s k → now.drive ≤ e.drive
-    from_rose w (Said outcome.Ok) now n script told from = runs_rose e e s s k k w (record { counts = now; kept = n; refused = false; script = script }) told from
-    from_rose w (Said (outcome.Values text)) now n script told from = absurd from
-    from_rose w (Said (outcome.Refused refusal)) now n script told from = absurd from
-    from_rose w (Ends end) now n script told from = let drives = ap (λ (x : Counts). x.drive) from.0 in omega arith
+    from_rose : (w : Stretch) (answer : Answer) (now : Counts) (p : Option Story) (n : Kept) (script : Script) (told : List ℕ) → RunsFrom host w e answer now p n script told s k → now.drive ≤ e.drive
+    from_rose w (Said outcome.Ok) now p n script told from = runs_rose e e s s k k w (behind_boot now p n script) told from
+    from_rose w (Said (outcome.Values text)) now p n script told from = absurd from
+    from_rose w (Said (outcome.Refused refusal)) now p n script told from = absurd from
+    from_rose w (Ends end) now p n script told from = let drives = ap (λ (x : Counts). x.drive) from.0 in omega arith
 
-    satisfied_from : (w : Stretch) (answer : Answer) (now : Counts) (n : Kept) (script : Script) (told : List ℕ) → IsSated told s → RunsFrom host w e answer now n script told s k → IsSatisfied answer
-    satisfied_from w answer now n script told sated from = record {
-      not_refused = λ is. (let never : ⊥ = subst (λ (x : Answer). RunsFrom host w e x now n script told s k) is from in never);
-      not_wanting = λ is. (let stops : (e ≡ now) × Stops n NoMemory told s k = subst (λ (x : Answer). RunsFrom host w e x now n script told s k) is from in sated.end stops.1.ended);
+    satisfied_from : (w : Stretch) (answer : Answer) (now : Counts) (p : Option Story) (n : Kept) (script : Script) (told : List ℕ) → IsSated told s → RunsFrom host w e answer now p n script told s k → IsSatisfied answer
+    satisfied_from w answer now p n script told sated from = record {
+      not_refused = λ is. (let never : ⊥ = subst (λ (x : Answer). RunsFrom host w e x now p n script told s k) is from in never);
+      not_wanting = λ is. (let stops : (e ≡ now) × (w.new ≡ p) × Stops n NoMemory told s k = subst (λ (x : Answer). RunsFrom host w e x now p n script told s k) is from in sated.end stops.2.ended);
     }
 
   alike_start : (kept next : Kept) (answer : Answer) → IsSatisfied answer → IsRebooted unfailing host kept answer next → Alike (site_of host) has.sound kept.content kept.content
   alike_start kept next answer enough (adopted quiet newest ok memory is) = alike_itself (site_of host) has.sound kept.content is.head is.replica is.shown
   alike_start kept next answer enough (empty quiet ok memory found same) = neither found found
   alike_start kept next answer enough (down so ok memory same) = absurd so
-  alike_start kept next answer enough (lost so found panic) = absurd so
+  alike_start kept next answer enough (lost so found panic left) = absurd so
   alike_start kept next answer enough (boot.spent quiet is used same) = alike_itself (site_of host) has.sound kept.content used.head used.replica used.shown
-  alike_start kept next answer enough (wanting quiet is same) = absurd (enough.not_wanting is)
+  alike_start kept next answer enough (wanting quiet headed is same) = absurd (enough.not_wanting is)
 
   one_start : (n m : Kept) (a b : Answer) → IsSatisfied a → IsSatisfied b → IsRebooted unfailing host (started content) a n → IsRebooted unfailing host (started content) b m → One host n m a b
   one_start n m a b enough enough_too first second =
@@ -350,15 +352,15 @@ module _ (host : Host) (content : ℕ → List ℕ) (has : HasHome host content)
 
 pub one_course : OneCourse
 one_course = λ host content has script w v start end from to calm calm_too a b s r k j sated sated_too first second.
-    let up = from_rose host content has end s k w first.answer first.booted first.kept script a first.runs in
-    let up_too = from_rose host content has to r j v second.answer second.booted second.kept script b second.runs in
+    let up = from_rose host content has end s k w first.answer first.booted first.story first.kept script a first.runs in
+    let up_too = from_rose host content has to r j v second.answer second.booted second.story second.kept script b second.runs in
     let here = drive_calm start start first.booted end (omega arith) up calm in
     let there = drive_calm from from second.booted to (omega arith) up_too calm_too in
     let left = calm_within start first.booted end end (calmly_rose start first.booted first.rose) (rose_itself end) calm in
     let left_too = calm_within from second.booted to to (calmly_rose from second.booted second.rose) (rose_itself to) calm_too in
     let both = one_start host content has first.kept second.kept first.answer second.answer
-    (satisfied_from host content has end s k w first.answer first.booted first.kept script a sated first.runs) (satisfied_from host content has to r j v second.answer second.booted second.kept script b sated_too second.runs)
+    (satisfied_from host content has end s k w first.answer first.booted first.story first.kept script a sated first.runs) (satisfied_from host content has to r j v second.answer second.booted second.story second.kept script b sated_too second.runs)
     (rebooted_more (drive_failures start first.booted) unfailing (calm_is (drive_failures start first.booted) here) host (started content) first.kept first.answer first.boots)
     (rebooted_more (drive_failures from second.booted) unfailing (calm_is (drive_failures from second.booted) there) host (started content) second.kept second.answer second.boots) in
-    one_from host content has end to s r k j w v first.answer first.booted second.booted first.kept second.kept both.1 script a b left left_too sated sated_too first.runs
-    (subst (λ (x : Answer). RunsFrom host v to x second.booted second.kept script b r j) (sym both.0) second.runs)
+    one_from host content has end to s r k j w v first.answer first.booted second.booted first.story second.story first.kept second.kept both.1 script a b left left_too sated sated_too first.runs
+    (subst (λ (x : Answer). RunsFrom host v to x second.booted second.story second.kept script b r j) (sym both.0) second.runs)

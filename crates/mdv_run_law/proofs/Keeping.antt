@@ -106,12 +106,12 @@ module _ (host : Host) where
       one_boot (empty quiet ok memory none same) (spent quiet_too also used kept) = absurd (never_lost (site_of host) sound k.content j.content alike used.head used.replica used.shown none)
       one_boot (spent quiet ok used kept) (adopted quiet_too other also memory_too is) = absurd (nor_both used.head is.head used.replica used.shown is.replica is.shown used.spent is.fits)
       one_boot (spent quiet ok used kept) (empty quiet_too also memory_too none same) = absurd (never_found (site_of host) sound k.content j.content alike used.head used.replica used.shown none)
-      one_boot (wanting quiet is same) second = absurd (sated.not_wanting is)
-      one_boot first (wanting quiet is same) = absurd (sated_too.not_wanting is)
+      one_boot (wanting quiet headed is same) second = absurd (sated.not_wanting is)
+      one_boot first (wanting quiet headed is same) = absurd (sated_too.not_wanting is)
       one_boot (down so ok memory same) second = absurd (calm so)
-      one_boot (lost so found panic) second = absurd (calm so)
+      one_boot (lost so found panic left) second = absurd (calm so)
       one_boot first (down so ok memory same) = absurd (calm so)
-      one_boot first (lost so found panic) = absurd (calm so)
+      one_boot first (lost so found panic left) = absurd (calm so)
 
     -- a line `boot`
     pub boot_same : (failures : Failures) → (failures.some → ⊥) → (k j n m : Kept) (a b : Answer) → Same k j → IsSatisfied a → IsSatisfied b → IsRebooted failures host k a n → IsRebooted failures host j b m → One n m a b

@@ -2,7 +2,7 @@
 use Rattle.std.specs.Prelude.{◌≡◌, ◌≢◌, ◌⊎◌, ◌≤◌, ◌<◌, ◌+◌, ℕ, Bool, true, false, List, [], ◌++◌, take, length, Option, Some, IfSome, Contains, if◌then◌else◌}
 use Rattle.mdv_base.specs.Causes.{Failures, failures_of}
 use Rattle.mdv_run_law.specs.Below.{Rose, BadLine, LineTooLong, OutOfMemory, IsHome, Script, at_end, spent, too_long, line, Head, Part, OnDrive, OnReplies, Tale, told, replies_in, IsSound, Line, IsLine, IsFound, IsOpened, Answer, Host, site_of, Kept, IsSame, IsSameBeside, ComesTo, IsRebooted, IsTurnedDown, drive_content, unbooted}
-use Rattle.mdv_shelf.specs.Story.{Moment, Story, AtEach, tale_of}
+use Rattle.mdv_shelf.specs.Story.{Moment, Story, Mark, marked, AtEach, InTime, tale_of}
 use Rattle.mdv_engine_law.specs.Replies.{outcome_text, refusal_line, text_of}
 use Rattle.mdv_engine_law.specs.declared.answer.Answer.TheVariants.{Said, Over as Ends}
 use Rattle.mdv_engine_law.specs.declared.answer.Ended.{Ended}
@@ -28,11 +28,11 @@ pub record RoseTo (now later : Counts) : Type 0 where
   pub source : now.source ≤ later.source
   pub replies : now.replies ≤ later.replies
 
--- between two points no count fell, and no call of the source failed
+-- between two points the drive's count didn't fall, and no call of the source or of the giving of replies failed
 pub record RoseCalmly (now later : Counts) : Type 0 where
   pub drive : now.drive ≤ later.drive
   pub source : later.source ≡ now.source
-  pub replies : now.replies ≤ later.replies
+  pub replies : later.replies ≡ now.replies
 
 -- a call of the source failed, and nothing else
 pub record OnlyUnread (now later : Counts) : Type 0 where
@@ -85,15 +85,17 @@ pub record Stops (known : Kept) (end : RunStatus) (told : List ℕ) (status : Ru
 abbrev pub status_of : Bool → RunStatus
 status_of refused = if refused then SomeRefused else Done
 
--- where a run is between two lines: the counts by then, what is kept, whether some reply was a refusal, and the script that is left
+-- where a run is between two lines: the counts by then, the story by then, what is kept, whether some reply was a refusal, and the script that is left
 pub record At : Type 0 where
   pub counts : Counts
+  pub story : Option Story
   pub kept : Kept
   pub refused : Bool
   pub script : Script
 
--- What the next line comes to, and the script behind it. The source gave it without a failure. It is excused by a count that rose between these counts
--- alone, and a call on the drive that failed between them comes out in its answer.
+-- What the next line comes to, and the script behind it. The source gave it, and no giving of replies failed: the counts are those behind a reply that was
+-- told whole, and those before one that wasn't. It is excused by a count that rose between these counts alone, and a call on the drive that failed between
+-- them comes out in its answer.
 abbrev pub NextLine : Host → Counts → Kept → Script → Answer → Counts → Kept → Script → Type 0
 NextLine host now kept at_end answer later next more = ⊥
 NextLine host now kept (spent lines bytes) answer later next more = ⊥
@@ -116,6 +118,18 @@ status_at (stop.Lost active listed) = Panic active listed
 status_at stop.Spent = NumbersSpent
 status_at stop.Memory = NoMemory
 
+-- From one point of a story to another, by the counts at the first: no call that changed something was made behind one on the same part that failed.
+pub record AreInTime (now : Counts) (old new : Option Story) : Type 0 where
+  pub drive : InTime (OnDrive 0) now.drive old new
+  pub replies : InTime OnReplies now.replies old new
+
+-- The point between two lines and the next one: the story goes on from the one to the other, in time; this was told in between; and at the second point the
+-- drive's blocks read as they are kept there.
+pub record IsPassage (now : At) (piece : List ℕ) (later : At) : Type 0 where
+  pub in_time : AreInTime now.counts now.story later.story
+  pub told : (s u : Story) → now.story ≡ Some s → later.story ≡ Some u → told (tale_of u) ≡ told (tale_of s) ++ piece
+  pub reads : (u : Story) → later.story ≡ Some u → IsSame later.kept.content (drive_content (tale_of u))
+
 -- a line that was answered, and whose reply was told whole
 pub record LineTold (host : Host) (now : At) (piece : List ℕ) (later : At) : Type 0 where
   pub answer : Answer
@@ -123,6 +137,7 @@ pub record LineTold (host : Host) (now : At) (piece : List ℕ) (later : At) : T
   pub said : IsSaid answer
   pub as_text : piece ≡ text_of answer
   pub as_refused : later.refused ≡ refused_by answer now.refused
+  pub passage : IsPassage now piece later
 
 -- Where the run was behind a reply of so many bytes, with so many told before it. At no moment before the reply's last byte was told was the drive's
 -- or the replies' count greater, and at none from its first byte on is it less: the counts are those with which it was told. At each moment by which some of it was told,
@@ -146,13 +161,15 @@ pub record Stretch : Type 0 where
   pub new : Option Story
   pub after : Part → ℕ
 
--- A point of what the bench told, by which the parts had failed so often, and the drive's blocks read so.
-pub record IsPoint (stretch : Stretch) (source : ℕ) (now : Counts) (content : ℕ → List ℕ) : Type 0 where
-  pub point : Option Story
+-- A point of what the bench told, by which the parts had failed so often, nothing was told, and the drive's blocks read so; no call until then that changed something was made
+-- behind one on the same part that failed.
+pub record IsPoint (stretch : Stretch) (source : ℕ) (now : Counts) (point : Option Story) (content : ℕ → List ℕ) : Type 0 where
   pub faults : Part → ℕ
   pub before : AtEach (λ _ _. Unit {0}) stretch.old stretch.before point faults
   pub behind : AtEach (λ _ _. Unit {0}) point faults stretch.new stretch.after
   pub counts_are : now ≡ counts faults source
+  pub in_time : AreInTime (counts stretch.before source) stretch.old point
+  pub quiet : (s u : Story) → stretch.old ≡ Some s → point ≡ Some u → told (tale_of u) ≡ told (tale_of s)
   pub reads : (s : Story) → point ≡ Some s → IsSame content (drive_content (tale_of s))
 
 -- the moments between show it so
@@ -189,13 +206,19 @@ abbrev pub EndsWith : Type 0 → Answer → Kept → List ℕ → RunStatus → 
 EndsWith failed (Said this) next told status last = CutShort failed (outcome_text this) next told status last
 EndsWith failed (Ends end) next told status last = Stops next (status_at end) told status last
 
+-- behind an answer no call failed but the giving of its reply, where it has one
+abbrev pub OnlyReplying : Answer → Counts → Counts → Type 0
+OnlyReplying (Said this) later end = OnlyUngiven later end
+OnlyReplying (Ends over) later end = end ≡ later
+
 -- How a run is over, which has come so far, with so many bytes told, by these counts: the source failed; the script is at its end, or past its limit; or a line
--- was answered so that no line is run behind it, or its reply couldn't be told. What that line did the moments show.
+-- was answered so that no line is run behind it, or its reply couldn't be told. What that line did the moments show, and no call of it that changed
+-- something was made behind one on the same part that failed; where there was none the story ends at the point behind the line before.
 pub data Over (host : Host) (stretch : Stretch) (bytes : ℕ) (end : Counts) (now : At) (told : List ℕ) (status : RunStatus) (last : Kept) : Type 0 where
-  unread : OnlyUnread now.counts end → Stops now.kept ReadFault told status last → Over host stretch bytes end now told status last
-  ended : EndsAs now.refused now.script status → end ≡ now.counts → Stops now.kept status told status last → Over host stretch bytes end now told status last
-  broken : (answer : Answer) (later : Counts) (next : Kept) (more : Script) → NextLine host now.counts now.kept now.script answer later next more → IsLastShown stretch bytes later.drive next.content → OnlyUngiven later end
-      → EndsWith (replies_failed later end) answer next told status last → Over host stretch bytes end now told status last
+  unread : OnlyUnread now.counts end → stretch.new ≡ now.story → Stops now.kept ReadFault told status last → Over host stretch bytes end now told status last
+  ended : EndsAs now.refused now.script status → end ≡ now.counts → stretch.new ≡ now.story → Stops now.kept status told status last → Over host stretch bytes end now told status last
+  broken : (answer : Answer) (later : Counts) (next : Kept) (more : Script) → NextLine host now.counts now.kept now.script answer later next more → IsLastShown stretch bytes later.drive next.content → OnlyReplying answer later end
+      → AreInTime now.counts now.story stretch.new → EndsWith (replies_failed later end) answer next told status last → Over host stretch bytes end now told status last
 
 -- The run of a script, from there on: line after line, until it is over. A line is excused by the calls alone that failed until the first byte of its reply
 -- was told, and behind the last of the reply before; one of whose reply nothing was told, by those until the run's end.
@@ -211,22 +234,28 @@ pub record Runs (host : Host) (stretch : Stretch) (end : Counts) (now : At) (tol
 abbrev pub started : (ℕ → List ℕ) → Kept
 started content = record { memory = unbooted 0; content = content }
 
--- what follows on the boot at a run's start, to which nothing is replied
-abbrev pub RunsFrom : Host → Stretch → Counts → Answer → Counts → Kept → Script → List ℕ → RunStatus → Kept → Type 0
-RunsFrom host stretch end (Said outcome.Ok) later kept script told status last = Runs host stretch end (record { counts = later; kept = kept; refused = false; script = script }) told status last
-RunsFrom host stretch end (Said other) later kept script told status last = ⊥
-RunsFrom host stretch end (Ends over) later kept script told status last = (end ≡ later) × Stops kept (status_at over) told status last
+-- where a run is behind its boot
+abbrev pub behind_boot : Counts → Option Story → Kept → Script → At
+behind_boot booted story kept script = record { counts = booted; story = story; kept = kept; refused = false; script = script }
+
+-- what follows on the boot at a run's start, to which nothing is replied: the lines from the point behind it on, or nothing
+abbrev pub RunsFrom : Host → Stretch → Counts → Answer → Counts → Option Story → Kept → Script → List ℕ → RunStatus → Kept → Type 0
+RunsFrom host stretch end (Said outcome.Ok) later story kept script told status last = Runs host stretch end (behind_boot later story kept script) told status last
+RunsFrom host stretch end (Said other) later story kept script told status last = ⊥
+RunsFrom host stretch end (Ends over) later story kept script told status last = (end ≡ later) × (stretch.new ≡ story) × Stops kept (status_at over) told status last
 
 -- A whole run, from these counts to those: the boot answers from what the drive's blocks held, excused by the calls that failed until the counts `booted`, and the script is run from
--- there. They are those of a point of the run, by which the drive's blocks read as the boot left them.
+-- there. They are those of a point of the run, by which the drive's blocks read as the boot left them: the first of the points between two lines, each of which is
+-- behind the one before.
 pub record IsRun (host : Host) (stretch : Stretch) (start end : Counts) (content : ℕ → List ℕ) (script : Script) (told : List ℕ) (status : RunStatus) (last : Kept) : Type 0 where
   pub answer : Answer
   pub booted : Counts
   pub rose : RoseCalmly start booted
   pub kept : Kept
   pub boots : IsRebooted (drive_failures start booted) host (started content) answer kept
-  pub point : IsPoint stretch start.source booted kept.content
-  pub runs : RunsFrom host stretch end answer booted kept script told status last
+  pub story : Option Story
+  pub point : IsPoint stretch start.source booted story kept.content
+  pub runs : RunsFrom host stretch end answer booted story kept script told status last
 
 -- Of the next line's reply nothing was told by that moment, or a front: of the reply to what it came to, where the drive had failed so often, and its blocks read as
 -- the line left them.
@@ -244,13 +273,18 @@ pub record NextFront (host : Host) (now : At) (told : List ℕ) (m : Moment) : T
 abbrev pub IsNextFront : Host → At → List ℕ → Moment → Type 0
 IsNextFront host now told m = (told ≡ []) ⊎ NextFront host now told m
 
--- what was told of lines by a moment of a run: whole replies, and a front of the next one
+-- the story goes on from one point to another
+abbrev pub StoryGoesOn : Option Story → Option Story → Type 0
+StoryGoesOn old new = (s : Story) → old ≡ Some s → (marks : List Mark) × (new ≡ Some (marked s marks))
+
+-- what was told of lines by a moment of a run: whole replies, and a front of the next one; the point behind these is one of the run's story
 pub record LinesToldBy (host : Host) (stretch : Stretch) (first : At) (told : List ℕ) (m : Moment) : Type 0 where
   pub so_far : List ℕ
   pub rest : List ℕ
   pub parts : told ≡ so_far ++ rest
   pub at : At
   pub lines : LinesTold host stretch 0 first so_far at
+  pub behind : StoryGoesOn at.story stretch.new
   pub front : IsNextFront host at rest m
 
 -- and of a run whose boot was answered
@@ -259,8 +293,9 @@ pub record RunToldBy (host : Host) (stretch : Stretch) (start : Counts) (content
   pub rose : RoseCalmly start booted
   pub kept : Kept
   pub boots : IsRebooted (drive_failures start booted) host (started content) accepted kept
-  pub point : IsPoint stretch start.source booted kept.content
-  pub lines : LinesToldBy host stretch (record { counts = booted; kept = kept; refused = false; script = script }) told m
+  pub story : Option Story
+  pub point : IsPoint stretch start.source booted story kept.content
+  pub lines : LinesToldBy host stretch (behind_boot booted story kept script) told m
 
 -- By a moment of a run that began at t nothing was told, or what the script asks for, as far as it had come: values that were told are those of
 -- blocks as the lines before left them, by the relation of lines alone. It says so too of a run that was stopped there.

@@ -2,7 +2,7 @@ ghost use Rattle.mdv_run_law.specs.Run.{OneCourse};
 ghost use Rattle.mdv_run_law.specs.Lives.{LivesStand, RunsHaveHome, DatabaseIsFound, BlocksHold};
 
 /// Where nothing failed and memory was never wanting, a run has one course: what the drive's blocks held and the script
-/// settle what is told, the status, and what is in memory and on the drive at the end. A database has to lie in a slice with room for it, as
+/// settle what is told, the status, and, unless the run is over for want of numbers, what is in memory at the end and in each block that no replica may have. A database has to lie in a slice with room for it, as
 /// over every life it does.
 pub fn one_course()
     ensures { OneCourse }

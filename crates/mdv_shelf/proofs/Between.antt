@@ -4,7 +4,7 @@ use Rattle.mdv_shelf.specs.Calls.{RoseBy, RoseByAtMost, Took, TookAtMost, IsCoun
 use Rattle.mdv_shelf.specs.Between.{RoseByAtLeast, TookBetween}
 use Rattle.mdv_shelf.proofs.Counts.{took_one, took_at_most, at_most_then}
 
-rose_at_least : (j l : ℕ) (a b : Option ℕ) → l ≤ j → RoseBy j a b → RoseByAtLeast l a b
+pub rose_at_least : (j l : ℕ) (a b : Option ℕ) → l ≤ j → RoseBy j a b → RoseByAtLeast l a b
 rose_at_least j l a b le rose n is = (min (n + j) (2 ^ 64 - 1), rose n is, below n j l (2 ^ 64 - 1) le)
   where
     below : (n j l top : ℕ) → l ≤ j → min (n + l) top ≤ min (n + j) top
@@ -27,6 +27,14 @@ still_least a b same n is = (n, same ∙ is, below n (2 ^ 64 - 1))
 
 still_most : (more : ℕ) (a b : Option ℕ) → b ≡ a → RoseByAtMost more a b
 still_most more a b same n is = (n, same ∙ is, omega arith)
+
+-- some were counted, and then so many
+pub some_then : (k : ℕ) (a b c : Option ℕ) → RoseByAtLeast 1 a b → RoseBy k b c → RoseByAtLeast 1 a c
+some_then k a b c first second = at_least_more 1 0 1 a b c (omega arith) first (rose_at_least k 0 b c (omega arith) second)
+
+-- and then some more
+pub some_more : {a b c : Option ℕ} → RoseByAtLeast 1 a b → RoseByAtLeast 1 b c → RoseByAtLeast 1 a c
+some_more {a} {b} {c} first second = at_least_more 1 1 1 a b c (omega arith) first second
 
 module _ {S : Type 0} (calls written : S → Option ℕ) where
   -- it took exactly so many

@@ -5,6 +5,7 @@ pub mod Frame
 pub mod Everywhere
 pub mod Moments
 pub mod Noted
+pub mod InTime
 pub mod Settled
 pub mod Stories
 pub mod Telling

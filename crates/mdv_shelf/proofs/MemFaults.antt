@@ -1,9 +1,10 @@
 -- What one drive's counts do to those of the shelf.
 use Rattle.std.proofs.Common.{◌≡◌, ◌≢◌, ◌⊎◌, ℕ, Err, ◌+◌, ◌-◌, ◌^◌, ◌<◌, ◌≤◌, min, Bool, false, List, [], ◌∷◌, length, map, get_or, set, replicate, refl, sym, ◌∙◌, ap, subst, inl, inr, arith}
 use Rattle.std.proofs.lemmas.List.{length-replicate, get_or-replicate, get_or_past, map-set, length-map, get_or-set_same, get_or-set_other, get_or-map}
-use Rattle.std.proofs.lemmas.Bool.{cases_lt, cases_eq}
+use Rattle.std.proofs.lemmas.Bool.{cases_lt}
 use Rattle.std.proofs.Math.Seq.{map-set_same}
-use Rattle.mdv_shelf.specs.Calls.{Part, OnDrive, OnReplies, Keeps}
+use Rattle.mdv_shelf.specs.Calls.{Part, OnDrive, OnReplies, HasDriveCause, Keeps}
+use Rattle.mdv_shelf.proofs.InTime.{is_part}
 use Rattle.mdv_base.specs.Causes.{HasCause}
 use Rattle.mdv_shelf.specs.MemShelf.{faults_in, fault_count, shelf_sizes, nothing, HasFailed}
 use Rattle.mdv_shelf.specs.declared.mem_shelf.MemShelf.{MemShelf}
@@ -77,13 +78,6 @@ none_lost sizes health is = ap (λ (l : List Health). map (λ (x : Health). x.lo
     each [] = refl
     each (x ∷ sizes) = ap (λ (l : List Bool). false ∷ l) (each sizes)
 
--- two parts are one or differ
-same_part : (p q : Part) → (p ≡ q) ⊎ (p ≢ q)
-same_part OnReplies OnReplies = inl refl
-same_part OnReplies (OnDrive j) = inr (λ e. cc)
-same_part (OnDrive i) OnReplies = inr (λ e. cc)
-same_part (OnDrive i) (OnDrive j) = elim (cases_eq i j) [ inl same ↦ inl (ap OnDrive same) | inr other ↦ inr (λ e. other (cc)) ]
-
 -- a failure that rose one count is a cause, and lets no count fall
 module _ (old mid new : MemShelf) (part : Part) (blocks : ℕ) (failed : HasFailed part blocks mid new) (before : (p : Part) → fault_count mid p ≡ fault_count old p) where
   pub failed_cause : {T E : Type 0} (e : E) → HasCause {T = T} {E = E} (fault_count old part) (fault_count new part) (Err e)
@@ -92,6 +86,9 @@ module _ (old mid new : MemShelf) (part : Part) (blocks : ℕ) (failed : HasFail
     failed = omega (arith, before part, failed.fault);
     calm = tt;
   }
+
+  pub failed_others : (p : Part) → p ≢ part → fault_count new p ≡ fault_count old p
+  failed_others p other = failed.no_other_fault p other ∙ before p
 
   no_fewer : (p : Part) → ((p ≡ part) ⊎ (p ≢ part)) → fault_count old p ≤ fault_count new p
   no_fewer p (inl same) = subst (λ (q : Part). fault_count old q ≤ fault_count new q) (sym same) (omega (arith, before part, failed.no_fewer_faults))
@@ -102,5 +99,13 @@ module _ (old mid new : MemShelf) (part : Part) (blocks : ℕ) (failed : HasFail
     same_sizes = failed.same_sizes ∙ sizes;
     same_rest = refl;
     same_held = refl;
-    no_fewer_faults = λ p. no_fewer p (same_part p part);
+    no_fewer_faults = λ p. no_fewer p (is_part p part);
   }
+
+-- so it is one of a call on a drive
+pub failed_on_drive : {T E : Type 0} (old mid new : MemShelf) (drive blocks : ℕ) → HasFailed (OnDrive drive) blocks mid new → ((p : Part) → fault_count mid p ≡ fault_count old p) → (e : E)
+    → HasDriveCause {T = T} {E = E} (fault_count old) (fault_count new) drive (Err e)
+failed_on_drive old mid new drive blocks failed before e = record {
+  own = failed_cause old mid new (OnDrive drive) blocks failed before e;
+  others = failed_others old mid new (OnDrive drive) blocks failed before;
+}

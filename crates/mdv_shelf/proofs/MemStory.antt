@@ -1,9 +1,9 @@
 -- What one more call does to the story that drives in memory tell.
-use Rattle.std.proofs.Common.{◌≡◌, ℕ, List, [], ◌∷◌, ◌++◌, map, reverse, Some, ◌∙◌, ap}
+use Rattle.std.proofs.Common.{◌≡◌, ℕ, List, [], ◌∷◌, ◌++◌, map, reverse, Some, refl, ◌∙◌, ap}
 use Rattle.std.proofs.lemmas.List.{map_push, reverse-append}
 use Rattle.mdv_shelf.specs.Tale.{Tale, Then, Call}
 use Rattle.mdv_shelf.specs.Calls.{Part}
-use Rattle.mdv_shelf.specs.Story.{Next, and_next}
+use Rattle.mdv_shelf.specs.Story.{Next, and_next, part_of}
 use Rattle.mdv_shelf.specs.MemStory.{with_counts}
 use Rattle.mdv_shelf.specs.MemShelf.{counts_of, faults_in, told_story, fault_count, shelf_story, history_story}
 use Rattle.mdv_shelf.specs.declared.mem_shelf.counts.Counts.{Counts}
@@ -26,5 +26,5 @@ noted_more t u c counts new k faults tale pushed are =
 
 -- it is noted with the counts of the shelf, of which a slice was lent
 pub noted_call : (old : MemShelf) (after : History) (c : Call) (lent : List Health) → lent ≡ old.health.items → history_story after ≡ Next (shelf_story old) c (faults_in lent old.reply_faults)
-    → (d : Call) × (Some (history_story after) ≡ and_next (told_story old) d (fault_count old))
-noted_call old after c lent same is = (c, ap Some (is ∙ ap (λ (l : List Health). Next (shelf_story old) c (faults_in l old.reply_faults)) same))
+    → (d : Call) × (part_of d ≡ part_of c) × (Some (history_story after) ≡ and_next (told_story old) d (fault_count old))
+noted_call old after c lent same is = (c, refl, ap Some (is ∙ ap (λ (l : List Health). Next (shelf_story old) c (faults_in l old.reply_faults)) same))

@@ -2,9 +2,9 @@
 use Rattle.std.proofs.Common.{◌≡◌, ◌⊎◌, inl, inr, ℕ, ◌≤◌, Bool, List, length, Option, Result, Ok, Err, refl, ◌∙◌, ap, arith}
 use Rattle.std.specs.Option.{option_map}
 use Rattle.mdv_shelf.specs.Tale.{Tale, Then, Call, Wrote, Tore, Synced, Gave}
-use Rattle.mdv_shelf.specs.Calls.{Reads, Writes, Syncs, Gives, and_then}
+use Rattle.mdv_shelf.specs.Calls.{Part, Reads, Writes, Syncs, Gives, and_then}
 use Rattle.mdv_shelf.specs.Moments.{During, Moments}
-use Rattle.mdv_shelf.specs.Story.{tale_of, IsNoted, Moment, NoFewer, OfTales}
+use Rattle.mdv_shelf.specs.Story.{Story, tale_of, and_next, part_of, IsNoted, Moment, NoFewer, OfTales}
 use Rattle.mdv_shelf.specs.Shelves.{AtEachMoment, AtEachTale, GoesOn, Keeps, Kept}
 use Rattle.mdv_shelf.specs.declared.shelf.Shelf.{Ghosts}
 use Rattle.mdv_shelf.proofs.Moments.{grew_one, moments_none}
@@ -42,6 +42,11 @@ module _ (old new : Option Tale) where
   moments_give piece (Err e) (inr (count, few, is)) =
       moments_then (AfterGiving piece) (Gave piece count) is (λ t. inl refl) (λ t k le. inr (k, omega (arith, le, few), refl))
 
+-- it has one call more at most
+one_call : (part : Part) (a b : Option Story) (faults : Part → ℕ) → (b ≡ a) ⊎ ((c : Call) × (part_of c ≡ part) × (b ≡ and_next a c faults)) → (b ≡ a) ⊎ ((c : Call) × (b ≡ and_next a c faults))
+one_call part a b faults (inl same) = inl same
+one_call part a b faults (inr (c, on, next)) = inr (c, next)
+
 -- stretches of calls on a shelf
 module _ {S : Type 0} (shelf : Ghosts S) where
   pub moment_weaker : (R Q : Moment → Moment → Type 0) (old new : S) → ((t m : Moment) → NoFewer t.faults m.faults → NoFewer m.faults (shelf.faults new) → R t m → Q t m)
@@ -58,15 +63,15 @@ module _ {S : Type 0} (shelf : Ghosts S) where
   moment_more R T Q a b c weaker join first second =
       each_more R T Q (shelf.story a) (shelf.faults a) (shelf.story b) (shelf.faults b) (shelf.story c) (shelf.faults c) weaker join first second
 
-  pub goes_on_call : (old new : S) → IsNoted shelf.story shelf.faults old new → Keeps shelf old new → GoesOn shelf old new
-  goes_on_call old new noted keeps = each_noted (shelf.story old) (shelf.story new) (shelf.faults old) (shelf.faults new) noted keeps.no_fewer_faults
+  pub goes_on_call : (part : Part) (old new : S) → IsNoted shelf.story shelf.faults part old new → Keeps shelf old new → GoesOn shelf old new
+  goes_on_call part old new noted keeps = each_noted (shelf.story old) (shelf.story new) (shelf.faults old) (shelf.faults new) (one_call part (shelf.story old) (shelf.story new) (shelf.faults old) noted) keeps.no_fewer_faults
 
   pub goes_on_more : (a b c : S) → GoesOn shelf a b → GoesOn shelf b c → GoesOn shelf a c
   goes_on_more a b c first second = moment_more (λ _ _. Unit {0}) (λ _ _. Unit {0}) (λ _ _. Unit {0}) a b c (λ t m up here. tt) (λ t u m up on here there. tt) first second
 
 -- stretches of calls, with all that they keep
 module _ {S : Type 0} (shelf : Ghosts S) where
-  keeps_more : (a b c : S) → Keeps shelf a b → Keeps shelf b c → Keeps shelf a c
+  pub keeps_more : (a b c : S) → Keeps shelf a b → Keeps shelf b c → Keeps shelf a c
   keeps_more a b c first second = record {
     same_sizes = second.same_sizes ∙ first.same_sizes;
     same_rest = second.same_rest ∙ first.same_rest;
@@ -74,8 +79,8 @@ module _ {S : Type 0} (shelf : Ghosts S) where
     no_fewer_faults = λ part. (let one = first.no_fewer_faults part in let two = second.no_fewer_faults part in omega arith);
   }
 
-  pub kept_call : (old new : S) → IsNoted shelf.story shelf.faults old new → Keeps shelf old new → Kept shelf old new
-  kept_call old new noted keeps = record { keeps = keeps; goes = goes_on_call shelf old new noted keeps }
+  pub kept_call : (part : Part) (old new : S) → IsNoted shelf.story shelf.faults part old new → Keeps shelf old new → Kept shelf old new
+  kept_call part old new noted keeps = record { keeps = keeps; goes = goes_on_call shelf part old new noted keeps }
 
 -- one stretch after another
 pub kept_more : {S : Type 0} {shelf : Ghosts S} {a b c : S} → Kept shelf a b → Kept shelf b c → Kept shelf a c
@@ -83,8 +88,8 @@ kept_more {S} {shelf} {a} {b} {c} first second = record { keeps = keeps_more she
 
 -- One call on a shelf. What a relation needs is said of each moment with the counts as the call was made,
 -- and of the end with those behind it.
-module _ {S : Type 0} (shelf : Ghosts S) (telling : (s : S) → shelf.tale s ≡ option_map tale_of (shelf.story s)) (old new : S)
-    (noted : IsNoted shelf.story shelf.faults old new) (keeps : Keeps shelf old new) where
+module _ {S : Type 0} (shelf : Ghosts S) (telling : (s : S) → shelf.tale s ≡ option_map tale_of (shelf.story s)) (part : Part) (old new : S)
+    (noted : IsNoted shelf.story shelf.faults part old new) (keeps : Keeps shelf old new) where
   module _ (R : Moment → Moment → Type 0) where
     abbrev HoldsDuring : (Tale → Tale → Type 0) → Type 0
     HoldsDuring Q = (t m : Tale) → Q t m → R (record { tale = t; faults = shelf.faults old }) (record { tale = m; faults = shelf.faults old })
@@ -94,7 +99,7 @@ module _ {S : Type 0} (shelf : Ghosts S) (telling : (s : S) → shelf.tale s ≡
 
     pub each_call : (Q : Tale → Tale → Type 0) → HoldsDuring Q → HoldsBehind Q → Moments Q (shelf.tale old) (shelf.tale new) → AtEachMoment shelf R old new
     each_call Q during behind moments =
-        each_one (shelf.story old) (shelf.story new) (shelf.faults old) (shelf.faults new) noted keeps.no_fewer_faults (shelf.tale old) (shelf.tale new) (telling old) (telling new) R Q
+        each_one (shelf.story old) (shelf.story new) (shelf.faults old) (shelf.faults new) (one_call part (shelf.story old) (shelf.story new) (shelf.faults old) noted) keeps.no_fewer_faults (shelf.tale old) (shelf.tale new) (telling old) (telling new) R Q
         during behind moments
 
     pub each_read : {T E : Type 0} (drive at : ℕ) (result : Result T E) (blocks : List (List ℕ)) → Reads (shelf.tale old) drive at result blocks (shelf.tale new)

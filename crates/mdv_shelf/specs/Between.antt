@@ -12,7 +12,8 @@ pub record TookBetween {S : Type 0} (calls written : S → Option ℕ) (old new 
   pub at_least : RoseByAtLeast least (calls old) (calls new)
   pub at_most : TookAtMost calls written old new most blocks
 
--- it makes so many calls, with so many blocks written; where one fails, one at least, and no more of both
+-- it makes so many calls, with so many blocks written; where one fails, one at least, and no more of both; and it begins to write
 pub record MakesCalls {S T E : Type 0} (shelf : Ghosts S) (old new : S) (calls blocks : ℕ) (result : Result T E) : Type 0 where
   pub done : OnOk result (Took shelf.calls shelf.written old new calls blocks)
   pub any : TookBetween shelf.calls shelf.written old new 1 calls blocks
+  pub wrote : RoseByAtLeast 1 (shelf.written old) (shelf.written new)

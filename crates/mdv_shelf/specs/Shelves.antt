@@ -1,10 +1,10 @@
 -- Words over a whole shelf: the ghosts of its bound are passed as one, as `S.Shelf`.
-use Rattle.std.specs.Prelude.{◌≡◌, ◌≤◌, ◌<◌, ℕ, length, Some}
+use Rattle.std.specs.Prelude.{◌≡◌, ◌≢◌, ◌≤◌, ◌<◌, ℕ, length, Some}
 use Rattle.mdv_base.specs.Causes.{Rose, Failures, failures_of}
 use Rattle.mdv_shelf.specs.Tale.{Tale, last, told}
 use Rattle.mdv_shelf.specs.Calls.{Part, OnDrive, OnReplies, Took, TookAtMost, Keeps as KeepsOf}
 use Rattle.mdv_shelf.specs.Moments.{Moments, Ends}
-use Rattle.mdv_shelf.specs.Story.{Moment, AtEach, NoFewer}
+use Rattle.mdv_shelf.specs.Story.{Moment, AtEach, NoFewer, InTime}
 use Rattle.mdv_shelf.specs.declared.shelf.Shelf.{Ghosts}
 
 -- the sizes, what no call on a drive changes and the references held stay, and no count of failures fell
@@ -38,6 +38,24 @@ GoesOn shelf old new = AtEachMoment shelf (λ _ _. Unit {0}) old new
 pub record Kept {S : Type 0} (shelf : Ghosts S) (old new : S) : Type 0 where
   pub keeps : Keeps shelf old new
   pub goes : GoesOn shelf old new
+
+-- no call that changed something was made behind one on the same part that failed
+abbrev pub StopsAtFailures : {S : Type 0} → Ghosts S → S → S → Type 0
+StopsAtFailures shelf old new = (part : Part) → InTime part (shelf.faults old part) (shelf.story old) (shelf.story new)
+
+-- a stretch of calls that stops at a failure
+pub record KeptInTime {S : Type 0} (shelf : Ghosts S) (old new : S) : Type 0 where
+  pub keeps : Keeps shelf old new
+  pub goes : GoesOn shelf old new
+  pub in_time : StopsAtFailures shelf old new
+
+-- such a stretch on one part: on no other a call changed something, or failed
+pub record KeptOn {S : Type 0} (shelf : Ghosts S) (old new : S) (part : Part) : Type 0 where
+  pub keeps : Keeps shelf old new
+  pub goes : GoesOn shelf old new
+  pub in_time : InTime part (shelf.faults old part) (shelf.story old) (shelf.story new)
+  pub others : (other : Part) → other ≢ part → shelf.faults new other ≡ shelf.faults old other
+  pub elsewhere : (other : Part) → other ≢ part → (count : ℕ) → InTime other count (shelf.story old) (shelf.story new)
 
 -- R holds, relative to the start, of what was done and told by each moment, whatever had failed
 abbrev pub AtEachTale : {S : Type 0} → Ghosts S → (Tale → Tale → Type 0) → S → S → Type 0

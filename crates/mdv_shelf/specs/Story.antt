@@ -3,8 +3,8 @@
 use Rattle.std.specs.Prelude.{◌≡◌, ◌⊎◌, ℕ, ◌≤◌, List, [], ◌∷◌, Option, Some}
 use Rattle.std.specs.Option.{option_map}
 use Rattle.mdv_base.specs.Causes.{Rose, Failures, failures_of}
-use Rattle.mdv_shelf.specs.Tale.{Start, Tale, Begun, Then, Call}
-use Rattle.mdv_shelf.specs.Calls.{Part}
+use Rattle.mdv_shelf.specs.Tale.{Start, Tale, Begun, Then, Call, Wrote, Tore, Synced, Gave}
+use Rattle.mdv_shelf.specs.Calls.{Part, OnDrive, OnReplies}
 use Rattle.mdv_shelf.specs.Moments.{During}
 
 -- the newest call outermost
@@ -21,10 +21,17 @@ tale_of (Next s c faults) = Then (tale_of s) c
 abbrev pub and_next : Option Story → Call → (Part → ℕ) → Option Story
 and_next old c faults = option_map (λ s. Next s c faults) old
 
--- A call on a shelf: the story stays, or has one call more, with the counts as that was made. Which call
+-- the part that a call is made on
+abbrev pub part_of : Call → Part
+part_of (Wrote drive at blocks) = OnDrive drive
+part_of (Tore drive at blocks took) = OnDrive drive
+part_of (Synced drive) = OnDrive drive
+part_of (Gave piece count) = OnReplies
+
+-- A call on a part of a shelf: the story stays, or has one call more, on that part, with the counts as it was made. Which call
 -- it is, the tale says.
-abbrev pub IsNoted : {S : Type 0} → (S → Option Story) → (S → Part → ℕ) → S → S → Type 0
-IsNoted story faults old new = (story new ≡ story old) ⊎ ((c : Call) × (story new ≡ and_next (story old) c (faults old)))
+abbrev pub IsNoted : {S : Type 0} → (S → Option Story) → (S → Part → ℕ) → Part → S → S → Type 0
+IsNoted story faults part old new = (story new ≡ story old) ⊎ ((c : Call) × (part_of c ≡ part) × (story new ≡ and_next (story old) c (faults old)))
 
 -- a call, and how often each part had failed as it was made
 pub record Mark : Type 0 where
@@ -81,3 +88,13 @@ AtEach R old before new after =
 -- R of the tales alone
 abbrev pub OfTales : (Tale → Tale → Type 0) → Moment → Moment → Type 0
 OfTales R t m = R t.tale m.tale
+
+-- each of these calls that is on the part was made with this count of its failures
+abbrev pub AreMadeAt : Part → ℕ → List Mark → Type 0
+AreMadeAt part count [] = Unit {0}
+AreMadeAt part count (m ∷ ms) = AreMadeAt part count ms × (part_of m.call ≡ part → m.faults part ≡ count)
+
+-- From one point of a story to another each call on the part that changed something was made with this count of the part's failures: with that of
+-- the start, none was made behind one that failed.
+abbrev pub InTime : Part → ℕ → Option Story → Option Story → Type 0
+InTime part count old new = (s : Story) → old ≡ Some s → (marks : List Mark) × (new ≡ Some (marked s marks)) × AreMadeAt part count marks

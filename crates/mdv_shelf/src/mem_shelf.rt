@@ -213,10 +213,9 @@ impl MemShelf {
 
 impl Shelf for MemShelf {
     ghost use Rattle.std.specs.Prelude.{◌⊎◌, ◌<◌, ◌≤◌, IsTrue, IsErr, map, reverse};
-    ghost use Rattle.mdv_base.specs.Causes.{HasCause};
     ghost use Rattle.mdv_shelf.specs.Story.{IsNoted};
     ghost use Rattle.mdv_shelf.specs.MemStory.{tells_tale};
-    ghost use Rattle.mdv_shelf.specs.Calls.{OnDrive, InDrive, Reads, Writes, Syncs, Keeps, IsCounted};
+    ghost use Rattle.mdv_shelf.specs.Calls.{OnDrive, InDrive, Reads, Writes, Syncs, HasDriveCause, Keeps, IsCounted};
     ghost use Rattle.mdv_shelf.specs.MemShelf.{shelf_sizes, shelf_tale, counts_of, call_count, fault_count, is_asked, AnswersAsAsked, told_tale, told_story, told_calls, told_blocks, nothing};
 
     ghost sizes = { shelf_sizes };
@@ -250,10 +249,10 @@ impl Shelf for MemShelf {
     fn read(&mut self, drive: DriveNo, at: u64, out: &mut [Block]) -> Result<(), Failed>
         requires { InDrive (shelf_sizes self.old) drive.0 at (length out.old) }
         ensures reads { Reads (told_tale self.old) drive.0 at result out.new (told_tale self.new) }
-        ensures cause { HasCause (fault_count self.old (OnDrive drive.0)) (fault_count self.new (OnDrive drive.0)) result }
+        ensures cause { HasDriveCause (fault_count self.old) (fault_count self.new) drive.0 result }
         ensures counted { IsCounted told_calls told_blocks self.old self.new 0 }
         ensures keeps { Keeps shelf_sizes fault_count nothing nothing self.old self.new }
-        ensures noted { IsNoted told_story fault_count self.old self.new }
+        ensures noted { IsNoted told_story fault_count (OnDrive drive.0) self.old self.new }
         ensures answers { AnswersAsAsked (OnDrive drive.0) result self.old self.new }
         ensures only_asked_or_spent { IsErr result → IsTrue (is_asked self.old (OnDrive drive.0)) ⊎ (2 ^ 62 ≤ call_count self.old) }
     {
@@ -269,10 +268,10 @@ impl Shelf for MemShelf {
     fn write(&mut self, drive: DriveNo, at: u64, from: &[Block]) -> Result<(), Failed>
         requires { InDrive (shelf_sizes self.old) drive.0 at (length from.now) }
         ensures writes { Writes (told_tale self.old) drive.0 at from.now result (told_tale self.new) }
-        ensures cause { HasCause (fault_count self.old (OnDrive drive.0)) (fault_count self.new (OnDrive drive.0)) result }
+        ensures cause { HasDriveCause (fault_count self.old) (fault_count self.new) drive.0 result }
         ensures counted { IsCounted told_calls told_blocks self.old self.new (length from.now) }
         ensures keeps { Keeps shelf_sizes fault_count nothing nothing self.old self.new }
-        ensures noted { IsNoted told_story fault_count self.old self.new }
+        ensures noted { IsNoted told_story fault_count (OnDrive drive.0) self.old self.new }
         ensures answers { AnswersAsAsked (OnDrive drive.0) result self.old self.new }
     {
         let blocks = from.len() as u64;
@@ -299,10 +298,10 @@ impl Shelf for MemShelf {
     fn sync(&mut self, drive: DriveNo) -> Result<(), Failed>
         requires { drive.0 < length (shelf_sizes self.old) }
         ensures syncs { Syncs (told_tale self.old) drive.0 result (told_tale self.new) }
-        ensures cause { HasCause (fault_count self.old (OnDrive drive.0)) (fault_count self.new (OnDrive drive.0)) result }
+        ensures cause { HasDriveCause (fault_count self.old) (fault_count self.new) drive.0 result }
         ensures counted { IsCounted told_calls told_blocks self.old self.new 0 }
         ensures keeps { Keeps shelf_sizes fault_count nothing nothing self.old self.new }
-        ensures noted { IsNoted told_story fault_count self.old self.new }
+        ensures noted { IsNoted told_story fault_count (OnDrive drive.0) self.old self.new }
         ensures answers { AnswersAsAsked (OnDrive drive.0) result self.old self.new }
     {
         if !self.may_call_on(drive.0) {
@@ -335,7 +334,7 @@ impl Bench for MemShelf {
         ensures cause { HasGivingCause (fault_count self.old) (fault_count self.new) result }
         ensures counted { IsCounted told_calls told_blocks self.old self.new 0 }
         ensures keeps { Keeps shelf_sizes fault_count nothing nothing self.old self.new }
-        ensures noted { IsNoted told_story fault_count self.old self.new }
+        ensures noted { IsNoted told_story fault_count OnReplies self.old self.new }
         ensures answers { AnswersAsAsked OnReplies result self.old self.new }
         ensures told { OnOk result (told_bytes self.new ≡ told_bytes self.old ++ piece.now) }
     {

@@ -4,7 +4,7 @@ ghost use Rattle.mdv_shelf.specs.Between.{MakesCalls};
 ghost use Rattle.mdv_shelf.specs.Calls.{OnDrive, InDrive};
 ghost use Rattle.mdv_shelf.specs.Moments.{Moments, Ends};
 ghost use Rattle.mdv_shelf.specs.Settle.{Settling, IsSettled};
-ghost use Rattle.mdv_shelf.specs.Shelves.{Kept};
+ghost use Rattle.mdv_shelf.specs.Shelves.{KeptOn};
 
 use crate::Shelf;
 use mdv_base::{Block, DriveNo, Failed};
@@ -21,7 +21,7 @@ pub fn settle<S: Shelf>(
     ensures settled { OnOk result (Ends (λ _ u. IsSettled drive.0 at from.now u) (S.tale shelf.old) (S.tale shelf.new)) }
     ensures cause { HasCause (S.faults shelf.old (OnDrive drive.0)) (S.faults shelf.new (OnDrive drive.0)) result }
     ensures counted { MakesCalls S.Shelf shelf.old shelf.new 2 (length from.now) result }
-    ensures kept { Kept S.Shelf shelf.old shelf.new }
+    ensures kept { KeptOn S.Shelf shelf.old shelf.new (OnDrive drive.0) }
 {
     shelf.write(drive, at, from)?;
     shelf.sync(drive)?;

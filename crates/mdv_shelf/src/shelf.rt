@@ -1,8 +1,7 @@
 ghost use Rattle.std.specs.Prelude.{◌≡◌, ◌<◌, ℕ, List, Option, length, slice_index};
 ghost use Rattle.std.specs.Option.{option_map};
-ghost use Rattle.mdv_base.specs.Causes.{HasCause};
 ghost use Rattle.mdv_shelf.specs.Tale.{Tale};
-ghost use Rattle.mdv_shelf.specs.Calls.{Part, OnDrive, InDrive, Reads, Writes, Syncs, Gives, HasGivingCause, Keeps, IsCounted};
+ghost use Rattle.mdv_shelf.specs.Calls.{Part, OnDrive, OnReplies, InDrive, Reads, Writes, Syncs, Gives, HasDriveCause, HasGivingCause, Keeps, IsCounted};
 ghost use Rattle.mdv_shelf.specs.Story.{Story, tale_of, IsNoted};
 
 use mdv_base::{Block, DriveNo, Failed};
@@ -49,28 +48,28 @@ pub trait Shelf {
     fn read(&mut self, drive: DriveNo, at: u64, out: &mut [Block]) -> Result<(), Failed>
         requires { InDrive (sizes self.old) drive.0 at (length out.old) }
         ensures reads { Reads (tale self.old) drive.0 at result out.new (tale self.new) }
-        ensures cause { HasCause (faults self.old (OnDrive drive.0)) (faults self.new (OnDrive drive.0)) result }
+        ensures cause { HasDriveCause (faults self.old) (faults self.new) drive.0 result }
         ensures counted { IsCounted calls written self.old self.new 0 }
         ensures keeps { Keeps sizes faults rest held self.old self.new }
-        ensures noted { IsNoted story faults self.old self.new };
+        ensures noted { IsNoted story faults (OnDrive drive.0) self.old self.new };
 
     /// Writes the blocks from that one on. Until a sync a crash may leave any of them as it was.
     fn write(&mut self, drive: DriveNo, at: u64, from: &[Block]) -> Result<(), Failed>
         requires { InDrive (sizes self.old) drive.0 at (length from.now) }
         ensures writes { Writes (tale self.old) drive.0 at from.now result (tale self.new) }
-        ensures cause { HasCause (faults self.old (OnDrive drive.0)) (faults self.new (OnDrive drive.0)) result }
+        ensures cause { HasDriveCause (faults self.old) (faults self.new) drive.0 result }
         ensures counted { IsCounted calls written self.old self.new (length from.now) }
         ensures keeps { Keeps sizes faults rest held self.old self.new }
-        ensures noted { IsNoted story faults self.old self.new };
+        ensures noted { IsNoted story faults (OnDrive drive.0) self.old self.new };
 
     /// Puts all that the drive was given on the disk: a crash then leaves what a read gives.
     fn sync(&mut self, drive: DriveNo) -> Result<(), Failed>
         requires { drive.0 < length (sizes self.old) }
         ensures syncs { Syncs (tale self.old) drive.0 result (tale self.new) }
-        ensures cause { HasCause (faults self.old (OnDrive drive.0)) (faults self.new (OnDrive drive.0)) result }
+        ensures cause { HasDriveCause (faults self.old) (faults self.new) drive.0 result }
         ensures counted { IsCounted calls written self.old self.new 0 }
         ensures keeps { Keeps sizes faults rest held self.old self.new }
-        ensures noted { IsNoted story faults self.old self.new };
+        ensures noted { IsNoted story faults (OnDrive drive.0) self.old self.new };
 
     // the tale is that of the story, and only a shelf that has one tells one
     ghost telling: { (s : Self) → tale s ≡ option_map tale_of (story s) };
@@ -84,5 +83,5 @@ pub trait Bench: Shelf {
         ensures cause { HasGivingCause (Self.faults self.old) (Self.faults self.new) result }
         ensures counted { IsCounted Self.calls Self.written self.old self.new 0 }
         ensures keeps { Keeps Self.sizes Self.faults Self.rest Self.held self.old self.new }
-        ensures noted { IsNoted Self.story Self.faults self.old self.new };
+        ensures noted { IsNoted Self.story Self.faults OnReplies self.old self.new };
 }

@@ -1,10 +1,10 @@
 -- A call on the image of one drive, told of the whole bench.
-use Rattle.std.proofs.Common.{◌≡◌, ◌≢◌, ◌⊎◌, ℕ, Ok, Err, Result, OnErr, OnOk, ◌<◌, ◌≤◌, List, length, get_or, set, sym, ◌∙◌, ap, inl, inr, arith}
+use Rattle.std.proofs.Common.{◌≡◌, ◌≢◌, ◌⊎◌, ℕ, Ok, Err, Result, OnErr, OnOk, ◌<◌, ◌≤◌, List, length, get_or, set, refl, sym, ◌∙◌, ap, inl, inr, arith}
 use Rattle.std.proofs.lemmas.List.{map-set, get_or-map, get_or-set_same, get_or-set_other, length-map}
 use Rattle.std.proofs.lemmas.Bool.{cases_eq}
 use Rattle.std.proofs.Math.Seq.{map-set_same}
 use Rattle.mdv_base.specs.Causes.{HasCause}
-use Rattle.mdv_shelf.specs.Calls.{Part, OnDrive, OnReplies}
+use Rattle.mdv_shelf.specs.Calls.{Part, OnDrive, OnReplies, HasDriveCause}
 use Rattle.metad.specs.declared.image.Image.{Image}
 use Rattle.metad.specs.Image.{IsRead, IsChange, one_more}
 use Rattle.metad.specs.Bench.{fault_counts, faults_of, sizes_of}
@@ -66,10 +66,17 @@ module _ (images : List Image) (i : ℕ) (inside : i < length images) (was now :
       )
       at k (inr other) = omega (arith, count_other k other)
 
-  pub call_cause : {T E : Type 0} (result : Result T E) → IsCounted was result now → HasCause {T = T} {E = E} (get_or (fault_counts images) i 0) (get_or (fault_counts (set images i now)) i 0) result
+  call_cause : {T E : Type 0} (result : Result T E) → IsCounted was result now → HasCause {T = T} {E = E} (get_or (fault_counts images) i 0) (get_or (fault_counts (set images i now)) i 0) result
   call_cause (Ok value) call = record { later = omega (arith, call.no_fewer, count_was, count_now); failed = tt; calm = omega (arith, call.calm, count_was, count_now) }
   call_cause (Err error) call = record {
     later = omega (arith, call.no_fewer, count_was, count_now);
     failed = omega (arith, call.failed, count_was, count_now);
     calm = tt;
   }
+
+  call_others : (replies : ℕ) (part : Part) → part ≢ OnDrive i → faults_of (set images i now) replies part ≡ faults_of images replies part
+  call_others replies OnReplies other = refl
+  call_others replies (OnDrive k) other = count_other k (λ e. other (ap OnDrive e))
+
+  pub call_drive_cause : {T E : Type 0} (result : Result T E) → IsCounted was result now → (replies : ℕ) → HasDriveCause {T = T} {E = E} (faults_of images replies) (faults_of (set images i now) replies) i result
+  call_drive_cause result call replies = record { own = call_cause result call; others = call_others replies }

@@ -1,8 +1,6 @@
 use Rattle.std.proofs.Common.{arith, rules}
 use Rattle.mdv_shelf.specs.Tale.{last}
-use Rattle.mdv_shelf.proofs.Between.{between_of}
 use Rattle.mdv_database.proofs.Bodies.{fitting, read_is}
-use Rattle.mdv_database.proofs.Counting.{found_least}
 use Rattle.mdv_database.proofs.body.read_table.Goals as goal
 
 pub returns-in-Ok-clause-reads : goal.returns-in-Ok-clause-reads
@@ -19,9 +17,3 @@ returns-in-Ok-clause-answer g c = record {
   calm = search rules;
   cause = search rules;
 }
-
-pub returns-in-Ok-clause-counted : goal.returns-in-Ok-clause-counted
-returns-in-Ok-clause-counted g c = between_of g.S.Shelf.calls g.S.Shelf.written _ _ 1 0 _ 1 0 (found_least 1 _) (omega arith) (omega arith) c.read_body.ensures.counted
-
-pub returns-in-Err-clause-counted : goal.returns-in-Err-clause-counted
-returns-in-Err-clause-counted g c = between_of g.S.Shelf.calls g.S.Shelf.written _ _ 1 0 0 1 0 (omega arith) (omega arith) (omega arith) c.read_body.ensures.counted

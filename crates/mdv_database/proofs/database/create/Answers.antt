@@ -3,6 +3,7 @@ use Rattle.mdv_database.specs.Below.{Geometry, record_text, Table, IsPlaceOf, Cr
 use Rattle.mdv_record.proofs.Lengths.{record_lengths}
 use Rattle.mdv_shelf.proofs.Between.{between_of, between_then}
 use Rattle.mdv_shelf.proofs.Counts.{took_more}
+use Rattle.mdv_shelf.proofs.InTime.{kept_on_more}
 use Rattle.mdv_database.specs.Database.{site_of}
 use Rattle.mdv_database.proofs.Making.{creates, format_ends, format_moments, lost_ends, made_ends, made_moments}
 use Rattle.mdv_database.proofs.database.create.Goals as goal
@@ -54,3 +55,9 @@ pub returns-in-Err-write-clause-counted : goal.returns-in-Err-write-clause-count
 returns-in-Err-write-clause-counted g c =
     between_then g.S.Shelf.calls g.S.Shelf.written _ _ _ 6 6 5 1 6 _ 7 12 8 (omega arith) (omega arith) (omega (arith, short g (goal.at.returns-in-Err-write-clause-counted g c).After-format))
     (between_of g.S.Shelf.calls g.S.Shelf.written _ _ 6 5 6 6 5 (omega arith) (omega arith) (omega arith) c.in-Ok.ensures.counted.done) c.write.ensures.counted.any
+
+pub returns-in-Ok-write-clause-kept : goal.returns-in-Ok-write-clause-kept
+returns-in-Ok-write-clause-kept g c = kept_on_more c.in-Ok.ensures.answer.cause.calm c.format.ensures.kept c.write.ensures.kept
+
+pub returns-in-Err-write-clause-kept : goal.returns-in-Err-write-clause-kept
+returns-in-Err-write-clause-kept g c = kept_on_more c.in-Ok.ensures.answer.cause.calm c.format.ensures.kept c.write.ensures.kept

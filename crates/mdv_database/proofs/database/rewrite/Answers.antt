@@ -1,8 +1,9 @@
 use Rattle.std.proofs.Common.{inl, inr, ◌+◌, length, arith, rules}
 use Rattle.mdv_database.specs.Below.{Moments, Ends, Tale, claim_text, block_of, claim_blocks, Leaves, Claims, record_text}
 use Rattle.mdv_replica.specs.Replica.{Claiming}
-use Rattle.mdv_shelf.proofs.Between.{between_then, between_wider}
+use Rattle.mdv_shelf.proofs.Between.{between_then, between_wider, some_more}
 use Rattle.mdv_shelf.proofs.Counts.{took_more}
+use Rattle.mdv_shelf.proofs.InTime.{kept_on_more}
 use Rattle.mdv_shelf.proofs.Moments.{moments_weaker, moments_after, moments_end, ends_both, ends_more}
 use Rattle.mdv_replica.proofs.Leaving.{leaves_settling, leaves_settled}
 use Rattle.mdv_database.specs.Boot.{RewriteEnds, RewriteMoment}
@@ -64,16 +65,25 @@ pub returns-in_err-write_claim-clause-counted : goal.returns-in_err-write_claim-
 returns-in_err-write_claim-clause-counted g c = record {
   done = search rules;
   any = between_wider g.S.Shelf.calls g.S.Shelf.written _ _ 1 2 1 1 8 (3 + blocks_for (length (record_text c.args.table.now))) (omega arith) (omega arith) (omega arith) c.write_claim.ensures.counted.any;
+  wrote = c.write_claim.ensures.counted.wrote;
 }
 
 pub returns-in_err-write-clause-counted : goal.returns-in_err-write-clause-counted
 returns-in_err-write-clause-counted g c = record {
   done = search rules;
   any = between_then g.S.Shelf.calls g.S.Shelf.written _ _ _ 1 2 1 1 6 _ 1 8 (3 + blocks_for (length (record_text c.args.table.now))) (omega arith) (omega arith) (omega arith) c.write_claim.ensures.counted.any c.write.ensures.counted.any;
+  wrote = some_more c.write_claim.ensures.counted.wrote c.write.ensures.counted.wrote;
 }
 
 pub returns-clause-counted : goal.returns-clause-counted
 returns-clause-counted g c = record {
   done = took_more g.S.Shelf.calls g.S.Shelf.written _ _ _ 2 6 1 _ 8 _ (omega arith) (omega arith) c.in_ok-write_claim.ensures.counted.done c.in_ok-write.ensures.counted.done;
   any = between_then g.S.Shelf.calls g.S.Shelf.written _ _ _ 1 2 1 1 6 _ 1 8 (3 + blocks_for (length (record_text c.args.table.now))) (omega arith) (omega arith) (omega arith) c.write_claim.ensures.counted.any c.write.ensures.counted.any;
+  wrote = some_more c.write_claim.ensures.counted.wrote c.write.ensures.counted.wrote;
 }
+
+pub returns-in_err-write-clause-kept : goal.returns-in_err-write-clause-kept
+returns-in_err-write-clause-kept g c = kept_on_more c.in_ok-write_claim.ensures.cause.calm c.write_claim.ensures.kept c.write.ensures.kept
+
+pub returns-clause-kept : goal.returns-clause-kept
+returns-clause-kept g c = kept_on_more c.in_ok-write_claim.ensures.cause.calm c.write_claim.ensures.kept c.write.ensures.kept

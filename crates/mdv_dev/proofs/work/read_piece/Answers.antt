@@ -54,14 +54,14 @@ returns-in_err-read-clause-turned g c =
     let filled = same_length w.kind _ _ c.requires.kind (filled_long w.done count out room news long) in
     let here = drive_here v w.at w.done w.count c.piece-piece.result c.piece-piece.ensures w.done (omega arith) (omega arith) in
     missed v (DriveFailed g.S.Shelf c.args.shelf.now c.read.new.self) w out _ c.from_residual.result filled (filled_before w.done count out room news long) (search rules) c.requires.open.some_left c.requires.open.begins
-    (subst (λ (d : ℕ). DriveFailed g.S.Shelf c.args.shelf.now c.read.new.self d) (sym here) c.in_err-read.ensures.cause.failed)
+    (subst (λ (d : ℕ). DriveFailed g.S.Shelf c.args.shelf.now c.read.new.self d) (sym here) c.in_err-read.ensures.cause.own.failed)
 
 pub returns-in_err-read-clause-counted : goal.returns-in_err-read-clause-counted
 returns-in_err-read-clause-counted g c =
     turn_missed g.S.Shelf c.args.shelf.now c.read.new.self c.args.work.now c.args.work.now 0 c.read.ensures.counted (omega arith) c.from_residual.result (search rules)
 
 pub returns-in_err-read-clause-kept : goal.returns-in_err-read-clause-kept
-returns-in_err-read-clause-kept g c = kept_call g.S.Shelf _ _ c.read.ensures.noted c.read.ensures.keeps
+returns-in_err-read-clause-kept g c = kept_call g.S.Shelf _ _ _ c.read.ensures.noted c.read.ensures.keeps
 
 pub returns-clause-done : goal.returns-clause-done
 returns-clause-done g c =
@@ -99,4 +99,4 @@ returns-clause-counted g c =
     turn_counted g.S.Shelf c.args.shelf.now c.read.new.self c.args.work.now (record c.args.work.now { done = c.args.work.now.done + c.piece-piece.result.count }) 0 c.read.ensures.counted (omega arith) tt (written_none c.args.work.now.kind _ c.requires.kind)
 
 pub returns-clause-kept : goal.returns-clause-kept
-returns-clause-kept g c = kept_call g.S.Shelf _ _ c.read.ensures.noted c.read.ensures.keeps
+returns-clause-kept g c = kept_call g.S.Shelf _ _ _ c.read.ensures.noted c.read.ensures.keeps

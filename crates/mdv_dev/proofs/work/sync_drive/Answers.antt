@@ -55,14 +55,14 @@ returns-in_err-sync-clause-turned g c =
     let some = c.piece-piece.ensures.some in
     let here = drive_here v w.at w.done w.count c.piece-piece.result c.piece-piece.ensures w.done (omega arith) (omega arith) in
     missed v (DriveFailed g.S.Shelf c.args.shelf.now c.sync.new.self) w [] [] c.from_residual.result (same_buffer w.kind c.requires.kind) refl (search rules) c.requires.open.some_left c.requires.open.begins
-    (subst (λ (d : ℕ). DriveFailed g.S.Shelf c.args.shelf.now c.sync.new.self d) (sym here) c.in_err-sync.ensures.cause.failed)
+    (subst (λ (d : ℕ). DriveFailed g.S.Shelf c.args.shelf.now c.sync.new.self d) (sym here) c.in_err-sync.ensures.cause.own.failed)
 
 pub returns-in_err-sync-clause-counted : goal.returns-in_err-sync-clause-counted
 returns-in_err-sync-clause-counted g c =
     turn_missed g.S.Shelf c.args.shelf.now c.sync.new.self c.args.work.now c.args.work.now 0 c.sync.ensures.counted (omega arith) c.from_residual.result (search rules)
 
 pub returns-in_err-sync-clause-kept : goal.returns-in_err-sync-clause-kept
-returns-in_err-sync-clause-kept g c = kept_call g.S.Shelf _ _ c.sync.ensures.noted c.sync.ensures.keeps
+returns-in_err-sync-clause-kept g c = kept_call g.S.Shelf _ _ _ c.sync.ensures.noted c.sync.ensures.keeps
 
 pub returns-clause-moments : goal.returns-clause-moments
 returns-clause-moments g c =
@@ -93,4 +93,4 @@ returns-clause-counted g c =
     turn_counted g.S.Shelf c.args.shelf.now c.sync.new.self c.args.work.now (record c.args.work.now { done = c.next_drive-work.result }) 0 c.sync.ensures.counted (omega arith) tt (written_none c.args.work.now.kind _ c.requires.kind)
 
 pub returns-clause-kept : goal.returns-clause-kept
-returns-clause-kept g c = kept_call g.S.Shelf _ _ c.sync.ensures.noted c.sync.ensures.keeps
+returns-clause-kept g c = kept_call g.S.Shelf _ _ _ c.sync.ensures.noted c.sync.ensures.keeps

@@ -82,7 +82,7 @@ returns-in_err-write-clause-turned g c =
     let some = c.piece-piece.ensures.some in
     let here = drive_here v w.at w.done w.count c.piece-piece.result c.piece-piece.ensures w.done (omega arith) (omega arith) in
     missed v (DriveFailed g.S.Shelf c.args.shelf.now c.write.new.self) w c.args.from.now c.args.from.now c.from_residual.result (same_buffer w.kind c.args.from.now c.requires.kind) refl (search rules) c.requires.open.some_left c.requires.open.begins
-    (subst (λ (d : ℕ). DriveFailed g.S.Shelf c.args.shelf.now c.write.new.self d) (sym here) c.in_err-write.ensures.cause.failed)
+    (subst (λ (d : ℕ). DriveFailed g.S.Shelf c.args.shelf.now c.write.new.self d) (sym here) c.in_err-write.ensures.cause.own.failed)
 
 pub returns-in_err-write-clause-counted : goal.returns-in_err-write-clause-counted
 returns-in_err-write-clause-counted g c =
@@ -95,7 +95,7 @@ returns-in_err-write-clause-counted g c =
     turn_missed g.S.Shelf c.args.shelf.now c.write.new.self w w _ c.write.ensures.counted (written_few w.kind _ _ c.requires.kind (omega arith)) c.from_residual.result (search rules)
 
 pub returns-in_err-write-clause-kept : goal.returns-in_err-write-clause-kept
-returns-in_err-write-clause-kept g c = kept_call g.S.Shelf _ _ c.write.ensures.noted c.write.ensures.keeps
+returns-in_err-write-clause-kept g c = kept_call g.S.Shelf _ _ _ c.write.ensures.noted c.write.ensures.keeps
 
 pub returns-clause-moments : goal.returns-clause-moments
 returns-clause-moments g c =
@@ -144,4 +144,4 @@ returns-clause-counted g c =
     turn_counted g.S.Shelf c.args.shelf.now c.write.new.self w (record w { done = w.done + count }) _ c.write.ensures.counted (written_few w.kind _ _ c.requires.kind (omega arith)) tt (written_is w.kind _ _ c.requires.kind (omega arith))
 
 pub returns-clause-kept : goal.returns-clause-kept
-returns-clause-kept g c = kept_call g.S.Shelf _ _ c.write.ensures.noted c.write.ensures.keeps
+returns-clause-kept g c = kept_call g.S.Shelf _ _ _ c.write.ensures.noted c.write.ensures.keeps

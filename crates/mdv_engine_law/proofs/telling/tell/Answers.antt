@@ -1,7 +1,7 @@
 use Rattle.std.proofs.Common.{inl, inr, sym, subst, refl, length, ap, []}
 use Rattle.mdv_shelf.proofs.Between.{at_most_one}
 use Rattle.mdv_shelf.proofs.Counts.{took_one}
-use Rattle.mdv_shelf.proofs.Noted.{kept_call}
+use Rattle.mdv_shelf.proofs.InTime.{kept_on_call}
 use Rattle.mdv_shelf.proofs.Telling.{told_calm}
 use Rattle.mdv_engine_law.specs.Below.{Rose, OnReplies}
 use Rattle.mdv_engine_law.specs.Replies.{IsLost, IsTold, outcome_text, reply_to, text_of}
@@ -9,6 +9,7 @@ use Rattle.mdv_engine_law.specs.declared.answer.Answer.{Answer}
 use Rattle.mdv_engine_law.specs.declared.answer.Outcome.{Outcome}
 use Rattle.mdv_engine_law.specs.declared.answer.Outcome.TheVariants as outcome
 use Rattle.mdv_engine_law.specs.declared.answer.Reply.TheVariants as reply
+use Rattle.mdv_engine_law.proofs.Kept.{kept_on_itself, replies_alone}
 use Rattle.mdv_engine_law.proofs.Giving.{told_whole, tells_some, telling_grew, telling_some}
 use Rattle.mdv_engine_law.proofs.telling.tell.Goals as goal
 
@@ -45,7 +46,7 @@ returns-in-Ok-clause-counted g c = record {
 }
 
 pub returns-in-Ok-clause-kept : goal.returns-in-Ok-clause-kept
-returns-in-Ok-clause-kept g c = kept_call g.B.Shelf _ _ c.give.ensures.noted c.give.ensures.keeps
+returns-in-Ok-clause-kept g c = kept_on_call g.B.Shelf OnReplies _ _ c.give.ensures.noted c.give.ensures.keeps (replies_alone _ _ c.in-Ok.ensures.cause.drives)
 
 -- a front of it, or nothing
 pub returns-in-Err-clause-told : goal.returns-in-Err-clause-told
@@ -67,4 +68,8 @@ pub returns-in-Err-clause-counted : goal.returns-in-Err-clause-counted
 returns-in-Err-clause-counted g c = record { most = at_most_one g.B.Shelf.calls g.B.Shelf.written _ _ 0 c.give.ensures.counted; once = λ on. absurd on; silent = λ lost. absurd lost; calm = λ on. absurd on; drives = c.in-Err.ensures.cause.drives }
 
 pub returns-in-Err-clause-kept : goal.returns-in-Err-clause-kept
-returns-in-Err-clause-kept g c = kept_call g.B.Shelf _ _ c.give.ensures.noted c.give.ensures.keeps
+returns-in-Err-clause-kept g c = kept_on_call g.B.Shelf OnReplies _ _ c.give.ensures.noted c.give.ensures.keeps (replies_alone _ _ c.in-Err.ensures.cause.drives)
+
+-- nothing was told
+pub returns-in-Over-clause-kept : goal.returns-in-Over-clause-kept
+returns-in-Over-clause-kept g c = kept_on_itself g.B.Shelf c.args.bench.now OnReplies

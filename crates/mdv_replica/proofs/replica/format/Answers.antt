@@ -1,8 +1,8 @@
-use Rattle.std.proofs.Common.{arith, rules}
+use Rattle.std.proofs.Common.{◌∙◌, arith, rules}
 use Rattle.mdv_shelf.specs.Between.{TookBetween}
-use Rattle.mdv_shelf.proofs.Between.{between_then, between_wider}
+use Rattle.mdv_shelf.proofs.Between.{between_then, between_wider, some_more}
 use Rattle.mdv_shelf.proofs.Counts.{took_more}
-use Rattle.mdv_shelf.proofs.Noted.{kept_more}
+use Rattle.mdv_shelf.proofs.InTime.{kept_on_more}
 use Rattle.mdv_replica.proofs.Writing.{format_blanks, format_fills, format_opens, format_ends}
 use Rattle.mdv_replica.proofs.replica.format.Goals as goal
 use Rattle.mdv_replica.proofs.replica.format.Goals.{After-settle, After-settle-2}
@@ -48,29 +48,36 @@ pub returns-in_err-wipe-clause-counted : goal.returns-in_err-wipe-clause-counted
 returns-in_err-wipe-clause-counted g c = record {
   done = search rules;
   any = between_wider g.S.Shelf.calls g.S.Shelf.written _ _ 1 2 1 1 6 5 (omega arith) (omega arith) (omega arith) c.wipe.ensures.counted.any;
+  wrote = c.wipe.ensures.counted.wrote;
 }
 
 pub returns-in_err-settle-clause-counted : goal.returns-in_err-settle-clause-counted
 returns-in_err-settle-clause-counted g c = record {
   done = search rules;
   any = between_wider g.S.Shelf.calls g.S.Shelf.written _ _ 1 4 4 1 6 5 (omega arith) (omega arith) (omega arith) (both g (goal.at.returns-in_err-settle-clause-counted g c).After-settle);
+  wrote = some_more c.wipe.ensures.counted.wrote c.settle.ensures.counted.wrote;
 }
 
 pub returns-in_err-settle-2-clause-counted : goal.returns-in_err-settle-2-clause-counted
-returns-in_err-settle-2-clause-counted g c = record { done = search rules; any = all g (goal.at.returns-in_err-settle-2-clause-counted g c).After-settle-2 }
+returns-in_err-settle-2-clause-counted g c = record {
+  done = search rules;
+  any = all g (goal.at.returns-in_err-settle-2-clause-counted g c).After-settle-2;
+  wrote = some_more (some_more c.wipe.ensures.counted.wrote c.settle.ensures.counted.wrote) c.settle-2.ensures.counted.wrote;
+}
 
 pub returns-clause-counted : goal.returns-clause-counted
 returns-clause-counted g c = record {
   done = took_more g.S.Shelf.calls g.S.Shelf.written _ _ _ 4 2 4 1 6 5 (omega arith) (omega arith)
       (took_more g.S.Shelf.calls g.S.Shelf.written _ _ _ 2 2 1 3 4 4 (omega arith) (omega arith) c.in_ok-wipe.ensures.counted.done c.in_ok-settle.ensures.counted.done) c.in_ok-settle-2.ensures.counted.done;
   any = all g (goal.at.returns-clause-counted g c).After-settle-2;
+  wrote = some_more (some_more c.wipe.ensures.counted.wrote c.settle.ensures.counted.wrote) c.settle-2.ensures.counted.wrote;
 }
 
 pub returns-in_err-settle-clause-kept : goal.returns-in_err-settle-clause-kept
-returns-in_err-settle-clause-kept g c = kept_more c.wipe.ensures.kept c.settle.ensures.kept
+returns-in_err-settle-clause-kept g c = kept_on_more c.in_ok-wipe.ensures.cause.calm c.wipe.ensures.kept c.settle.ensures.kept
 
 pub returns-in_err-settle-2-clause-kept : goal.returns-in_err-settle-2-clause-kept
-returns-in_err-settle-2-clause-kept g c = kept_more (kept_more c.wipe.ensures.kept c.settle.ensures.kept) c.settle-2.ensures.kept
+returns-in_err-settle-2-clause-kept g c = kept_on_more (c.in_ok-settle.ensures.cause.calm ∙ c.in_ok-wipe.ensures.cause.calm) (kept_on_more c.in_ok-wipe.ensures.cause.calm c.wipe.ensures.kept c.settle.ensures.kept) c.settle-2.ensures.kept
 
 pub returns-clause-kept : goal.returns-clause-kept
-returns-clause-kept g c = kept_more (kept_more c.wipe.ensures.kept c.settle.ensures.kept) c.settle-2.ensures.kept
+returns-clause-kept g c = kept_on_more (c.in_ok-settle.ensures.cause.calm ∙ c.in_ok-wipe.ensures.cause.calm) (kept_on_more c.in_ok-wipe.ensures.cause.calm c.wipe.ensures.kept c.settle.ensures.kept) c.settle-2.ensures.kept

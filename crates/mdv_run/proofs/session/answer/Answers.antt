@@ -17,7 +17,7 @@ use Rattle.mdv_run.specs.Promise.{LineEnd}
 use Rattle.mdv_shelf.proofs.Noted.{moment_weaker}
 use Rattle.mdv_run.proofs.Fronts.{AnswerFront, LineFront, front_of, only_refused}
 use Rattle.mdv_engine.specs.Ends.{CarriesOut, OnlyAnswers}
-use Rattle.mdv_run.proofs.Answering.{command_reply, told_reply, executed_line, no_boot, known_ran, line_executed, refused_turned, refused_down, refused_knows}
+use Rattle.mdv_run.proofs.Answering.{uncut_replied, command_reply, told_reply, executed_line, no_boot, known_ran, line_executed, refused_turned, refused_down, refused_knows}
 use Rattle.mdv_run.proofs.session.answer.Goals as goal
 
 pub exec-requires-clause-executed : goal.exec-requires-clause-executed
@@ -59,6 +59,7 @@ pub returns-in-Command-clause-stays : goal.returns-in-Command-clause-stays
 returns-in-Command-clause-stays g c = record {
   home = turn_stays c.args.engine.now.host (asked_by c.in-Command.command) c.args.engine.now.state _ _ c.exec.ensures.moments.each;
   told = c.exec.ensures.counted.told;
+  given = c.exec.ensures.counted.given;
   rests = c.exec.ensures.moments.rests;
   tells = moment_weaker g.B.Shelf (λ t m. Knows c.args.engine.now.host c.args.engine.now.state t.tale → TellsFront (CarriesOut c.args.engine.now.host c.in-Command.command) c.args.engine.now.state t m) (LineFront c.args.engine.now.host c.args.line.now c.args.engine.now.state) _ _
       (λ t m up down here known. front_of (CarriesOut c.args.engine.now.host c.in-Command.command) (λ failures kept answer next. IsAnswered failures c.args.engine.now.host kept c.args.line.now answer next) c.args.engine.now.state t m (λ failures kept answer next is. inr (words.Command c.in-Command.command, subst (IsLine c.args.line.now) c.in-Command.is c.in-Some.ensures.value, is)) (here known)) c.exec.ensures.moments.fronts;
@@ -94,6 +95,7 @@ pub returns-in_default-clause-stays : goal.returns-in_default-clause-stays
 returns-in_default-clause-stays g c = record {
   home = turn_stays c.args.engine.now.host Nothing c.args.engine.now.state _ _ (c.refuse.ensures.moments Nothing).each;
   told = c.refuse.ensures.counted.told;
+  given = λ uncut. c.refuse.ensures.counted.given (uncut_replied _ (outcome.Refused BadLine) c.refuse.result c.refuse.ensures.answer.cause uncut);
   rests = (c.refuse.ensures.moments Nothing).rests;
   tells = moment_weaker g.B.Shelf (AnswerFront c.args.engine.now.host (refusing BadLine) c.args.engine.now.state) (LineFront c.args.engine.now.host c.args.line.now c.args.engine.now.state) _ _
       (λ t m up down here known. front_of (OnlyAnswers (refusing BadLine)) (λ failures kept answer next. IsAnswered failures c.args.engine.now.host kept c.args.line.now answer next) c.args.engine.now.state t m (λ failures kept answer next is. inl (c.in_default.ensures.none, is.0, only_refused BadLine failures kept answer next is)) (here known)) (c.refuse.ensures.moments Nothing).fronts;

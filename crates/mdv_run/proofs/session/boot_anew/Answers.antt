@@ -4,9 +4,9 @@ use Rattle.std.proofs.Common.{◌≡◌, ◌≤◌, ◌+◌, [], inl, inr, Optio
 use Rattle.mdv_engine_law.specs.Line.{Nothing}
 use Rattle.std.proofs.lemmas.List.{append-nil}
 use Rattle.mdv_shelf.specs.Shelves.{DriveFailed, DriveFailures, GivingFailed}
-use Rattle.mdv_run.specs.Below.{OnReplies, Moments, Ends, told, Boot, Host, StaysHome, BootMoment, BootedTo, TurnMoment, Engine, IsWell, Knows, IsRebooted, Tale, kept_at}
+use Rattle.mdv_run.specs.Below.{OnDrive, OnReplies, Moments, Ends, told, Boot, Host, StaysHome, BootMoment, BootedTo, TurnMoment, Engine, IsWell, Knows, IsRebooted, Tale, kept_at}
 use Rattle.mdv_run.specs.Promise.{LineEnd}
-use Rattle.mdv_run.proofs.Answering.{line_executed, accepted_turned, ended_reply, reply_more, told_reply}
+use Rattle.mdv_run.proofs.Answering.{uncut_replied, line_executed, accepted_turned, ended_reply, reply_more, told_reply}
 use Rattle.std.specs.Option.{option_map}
 use Rattle.mdv_shelf.specs.Shelves.{AtEachMoment}
 use Rattle.mdv_shelf.specs.Story.{OfTales, Story, tale_of}
@@ -24,6 +24,8 @@ use Rattle.mdv_base.proofs.Causes.{rose_within, within_calm}
 use Rattle.mdv_engine_law.proofs.Knowing.{knows_kept}
 use Rattle.mdv_engine_law.proofs.Staying.{both_stay, boot_stays, turn_stays}
 use Rattle.mdv_run_law.proofs.Booting.{boot_turn, booted_turn, booted_ran}
+use Rattle.mdv_shelf.proofs.InTime.{in_time_both, in_time_of_on}
+use Rattle.mdv_run.proofs.Keeping.{drive_apart, replies_apart}
 use Rattle.mdv_run.proofs.session.boot_anew.Goals as goal
 
 pub returns-in-Ok-clause-moments : goal.returns-in-Ok-clause-moments
@@ -68,6 +70,7 @@ returns-in-Ok-clause-stays g c = λ text boots.
     let quiet = moments_weaker (BootMoment host) (λ t m. told m ≡ told t) _ _ (λ t m moment. moment.quiet) c.reboot.ensures.moments in record {
       home = both_stay host _ _ _ (boot_stays host _ _ c.reboot.ensures.moments)
           (subst (λ (h : Host). Moments (StaysHome h) (g.B.Shelf.tale c.reboot.new.shelf) (g.B.Shelf.tale c.accept.new.bench)) c.in-Ok.ensures.answer.host (turn_stays c.reboot.new.self.host Nothing c.reboot.new.self.state _ _ c.accept.ensures.moments.each));
+      given = λ uncut. c.accept.ensures.counted.given (uncut_replied _ outcome.Ok c.accept.result c.accept.ensures.answer.cause uncut) ∙ c.reboot.ensures.kept.others OnReplies replies_apart;
       told = λ on. told_behind g.B.Shelf g.met.B.Shelf.telling _ _ _ c.reboot.ensures.kept.goes quiet (c.accept.ensures.counted.told on);
       rests = rests_behind g.B.Shelf g.met.B.Shelf.telling _ _ _ c.reboot.ensures.kept.goes quiet c.accept.ensures.moments.rests;
       tells = each_joined (OfTales (λ t m. told m ≡ told t)) (AnswerFront host accepted new) (LineFront host text old) _ _ _ _ _ _
@@ -110,6 +113,7 @@ pub returns-in-Err-clause-stays : goal.returns-in-Err-clause-stays
 returns-in-Err-clause-stays g c = λ text boots. record {
   home = boot_stays c.args.engine.now.host _ _ c.reboot.ensures.moments;
   told = λ on. absurd (never_ended c.in-Err.end (subst IsReplied c.reply_at.ensures on));
+  given = λ uncut. c.reboot.ensures.kept.others OnReplies replies_apart;
   rests = rests_quiet g.B.Shelf g.met.B.Shelf.telling _ _ c.reboot.ensures.kept.goes (moments_weaker (BootMoment c.args.engine.now.host) (λ t m. told m ≡ told t) _ _ (λ t m moment. moment.quiet) c.reboot.ensures.moments);
   tells = moment_weaker g.B.Shelf (OfTales (λ t m. told m ≡ told t)) (LineFront c.args.engine.now.host text c.args.engine.now.state) _ _ (λ t m up below here known. inl here) (moments_of_tales g.B.Shelf g.met.B.Shelf.telling _ _ (λ t m. told m ≡ told t) c.reboot.ensures.kept.goes
       (moments_weaker (BootMoment c.args.engine.now.host) (λ t m. told m ≡ told t) _ _ (λ t m moment. moment.quiet) c.reboot.ensures.moments));
@@ -133,3 +137,9 @@ returns-in-Ok-clause-answer g c = record {
   begun = subst (λ (e : Engine). e.state.begun ≤ c.args.engine.now.state.begun + 1) (sym c.accept.ensures.answer.same) (let same = c.in-Ok.ensures.answer.begun in omega arith);
   counted = λ n calls. boot_calls g.B.Shelf _ _ _ c.reboot.new.self.state c.in-Ok.ensures.counted c.accept.ensures.counted.most n calls;
 }
+
+pub returns-in-Ok-clause-kept : goal.returns-in-Ok-clause-kept
+returns-in-Ok-clause-kept g c = in_time_both drive_apart c.reboot.ensures.kept c.accept.ensures.kept
+
+pub returns-in-Err-clause-kept : goal.returns-in-Err-clause-kept
+returns-in-Err-clause-kept g c = in_time_of_on g.B.Shelf _ _ (OnDrive 0) c.reboot.ensures.kept

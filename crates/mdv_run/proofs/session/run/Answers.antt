@@ -36,7 +36,7 @@ returns-in-Err-Memory-clause-used g c = λ drives home used.
       runs = λ t is input left. inl (record { wanting = refl; untouched = (refl, refl) });
       stands = λ input left. moments_of_tales g.B.Shelf g.met.B.Shelf.telling _ _ (RunMoment host (asked_of input)) (kept_itself g.B.Shelf c.args.bench.now).goes
           (moments_none (RunMoment host (asked_of input)) _ _ refl (λ t. nothing_run host (asked_of input) t));
-      tells = λ input left. fronts_quiet g.B.Shelf g.met.B.Shelf.telling host (counts (g.B.Shelf.faults c.args.bench.now) (g.I.Source.faults c.args.script.now)) (counts (g.B.Shelf.faults c.args.bench.now) (g.I.Source.faults c.args.script.now)) (asked_of input) (between g.B.Shelf c.args.bench.now c.args.bench.now) _ _ (kept_itself g.B.Shelf c.args.bench.now).goes (moments_none (λ t m. told m ≡ told t) _ _ refl (λ t. refl));
+      tells = λ input left. fronts_quiet g.B.Shelf g.met.B.Shelf.telling host (counts (g.B.Shelf.faults c.args.bench.now) (g.I.Source.faults c.args.script.now)) (asked_of input) (between g.B.Shelf c.args.bench.now c.args.bench.now) _ _ (kept_itself g.B.Shelf c.args.bench.now).goes (moments_none (λ t m. told m ≡ told t) _ _ refl (λ t. refl));
       home = nothing_stays host _ _ refl;
       causes = inl refl;
       counted = λ input left n calls. none_took _ (13 + n);

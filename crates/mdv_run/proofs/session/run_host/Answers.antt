@@ -6,13 +6,15 @@ use Rattle.mdv_shelf.proofs.Moments.{moments_after, moments_weaker, moments_end,
 use Rattle.mdv_run.specs.Turns.{LinesRun}
 use Rattle.mdv_run_law.proofs.Booting.{boot_run, lines_run}
 use Rattle.mdv_run.proofs.Whole.{point_between, whole_over, whole_lines, over_cause}
-use Rattle.mdv_run.specs.Promise.{between}
+use Rattle.mdv_run.specs.Promise.{between, point_at}
 use Rattle.mdv_shelf.specs.Shelves.{AtEachMoment}
 use Rattle.mdv_run.proofs.Fronting.{RunFront, fronts_quiet, fronts_whole}
 use Rattle.mdv_run.proofs.Shown.{last_earlier, shown_earlier}
 use Rattle.mdv_run.proofs.Went.{cause_within, run_earlier}
 use Rattle.mdv_engine_law.proofs.Staying.{both_stay, boot_stays}
 use Rattle.mdv_shelf.proofs.Noted.{kept_more, moments_of_tales}
+use Rattle.mdv_shelf.proofs.InTime.{kept_of_on}
+use Rattle.mdv_run.proofs.Keeping.{replies_apart}
 use Rattle.mdv_run.proofs.session.run_host.Goals as goal
 
 pub returns-in-Ok-clause-has_run : goal.returns-in-Ok-clause-has_run
@@ -25,27 +27,28 @@ returns-in-Ok-clause-has_run g c = record {
       let knows : Knows c.in-Ok.engine.host c.in-Ok.engine.state done.0 = subst (λ (h : Host). Knows h c.in-Ok.engine.state done.0) (sym c.in-Ok.ensures.answer.engine.0) (done.2.booted refl).knows in
       let start = counts (g.B.Shelf.faults c.args.bench.now) (g.I.Source.faults c.args.script.now) in
       let mid = counts (g.B.Shelf.faults c.boot.new.shelf) (g.I.Source.faults c.args.script.now) in
+      let there = point_at g.B.Shelf g.I.Source c.boot.new.shelf c.args.script.now in
       let end = counts (g.B.Shelf.faults c.run_lines.new.bench) (g.I.Source.faults c.run_lines.new.script) in
       let silent = moments_weaker (BootMoment host) (λ t m. told m ≡ told t) _ _ (λ t m moment. moment.quiet) c.boot.ensures.moments in
-      inr (whole_lines host (between g.B.Shelf c.args.bench.now c.run_lines.new.bench) start t (asked_of input) _ mid end (record { drive = c.boot.ensures.kept.keeps.no_fewer_faults (OnDrive 0); source = refl; replies = c.boot.ensures.kept.keeps.no_fewer_faults OnReplies })
-      done.0 lines.0 c.in-Ok.engine.state c.run_lines.result (point_between g.B.Shelf g.met.B.Shelf.telling _ c.boot.new.shelf _ (g.I.Source.faults c.args.script.now) done.0 done.1 c.boot.ensures.kept.goes c.run_lines.ensures.kept.goes) lines.1 (ap told (some_is _ done.0 quiet.0 done.1 quiet.1) ∙ quiet.2.quiet) done.2.rebooted
-      (run_earlier host (between g.B.Shelf c.boot.new.shelf c.run_lines.new.bench) (between g.B.Shelf c.args.bench.now c.run_lines.new.bench)
+      inr (whole_lines host (between g.B.Shelf c.args.bench.now c.run_lines.new.bench) start t (asked_of input) _ mid end (record { drive = c.boot.ensures.kept.keeps.no_fewer_faults (OnDrive 0); source = refl; replies = c.boot.ensures.kept.others OnReplies replies_apart })
+      done.0 lines.0 c.in-Ok.engine.state c.run_lines.result (g.B.Shelf.story c.boot.new.shelf) (point_between g.B.Shelf g.met.B.Shelf.telling _ c.boot.new.shelf _ (g.I.Source.faults c.args.script.now) done.0 done.1 c.boot.ensures.kept silent c.run_lines.ensures.kept.goes) lines.1 (ap told (some_is _ done.0 quiet.0 done.1 quiet.1) ∙ quiet.2.quiet) done.2.rebooted
+      (run_earlier host (between g.B.Shelf c.boot.new.shelf c.run_lines.new.bench) (between g.B.Shelf c.args.bench.now c.run_lines.new.bench) refl
       (λ bytes piece shown some seen. shown_earlier g.B.Shelf g.met.B.Shelf.telling _ _ _ c.boot.ensures.kept.goes silent bytes piece shown some seen)
       (λ bytes drive content seen. last_earlier g.B.Shelf g.met.B.Shelf.telling _ _ _ c.boot.ensures.kept.goes silent bytes drive content seen)
-      mid end c.in-Ok.engine.state (asked_of input) c.run_lines.result done.0 lines.0
-      (subst (λ (h : Host). LinesRun h (between g.B.Shelf c.boot.new.shelf c.run_lines.new.bench) mid end c.in-Ok.engine.state false (asked_of input) c.run_lines.result done.0 lines.0) c.in-Ok.ensures.answer.engine.0 (lines.2 knows))));
+      there end c.in-Ok.engine.state (asked_of input) c.run_lines.result done.0 lines.0
+      (subst (λ (h : Host). LinesRun h (between g.B.Shelf c.boot.new.shelf c.run_lines.new.bench) there end c.in-Ok.engine.state false (asked_of input) c.run_lines.result done.0 lines.0) c.in-Ok.ensures.answer.engine.0 (lines.2 knows))));
   stands = λ input left.
       let host = c.args.host in
-      moments_of_tales g.B.Shelf g.met.B.Shelf.telling _ _ (RunMoment host (asked_of input)) (kept_more c.boot.ensures.kept c.run_lines.ensures.kept).goes
+      moments_of_tales g.B.Shelf g.met.B.Shelf.telling _ _ (RunMoment host (asked_of input)) (kept_more (kept_of_on c.boot.ensures.kept) c.run_lines.ensures.kept).goes
       (moments_after (BootMoment host) (BootedTo host c.in-Ok.engine.state) (LinesMoment host (asked_of input) c.in-Ok.engine.state) (RunMoment host (asked_of input)) _ _ _
       (λ t m moment. boot_run host (asked_of input) t m moment)
       (λ t u m booted lines. lines_run host (asked_of input) c.in-Ok.engine.state t u m booted lines)
       c.boot.ensures.moments (λ t is. (let up = c.in-Ok.ensures.end t is in (up.0, up.1, up.2.booted refl)))
       (subst (λ (h : Host). Moments (LinesMoment h (asked_of input) c.in-Ok.engine.state) (g.B.Shelf.tale c.boot.new.shelf) (g.B.Shelf.tale c.run_lines.new.bench)) c.in-Ok.ensures.answer.engine.0 (c.run_lines.ensures.lines.moments input left)));
-  tells = λ input left. fronts_whole g.B.Shelf g.met.B.Shelf.telling c.args.host (counts (g.B.Shelf.faults c.args.bench.now) (g.I.Source.faults c.args.script.now)) (counts (g.B.Shelf.faults c.boot.new.shelf) (g.I.Source.faults c.args.script.now)) (asked_of input) _ _ _ c.in-Ok.engine.state
-      (record { drive = c.boot.ensures.kept.keeps.no_fewer_faults (OnDrive 0); source = refl; replies = c.boot.ensures.kept.keeps.no_fewer_faults OnReplies }) refl c.boot.ensures.kept.goes c.run_lines.ensures.kept.goes (moments_weaker (BootMoment c.args.host) (λ t m. told m ≡ told t) _ _ (λ t m moment. moment.quiet) c.boot.ensures.moments)
+  tells = λ input left. fronts_whole g.B.Shelf g.met.B.Shelf.telling c.args.host (counts (g.B.Shelf.faults c.args.bench.now) (g.I.Source.faults c.args.script.now)) (asked_of input) _ _ _ c.in-Ok.engine.state c.boot.ensures.kept
+      (record { drive = c.boot.ensures.kept.keeps.no_fewer_faults (OnDrive 0); source = refl; replies = c.boot.ensures.kept.others OnReplies replies_apart }) c.run_lines.ensures.kept.goes (moments_weaker (BootMoment c.args.host) (λ t m. told m ≡ told t) _ _ (λ t m moment. moment.quiet) c.boot.ensures.moments)
       (λ t is. (let end = c.in-Ok.ensures.end t is in (end.0, end.1, (end.2.rebooted, (end.2.booted refl).knows))))
-      (subst (λ (h : Host). AtEachMoment g.B.Shelf (RunFront h (between g.B.Shelf c.boot.new.shelf c.run_lines.new.bench) (counts (g.B.Shelf.faults c.boot.new.shelf) (g.I.Source.faults c.args.script.now)) c.in-Ok.engine.state (asked_of input)) c.boot.new.shelf c.run_lines.new.bench) c.in-Ok.ensures.answer.engine.0 (c.run_lines.ensures.lines.tells input left));
+      (subst (λ (h : Host). AtEachMoment g.B.Shelf (RunFront h (between g.B.Shelf c.boot.new.shelf c.run_lines.new.bench) (point_at g.B.Shelf g.I.Source c.boot.new.shelf c.args.script.now) c.in-Ok.engine.state (asked_of input)) c.boot.new.shelf c.run_lines.new.bench) c.in-Ok.ensures.answer.engine.0 (c.run_lines.ensures.lines.tells input left));
   home = let host = c.args.host in
       both_stay host _ _ _ (boot_stays host _ _ c.boot.ensures.moments)
       (subst (λ (h : Host). Moments (StaysHome h) (g.B.Shelf.tale c.boot.new.shelf) (g.B.Shelf.tale c.run_lines.new.bench)) c.in-Ok.ensures.answer.engine.0 c.run_lines.ensures.lines.home);
@@ -64,15 +67,21 @@ returns-in-Err-clause-has_run g c = record {
       let start = counts (g.B.Shelf.faults c.args.bench.now) (g.I.Source.faults c.args.script.now) in
       let end = counts (g.B.Shelf.faults c.boot.new.shelf) (g.I.Source.faults c.args.script.now) in
       inr (subst (λ (s : RunStatus). IsWholeRun host (between g.B.Shelf c.args.bench.now c.boot.new.shelf) start end t (asked_of input) (g.B.Shelf.tale c.boot.new.shelf) s) (sym c.over.ensures)
-      (whole_over host (between g.B.Shelf c.args.bench.now c.boot.new.shelf) start t (asked_of input) _ Engine end (record { drive = c.boot.ensures.kept.keeps.no_fewer_faults (OnDrive 0); source = refl; replies = c.boot.ensures.kept.keeps.no_fewer_faults OnReplies })
-      done.0 (unbooted 0) c.in-Err.end (point_between g.B.Shelf g.met.B.Shelf.telling _ c.boot.new.shelf _ (g.I.Source.faults c.args.script.now) done.0 done.1 c.boot.ensures.kept.goes (kept_itself g.B.Shelf c.boot.new.shelf).goes) done.1 (ap told (some_is _ done.0 quiet.0 done.1 quiet.1) ∙ quiet.2.quiet) done.2.rebooted));
+      (whole_over host (between g.B.Shelf c.args.bench.now c.boot.new.shelf) start t (asked_of input) _ Engine end (record { drive = c.boot.ensures.kept.keeps.no_fewer_faults (OnDrive 0); source = refl; replies = c.boot.ensures.kept.others OnReplies replies_apart })
+      done.0 (unbooted 0) c.in-Err.end (point_between g.B.Shelf g.met.B.Shelf.telling _ c.boot.new.shelf _ (g.I.Source.faults c.args.script.now) done.0 done.1 c.boot.ensures.kept (moments_weaker (BootMoment host) (λ t m. told m ≡ told t) _ _ (λ t m moment. moment.quiet) c.boot.ensures.moments) (kept_itself g.B.Shelf c.boot.new.shelf).goes) done.1 (ap told (some_is _ done.0 quiet.0 done.1 quiet.1) ∙ quiet.2.quiet) done.2.rebooted));
   stands = λ input left.
       let host = c.args.host in
       moments_of_tales g.B.Shelf g.met.B.Shelf.telling _ _ (RunMoment host (asked_of input)) c.boot.ensures.kept.goes
       (moments_weaker (BootMoment host) (RunMoment host (asked_of input)) _ _ (λ t m moment. boot_run host (asked_of input) t m moment) c.boot.ensures.moments);
-  tells = λ input left. fronts_quiet g.B.Shelf g.met.B.Shelf.telling c.args.host (counts (g.B.Shelf.faults c.args.bench.now) (g.I.Source.faults c.args.script.now)) (counts (g.B.Shelf.faults c.boot.new.shelf) (g.I.Source.faults c.args.script.now)) (asked_of input) (between g.B.Shelf c.args.bench.now c.boot.new.shelf) _ _ c.boot.ensures.kept.goes (moments_weaker (BootMoment c.args.host) (λ t m. told m ≡ told t) _ _ (λ t m moment. moment.quiet) c.boot.ensures.moments);
+  tells = λ input left. fronts_quiet g.B.Shelf g.met.B.Shelf.telling c.args.host (counts (g.B.Shelf.faults c.args.bench.now) (g.I.Source.faults c.args.script.now)) (asked_of input) (between g.B.Shelf c.args.bench.now c.boot.new.shelf) _ _ c.boot.ensures.kept.goes (moments_weaker (BootMoment c.args.host) (λ t m. told m ≡ told t) _ _ (λ t m moment. moment.quiet) c.boot.ensures.moments);
   home = boot_stays c.args.host _ _ c.boot.ensures.moments;
   counted = λ input left n calls. only_boot _ _ n (ended_calls g.B.Shelf _ _ c.in-Err.end (unbooted 0) c.in-Err.ensures.counted);
   causes = inr (subst (λ (s : RunStatus). HasStatusCause (counts (g.B.Shelf.faults c.args.bench.now) (g.I.Source.faults c.args.script.now)) (counts (g.B.Shelf.faults c.boot.new.shelf) (g.I.Source.faults c.args.script.now)) s) (sym c.over.ensures)
       (over_cause Engine _ _ c.in-Err.end false c.in-Err.ensures.answer.cause));
 }
+
+pub returns-in-Ok-clause-kept : goal.returns-in-Ok-clause-kept
+returns-in-Ok-clause-kept g c = kept_more (kept_of_on c.boot.ensures.kept) c.run_lines.ensures.kept
+
+pub returns-in-Err-clause-kept : goal.returns-in-Err-clause-kept
+returns-in-Err-clause-kept g c = kept_of_on c.boot.ensures.kept

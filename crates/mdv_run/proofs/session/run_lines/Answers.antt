@@ -1,7 +1,7 @@
 use Rattle.mdv_run.proofs.Counting.{all_left, took_on, took_over}
 use Rattle.std.proofs.Common.{◌≤◌, false, refl, sym, ◌∙◌, subst, arith}
 use Rattle.mdv_run.specs.Below.{Reader, asked_of, asked_before, OnDrive, OnReplies, Moments, Ends, Host, IsReady, Knows, IsWell, counts, LinesMoment, StaysHome}
-use Rattle.mdv_run.specs.Promise.{between}
+use Rattle.mdv_run.specs.Promise.{between, point_at}
 use Rattle.mdv_run.specs.Turns.{LinesRun}
 use Rattle.mdv_shelf.specs.Shelves.{AtEachMoment}
 use Rattle.mdv_run.proofs.Fronting.{RunFront, fronts_more, fronts_start}
@@ -10,6 +10,7 @@ use Rattle.mdv_run.proofs.Went.{SoFar, so_far_start, so_far_more, moments_over, 
 use Rattle.mdv_shelf.proofs.Noted.{kept_more}
 use Rattle.mdv_engine_law.proofs.Kept.{kept_itself}
 use Rattle.mdv_engine_law.proofs.Staying.{nothing_stays, both_stay}
+use Rattle.mdv_run.proofs.Keeping.{kept_of_time}
 use Rattle.mdv_run.proofs.session.run_lines.Goals as goal
 
 pub loop-refused-init : goal.loop-refused-init
@@ -23,7 +24,7 @@ loop-refused-init g c = record {
   source = omega arith;
   calls = λ input left n calls. all_left _ _ (asked_of input) n (script_at_start _ _ _ c.new-reader.ensures left) calls;
   home = nothing_stays c.args.engine.now.host _ _ refl;
-  fronts = λ input left. fronts_start c.args.engine.now.host (counts (g.B.Shelf.faults c.args.bench.now) (g.I.Source.faults c.args.script.now)) c.args.engine.now.state (asked_of input) g.B.Shelf g.met.B.Shelf.telling c.args.bench.now;
+  fronts = λ input left. fronts_start c.args.engine.now.host (point_at g.B.Shelf g.I.Source c.args.bench.now c.args.script.now) c.args.engine.now.state (asked_of input) g.B.Shelf g.met.B.Shelf.telling c.args.bench.now refl;
   so_far = λ input left. so_far_start c.args.engine.now.host c.args.engine.now.state input _ (between g.B.Shelf c.args.bench.now c.args.bench.now) _ _ (script_at_start _ _ _ c.new-reader.ensures left);
 }
 
@@ -37,19 +38,19 @@ loop-refused-preserved g c =
       well = subst (λ (h : Host). IsWell h c.take_turn.new.engine.state) (sym answer.same) answer.well;
       begun = answer.begun;
       limit = (answer.on tt).1;
-      kept = kept_more before.kept c.in-On.ensures.kept;
+      kept = kept_more before.kept (kept_of_time c.in-On.ensures.kept);
       source = let first = before.source in let more = answer.source in omega arith;
       calls = λ input left n calls. took_on _ _ _ n _ _ (before.calls input left n calls) answer.counted;
       home = both_stay c.args.engine.now.host _ _ _ before.home
           (subst (λ (h : Host). Moments (StaysHome h) (g.B.Shelf.tale c.loop-refused.bench) (g.B.Shelf.tale c.take_turn.new.bench)) before.host c.in-On.ensures.stays.home);
-      fronts = λ input left. subst (λ (h : Host). AtEachMoment g.B.Shelf (RunFront h (between g.B.Shelf c.args.bench.now c.take_turn.new.bench) (counts (g.B.Shelf.faults c.args.bench.now) (g.I.Source.faults c.args.script.now)) c.args.engine.now.state (asked_of input)) c.args.bench.now c.take_turn.new.bench) (sym answer.same)
+      fronts = λ input left. subst (λ (h : Host). AtEachMoment g.B.Shelf (RunFront h (between g.B.Shelf c.args.bench.now c.take_turn.new.bench) (point_at g.B.Shelf g.I.Source c.args.bench.now c.args.script.now) c.args.engine.now.state (asked_of input)) c.args.bench.now c.take_turn.new.bench) (sym answer.same)
           (let here = before.so_far input left in
-          fronts_more c.loop-refused.engine.host (counts (g.B.Shelf.faults c.args.bench.now) (g.I.Source.faults c.args.script.now)) c.args.engine.now.state (asked_of input) g.B.Shelf g.met.B.Shelf.telling _ _ _ (counts (g.B.Shelf.faults c.loop-refused.bench) (g.I.Source.faults c.loop-refused.script)) c.loop-refused.engine.state c.loop-refused.any_refused here.left before.kept.goes c.in-On.ensures.kept.goes
+          fronts_more c.loop-refused.engine.host (point_at g.B.Shelf g.I.Source c.args.bench.now c.args.script.now) c.args.engine.now.state (asked_of input) g.B.Shelf g.met.B.Shelf.telling _ _ _ (point_at g.B.Shelf g.I.Source c.loop-refused.bench c.loop-refused.script) refl c.loop-refused.engine.state c.loop-refused.any_refused here.left before.kept.goes c.in-On.ensures.kept.goes
           (before.fronts input left) here.went (λ t is. (let ran = here.ran t is in (ran.0, ran.1, ran.2.knows))) (c.in-On.ensures.stays.tells here.left here.comes));
       so_far = λ input left.
           let here = before.so_far input left in
-          subst (λ (h : Host). SoFar h (between g.B.Shelf c.args.bench.now c.take_turn.new.bench) (counts (g.B.Shelf.faults c.args.bench.now) (g.I.Source.faults c.args.script.now)) (counts (g.B.Shelf.faults c.take_turn.new.bench) (g.I.Source.faults c.take_turn.new.script)) c.args.engine.now.state c.take_turn.new.engine.state c.in-On.refused input (asked_before c.take_turn.new.reader (g.I.Source.left c.take_turn.new.script)) (g.B.Shelf.tale c.args.bench.now) (g.B.Shelf.tale c.take_turn.new.bench)) (sym answer.same)
-          (so_far_more c.loop-refused.engine.host c.args.engine.now.state input (counts (g.B.Shelf.faults c.args.bench.now) (g.I.Source.faults c.args.script.now)) (counts (g.B.Shelf.faults c.loop-refused.bench) (g.I.Source.faults c.loop-refused.script)) (counts (g.B.Shelf.faults c.take_turn.new.bench) (g.I.Source.faults c.take_turn.new.script)) c.loop-refused.engine.state c.take_turn.new.engine.state c.loop-refused.any_refused _ _ _ _ _ _ here
+          subst (λ (h : Host). SoFar h (between g.B.Shelf c.args.bench.now c.take_turn.new.bench) (point_at g.B.Shelf g.I.Source c.args.bench.now c.args.script.now) (point_at g.B.Shelf g.I.Source c.take_turn.new.bench c.take_turn.new.script) c.args.engine.now.state c.take_turn.new.engine.state c.in-On.refused input (asked_before c.take_turn.new.reader (g.I.Source.left c.take_turn.new.script)) (g.B.Shelf.tale c.args.bench.now) (g.B.Shelf.tale c.take_turn.new.bench)) (sym answer.same)
+          (so_far_more c.loop-refused.engine.host c.args.engine.now.state input (point_at g.B.Shelf g.I.Source c.args.bench.now c.args.script.now) (point_at g.B.Shelf g.I.Source c.loop-refused.bench c.loop-refused.script) (point_at g.B.Shelf g.I.Source c.take_turn.new.bench c.take_turn.new.script) c.loop-refused.engine.state c.take_turn.new.engine.state c.loop-refused.any_refused _ _ _ _ _ _ here
           (between g.B.Shelf c.args.bench.now c.take_turn.new.bench) c.in-On.refused (record {
             still = λ t u is_t is_u bytes piece shown some le seen. shown_later g.B.Shelf g.met.B.Shelf.telling _ _ _ before.kept.goes c.in-On.ensures.kept.goes bytes piece shown t u some is_t is_u le seen;
             grew = λ u v is_u is_v. grew_told _ _ (c.in-On.ensures.stays.told tt).grew u v is_u is_v;
@@ -62,20 +63,21 @@ returns-in-Over-clause-lines g c =
     let before = c.loop-refused.invariant in record {
       runs = λ input left.
           let here = before.so_far input left in
-          subst (λ (h : Host). Ends (λ t u. Knows h c.args.engine.now.state t → LinesRun h (between g.B.Shelf c.args.bench.now c.take_turn.new.bench) (counts (g.B.Shelf.faults c.args.bench.now) (g.I.Source.faults c.args.script.now)) (counts (g.B.Shelf.faults c.take_turn.new.bench) (g.I.Source.faults c.take_turn.new.script)) c.args.engine.now.state false (asked_of input) c.in-Over.status t u) (g.B.Shelf.tale c.args.bench.now) (g.B.Shelf.tale c.take_turn.new.bench)) before.host
-          (over_ends c.loop-refused.engine.host c.args.engine.now.state input (counts (g.B.Shelf.faults c.args.bench.now) (g.I.Source.faults c.args.script.now)) (counts (g.B.Shelf.faults c.loop-refused.bench) (g.I.Source.faults c.loop-refused.script)) (counts (g.B.Shelf.faults c.take_turn.new.bench) (g.I.Source.faults c.take_turn.new.script)) c.loop-refused.engine.state c.take_turn.new.engine.state c.loop-refused.any_refused _ _ _ _ _ _ here
+          subst (λ (h : Host). Ends (λ t u. Knows h c.args.engine.now.state t → LinesRun h (between g.B.Shelf c.args.bench.now c.take_turn.new.bench) (point_at g.B.Shelf g.I.Source c.args.bench.now c.args.script.now) (counts (g.B.Shelf.faults c.take_turn.new.bench) (g.I.Source.faults c.take_turn.new.script)) c.args.engine.now.state false (asked_of input) c.in-Over.status t u) (g.B.Shelf.tale c.args.bench.now) (g.B.Shelf.tale c.take_turn.new.bench)) before.host
+          (over_ends c.loop-refused.engine.host c.args.engine.now.state input (point_at g.B.Shelf g.I.Source c.args.bench.now c.args.script.now) (point_at g.B.Shelf g.I.Source c.loop-refused.bench c.loop-refused.script) (point_at g.B.Shelf g.I.Source c.take_turn.new.bench c.take_turn.new.script) c.loop-refused.engine.state c.take_turn.new.engine.state c.loop-refused.any_refused _ _ _ _ _ _ here
           (between g.B.Shelf c.args.bench.now c.take_turn.new.bench) c.in-Over.status (record {
             still = λ t u is_t is_u bytes piece shown some le seen. shown_later g.B.Shelf g.met.B.Shelf.telling _ _ _ before.kept.goes c.in-Over.ensures.kept.goes bytes piece shown t u some is_t is_u le seen;
+            ends = refl;
             last = λ t u v is_t is_u is_v bytes until. last_now g.B.Shelf g.met.B.Shelf.telling _ _ _ before.kept.goes c.in-Over.ensures.stays.rests bytes t u v is_t is_u is_v until;
           }) c.in-Over.ensures.end);
-      tells = λ input left. subst (λ (h : Host). AtEachMoment g.B.Shelf (RunFront h (between g.B.Shelf c.args.bench.now c.take_turn.new.bench) (counts (g.B.Shelf.faults c.args.bench.now) (g.I.Source.faults c.args.script.now)) c.args.engine.now.state (asked_of input)) c.args.bench.now c.take_turn.new.bench) before.host
+      tells = λ input left. subst (λ (h : Host). AtEachMoment g.B.Shelf (RunFront h (between g.B.Shelf c.args.bench.now c.take_turn.new.bench) (point_at g.B.Shelf g.I.Source c.args.bench.now c.args.script.now) c.args.engine.now.state (asked_of input)) c.args.bench.now c.take_turn.new.bench) before.host
           (let here = before.so_far input left in
-          fronts_more c.loop-refused.engine.host (counts (g.B.Shelf.faults c.args.bench.now) (g.I.Source.faults c.args.script.now)) c.args.engine.now.state (asked_of input) g.B.Shelf g.met.B.Shelf.telling _ _ _ (counts (g.B.Shelf.faults c.loop-refused.bench) (g.I.Source.faults c.loop-refused.script)) c.loop-refused.engine.state c.loop-refused.any_refused here.left before.kept.goes c.in-Over.ensures.kept.goes
+          fronts_more c.loop-refused.engine.host (point_at g.B.Shelf g.I.Source c.args.bench.now c.args.script.now) c.args.engine.now.state (asked_of input) g.B.Shelf g.met.B.Shelf.telling _ _ _ (point_at g.B.Shelf g.I.Source c.loop-refused.bench c.loop-refused.script) refl c.loop-refused.engine.state c.loop-refused.any_refused here.left before.kept.goes c.in-Over.ensures.kept.goes
           (before.fronts input left) here.went (λ t is. (let ran = here.ran t is in (ran.0, ran.1, ran.2.knows))) (c.in-Over.ensures.stays.tells here.left here.comes));
       moments = λ input left.
           let here = before.so_far input left in
           subst (λ (h : Host). Moments (LinesMoment h (asked_of input) c.args.engine.now.state) (g.B.Shelf.tale c.args.bench.now) (g.B.Shelf.tale c.take_turn.new.bench)) before.host
-          (moments_over c.loop-refused.engine.host c.args.engine.now.state input (counts (g.B.Shelf.faults c.args.bench.now) (g.I.Source.faults c.args.script.now)) (counts (g.B.Shelf.faults c.loop-refused.bench) (g.I.Source.faults c.loop-refused.script)) (counts (g.B.Shelf.faults c.take_turn.new.bench) (g.I.Source.faults c.take_turn.new.script)) c.loop-refused.engine.state c.take_turn.new.engine.state c.loop-refused.any_refused _ (asked_before c.take_turn.new.reader (g.I.Source.left c.take_turn.new.script)) _ _ _ _ here
+          (moments_over c.loop-refused.engine.host c.args.engine.now.state input (point_at g.B.Shelf g.I.Source c.args.bench.now c.args.script.now) (point_at g.B.Shelf g.I.Source c.loop-refused.bench c.loop-refused.script) (point_at g.B.Shelf g.I.Source c.take_turn.new.bench c.take_turn.new.script) c.loop-refused.engine.state c.take_turn.new.engine.state c.loop-refused.any_refused _ (asked_before c.take_turn.new.reader (g.I.Source.left c.take_turn.new.script)) _ _ _ _ here
           c.in-Over.ensures.moments);
       counted = λ input left n calls. took_over _ _ _ n _ (before.calls input left n calls) c.in-Over.ensures.answer.counted;
       home = both_stay c.args.engine.now.host _ _ _ before.home
@@ -84,3 +86,6 @@ returns-in-Over-clause-lines g c =
           (record { drive = before.kept.keeps.no_fewer_faults (OnDrive 0); source = before.source; replies = before.kept.keeps.no_fewer_faults OnReplies })
           (record { drive = omega arith; source = omega arith; replies = omega arith }) c.in-Over.ensures.answer.cause;
     }
+
+pub returns-in-Over-clause-kept : goal.returns-in-Over-clause-kept
+returns-in-Over-clause-kept g c = kept_more c.loop-refused.invariant.kept (kept_of_time c.in-Over.ensures.kept)

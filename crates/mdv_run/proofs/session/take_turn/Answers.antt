@@ -1,25 +1,26 @@
 use Rattle.mdv_run.specs.Calls.{TurnTook}
-use Rattle.mdv_run.proofs.Counting.{line_took, long_took, none_took}
+use Rattle.mdv_run.proofs.Counting.{line_took, long_took}
 use Rattle.mdv_engine_law.specs.declared.answer.Outcome.TheVariants as outcome
 use Rattle.std.proofs.Common.{◌≡◌, ◌≤◌, ℕ, refl, sym, ap, subst, arith}
 use Rattle.mdv_engine_law.specs.Line.{Nothing}
-use Rattle.mdv_run.specs.Below.{Script, Engine, line, too_long, asked_before, IsAskedTurn, Line, TooLong, End, Spent, Moments, TurnMoment, IsWell, OnDrive, OnReplies, ScriptTooLong, counts, told, LinesMoment, RanTo}
+use Rattle.mdv_run.specs.Below.{Script, Engine, IsReplied, line, too_long, asked_before, IsAskedTurn, Line, TooLong, End, Spent, Moments, TurnMoment, IsWell, OnDrive, OnReplies, ScriptTooLong, counts, told, LinesMoment, RanTo}
 use Rattle.mdv_run_law.specs.Run.{EndsAs}
 use Rattle.mdv_shelf.proofs.Stories.{moment}
 use Rattle.mdv_shelf.proofs.Telling.{each_within, rests_quiet}
 use Rattle.mdv_engine_law.proofs.Kept.{kept_itself}
+use Rattle.mdv_run.proofs.Keeping.{in_time_itself}
 use Rattle.mdv_run.proofs.Fronts.{AnswerFront, LineFront, ScriptFront, line_front, long_front, still_front}
 use Rattle.mdv_shelf.proofs.Moments.{moments_none, moments_weaker}
 use Rattle.mdv_engine_law.proofs.Plain.{too_long_plain}
 use Rattle.mdv_run.specs.declared.session.Turn.{Turn}
-use Rattle.mdv_run.specs.Promise.{TurnEnd}
+use Rattle.mdv_run.specs.Promise.{TurnEnd, point_at}
 use Rattle.mdv_run.specs.Turns.{HasTurnCause}
 use Rattle.mdv_run_law.proofs.Lining.{lines_start}
 use Rattle.mdv_run_law.proofs.Turning.{long_moment, long_ran}
-use Rattle.mdv_run.proofs.Leading.{end_is, spent_is, long_is, line_is, leads_line, leads_long, on_replied, lost_reply, ended_turn, unread_turn, same_left, turn_cause}
+use Rattle.mdv_run.proofs.Leading.{passes_in_time, end_is, spent_is, long_is, line_is, leads_line, leads_long, on_replied, lost_reply, ended_turn, unread_turn, same_left, turn_cause}
 use Rattle.mdv_engine_law.proofs.Staying.{nothing_stays, turn_stays}
 use Rattle.mdv_base.specs.declared.refusal.Refusal.TheVariants.{LineTooLong}
-use Rattle.mdv_run.proofs.Answering.{told_reply, refused_turned, refused_down, refused_knows}
+use Rattle.mdv_run.proofs.Answering.{uncut_replied, told_reply, refused_turned, refused_down, refused_knows}
 use Rattle.mdv_engine_law.specs.Answers.{refusing}
 use Rattle.mdv_run.proofs.session.take_turn.Goals as goal
 
@@ -40,8 +41,8 @@ returns-in-Ok-Line-clause-end g c = λ lines before t told.
     let host = c.args.engine.now.host in
     let old = c.args.engine.now.state in
     let new = c.answer.new.engine.state in
-    let now = counts (g.B.Shelf.faults c.args.bench.now) (g.I.Source.faults c.args.script.now) in
-    let last = counts (g.B.Shelf.faults c.answer.new.bench) (g.I.Source.faults c.next_asked.new.source) in
+    let now = point_at g.B.Shelf g.I.Source c.args.bench.now c.args.script.now in
+    let last = point_at g.B.Shelf g.I.Source c.answer.new.bench c.next_asked.new.source in
     let rest = asked_before c.next_asked.new.reader (g.I.Source.left c.next_asked.new.source) in
     let reads : IsAskedTurn lines Line c.next_asked.new.reader (g.I.Source.left c.next_asked.new.source) = rw c.in-Ok-Line.field-0-is at (c.in-Ok-Line.ensures.reads lines before) in
     let script = line_is lines c.line.result.now c.next_asked.new.reader (g.I.Source.left c.next_asked.new.source) c.line.ensures.value reads in
@@ -50,8 +51,8 @@ returns-in-Ok-Line-clause-end g c = λ lines before t told.
       end.1,
       subst (λ (turn : Turn). TurnEnd host now last old new c.args.any_refused lines rest turn t end.0) (sym c.turn_of.ensures)
           (record {
-            turns = λ knows. leads_line now last (record { drive = c.answer.ensures.kept.keeps.no_fewer_faults (OnDrive 0); source = c.in-Ok-Line.ensures.cause.calm; replies = c.answer.ensures.kept.keeps.no_fewer_faults OnReplies })
-                host old new c.args.any_refused lines script.0 c.line.result.now c.answer.result rest t end.0 script.1 script.2 (end.2.answered knows);
+            turns = λ knows. leads_line now last c.answer.result (record { drive = c.answer.ensures.kept.keeps.no_fewer_faults (OnDrive 0); source = c.in-Ok-Line.ensures.cause.calm; replies = c.answer.ensures.kept.keeps.no_fewer_faults OnReplies; given = c.answer.ensures.stays.given })
+                host old new c.args.any_refused lines script.0 c.line.result.now rest t end.0 (passes_in_time g.B.Shelf g.met.B.Shelf.telling _ _ _ _ t end.0 c.answer.ensures.kept told end.1) script.1 script.2 (end.2.answered knows);
             ran = λ on left is. subst (λ (s : Script). RanTo host s old new left t end.0) (sym script.1)
                 (subst (λ (s : Script). RanTo host (line c.line.result.now s) old new left t end.0) (sym (same_left left script.0 is script.2)) (end.2.ran (on_replied c.answer.result c.args.any_refused _ refl on) left));
             knows = λ kept. end.2.knows (λ lost. kept (lost_reply c.answer.result c.args.any_refused lost));
@@ -81,12 +82,13 @@ pub returns-in-Ok-Line-clause-stays : goal.returns-in-Ok-Line-clause-stays
 returns-in-Ok-Line-clause-stays g c = record {
   home = c.answer.ensures.stays.home;
   told = λ on. c.answer.ensures.stays.told (on_replied c.answer.result c.args.any_refused _ c.turn_of.ensures on);
+  given = λ on. c.answer.ensures.stays.given (λ is. subst IsReplied is (on_replied c.answer.result c.args.any_refused _ c.turn_of.ensures on));
   rests = c.answer.ensures.stays.rests;
   tells = λ lines before.
       let reads : IsAskedTurn lines Line c.next_asked.new.reader (g.I.Source.left c.next_asked.new.source) = rw c.in-Ok-Line.field-0-is at (c.in-Ok-Line.ensures.reads lines before) in
       let script = line_is lines c.line.result.now c.next_asked.new.reader (g.I.Source.left c.next_asked.new.source) c.line.ensures.value reads in
-      each_within (LineFront c.args.engine.now.host c.line.result.now c.args.engine.now.state) (ScriptFront c.args.engine.now.host (counts (g.B.Shelf.faults c.args.bench.now) (g.I.Source.faults c.args.script.now)) c.args.engine.now.state c.args.any_refused lines) _ _ _ _
-      (λ s u first last m there here within known. line_front c.args.engine.now.host c.args.engine.now.state (counts (g.B.Shelf.faults c.args.bench.now) (g.I.Source.faults c.args.script.now)) c.args.any_refused (moment s _) m refl within.counts.0 lines script.0 c.line.result.now script.1 (here known)) c.answer.ensures.stays.tells;
+      each_within (LineFront c.args.engine.now.host c.line.result.now c.args.engine.now.state) (ScriptFront c.args.engine.now.host (point_at g.B.Shelf g.I.Source c.args.bench.now c.args.script.now) c.args.engine.now.state c.args.any_refused lines) _ _ _ _
+      (λ s u first last m there here within known. line_front c.args.engine.now.host c.args.engine.now.state (point_at g.B.Shelf g.I.Source c.args.bench.now c.args.script.now) c.args.any_refused (moment s _) m refl within.counts.0 lines script.0 c.line.result.now script.1 (here known)) c.answer.ensures.stays.tells;
 }
 
 -- a line that was too long
@@ -103,8 +105,8 @@ pub returns-in-Ok-TooLong-clause-end : goal.returns-in-Ok-TooLong-clause-end
 returns-in-Ok-TooLong-clause-end g c = λ lines before t told.
     let host = c.args.engine.now.host in
     let old = c.args.engine.now.state in
-    let now = counts (g.B.Shelf.faults c.args.bench.now) (g.I.Source.faults c.args.script.now) in
-    let last = counts (g.B.Shelf.faults c.refuse.new.bench) (g.I.Source.faults c.next_asked.new.source) in
+    let now = point_at g.B.Shelf g.I.Source c.args.bench.now c.args.script.now in
+    let last = point_at g.B.Shelf g.I.Source c.refuse.new.bench c.next_asked.new.source in
     let rest = asked_before c.next_asked.new.reader (g.I.Source.left c.next_asked.new.source) in
     let reads : IsAskedTurn lines TooLong c.next_asked.new.reader (g.I.Source.left c.next_asked.new.source) = rw c.in-Ok-TooLong.field-0-is at (c.in-Ok-TooLong.ensures.reads lines before) in
     let script = long_is lines c.next_asked.new.reader (g.I.Source.left c.next_asked.new.source) reads in
@@ -114,8 +116,8 @@ returns-in-Ok-TooLong-clause-end g c = λ lines before t told.
       subst (λ (e : Engine). TurnEnd host now last old e.state c.args.any_refused lines rest c.turn_of-in-Ok-TooLong.result t end.0) (sym c.refuse.ensures.answer.same)
           (subst (λ (turn : Turn). TurnEnd host now last old old c.args.any_refused lines rest turn t end.0) (sym c.turn_of-in-Ok-TooLong.ensures)
           (record {
-            turns = λ knows. leads_long now last (record { drive = c.refuse.ensures.kept.keeps.no_fewer_faults (OnDrive 0); source = c.in-Ok-TooLong.ensures.cause.calm; replies = c.refuse.ensures.kept.keeps.no_fewer_faults OnReplies }) c.refuse.ensures.answer.calm
-                host old c.args.any_refused lines script.0 c.refuse.result rest t end.0 script.1 script.2 (refused_down host old LineTooLong too_long_plain _ c.refuse.result t end.0 end.2) end.2.replied;
+            turns = λ knows. leads_long now last c.refuse.result (record { drive = c.refuse.ensures.kept.keeps.no_fewer_faults (OnDrive 0); source = c.in-Ok-TooLong.ensures.cause.calm; replies = c.refuse.ensures.kept.keeps.no_fewer_faults OnReplies; given = λ uncut. c.refuse.ensures.counted.given (uncut_replied _ (outcome.Refused LineTooLong) c.refuse.result c.refuse.ensures.answer.cause uncut) }) c.refuse.ensures.answer.calm
+                host old c.args.any_refused lines script.0 rest t end.0 (passes_in_time g.B.Shelf g.met.B.Shelf.telling _ _ _ _ t end.0 c.refuse.ensures.kept told end.1) script.1 script.2 (refused_down host old LineTooLong too_long_plain _ c.refuse.result t end.0 end.2) end.2.replied;
             ran = λ on left is.
                 let turned = refused_turned host old LineTooLong too_long_plain _ c.refuse.result t end.0 end.2 Nothing (on_replied c.refuse.result c.args.any_refused _ refl on) in
                 subst (λ (s : Script). RanTo host s old old left t end.0) (sym script.1)
@@ -147,12 +149,13 @@ pub returns-in-Ok-TooLong-clause-stays : goal.returns-in-Ok-TooLong-clause-stays
 returns-in-Ok-TooLong-clause-stays g c = record {
   home = turn_stays c.args.engine.now.host Nothing c.args.engine.now.state _ _ (c.refuse.ensures.moments Nothing).each;
   told = λ on. c.refuse.ensures.counted.told (on_replied c.refuse.result c.args.any_refused _ c.turn_of-in-Ok-TooLong.ensures on);
+  given = λ on. c.refuse.ensures.counted.given (on_replied c.refuse.result c.args.any_refused _ c.turn_of-in-Ok-TooLong.ensures on);
   rests = (c.refuse.ensures.moments Nothing).rests;
   tells = λ lines before.
       let reads : IsAskedTurn lines TooLong c.next_asked.new.reader (g.I.Source.left c.next_asked.new.source) = rw c.in-Ok-TooLong.field-0-is at (c.in-Ok-TooLong.ensures.reads lines before) in
       let script = long_is lines c.next_asked.new.reader (g.I.Source.left c.next_asked.new.source) reads in
-      each_within (AnswerFront c.args.engine.now.host (refusing LineTooLong) c.args.engine.now.state) (ScriptFront c.args.engine.now.host (counts (g.B.Shelf.faults c.args.bench.now) (g.I.Source.faults c.args.script.now)) c.args.engine.now.state c.args.any_refused lines) _ _ _ _
-      (λ s u first last m there here within known. long_front c.args.engine.now.host c.args.engine.now.state (counts (g.B.Shelf.faults c.args.bench.now) (g.I.Source.faults c.args.script.now)) c.args.any_refused (moment s _) m refl within.counts.0 lines script.0 script.1 (here known)) (c.refuse.ensures.moments Nothing).fronts;
+      each_within (AnswerFront c.args.engine.now.host (refusing LineTooLong) c.args.engine.now.state) (ScriptFront c.args.engine.now.host (point_at g.B.Shelf g.I.Source c.args.bench.now c.args.script.now) c.args.engine.now.state c.args.any_refused lines) _ _ _ _
+      (λ s u first last m there here within known. long_front c.args.engine.now.host c.args.engine.now.state (point_at g.B.Shelf g.I.Source c.args.bench.now c.args.script.now) c.args.any_refused (moment s _) m refl within.counts.0 lines script.0 script.1 (here known)) (c.refuse.ensures.moments Nothing).fronts;
 }
 
 -- the end of the script, a limit, and a source that failed
@@ -174,7 +177,7 @@ returns-in-Ok-End-clause-end g c = λ lines before t told.
       t,
       told,
       record {
-        turns = λ knows. ended_turn host _ _ (ap (λ (n : ℕ). counts (g.B.Shelf.faults c.args.bench.now) n) c.in-Ok-End.ensures.cause.calm) state c.args.any_refused lines _ c.ended.result t
+        turns = λ knows. ended_turn host _ _ (ap (λ (n : ℕ). counts (g.B.Shelf.faults c.args.bench.now) n) c.in-Ok-End.ensures.cause.calm) refl state c.args.any_refused lines _ c.ended.result t
             (subst (λ (x : Script). EndsAs c.args.any_refused x c.ended.result) (sym script) c.ended.ensures);
         ran = λ on. absurd on;
         knows = λ kept known. known;
@@ -191,7 +194,7 @@ returns-in-Ok-Spent-clause-end g c = λ lines before t told.
       t,
       told,
       record {
-        turns = λ knows. ended_turn host _ _ (ap (λ (n : ℕ). counts (g.B.Shelf.faults c.args.bench.now) n) c.in-Ok-Spent.ensures.cause.calm) state c.args.any_refused lines _ status t (subst (λ (x : Script). EndsAs c.args.any_refused x status) (sym script) refl);
+        turns = λ knows. ended_turn host _ _ (ap (λ (n : ℕ). counts (g.B.Shelf.faults c.args.bench.now) n) c.in-Ok-Spent.ensures.cause.calm) refl state c.args.any_refused lines _ status t (subst (λ (x : Script). EndsAs c.args.any_refused x status) (sym script) refl);
         ran = λ on. absurd on;
         knows = λ kept known. known;
       },
@@ -202,7 +205,7 @@ returns-in-Err-clause-end g c = λ lines before t told. (
   t,
   told,
   record {
-    turns = λ knows. unread_turn c.args.engine.now.host _ _ (record { drive = refl; source = c.in-Err.ensures.cause.failed; no_fewer = c.next_asked.ensures.cause.later; replies = refl }) c.args.engine.now.state c.args.any_refused lines _ t;
+    turns = λ knows. unread_turn c.args.engine.now.host _ _ (record { drive = refl; source = c.in-Err.ensures.cause.failed; no_fewer = c.next_asked.ensures.cause.later; replies = refl }) refl c.args.engine.now.state c.args.any_refused lines _ t;
     ran = λ on. absurd on;
     knows = λ kept known. known;
   },
@@ -212,6 +215,7 @@ pub returns-in-Ok-End-clause-stays : goal.returns-in-Ok-End-clause-stays
 returns-in-Ok-End-clause-stays g c = record {
   home = nothing_stays c.args.engine.now.host _ _ refl;
   told = λ on. absurd on;
+  given = λ on. absurd on;
   rests = rests_quiet g.B.Shelf g.met.B.Shelf.telling _ _ (kept_itself g.B.Shelf c.args.bench.now).goes (moments_none (λ t m. told m ≡ told t) _ _ refl (λ t. refl));
   tells = λ lines before. still_front g.B.Shelf c.args.engine.now.host c.args.engine.now.state _ c.args.any_refused lines c.args.bench.now;
 }
@@ -220,6 +224,7 @@ pub returns-in-Ok-Spent-clause-stays : goal.returns-in-Ok-Spent-clause-stays
 returns-in-Ok-Spent-clause-stays g c = record {
   home = nothing_stays c.args.engine.now.host _ _ refl;
   told = λ on. absurd on;
+  given = λ on. absurd on;
   rests = rests_quiet g.B.Shelf g.met.B.Shelf.telling _ _ (kept_itself g.B.Shelf c.args.bench.now).goes (moments_none (λ t m. told m ≡ told t) _ _ refl (λ t. refl));
   tells = λ lines before. still_front g.B.Shelf c.args.engine.now.host c.args.engine.now.state _ c.args.any_refused lines c.args.bench.now;
 }
@@ -228,6 +233,16 @@ pub returns-in-Err-clause-stays : goal.returns-in-Err-clause-stays
 returns-in-Err-clause-stays g c = record {
   home = nothing_stays c.args.engine.now.host _ _ refl;
   told = λ on. absurd on;
+  given = λ on. absurd on;
   rests = rests_quiet g.B.Shelf g.met.B.Shelf.telling _ _ (kept_itself g.B.Shelf c.args.bench.now).goes (moments_none (λ t m. told m ≡ told t) _ _ refl (λ t. refl));
   tells = λ lines before. still_front g.B.Shelf c.args.engine.now.host c.args.engine.now.state _ c.args.any_refused lines c.args.bench.now;
 }
+
+pub returns-in-Ok-End-clause-kept : goal.returns-in-Ok-End-clause-kept
+returns-in-Ok-End-clause-kept g c = in_time_itself g.B.Shelf c.args.bench.now
+
+pub returns-in-Ok-Spent-clause-kept : goal.returns-in-Ok-Spent-clause-kept
+returns-in-Ok-Spent-clause-kept g c = in_time_itself g.B.Shelf c.args.bench.now
+
+pub returns-in-Err-clause-kept : goal.returns-in-Err-clause-kept
+returns-in-Err-clause-kept g c = in_time_itself g.B.Shelf c.args.bench.now

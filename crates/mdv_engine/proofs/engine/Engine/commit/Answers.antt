@@ -1,4 +1,4 @@
-use Rattle.std.proofs.Common.{arith, ◌≡◌, ◌∙◌, rules, Some, refl, ap, sym, subst}
+use Rattle.std.proofs.Common.{◌≡◌, ◌∙◌, rules, Some, refl, ap, sym, subst}
 use Rattle.mdv_engine_law.specs.Line.{ToDo}
 use Rattle.mdv_base.specs.declared.refusal.Refusal.TheVariants.{NoDatabase}
 use Rattle.std.specs.Fmt.{digits}
@@ -21,9 +21,8 @@ use Rattle.mdv_engine.proofs.Commits.{end_as, opened_as, opened_still, refused_c
 use Rattle.mdv_engine.proofs.Ending.{no_creation, refused_answer}
 use Rattle.mdv_engine.proofs.Parts.{commit_goes, commit_goes_to, commit_opened, commit_quiet}
 use Rattle.mdv_words.specs.declared.command.Command.TheVariants as command
-use Rattle.mdv_engine.specs.Counts.{IsCommandCounted}
-use Rattle.mdv_shelf.proofs.Between.{between_of}
-use Rattle.mdv_engine.proofs.Sites.{laid_open}
+use Rattle.mdv_engine.proofs.Counting.{committed_counted, counted_as}
+use Rattle.mdv_engine.proofs.Sites.{kept_here, laid_open}
 use Rattle.mdv_engine.proofs.engine.Engine.commit.Goals as goal
 use Rattle.mdv_engine.proofs.engine.Engine.commit.Goals.{in-Ok, in-Err-Lost, in-Err-TooLong, in-Err-Spent}
 
@@ -126,11 +125,13 @@ returns-in_default-clause-answer g c = λ change.
 
 pub returns-clause-counted : goal.returns-clause-counted
 returns-clause-counted g c = λ volume slice.
-    let calls = g.S.Shelf.calls in
-    let written = g.S.Shelf.written in
+    let made = command.MakeStripe volume slice in
     elim c.match-commit.branch [
-      | in-Ok w ↦ subst (IsCommandCounted g.S.Shelf.tale calls written _ _ (command.MakeStripe volume slice)) (sym w.result-is) (between_of calls written _ _ 6 _ 6 6 4096 (omega arith) (omega arith) w.in-Ok.ensures.counted.1 w.in-Ok.ensures.counted.0)
-      | in-Err-Lost w ↦ subst (IsCommandCounted g.S.Shelf.tale calls written _ _ (command.MakeStripe volume slice)) (sym w.result-is) (rw w.in-Err-Lost.field-0-is at w.in-Err-Lost.ensures.counted)
-      | in-Err-TooLong w ↦ subst (IsCommandCounted g.S.Shelf.tale calls written _ _ (command.MakeStripe volume slice)) (sym w.result-is) (rw w.in-Err-TooLong.field-0-is at w.in-Err-TooLong.ensures.counted)
-      | in-Err-Spent w ↦ subst (IsCommandCounted g.S.Shelf.tale calls written _ _ (command.MakeStripe volume slice)) (sym w.result-is) (rw w.in-Err-Spent.field-0-is at w.in-Err-Spent.ensures.counted)
+      | in-Ok w ↦ counted_as g.S.Shelf.tale g.S.Shelf.calls g.S.Shelf.written _ _ made accepted _ w.result-is _ (committed_counted g.S.Shelf.calls g.S.Shelf.written _ _ volume slice _ c.args.next (ap (λ (n : Newest). n.table) w.in-Ok.ensures.answer.1) w.in-Ok.ensures.counted.0 w.in-Ok.ensures.counted.1)
+      | in-Err-Lost w ↦ counted_as g.S.Shelf.tale g.S.Shelf.calls g.S.Shelf.written _ _ made (Over (ended.Lost 0 1)) _ w.result-is _ (rw w.in-Err-Lost.field-0-is at w.in-Err-Lost.ensures.counted)
+      | in-Err-TooLong w ↦ counted_as g.S.Shelf.tale g.S.Shelf.calls g.S.Shelf.written _ _ made (refusing (ReplicaFull w.in-Err-TooLong.fault.bytes w.in-Err-TooLong.fault.room)) _ w.result-is _ (rw w.in-Err-TooLong.field-0-is at w.in-Err-TooLong.ensures.counted)
+      | in-Err-Spent w ↦ counted_as g.S.Shelf.tale g.S.Shelf.calls g.S.Shelf.written _ _ made (Over ended.Spent) _ w.result-is _ (rw w.in-Err-Spent.field-0-is at w.in-Err-Spent.ensures.counted)
     ]
+
+pub returns-clause-kept : goal.returns-clause-kept
+returns-clause-kept g c = kept_here c.place_at-at.result c.place_at-at.ensures c.commit.ensures.kept

@@ -1,8 +1,8 @@
-use Rattle.std.proofs.Common.{◌≡◌, ◌∙◌, ap, subst, sym, arith}
+use Rattle.std.proofs.Common.{◌≡◌, inl, inr, ◌∙◌, ap, subst, sym, arith}
 use Rattle.mdv_engine.specs.Below.{told, KeptOutside, nowhere, OnReplies, Ends, Tale, asked_by, text_of, CarriedTo, CarryMoment, TellMoment, TurnMoment}
 use Rattle.mdv_shelf.proofs.Moments.{moments_after, moments_end, moments_weaker, some_is}
 use Rattle.mdv_shelf.proofs.Telling.{rests_behind, told_behind, told_once}
-use Rattle.mdv_shelf.proofs.Between.{between_of, between_then}
+use Rattle.mdv_shelf.proofs.InTime.{in_time_both}
 use Rattle.mdv_shelf.proofs.Counts.{at_most_then}
 use Rattle.mdv_words.specs.declared.command.Line.TheVariants as words
 use Rattle.mdv_engine_law.proofs.Executing.{came_more, command_cause, executed}
@@ -10,10 +10,10 @@ use Rattle.mdv_base.proofs.Causes.{rose_within, within_calm}
 use Rattle.mdv_engine_law.proofs.Longer.{replied_more}
 use Rattle.mdv_engine_law.proofs.Fronts.{fronts_then, telling_rests}
 use Rattle.mdv_engine_law.proofs.Turning.{Carried, carried_ends, turn_carry, turn_tell, turned, knows_after}
-use Rattle.mdv_engine.specs.Ends.{CarriesOut}
+use Rattle.mdv_engine.specs.Ends.{CarriesOut, LeavesMade}
 use Rattle.mdv_engine.specs.Counts.{IsLossCounted, blocks_of, calls_of, wanting_calls}
 use Rattle.mdv_engine_law.specs.Replies.{IsLost, IsReplied}
-use Rattle.mdv_engine.proofs.Counting.{command_most, done_told, fault_then, fault_told, lost_told, none_at_most, quiet_told, spent_told, unlooked_told, unwritten_told, wanting_told}
+use Rattle.mdv_engine.proofs.Counting.{calm_given, command_most, done_told, done_then, fault_then, fault_told, lost_told, none_at_most, quiet_told, spent_told, told_lost, unlooked_told, unwritten_told, wanting_told, whole_or_lost}
 use Rattle.mdv_engine.proofs.engine.Engine.exec.Goals as goal
 
 pub returns-clause-moments : goal.returns-clause-moments
@@ -24,7 +24,7 @@ returns-clause-moments g c =
     let new = c.carry_out-answer.new.self.state in
     let answer = c.carry_out-answer.result in
     let says = c.carry_out-answer.ensures.answer in
-    let carried : Ends (CarriedTo host asked old answer new) _ _ = λ t is. (let end = c.carry_out-answer.ensures.end t is in (end.0, end.1, end.2.carried)) in
+    let carried : Ends (CarriedTo host asked old answer new) _ _ = λ t is. (let end = c.carry_out-answer.ensures.end t is in (end.0, end.1, end.2.carry.carried)) in
     record {
       each = moments_after (CarryMoment host asked old) (Carried host asked old new answer) (TellMoment (text_of answer)) (TurnMoment host asked old) _ _ _
           (λ t m carry. turn_carry host asked old t m carry)
@@ -34,7 +34,7 @@ returns-clause-moments g c =
           (λ failed more cause kept next is. came_more failed more cause host kept next answer c.args.command.now is)
           c.carry_out-answer.ensures.kept.goes
           (moments_weaker (CarryMoment host asked old) (λ t m. told m ≡ told t) _ _ (λ t m moment. moment.quiet) c.carry_out-answer.ensures.moments)
-          (λ t is. (let end = c.carry_out-answer.ensures.end t is in (end.0, end.1, end.2.answered))) c.tell.ensures.kept.goes (c.tell.ensures.counted.drives 0) c.tell.ensures.fronts;
+          (λ t is. (let end = c.carry_out-answer.ensures.end t is in (end.0, end.1, end.2.carry.answered))) c.tell.ensures.kept.goes (c.tell.ensures.counted.drives 0) c.tell.ensures.fronts;
       rests = rests_behind g.B.Shelf g.met.B.Shelf.telling _ _ _ c.carry_out-answer.ensures.kept.goes
           (moments_weaker (CarryMoment host asked old) (λ t m. told m ≡ told t) _ _ (λ t m moment. moment.quiet) c.carry_out-answer.ensures.moments)
           (telling_rests g.B.Shelf g.met.B.Shelf.telling _ _ (text_of answer) c.tell.ensures.kept.goes c.tell.ensures.fronts c.tell.ensures.counted.drives);
@@ -58,12 +58,15 @@ returns-clause-end g c = λ t is.
         answered = λ known. executed _ _ _ _ host (words.Command c.args.command.now) old new answer c.tell.result t done.0 end.0
             (within_calm _ _ _ (c.tell.ensures.counted.drives 0))
             (λ rose. rose_within _ _ _ _ (c.carry_out-answer.ensures.kept.keeps.no_fewer_faults OnReplies) (omega arith) rose)
-            quiet (done.2.answered known) end.2;
-        turned = λ on. turned host asked old new _ t done.0 end.0 quiet answer says.plain (λ on some. says.awake on) says.free done.2.carried c.tell.result on end.2;
-        knows = λ on. knows_after host asked old new _ t done.0 end.0 quiet answer done.2.carried c.tell.result on end.2;
+            quiet (done.2.carry.answered known) end.2;
+        turned = λ on. turned host asked old new _ t done.0 end.0 quiet answer says.plain (λ on some. says.awake on) says.free done.2.carry.carried c.tell.result on end.2;
+        knows = λ on. knows_after host asked old new _ t done.0 end.0 quiet answer done.2.carry.carried c.tell.result on end.2;
         quiet = λ still.
-            let same = quiet_told g.B.Shelf.tale g.B.Shelf.calls g.B.Shelf.written _ _ c.args.command.now _ answer c.tell.result _ c.tell.ensures.answers.1 still c.carry_out-answer.ensures.counted in
+            let same = quiet_told g.B.Shelf.tale g.B.Shelf.calls g.B.Shelf.written _ _ c.args.command.now new.opened _ answer c.tell.result _ c.tell.ensures.answers.1 still c.carry_out-answer.ensures.counted in
             subst (λ (x : Tale). KeptOutside nowhere x end.0) (some_is _ done.0 t done.1 (same ∙ is)) end.2.kept;
+        lost = λ active listed is.
+            let same = ap g.B.Shelf.tale (c.tell.ensures.counted.silent (subst IsLost (sym is) tt)) in
+            subst (LeavesMade host old c.args.command.now) (some_is _ done.0 end.0 (same ∙ done.1) end.1) (done.2.lost active listed (told_lost _ answer active listed c.tell.ensures.answers.0 (rw is at c.tell.ensures.answers.1)));
       },
     )
 
@@ -81,33 +84,41 @@ pub returns-clause-counted : goal.returns-clause-counted
 returns-clause-counted g c =
     let count = calls_of c.args.command.now in
     let blocks = blocks_of c.args.command.now in
+    let opened = c.carry_out-answer.new.self.state.opened in
     let by = c.carry_out-answer.ensures.counted in
     let answers = c.tell.ensures.answers.1 in
     record {
       most = at_most_then g.B.Shelf.calls g.B.Shelf.written _ _ _ count 1 blocks 0 _ _ (omega arith) (omega arith)
-          (command_most g.B.Shelf.tale g.B.Shelf.calls g.B.Shelf.written _ _ c.args.command.now c.carry_out-answer.result by) c.tell.ensures.counted.most;
-      done = λ is. between_then g.B.Shelf.calls g.B.Shelf.written _ _ _ count count blocks 1 1 0 _ _ _ (omega arith) (omega arith) (omega arith)
-          (done_told g.B.Shelf.tale g.B.Shelf.calls g.B.Shelf.written _ _ c.args.command.now _ c.carry_out-answer.result c.tell.ensures.answers.0 (rw is at answers) by)
-          (between_of g.B.Shelf.calls g.B.Shelf.written _ _ 1 0 1 1 0 (omega arith) (omega arith) (omega arith) (c.tell.ensures.counted.once (rw is tt)));
+          (command_most g.B.Shelf.tale g.B.Shelf.calls g.B.Shelf.written _ _ c.args.command.now opened c.carry_out-answer.result by) c.tell.ensures.counted.most;
+      done = λ is. done_then g.B.Shelf.tale g.B.Shelf.calls g.B.Shelf.written _ _ _ c.args.command.now opened
+          (done_told g.B.Shelf.tale g.B.Shelf.calls g.B.Shelf.written _ _ c.args.command.now opened _ c.carry_out-answer.result c.tell.ensures.answers.0 (rw is at answers) by)
+          (c.tell.ensures.counted.once (subst IsReplied (sym is) tt));
       unlooked = λ is.
-          let same = unlooked_told g.B.Shelf.tale g.B.Shelf.calls g.B.Shelf.written _ _ c.args.command.now _ c.carry_out-answer.result c.tell.result _ answers is by in
+          let same = unlooked_told g.B.Shelf.tale g.B.Shelf.calls g.B.Shelf.written _ _ c.args.command.now opened _ c.carry_out-answer.result c.tell.result _ answers is by in
           rw same at c.tell.ensures.counted.most;
       unwritten = λ is. at_most_then g.B.Shelf.calls g.B.Shelf.written _ _ _ count 1 0 0 _ _ (omega arith) (omega arith)
-          (unwritten_told g.B.Shelf.tale g.B.Shelf.calls g.B.Shelf.written _ _ c.args.command.now _ c.carry_out-answer.result c.tell.result _ answers is by) c.tell.ensures.counted.most;
+          (unwritten_told g.B.Shelf.tale g.B.Shelf.calls g.B.Shelf.written _ _ c.args.command.now opened _ c.carry_out-answer.result c.tell.result _ answers is by) c.tell.ensures.counted.most;
       wanting = λ is. at_most_then g.B.Shelf.calls g.B.Shelf.written _ _ _ (wanting_calls c.args.command.now) 1 0 0 _ _ (omega arith) (omega arith)
-          (wanting_told g.B.Shelf.tale g.B.Shelf.calls g.B.Shelf.written _ _ c.args.command.now _ c.carry_out-answer.result c.tell.ensures.answers.0 (rw is at answers) by) c.tell.ensures.counted.most;
+          (wanting_told g.B.Shelf.tale g.B.Shelf.calls g.B.Shelf.written _ _ c.args.command.now opened _ c.carry_out-answer.result c.tell.ensures.answers.0 (rw is at answers) by) c.tell.ensures.counted.most;
       faulted = λ is. fault_then g.B.Shelf.tale g.B.Shelf.calls g.B.Shelf.written _ _ _ c.args.command.now
-          (fault_told g.B.Shelf.tale g.B.Shelf.calls g.B.Shelf.written _ _ c.args.command.now _ c.carry_out-answer.result c.tell.ensures.answers.0 (rw is at answers) by)
+          (fault_told g.B.Shelf.tale g.B.Shelf.calls g.B.Shelf.written _ _ c.args.command.now opened _ c.carry_out-answer.result c.tell.ensures.answers.0 (rw is at answers) by)
           (c.tell.ensures.counted.once (subst IsReplied (sym is) tt));
       lost = λ active listed is.
           let same = c.tell.ensures.counted.silent (subst IsLost (sym is) tt) in
           subst (λ (x : g.row.B.Denot). IsLossCounted g.B.Shelf.calls g.B.Shelf.written c.args.bench.now x c.args.command.now) (sym same)
-          (lost_told g.B.Shelf.tale g.B.Shelf.calls g.B.Shelf.written _ _ c.args.command.now _ c.carry_out-answer.result active listed c.tell.ensures.answers.0 (rw is at answers) by);
+          (lost_told g.B.Shelf.tale g.B.Shelf.calls g.B.Shelf.written _ _ c.args.command.now opened _ c.carry_out-answer.result active listed c.tell.ensures.answers.0 (rw is at answers) by);
       spent = λ is.
           let same = c.tell.ensures.counted.silent (subst IsLost (sym is) tt) in
           none_at_most g.B.Shelf.tale g.B.Shelf.calls g.B.Shelf.written _ _ 0 0
-          (same ∙ spent_told g.B.Shelf.tale g.B.Shelf.calls g.B.Shelf.written _ _ c.args.command.now _ c.carry_out-answer.result c.tell.ensures.answers.0 (rw is at answers) by);
+          (same ∙ spent_told g.B.Shelf.tale g.B.Shelf.calls g.B.Shelf.written _ _ c.args.command.now opened _ c.carry_out-answer.result c.tell.ensures.answers.0 (rw is at answers) by);
       told = λ on. told_behind g.B.Shelf g.met.B.Shelf.telling _ _ _ c.carry_out-answer.ensures.kept.goes
           (moments_weaker (CarryMoment c.args.self.now.host (asked_by c.args.command.now) c.args.self.now.state) (λ t m. told m ≡ told t) _ _ (λ t m moment. moment.quiet) c.carry_out-answer.ensures.moments)
           (told_once g.B.Shelf _ _ c.tell.ensures.kept.goes (replied_more _ _ c.carry_out-answer.ensures.answer.plain c.tell.result on _ _ c.tell.ensures.told) (c.tell.ensures.counted.calm on));
+      given = λ uncut. elim (whole_or_lost c.tell.result uncut) [
+        | inl on ↦ calm_given g.B.Shelf.faults _ _ _ (c.carry_out-answer.ensures.kept.others OnReplies (λ is. absurd (cc (is)))) (c.tell.ensures.kept.keeps.no_fewer_faults OnReplies) (c.tell.ensures.counted.calm on OnReplies)
+        | inr lost ↦ ap (λ (x : g.row.B.Denot). g.B.Shelf.faults x OnReplies) (c.tell.ensures.counted.silent lost) ∙ c.carry_out-answer.ensures.kept.others OnReplies (λ is. absurd (cc (is)))
+      ];
     }
+
+pub returns-clause-kept : goal.returns-clause-kept
+returns-clause-kept g c = in_time_both (λ is. absurd (cc (is))) c.carry_out-answer.ensures.kept c.tell.ensures.kept

@@ -3,7 +3,7 @@ use Rattle.mdv_engine_law.specs.Commands as came
 use Rattle.mdv_engine.specs.Below.{Create}
 use Rattle.mdv_engine_law.proofs.Allowed.{allowed_none, allowed_room, allowed_up}
 use Rattle.mdv_engine_law.proofs.Plain.{refusal_plain}
-use Rattle.mdv_engine_law.specs.Answers.{refusing}
+use Rattle.mdv_engine_law.specs.declared.answer.Outcome.TheVariants as outcome
 use Rattle.mdv_engine_law.specs.Line.{ToDo}
 use Rattle.mdv_history.specs.History.{Created}
 use Rattle.mdv_shelf.specs.Shelves.{DriveFailures}
@@ -25,7 +25,7 @@ make_database-requires-clause-up g c = allowed_up (case_at c.args.self.now) c.ar
 
 pub returns-in-Some-clause-end : goal.returns-in-Some-clause-end
 returns-in-Some-clause-end g c =
-    command_ends _ c.args.self.now (Create c.args.slice c.args.force) (refusing c.in-Some.refusal) c.args.self.now _ _
+    command_ends _ c.args.self.now (Create c.args.slice c.args.force) (outcome.Refused c.in-Some.refusal) c.args.self.now _ _
     (λ t start. (t, start, λ known. came.refused refl c.in-Some.refusal (sym c.creation_refusal.ensures ∙ c.in-Some.is) (refl, record { memory = refl; content = λ block. refl })))
     (refused_carried c.args.self.now.host (ToDo Created) c.args.self.now.state _ _ refl c.in-Some.refusal)
 
@@ -38,7 +38,7 @@ returns-in-None-clause-end g c = c.make_database.ensures.end c.args.slice c.args
 
 pub returns-in-Some-clause-counted : goal.returns-in-Some-clause-counted
 returns-in-Some-clause-counted g c =
-    refused_counted g.S.Shelf.tale g.S.Shelf.calls g.S.Shelf.written _ _ (Create c.args.slice c.args.force) c.in-Some.refusal
+    refused_counted g.S.Shelf.tale g.S.Shelf.calls g.S.Shelf.written _ _ (Create c.args.slice c.args.force) c.in-Some.refusal _
     (λ fault. absurd (subst IsJudged fault (creation_judged (case_at c.args.self.now) c.args.slice c.args.force c.in-Some.refusal (sym c.creation_refusal.ensures ∙ c.in-Some.is)))) refl
 
 pub returns-in-Some-clause-moments : goal.returns-in-Some-clause-moments

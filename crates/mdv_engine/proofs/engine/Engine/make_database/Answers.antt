@@ -1,21 +1,21 @@
 use Rattle.std.proofs.Common.{◌≡◌, ◌∙◌, ◌+◌, ◌≤◌, List, ℕ, Bool, false, Option, Some, None, Err, refl, sym, ap, subst, arith, rules}
 use Rattle.mdv_engine_law.specs.Line.{ToDo}
 use Rattle.mdv_shelf.specs.Shelves.{DriveFailures}
-use Rattle.mdv_engine.specs.Below.{Failures, SliceName, Create, Local, IoFault, OutOfMemory, Ends, Moments, Tale, place_of, PlaceAt, IsPlaceOf, Geometry, IsCreated, Log, is_firm, Site, Newest, Anything, GoesMaking, IsOpened, ShowsNothing, Created, IsQuiet, IsSafe, first_newest, Answer, IsReady, identity_of, Memory, CameTo, IsAllowed, kept_at, CarriedTo, CarryMoment, Knows}
+use Rattle.mdv_engine.specs.Below.{Failures, SliceName, Create, Local, IoFault, OutOfMemory, Ends, Moments, Tale, place_of, PlaceAt, IsPlaceOf, Geometry, IsCreated, Log, is_firm, Site, Newest, Anything, GoesMaking, IsOpened, ShowsNothing, Created, IsQuiet, IsSafe, first_newest, Answer, IsReady, identity_of, site_of, Memory, CameTo, IsAllowed, kept_at, CarriedTo, CarryMoment, Knows}
 use Rattle.mdv_database.specs.Database as database
 use Rattle.mdv_store_law.specs.Standing.{ShowsReplica}
 use Rattle.mdv_engine_law.specs.Answers.{accepted, refusing}
 use Rattle.mdv_engine_law.specs.declared.answer.Answer.TheVariants.{Over}
 use Rattle.mdv_engine_law.specs.declared.answer.Ended.TheVariants as ended
+use Rattle.mdv_engine_law.specs.declared.answer.Outcome.TheVariants as outcome
 use Rattle.mdv_engine_law.proofs.Plain.{fault_plain, memory_plain}
 use Rattle.mdv_engine.specs.declared.engine.Engine.{Engine}
 use Rattle.mdv_engine.proofs.Blocks.{moments_still}
-use Rattle.mdv_engine.proofs.Creating.{begun, lost_carried, lost_creation, made_carried, made_creation, making_moments, new_memory, unbegun_carried, unbegun_creation, unmade_carried, unmade_creation, with_new}
+use Rattle.mdv_engine.proofs.Creating.{begun, lost_carried, lost_creation, lost_leaves, made_carried, made_creation, making_moments, new_memory, unbegun_carried, unbegun_creation, unmade_carried, unmade_creation, with_new}
 use Rattle.mdv_engine.proofs.Parts.{create_failed, create_goes, create_goes_to, create_lost, create_opened, create_quiet, create_safe}
-use Rattle.mdv_engine.proofs.Sites.{place_is}
-use Rattle.mdv_shelf.proofs.Between.{between_of}
+use Rattle.mdv_engine.proofs.Sites.{kept_here, place_is}
 use Rattle.mdv_engine.proofs.Counting.{refused_counted}
-use Rattle.mdv_engine.proofs.Ending.{command_ends}
+use Rattle.mdv_engine.proofs.Ending.{command_ends, lost_ends}
 use Rattle.mdv_engine.specs.Engine.{case_at}
 use Rattle.mdv_engine.proofs.engine.Engine.make_database.Goals as goal
 
@@ -60,6 +60,10 @@ module _ (sizes : List ℕ) (e v : Engine) (is : e ≡ v) (readied : IsReady v.h
   lost_made : OnEach (λ drives. Ends (λ _ u. ShowsReplica (site drives) (identity_of e.host e.state.begun) u) a b) → (slice : SliceName) (force : Bool) → IsAllowed (case_at v) (Create slice force) → (failures : Failures) → failures.some → Creates slice force failures (Over (ended.Lost 0 1)) (begun e.state) a b v
   lost_made shows slice force free failures so = subst (Creates slice force failures (Over (ended.Lost 0 1)) (begun e.state) a b) is
       (lost_creation e.host sizes ready at at_is e.state room none up a b quiet slice force (allowed slice force free) failures so (on_ours (λ drives. Ends (λ _ u. ShowsReplica (site drives) (identity_of e.host e.state.begun) u) a b) shows))
+
+  lost_left : OnEach (λ drives. Ends (λ _ u. ShowsReplica (site drives) (identity_of e.host e.state.begun) u) a b) → Ends (λ _ u. ShowsReplica (site_of v.host) (identity_of v.host v.state.begun) u) a b
+  lost_left shows = subst (λ (x : Engine). Ends (λ _ u. ShowsReplica (site_of x.host) (identity_of x.host x.state.begun) u) a b) is
+      (lost_leaves e.host sizes ready at at_is e.state room none up a b quiet (on_ours (λ drives. Ends (λ _ u. ShowsReplica (site drives) (identity_of e.host e.state.begun) u) a b) shows))
 
   module _ (stays : OnEach (λ drives. Moments (Goes (λ s. Anything) drives) a b)) where
     moments : Moments (CarryMoment v.host (ToDo Created) v.state) a b
@@ -123,23 +127,24 @@ returns-in-Err-Memory-clause-moments g c = moments_still c.args.self.now.host (T
 
 pub returns-in-Ok-clause-end : goal.returns-in-Ok-clause-end
 returns-in-Ok-clause-end g c = λ slice force free.
-    command_ends _ c.args.self.now (Create slice force) accepted (record { host = c.args.self.now.host; state = _ }) _ _
+    command_ends _ c.args.self.now (Create slice force) outcome.Ok (record { host = c.args.self.now.host; state = _ }) _ _
     (made _ _ _ c.self.view_is c.requires.ready c.place_at.result c.place_at.ensures c.requires.room c.requires.none c.requires.up _ _ (create_quiet _ _ _ _ _ _ c.create.ensures.moments) c.in-Ok.database c.in-Ok.ensures.answer.1.is (create_safe _ _ _ _ _ _ _ c.in-Ok.ensures.end) slice force free (DriveFailures g.S.Shelf c.args.shelf.now c.create.new.shelf 0) (subst (λ (p : PlaceAt). (DriveFailures g.S.Shelf c.args.shelf.now c.create.new.shelf p.drive.0).none) c.place_at.ensures c.in-Ok.ensures.answer.0))
     (carried _ _ _ c.self.view_is c.requires.ready c.place_at.result c.place_at.ensures c.requires.room c.requires.none c.requires.up _ _ (create_quiet _ _ _ _ _ _ c.create.ensures.moments) c.in-Ok.database c.in-Ok.ensures.answer.1.is (create_safe _ _ _ _ _ _ _ c.in-Ok.ensures.end) (create_opened _ _ _ _ _ _ _ c.in-Ok.ensures.end c.in-Ok.ensures.answer.1.is) (create_goes_to _ _ _ _ _ _ _ c.in-Ok.ensures.end))
 
 pub returns-in-Err-Failed-clause-end : goal.returns-in-Err-Failed-clause-end
 returns-in-Err-Failed-clause-end g c = λ slice force free.
-    command_ends _ c.args.self.now (Create slice force) (refusing IoFault) (record { host = c.args.self.now.host; state = _ }) _ _
+    command_ends _ c.args.self.now (Create slice force) (outcome.Refused IoFault) (record { host = c.args.self.now.host; state = _ }) _ _
     (unmade _ _ _ c.self.view_is c.requires.ready c.place_at.result c.place_at.ensures c.requires.room c.requires.none c.requires.up _ _ (create_quiet _ _ _ _ _ _ c.create.ensures.moments) (λ drives has. create_failed _ _ _ _ _ _ _ c.create.ensures.end (c.in-Err-Failed.is ∙ ap Err c.in-Err-Failed.field-0-is) drives) slice force free (DriveFailures g.S.Shelf c.args.shelf.now c.create.new.shelf 0) (subst (λ (p : PlaceAt). (DriveFailures g.S.Shelf c.args.shelf.now c.create.new.shelf p.drive.0).some) c.place_at.ensures (rw c.in-Err-Failed.field-0-is at c.in-Err-Failed.ensures.answer)))
     (unmade_carries _ _ _ c.self.view_is c.requires.ready c.place_at.result c.place_at.ensures c.requires.room c.requires.none c.requires.up _ _ (create_quiet _ _ _ _ _ _ c.create.ensures.moments) (λ drives has. create_failed _ _ _ _ _ _ _ c.create.ensures.end (c.in-Err-Failed.is ∙ ap Err c.in-Err-Failed.field-0-is) drives) (create_goes_to _ _ _ _ _ _ _ (rw c.in-Err-Failed.field-0-is at c.in-Err-Failed.ensures.end)))
 
 pub returns-in-Err-Lost-clause-end : goal.returns-in-Err-Lost-clause-end
 returns-in-Err-Lost-clause-end g c = λ slice force free.
-    command_ends _ c.args.self.now (Create slice force) (Over (ended.Lost 0 1)) (record { host = c.args.self.now.host; state = _ }) _ _ (lost_made _ _ _ c.self.view_is c.requires.ready c.place_at.result c.place_at.ensures c.requires.room c.requires.none c.requires.up _ _ (create_quiet _ _ _ _ _ _ c.create.ensures.moments) (create_lost _ _ _ _ _ _ _ c.create.ensures.end (c.in-Err-Lost.is ∙ ap Err c.in-Err-Lost.field-0-is)) slice force free (DriveFailures g.S.Shelf c.args.shelf.now c.create.new.shelf 0) (subst (λ (p : PlaceAt). (DriveFailures g.S.Shelf c.args.shelf.now c.create.new.shelf p.drive.0).some) c.place_at.ensures (rw c.in-Err-Lost.field-0-is at c.in-Err-Lost.ensures.answer))) (lost _ _ _ c.self.view_is c.requires.ready c.place_at.result c.place_at.ensures c.requires.room c.requires.none c.requires.up _ _ (create_quiet _ _ _ _ _ _ c.create.ensures.moments) (create_goes _ _ _ _ _ _ c.create.ensures.moments) _)
+    lost_ends _ c.args.self.now (Create slice force) (Over (ended.Lost 0 1)) (record { host = c.args.self.now.host; state = _ }) _ _ (lost_made _ _ _ c.self.view_is c.requires.ready c.place_at.result c.place_at.ensures c.requires.room c.requires.none c.requires.up _ _ (create_quiet _ _ _ _ _ _ c.create.ensures.moments) (create_lost _ _ _ _ _ _ _ c.create.ensures.end (c.in-Err-Lost.is ∙ ap Err c.in-Err-Lost.field-0-is)) slice force free (DriveFailures g.S.Shelf c.args.shelf.now c.create.new.shelf 0) (subst (λ (p : PlaceAt). (DriveFailures g.S.Shelf c.args.shelf.now c.create.new.shelf p.drive.0).some) c.place_at.ensures (rw c.in-Err-Lost.field-0-is at c.in-Err-Lost.ensures.answer))) (lost _ _ _ c.self.view_is c.requires.ready c.place_at.result c.place_at.ensures c.requires.room c.requires.none c.requires.up _ _ (create_quiet _ _ _ _ _ _ c.create.ensures.moments) (create_goes _ _ _ _ _ _ c.create.ensures.moments) _)
+    (lost_left _ _ _ c.self.view_is c.requires.ready c.place_at.result c.place_at.ensures c.requires.room c.requires.none c.requires.up _ _ (create_quiet _ _ _ _ _ _ c.create.ensures.moments) (create_lost _ _ _ _ _ _ _ c.create.ensures.end (c.in-Err-Lost.is ∙ ap Err c.in-Err-Lost.field-0-is)))
 
 pub returns-in-Err-Memory-clause-end : goal.returns-in-Err-Memory-clause-end
 returns-in-Err-Memory-clause-end g c = λ slice force free.
-    command_ends _ c.args.self.now (Create slice force) (refusing OutOfMemory) (record { host = c.args.self.now.host; state = _ }) _ _ (unbegun_made _ _ c.self.view_is _ _ (ap g.S.Shelf.tale (rw (c.in-Err-Memory.is ∙ ap Err c.in-Err-Memory.field-0-is) at c.create.ensures.counted)) slice force free (DriveFailures g.S.Shelf c.args.shelf.now c.create.new.shelf 0) (subst (λ (p : PlaceAt). (DriveFailures g.S.Shelf c.args.shelf.now c.create.new.shelf p.drive.0).none) c.place_at.ensures (rw c.in-Err-Memory.field-0-is at c.in-Err-Memory.ensures.answer))) (unbegun _ _ c.self.view_is _ _ (ap g.S.Shelf.tale (rw (c.in-Err-Memory.is ∙ ap Err c.in-Err-Memory.field-0-is) at c.create.ensures.counted)))
+    command_ends _ c.args.self.now (Create slice force) (outcome.Refused OutOfMemory) (record { host = c.args.self.now.host; state = _ }) _ _ (unbegun_made _ _ c.self.view_is _ _ (ap g.S.Shelf.tale (rw (c.in-Err-Memory.is ∙ ap Err c.in-Err-Memory.field-0-is) at c.create.ensures.counted)) slice force free (DriveFailures g.S.Shelf c.args.shelf.now c.create.new.shelf 0) (subst (λ (p : PlaceAt). (DriveFailures g.S.Shelf c.args.shelf.now c.create.new.shelf p.drive.0).none) c.place_at.ensures (rw c.in-Err-Memory.field-0-is at c.in-Err-Memory.ensures.answer))) (unbegun _ _ c.self.view_is _ _ (ap g.S.Shelf.tale (rw (c.in-Err-Memory.is ∙ ap Err c.in-Err-Memory.field-0-is) at c.create.ensures.counted)))
 
 pub returns-in-Ok-clause-answer : goal.returns-in-Ok-clause-answer
 returns-in-Ok-clause-answer g c = record {
@@ -186,7 +191,7 @@ returns-in-Err-Memory-clause-answer g c = record {
 }
 
 pub returns-in-Ok-clause-counted : goal.returns-in-Ok-clause-counted
-returns-in-Ok-clause-counted g c = λ slice force. between_of g.S.Shelf.calls g.S.Shelf.written _ _ 12 8 12 12 8 (omega arith) (omega arith) (omega arith) c.in-Ok.ensures.counted
+returns-in-Ok-clause-counted g c = λ slice force. record { exactly = c.in-Ok.ensures.counted; few = omega arith }
 
 pub returns-in-Err-Failed-clause-counted : goal.returns-in-Err-Failed-clause-counted
 returns-in-Err-Failed-clause-counted g c = λ slice force. (rw (c.in-Err-Failed.is ∙ ap Err c.in-Err-Failed.field-0-is) at c.create.ensures.counted)
@@ -196,4 +201,16 @@ returns-in-Err-Lost-clause-counted g c = λ slice force. (rw (c.in-Err-Lost.is �
 
 pub returns-in-Err-Memory-clause-counted : goal.returns-in-Err-Memory-clause-counted
 returns-in-Err-Memory-clause-counted g c =
-    λ slice force. refused_counted g.S.Shelf.tale g.S.Shelf.calls g.S.Shelf.written _ _ (Create slice force) OutOfMemory (λ fault. absurd (cc (fault))) (rw (c.in-Err-Memory.is ∙ ap Err c.in-Err-Memory.field-0-is) at c.create.ensures.counted)
+    λ slice force. refused_counted g.S.Shelf.tale g.S.Shelf.calls g.S.Shelf.written _ _ (Create slice force) OutOfMemory None (λ fault. absurd (cc (fault))) (rw (c.in-Err-Memory.is ∙ ap Err c.in-Err-Memory.field-0-is) at c.create.ensures.counted)
+
+pub returns-in-Ok-clause-kept : goal.returns-in-Ok-clause-kept
+returns-in-Ok-clause-kept g c = kept_here c.place_at.result c.place_at.ensures c.create.ensures.kept
+
+pub returns-in-Err-Failed-clause-kept : goal.returns-in-Err-Failed-clause-kept
+returns-in-Err-Failed-clause-kept g c = kept_here c.place_at.result c.place_at.ensures c.create.ensures.kept
+
+pub returns-in-Err-Lost-clause-kept : goal.returns-in-Err-Lost-clause-kept
+returns-in-Err-Lost-clause-kept g c = kept_here c.place_at.result c.place_at.ensures c.create.ensures.kept
+
+pub returns-in-Err-Memory-clause-kept : goal.returns-in-Err-Memory-clause-kept
+returns-in-Err-Memory-clause-kept g c = kept_here c.place_at.result c.place_at.ensures c.create.ensures.kept

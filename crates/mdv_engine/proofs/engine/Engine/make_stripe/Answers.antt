@@ -5,7 +5,7 @@ use Rattle.mdv_shelf.specs.Shelves.{DriveFailures}
 use Rattle.mdv_engine.proofs.Judged.{change_cause, change_no_fault}
 use Rattle.mdv_engine.proofs.Commits.{refused_carried}
 use Rattle.mdv_engine.proofs.Committing.{refused_line, refused_plain}
-use Rattle.mdv_engine_law.specs.Answers.{refusing}
+use Rattle.mdv_engine_law.specs.declared.answer.Outcome.TheVariants as outcome
 use Rattle.mdv_engine.proofs.Counting.{refused_counted}
 use Rattle.mdv_engine.proofs.Ending.{command_ends, refused_answer}
 use Rattle.mdv_engine.proofs.engine.Engine.make_stripe.Goals as goal
@@ -15,7 +15,7 @@ returns-in-Ok-clause-end g c = c.commit.ensures.end c.args.volume c.args.slice c
 
 pub returns-in-Err-clause-end : goal.returns-in-Err-clause-end
 returns-in-Err-clause-end g c =
-    command_ends _ c.args.self.now (command.MakeStripe c.args.volume c.args.slice) (refusing c.in-Err.refusal) c.args.self.now _ _
+    command_ends _ c.args.self.now (command.MakeStripe c.args.volume c.args.slice) (outcome.Refused c.in-Err.refusal) c.args.self.now _ _
     (λ t start. (t, start, λ known. refused_line c.args.self.now.host c.args.self.now.state c.args.volume c.args.slice (DriveFailures g.S.Shelf c.args.shelf.now c.args.shelf.now 0) refl t c.in-Err.refusal c.in-Err.ensures.err))
     (refused_carried c.args.self.now.host c.args.self.now.state (MakeStripe c.args.volume c.args.slice) _ _ refl c.in-Err.refusal)
 
@@ -28,7 +28,7 @@ returns-in-Err-clause-answer g c =
 
 pub returns-in-Err-clause-counted : goal.returns-in-Err-clause-counted
 returns-in-Err-clause-counted g c =
-    refused_counted g.S.Shelf.tale g.S.Shelf.calls g.S.Shelf.written _ _ (command.MakeStripe c.args.volume c.args.slice) c.in-Err.refusal
+    refused_counted g.S.Shelf.tale g.S.Shelf.calls g.S.Shelf.written _ _ (command.MakeStripe c.args.volume c.args.slice) c.in-Err.refusal _
     (change_no_fault c.args.self.now.host c.args.self.now.state (MakeStripe c.args.volume c.args.slice) c.in-Err.refusal c.in-Err.ensures.err) refl
 
 pub returns-in-Ok-clause-counted : goal.returns-in-Ok-clause-counted

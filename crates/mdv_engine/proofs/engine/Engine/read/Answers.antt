@@ -4,7 +4,8 @@ use Rattle.mdv_engine_law.specs.Line.{ToSee}
 use Rattle.mdv_words.specs.declared.command.Command.TheVariants as command
 use Rattle.mdv_shelf.specs.Shelves.{DriveFailures}
 use Rattle.mdv_engine.specs.Below.{values_reply}
-use Rattle.mdv_engine_law.specs.Answers.{refusing, telling}
+use Rattle.mdv_engine_law.specs.Answers.{telling}
+use Rattle.mdv_engine_law.specs.declared.answer.Outcome.TheVariants as outcome
 use Rattle.mdv_engine_law.proofs.Transfer.{saw}
 use Rattle.mdv_engine.proofs.Blocks.{moments_still, refused_carried, unread_line, unread_cause, unread_plain}
 use Rattle.mdv_engine.proofs.Ending.{command_ends, refused_answer}
@@ -18,7 +19,7 @@ pub returns-in-Ok-clause-end : goal.returns-in-Ok-clause-end
 returns-in-Ok-clause-end g c =
     let read = c.in-Ok.ensures.ok in
     let least = c.requires.count.least in
-    command_ends _ c.args.self.now (command.Read c.args.volume c.args.at c.args.count) (telling c.in-Ok.text) c.args.self.now _ _
+    command_ends _ c.args.self.now (command.Read c.args.volume c.args.at c.args.count) (outcome.Values c.in-Ok.text) c.args.self.now _ _
     (λ t start. (t, c.values.ensures.same ∙ start, λ known. came.done read.calm read.allowed (read.block, read.there, ap telling (read.as_told ∙ ap (values_reply c.args.at) (read.as_there t start)), record { memory = refl; content = λ block. refl })))
     (λ t start. (t, c.values.ensures.same ∙ start, saw c.args.self.now.host (g.S.Shelf.sizes c.args.shelf.now) c.requires.ready c.args.self.now.state c.args.volume c.args.at c.args.count read.block (omega arith) read.there t c.in-Ok.text (read.as_told ∙ ap (values_reply c.args.at) (read.as_there t start))))
 
@@ -45,6 +46,9 @@ returns-in-Err-clause-answer g c =
 pub returns-in-Err-clause-end : goal.returns-in-Err-clause-end
 returns-in-Err-clause-end g c =
     let failures = DriveFailures g.S.Shelf c.args.shelf.now c.values.new.shelf 0 in
-    command_ends _ c.args.self.now (command.Read c.args.volume c.args.at c.args.count) (refusing c.in-Err.refusal) c.args.self.now _ _
+    command_ends _ c.args.self.now (command.Read c.args.volume c.args.at c.args.count) (outcome.Refused c.in-Err.refusal) c.args.self.now _ _
     (λ t start. (t, c.values.ensures.same ∙ start, λ known. unread_line c.args.self.now.host c.args.self.now.state c.args.volume c.args.at c.args.count failures t c.in-Err.refusal c.in-Err.ensures.err))
     (refused_carried c.args.self.now.host (ToSee c.args.volume c.args.at c.args.count) c.args.self.now.state _ _ c.values.ensures.same c.in-Err.refusal)
+
+pub returns-in-Ok-clause-counted : goal.returns-in-Ok-clause-counted
+returns-in-Ok-clause-counted g c = record { exactly = c.in-Ok.ensures.counted; few = omega arith }

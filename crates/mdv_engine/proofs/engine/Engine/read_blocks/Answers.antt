@@ -5,7 +5,8 @@ use Rattle.mdv_engine.proofs.Judged.{blocks_judged}
 use Rattle.mdv_shelf.proofs.Counts.{took_at_most, took_one}
 use Rattle.mdv_engine_law.specs.Line.{AreBlocksAt}
 use Rattle.mdv_engine_law.proofs.Keeping.{blocks_shown}
-use Rattle.mdv_shelf.proofs.Noted.{kept_call}
+use Rattle.mdv_shelf.specs.Calls.{OnDrive}
+use Rattle.mdv_shelf.proofs.InTime.{kept_on_call}
 use Rattle.mdv_engine.proofs.engine.Engine.read_blocks.Goals as goal
 
 pub returns-in-Ok-clause-ok : goal.returns-in-Ok-clause-ok
@@ -15,7 +16,7 @@ returns-in-Ok-clause-ok g c = record {
   allowed = subst (λ (n : ℕ). blocks_refusal c.args.self.now.state.opened c.args.volume (c.args.at + n) ≡ None) (sym c.read.auto.out) c.in_ok-first.ensures.free;
   blocks = c.read.new.out;
   as_told = refl;
-  calm = c.in-Ok.ensures.cause.calm;
+  calm = c.in-Ok.ensures.cause.own.calm;
   as_there = λ t start. sym (blocks_shown t c.in_ok-first.first c.read.new.out (c.in-Ok.ensures.reads.gave t start));
 }
 
@@ -32,7 +33,7 @@ returns-in-Err-clause-counted g c = record {
 }
 
 pub returns-in-Ok-clause-kept : goal.returns-in-Ok-clause-kept
-returns-in-Ok-clause-kept g c = kept_call g.S.Shelf _ _ c.read.ensures.noted c.read.ensures.keeps
+returns-in-Ok-clause-kept g c = kept_on_call g.S.Shelf (OnDrive 0) _ _ c.read.ensures.noted c.read.ensures.keeps c.read.ensures.cause.others
 
 pub returns-in-Err-clause-kept : goal.returns-in-Err-clause-kept
-returns-in-Err-clause-kept g c = kept_call g.S.Shelf _ _ c.read.ensures.noted c.read.ensures.keeps
+returns-in-Err-clause-kept g c = kept_on_call g.S.Shelf (OnDrive 0) _ _ c.read.ensures.noted c.read.ensures.keeps c.read.ensures.cause.others

@@ -1,13 +1,15 @@
 use Rattle.std.proofs.Common.{refl}
+use Rattle.mdv_shelf.proofs.InTime.{in_time_of_on}
 use Rattle.mdv_shelf.proofs.Moments.{moments_weaker}
 use Rattle.mdv_shelf.proofs.Telling.{told_once}
-use Rattle.mdv_engine.specs.Below.{text_of, TellMoment, TurnMoment}
+use Rattle.mdv_engine.specs.Below.{OnReplies, text_of, TellMoment, TurnMoment}
 use Rattle.mdv_engine_law.specs.declared.answer.Outcome.TheVariants as outcome
 use Rattle.mdv_engine_law.specs.Answers.{refusing}
 use Rattle.mdv_engine_law.proofs.Executing.{reply_cause}
 use Rattle.mdv_engine_law.proofs.Fronts.{fronts_alone, telling_rests}
 use Rattle.mdv_engine_law.proofs.Longer.{replied_more}
 use Rattle.mdv_engine_law.proofs.Turning.{refusal_told}
+use Rattle.mdv_engine.proofs.Counting.{calm_given}
 use Rattle.mdv_engine.proofs.engine.Engine.refuse.Goals as goal
 
 pub returns-clause-moments : goal.returns-clause-moments
@@ -26,4 +28,8 @@ pub returns-clause-counted : goal.returns-clause-counted
 returns-clause-counted g c = record {
   most = c.tell.ensures.counted.most;
   told = λ on. told_once g.B.Shelf _ _ c.tell.ensures.kept.goes (replied_more _ (refusing c.args.refusal.now) c.requires c.tell.result on _ _ c.tell.ensures.told) (c.tell.ensures.counted.calm on);
+  given = λ on. calm_given g.B.Shelf.faults _ _ _ refl (c.tell.ensures.kept.keeps.no_fewer_faults OnReplies) (c.tell.ensures.counted.calm on OnReplies);
 }
+
+pub returns-clause-kept : goal.returns-clause-kept
+returns-clause-kept g c = in_time_of_on g.B.Shelf _ _ OnReplies c.tell.ensures.kept

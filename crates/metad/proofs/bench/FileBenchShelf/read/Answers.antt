@@ -1,13 +1,13 @@
 use Rattle.std.proofs.Common.{◌<◌, length, refl, arith}
 use Rattle.std.proofs.lemmas.List.{length-map}
 use Rattle.metad.specs.declared.image.Image.{Image}
-use Rattle.metad.proofs.Calls.{call_cause, call_sizes, call_no_fewer, of_read}
+use Rattle.metad.proofs.Calls.{call_drive_cause, call_sizes, call_no_fewer, of_read}
 use Rattle.metad.proofs.bench.FileBenchShelf.read.Goals as goal
 
 pub returns-clause-cause : goal.returns-clause-cause
 returns-clause-cause g c =
     let inside : c.args.drive.0 < length c.args.self.now.images.items = omega (arith, c.requires.known, length-map c.args.self.now.images.items (λ (x : Image). x.blocks)) in
-    call_cause c.args.self.now.images.items c.args.drive.0 inside c.index_mut.result.now c.read.new.self c.index_mut.ensures.value c.read.result (of_read c.index_mut.result.now c.read.result c.read.new.self c.read.ensures)
+    call_drive_cause c.args.self.now.images.items c.args.drive.0 inside c.index_mut.result.now c.read.new.self c.index_mut.ensures.value c.read.result (of_read c.index_mut.result.now c.read.result c.read.new.self c.read.ensures) c.args.self.now.reply_faults
 
 pub returns-clause-keeps : goal.returns-clause-keeps
 returns-clause-keeps g c =
