@@ -1,7 +1,7 @@
 -- Which pools a command means, and which spares they have.
 use Rattle.std.specs.Prelude.{ℕ, Bool, true, false, not, ◌==◌, ◌&&◌, is_some, List, [], ◌∷◌, Option, None, Some, if◌then◌else◌}
 use Rattle.std.specs.List.{find, flat_map, list_any}
-use Rattle.mdv_spares.specs.Below.{SliceName, Plan, Pool, Spare, SpareStatus, SpareState, InUse, pool_of, slice_code, kept, replaced}
+use Rattle.mdv_spares.specs.Below.{SliceName, Plan, Pool, SpareStatus, SpareState, InUse, pool_of, slice_code, kept, replaced}
 use Rattle.mdv_spares.specs.Pools.{is_spare, spare_key}
 use Rattle.mdv_spares.specs.declared.meant.Meant.{Meant}
 use Rattle.mdv_spares.specs.declared.meant.Meant.TheVariants.{One, All}
@@ -21,9 +21,12 @@ has_spare s q = list_any (is_spare s) q.spares
 abbrev pub is_meant_with : Meant → SliceName → Pool → Bool
 is_meant_with m s q = is_meant m q && has_spare s q
 
--- no pool that is meant has the spare
+-- a pool that is meant has the spare
+abbrev pub is_there : Plan → Meant → SliceName → Bool
+is_there p m s = list_any (is_meant_with m s) p.pools
+
 abbrev pub is_absent : Plan → Meant → SliceName → Bool
-is_absent p m s = not (list_any (is_meant_with m s) p.pools)
+is_absent p m s = not (is_there p m s)
 
 -- another pool than those that are meant has it
 abbrev pub is_left_with : Meant → SliceName → Pool → Bool

@@ -1,5 +1,5 @@
 -- Slices that come into a pool: what refuses them, what the pool is, and their states.
-use Rattle.std.specs.Prelude.{ℕ, Bool, true, false, ◌+◌, ◌==◌, ◌&&◌, ◌||◌, nat_lt, is_some, List, [], ◌∷◌, ◌++◌, length, map, Option, None, Some, if◌then◌else◌}
+use Rattle.std.specs.Prelude.{ℕ, Bool, false, ◌+◌, ◌==◌, ◌&&◌, ◌||◌, nat_lt, is_some, List, [], ◌∷◌, ◌++◌, length, map, Option, None, Some, if◌then◌else◌}
 use Rattle.std.specs.List.{find, fold, list_any}
 use Rattle.std.specs.Option.{option_or}
 use Rattle.mdv_spares.specs.Below.{DriveNo, SliceName, PoolId, Geometry, Plan, Pool, Spare, SpareStatus, Available, SliceUse, OneSpare, Base, Slice, Cause, NoSuchSlice, NameTaken, TooMany, SliceInUse, TooSmall}
@@ -35,9 +35,13 @@ spare_or (Some t) other = t
 abbrev pub spare_on : Geometry → Plan → SliceName → Spare
 spare_on g p s = spare_or (spare_in p.pools s) (new_spare g p s)
 
+-- a use stands in the way
+abbrev pub is_barred : Geometry → List SliceUse → SliceName → Bool
+is_barred g uses s = clashes g OneSpare s uses || meets_db g s
+
 -- the pool has it already, or a use stands in the way
 abbrev pub is_taken : Geometry → List SliceUse → List Spare → SliceName → Bool
-is_taken g uses had s = list_any (is_spare s) had || (clashes g OneSpare s uses || meets_db g s)
+is_taken g uses had s = list_any (is_spare s) had || is_barred g uses s
 
 abbrev pub is_too_small : Geometry → Plan → SliceName → Bool
 is_too_small g p s = (spare_on g p s).blocks == 0

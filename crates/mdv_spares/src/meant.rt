@@ -3,7 +3,7 @@ ghost use Rattle.std.specs.Prelude.{◌≡◌, ◌++◌, map, IfOk, OnOk};
 ghost use Rattle.std.specs.List.{flat_map, list_any};
 ghost use Rattle.std.specs.Option.{option_copied};
 ghost use Rattle.mdv_spares.specs.Meant.{is_meant as spec_is_meant, is_no_pool as spec_is_no_pool, has_spare as spec_has_spare, is_meant_with as spec_is_meant_with};
-ghost use Rattle.mdv_spares.specs.Meant.{is_absent as spec_is_absent, is_left_with as spec_is_left_with, state_of as spec_state_of, is_used as spec_is_used};
+ghost use Rattle.mdv_spares.specs.Meant.{is_there as spec_is_there, is_absent as spec_is_absent, is_left_with as spec_is_left_with, state_of as spec_state_of, is_used as spec_is_used};
 ghost use Rattle.mdv_spares.specs.Meant.{is_in_use as spec_is_in_use, lost_key as spec_lost_key};
 
 use crate::pools::is_spare;
@@ -40,7 +40,7 @@ pub(crate) fn is_no_pool(plan: &Plan, meant: Meant) -> bool
     }
 }
 
-fn has_spare(pool: &Pool, slice: SliceName) -> bool
+pub(crate) fn has_spare(pool: &Pool, slice: SliceName) -> bool
     ensures { result ≡ spec_has_spare slice pool.now }
 {
     let spares = pool.spares.as_slice();
@@ -53,8 +53,9 @@ pub(crate) fn is_meant_with(meant: Meant, slice: SliceName, pool: &Pool) -> bool
     is_meant(meant, pool) && has_spare(pool, slice)
 }
 
-fn is_there(plan: &Plan, meant: Meant, slice: SliceName) -> bool
-    ensures { result ≡ list_any (spec_is_meant_with meant slice) plan.now.pools }
+// Whether a pool that is meant has the spare.
+pub(crate) fn is_there(plan: &Plan, meant: Meant, slice: SliceName) -> bool
+    ensures { result ≡ spec_is_there plan.now meant slice }
 {
     let pools = plan.pools.as_slice();
     pools.iter().any(|pool| is_meant_with(meant, slice, pool))

@@ -5,7 +5,7 @@ ghost use Rattle.mdv_components.specs.Causes.{first_of, order};
 ghost use Rattle.mdv_plan.specs.Slices.{IsSound};
 ghost use Rattle.mdv_plan.specs.Uses.{uses_of};
 ghost use Rattle.mdv_spares.specs.Pools.{slice_base as spec_slice_base, spares_of as spec_spares_of, is_spare as spec_is_spare, spare_in as spec_spare_in};
-ghost use Rattle.mdv_spares.specs.Pools.{spare_on as spec_spare_on, is_taken as spec_is_taken, is_too_small as spec_is_too_small, spares_condition, pool_with as spec_pool_with};
+ghost use Rattle.mdv_spares.specs.Pools.{spare_on as spec_spare_on, is_barred as spec_is_barred, is_taken as spec_is_taken, is_too_small as spec_is_too_small, spares_condition, pool_with as spec_pool_with};
 
 use mdv_base::{DriveNo, PoolId, SliceName};
 use mdv_components::{Cause, has_foreign, has_meeting, pool_of, room_of, start_of};
@@ -107,7 +107,7 @@ fn spare_in(pools: &[Pool], slice: SliceName) -> Option<Spare>
     None
 }
 
-fn spare_on(geometry: &Geometry, plan: &Plan, slice: SliceName) -> Spare
+pub(crate) fn spare_on(geometry: &Geometry, plan: &Plan, slice: SliceName) -> Spare
     requires { IsSound geometry.now }
     ensures { result ≡ spec_spare_on geometry.now plan.now slice }
 {
@@ -121,12 +121,19 @@ fn spare_on(geometry: &Geometry, plan: &Plan, slice: SliceName) -> Spare
     }
 }
 
+// Whether a use stands in the way.
+pub(crate) fn is_barred(geometry: &Geometry, uses: &Uses, slice: SliceName) -> bool
+    requires { IsSound geometry.now }
+    ensures { result ≡ spec_is_barred geometry.now uses.now slice }
+{
+    uses.clash(geometry, Asked::OneSpare, slice) || meets_db(geometry, slice)
+}
+
 fn is_taken(geometry: &Geometry, uses: &Uses, had: &[Spare], slice: SliceName) -> bool
     requires { IsSound geometry.now }
     ensures { result ≡ spec_is_taken geometry.now uses.now had.now slice }
 {
-    has_spare(had, slice)
-        || (uses.clash(geometry, Asked::OneSpare, slice) || meets_db(geometry, slice))
+    has_spare(had, slice) || is_barred(geometry, uses, slice)
 }
 
 fn has_taken(geometry: &Geometry, uses: &Uses, had: &[Spare], slices: &[SliceName]) -> bool
@@ -138,20 +145,39 @@ fn has_taken(geometry: &Geometry, uses: &Uses, had: &[Spare], slices: &[SliceNam
         .any(|slice| is_taken(geometry, uses, had, *slice))
 }
 
-fn is_too_small(geometry: &Geometry, plan: &Plan, slice: SliceName) -> bool
+pub(crate) fn is_too_small(geometry: &Geometry, plan: &Plan, slice: SliceName) -> bool
     requires { IsSound geometry.now }
     ensures { result ≡ spec_is_too_small geometry.now plan.now slice }
 {
     spare_on(geometry, plan, slice).blocks == 0
 }
 
-fn has_small(geometry: &Geometry, plan: &Plan, slices: &[SliceName]) -> bool
+pub(crate) fn has_small(geometry: &Geometry, plan: &Plan, slices: &[SliceName]) -> bool
     requires { IsSound geometry.now }
     ensures { result ≡ list_any (spec_is_too_small geometry.now plan.now) slices.now }
 {
     slices
         .iter()
         .any(|slice| is_too_small(geometry, plan, *slice))
+}
+
+// The spares with the slices behind them.
+pub(crate) fn spares_with(
+    alloc: Global,
+    geometry: &Geometry,
+    plan: &Plan,
+    had: &[Spare],
+    slices: &[SliceName],
+) -> Result<Listed<Spare, MAX_SPARES>, AllocError>
+    requires sound { IsSound geometry.now }
+    requires few { length had.now + length slices.now ≤ 100 }
+    ensures { IfOk result (λ spares. spares ≡ had.now ++ map (spec_spare_on geometry.now plan.now) slices.now) }
+{
+    let mut spares = Listed::from_slice(alloc, had)?;
+    for slice in slices {
+        spares.push(spare_on(geometry, plan, *slice))?;
+    }
+    Ok(spares)
 }
 
 /// The pool with the slices behind its spares.
@@ -166,12 +192,8 @@ pub fn pool_with(
     requires few { length (spec_spares_of plan.now pool) + length slices.now ≤ 100 }
     ensures { IfOk result (λ made. made ≡ spec_pool_with geometry.now plan.now pool slices.now) }
 {
-    let mut spares = Listed::from_slice(alloc, spares_of(plan, pool))?;
-    for slice in slices {
-        spares.push(spare_on(geometry, plan, *slice))?;
-    }
     Ok(Pool {
         number: pool,
-        spares,
+        spares: spares_with(alloc, geometry, plan, spares_of(plan, pool), slices)?,
     })
 }
