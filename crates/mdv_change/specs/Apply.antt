@@ -5,7 +5,7 @@ use Rattle.mdv_change.specs.declared.making.ApplyFault.{ApplyFault}
 use Rattle.mdv_change.specs.declared.making.ApplyFault.TheVariants.{Refused, Memory}
 use Rattle.mdv_change.specs.Change.{refusal_of, table_after}
 use Rattle.mdv_change.specs.declared.change.Change.{Change}
-use Rattle.mdv_change.specs.declared.change.Change.TheVariants.{MakeStripe, MakeRaid, MakeMirror, MakeSoft, Attach, AddRow, Grow, AddSpares, DeleteSpares, EnableSpares, Clear, ClearBelow}
+use Rattle.mdv_change.specs.declared.change.Change.TheVariants.{MakeStripe, MakeRaid, MakeMirror, MakeSoft, Attach, AddRow, Grow, AddSpares, AddSparesToAll, DeleteSpares, ReplaceSpare, EnableSpares, Clear, ClearBelow}
 
 -- what refuses the change, or want of memory, which has no cause
 abbrev pub HasFault : Option Refusal → ApplyFault → Type 0
@@ -47,6 +47,12 @@ spares_change q new slices = AddSpares q new slices
 
 abbrev pub delete_change : Meant → List SliceName → Change
 delete_change pools slices = DeleteSpares pools slices
+
+abbrev pub all_change : List SliceName → Change
+all_change slices = AddSparesToAll slices
+
+abbrev pub replace_change : Meant → SliceName → SliceName → Change
+replace_change pools old new = ReplaceSpare pools old new
 
 abbrev pub enable_change : List SliceName → Change
 enable_change slices = EnableSpares slices

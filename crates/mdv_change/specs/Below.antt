@@ -40,10 +40,12 @@ pub use Rattle.mdv_softs.specs.Asking.{carried_of}
 pub use Rattle.mdv_softs.specs.Growing.{grow_condition, grown, grown_room}
 pub use Rattle.mdv_softs.specs.Making.{soft_condition, soft_on, soft_room, soft_status}
 pub use Rattle.mdv_softs.specs.declared.making.SoftAsked.{SoftAsked}
+pub use Rattle.mdv_spares.specs.AllPools.{all_condition, spares_added}
 pub use Rattle.mdv_spares.specs.Deleting.{delete_condition, spares_deleted}
 pub use Rattle.mdv_spares.specs.Enabling.{enable_condition, unbroken_word}
 pub use Rattle.mdv_spares.specs.declared.meant.Meant.{Meant}
 pub use Rattle.mdv_spares.specs.Pools.{pool_with, spares_condition, with_states as spare_states}
+pub use Rattle.mdv_spares.specs.Replacing.{replace_condition, spare_replaced}
 pub use Rattle.mdv_submirrors.specs.Attaching.{attach_condition, attach_states, with_sub}
 pub use Rattle.mdv_submirrors.specs.Joining.{all_joined, noted}
 pub use Rattle.mdv_submirrors.specs.Mirrors.{mirror_condition, mirror_on, mirror_status}

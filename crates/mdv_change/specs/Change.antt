@@ -4,11 +4,12 @@ use Rattle.std.specs.Option.{option_map}
 use Rattle.mdv_change.specs.Below.{Refusal, DriveNo, Geometry, Table, OneVolume, VolumeStatus, with_item, with_put}
 use Rattle.mdv_change.specs.Below.{Cause, Carried, order, first_of, nothing, told, stripe_condition, stripe_on, stripe_status, raid_condition, raid_on, raid_status}
 use Rattle.mdv_change.specs.declared.change.Change.{Change}
-use Rattle.mdv_change.specs.declared.change.Change.TheVariants.{MakeStripe, MakeRaid, MakeMirror, MakeSoft, Attach, AddRow, Grow, AddSpares, DeleteSpares, EnableSpares, Clear, ClearBelow, ClearAll}
+use Rattle.mdv_change.specs.declared.change.Change.TheVariants.{MakeStripe, MakeRaid, MakeMirror, MakeSoft, Attach, AddRow, Grow, AddSpares, AddSparesToAll, DeleteSpares, ReplaceSpare, EnableSpares, Clear, ClearBelow, ClearAll}
 use Rattle.mdv_change.specs.Below.{carried_of, soft_condition, soft_on, soft_room, soft_status, grow_condition, grown, grown_room}
 use Rattle.mdv_change.specs.Below.{VolId, Plan, RowAsked, row_on, add_condition, added_states, filled, rows_of, with_row}
 use Rattle.mdv_change.specs.Below.{SliceName, Pool, spares_condition, pool_with, spare_states}
 use Rattle.mdv_change.specs.Below.{mirror_condition, mirror_on, mirror_status, all_joined, noted, attach_condition, with_sub, attach_states, volume_of, changed}
+use Rattle.mdv_change.specs.Below.{all_condition, spares_added, replace_condition, spare_replaced}
 use Rattle.mdv_change.specs.Below.{StateWord, Absent, delete_condition, spares_deleted, enable_condition, unbroken_word}
 use Rattle.mdv_change.specs.Clear.{clear_condition, cleared, emptied, given_back}
 use Rattle.mdv_change.specs.Levels.{with_levels}
@@ -27,7 +28,9 @@ condition g drives t (Attach mirror sub) = attach_condition t.plan mirror sub
 condition g drives t (AddRow v r) = add_condition g drives t.plan v (row_behind t.plan v r)
 condition g drives t (Grow v blocks) = grow_condition g t v blocks
 condition g drives t (AddSpares q new slices) = spares_condition g drives t.plan new q slices
+condition g drives t (AddSparesToAll slices) = all_condition g drives t.plan slices
 condition g drives t (DeleteSpares pools slices) = delete_condition g drives t pools slices
+condition g drives t (ReplaceSpare pools old new) = replace_condition g drives t pools old new
 condition g drives t (EnableSpares slices) = enable_condition g drives t.status.spares slices
 condition g drives t (Clear volumes pools) = clear_condition t.plan volumes pools
 condition g drives t (ClearBelow volumes pools) = clear_condition t.plan (with_levels t.plan volumes) pools
@@ -42,6 +45,7 @@ abbrev pub carried : Geometry → Table → Change → Carried
 carried g t (MakeSoft v asked) = carried_of (soft_room g t.plan asked)
 carried g t (Grow v blocks) = carried_of (grown_room g t.plan v blocks)
 carried g t (DeleteSpares pools slices) = of_state Absent
+carried g t (ReplaceSpare pools old new) = of_state Absent
 carried g t (EnableSpares slices) = of_state (unbroken_word t.status.spares slices)
 carried g t _ = nothing
 
@@ -91,7 +95,9 @@ table_after g t (Attach mirror sub) = with_states (attach_states t.status mirror
 table_after g t (AddRow v r) = row_added g t v (row_behind t.plan v r)
 table_after g t (Grow v blocks) = with_changed (option_map (grown (grown_room g t.plan v blocks)) (volume_of t.plan v)) t
 table_after g t (AddSpares q new slices) = with_pool (pool_with g t.plan q slices) slices t
+table_after g t (AddSparesToAll slices) = spares_added g slices t
 table_after g t (DeleteSpares pools slices) = spares_deleted pools slices t
+table_after g t (ReplaceSpare pools old new) = spare_replaced g pools old new t
 table_after g t (EnableSpares slices) = spares_enabled slices t
 table_after g t (Clear volumes pools) = cleared volumes pools t
 table_after g t (ClearBelow volumes pools) = cleared (with_levels t.plan volumes) pools t

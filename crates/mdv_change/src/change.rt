@@ -54,10 +54,21 @@ pub enum Change {
         new: bool,
         spares: Listed<SliceName, MAX_NAMES>,
     },
+    /// `metahs -a all c0t1d0s0`: spares behind those of every pool.
+    AddSparesToAll {
+        spares: Listed<SliceName, MAX_NAMES>,
+    },
     /// `metahs -d hsp001 c0t1d0s0`: spares leave the pools that are meant.
     DeleteSpares {
         pools: Meant,
         spares: Listed<SliceName, MAX_NAMES>,
+    },
+    /// `metahs -r hsp001 c0t1d0s0 c0t2d0s0`: in the pools that are meant the new spare stands in the place of the
+    /// old one.
+    ReplaceSpare {
+        pools: Meant,
+        old: SliceName,
+        new: SliceName,
     },
     /// `metahs -e c0t1d0s0`: spares that were Broken are Available again.
     EnableSpares {

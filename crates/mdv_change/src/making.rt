@@ -10,7 +10,7 @@ ghost use Rattle.mdv_change.specs.Change.{with_changed, with_volume};
 use crate::change::Change;
 use crate::clearing::{clear, clear_all, refuse_clear};
 use crate::levels::with_levels;
-use crate::pooling::{delete_spares, enable_spares};
+use crate::pooling::{add_spares_to_all, delete_spares, enable_spares, replace_spare};
 use mdv_base::{DriveNo, PoolId, Refusal, SliceName, VolId};
 use mdv_components::{
     Carried, RaidAsked, RowAsked, raid_on, raid_status, refuse_raid, refuse_stripe, row_on,
@@ -85,8 +85,14 @@ pub fn apply(
                 spares.as_slice(),
             )
         }
+        Change::AddSparesToAll { spares } => {
+            add_spares_to_all(alloc, geometry, drives, table, spares.as_slice())
+        }
         Change::DeleteSpares { pools, spares } => {
             delete_spares(alloc, geometry, drives, table, *pools, spares.as_slice())
+        }
+        Change::ReplaceSpare { pools, old, new } => {
+            replace_spare(alloc, geometry, drives, table, *pools, *old, *new)
         }
         Change::EnableSpares { spares } => {
             enable_spares(alloc, geometry, drives, table, spares.as_slice())
