@@ -1,5 +1,5 @@
 //! One submirror more: what refuses it, and what changes.
-ghost use Rattle.std.specs.Prelude.{◌≡◌, ◌<◌, ◌∷◌, ◌++◌, [], IfOk, length};
+ghost use Rattle.std.specs.Prelude.{◌≡◌, ◌≤◌, ◌<◌, ◌∷◌, ◌++◌, [], IfOk, length};
 ghost use Rattle.mdv_components.specs.Causes.{first_of, order};
 ghost use Rattle.mdv_submirrors.specs.Attaching.{attach_condition, is_mirror as spec_is_mirror, is_no_mirror as spec_is_no_mirror, kind_subs as spec_kind_subs, subs_of as spec_subs_of};
 ghost use Rattle.mdv_submirrors.specs.Attaching.{kind_size as spec_kind_size, size_of as spec_size_of, kind_with as spec_kind_with, with_sub as spec_with_sub, flags_with as spec_flags_with};
@@ -45,7 +45,8 @@ fn is_mirror(kind: &VolumeKind) -> bool
     matches!(kind, VolumeKind::Mirror(_))
 }
 
-fn is_no_mirror(plan: &Plan, volume: VolId) -> bool
+/// Whether the plan has no mirror of this number.
+pub fn is_no_mirror(plan: &Plan, volume: VolId) -> bool
     ensures { result ≡ spec_is_no_mirror plan.now volume }
 {
     match volume_of(plan, volume) {
@@ -55,7 +56,8 @@ fn is_no_mirror(plan: &Plan, volume: VolId) -> bool
 }
 
 fn kind_subs(kind: &VolumeKind) -> &[VolId]
-    ensures { result.now ≡ spec_kind_subs kind.now }
+    ensures value { result.now ≡ spec_kind_subs kind.now }
+    ensures few { length result.now ≤ 4 }
 {
     match kind {
         VolumeKind::Mirror(mirror) => mirror.submirrors.as_slice(),
@@ -63,8 +65,10 @@ fn kind_subs(kind: &VolumeKind) -> &[VolId]
     }
 }
 
-fn subs_of(plan: &Plan, volume: VolId) -> &[VolId]
-    ensures { result.now ≡ spec_subs_of plan.now volume }
+/// The submirrors of a mirror; a volume of another kind has none.
+pub fn subs_of(plan: &Plan, volume: VolId) -> &[VolId]
+    ensures value { result.now ≡ spec_subs_of plan.now volume }
+    ensures few { length result.now ≤ 4 }
 {
     match volume_of(plan, volume) {
         Some(volume) => kind_subs(&volume.kind),
@@ -81,7 +85,8 @@ fn kind_size(kind: &VolumeKind) -> u64
     }
 }
 
-fn size_of(plan: &Plan, volume: VolId) -> u64
+/// The size of a mirror; a volume of another kind has none here.
+pub fn size_of(plan: &Plan, volume: VolId) -> u64
     ensures { result ≡ spec_size_of plan.now volume }
 {
     match volume_of(plan, volume) {

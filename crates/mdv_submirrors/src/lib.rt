@@ -7,7 +7,9 @@ mod joining;
 mod mirrors;
 mod sizes;
 
-pub use attaching::{attach_states, mirror_with_sub, refuse_attach};
+pub use attaching::{
+    attach_states, is_no_mirror, mirror_with_sub, refuse_attach, size_of, subs_of,
+};
 pub use joining::{all_joined, note_all, status_at};
 pub use mirrors::{MirrorAsked, mirror_on, mirror_status, refuse_mirror};
-pub use sizes::{is_no_stripe, stripe_blocks};
+pub use sizes::{is_no_stripe, is_no_volume, row_blocks, stripe_blocks};

@@ -21,7 +21,8 @@ fn sum_of(components: &[Component]) -> u64
     blocks
 }
 
-fn row_blocks(row: &Row) -> u64
+/// The blocks of one stripe. No more than 2^63 count.
+pub fn row_blocks(row: &Row) -> u64
     ensures value { result ≡ spec_row_blocks row.now }
     ensures most { result ≤ 2 ^ 63 }
 {
@@ -59,7 +60,8 @@ pub(crate) fn blocks_of(plan: &Plan, volume: VolId) -> u64
     }
 }
 
-pub(crate) fn is_no_volume(plan: &Plan, volume: VolId) -> bool
+/// Whether the plan has no volume of this number.
+pub fn is_no_volume(plan: &Plan, volume: VolId) -> bool
     ensures { result ≡ spec_is_no_volume plan.now volume }
 {
     volume_of(plan, volume).is_none()
