@@ -5,7 +5,7 @@ use Rattle.mdv_change.specs.declared.making.ApplyFault.{ApplyFault}
 use Rattle.mdv_change.specs.declared.making.ApplyFault.TheVariants.{Refused, Memory}
 use Rattle.mdv_change.specs.Change.{refusal_of, table_after}
 use Rattle.mdv_change.specs.declared.change.Change.{Change}
-use Rattle.mdv_change.specs.declared.change.Change.TheVariants.{MakeStripe, MakeRaid, MakeMirror, MakeSoft, Attach, AddRow, Grow, AddSpares, AddSparesToAll, DeleteSpares, ReplaceSpare, EnableSpares, Clear, ClearBelow}
+use Rattle.mdv_change.specs.declared.change.Change.TheVariants.{MakeStripe, MakeRaid, MakeMirror, MakeSoft, Attach, Detach, Offline, Online, AddRow, Grow, AddSpares, AddSparesToAll, DeleteSpares, ReplaceSpare, EnableSpares, Clear, ClearBelow}
 
 -- what refuses the change, or want of memory, which has no cause
 abbrev pub HasFault : Option Refusal → ApplyFault → Type 0
@@ -35,6 +35,15 @@ soft_change v asked = MakeSoft v asked
 
 abbrev pub attach_change : VolId → VolId → Change
 attach_change mirror sub = Attach mirror sub
+
+abbrev pub detach_change : VolId → VolId → Bool → Change
+detach_change mirror sub force = Detach mirror sub force
+
+abbrev pub offline_change : VolId → VolId → Change
+offline_change mirror sub = Offline mirror sub
+
+abbrev pub online_change : VolId → VolId → Change
+online_change mirror sub = Online mirror sub
 
 abbrev pub row_change : VolId → RowAsked → Change
 row_change v row = AddRow v row

@@ -14,6 +14,8 @@ pub use Rattle.mdv_components.specs.declared.cause.Carried.{Carried}
 pub use Rattle.mdv_components.specs.declared.cause.Cause.{Cause}
 pub use Rattle.mdv_base.specs.declared.state_word.StateWord.{StateWord}
 pub use Rattle.mdv_base.specs.declared.state_word.StateWord.TheVariants.{Absent}
+pub use Rattle.mdv_copies.specs.Leaving.{detach_condition, offline_condition, online_condition, without_sub}
+pub use Rattle.mdv_copies.specs.States.{detach_states, online_states, online_word, sub_word, switched}
 pub use Rattle.mdv_keys.specs.Keys.{kept}
 pub use Rattle.mdv_name.specs.Code.{slice_code}
 pub use Rattle.mdv_name.specs.declared.geometry.Geometry.{Geometry}

@@ -1,16 +1,17 @@
 -- Which causes refuse a change, and the table after it.
-use Rattle.std.specs.Prelude.{Bool, false, List, Option, None, Some}
+use Rattle.std.specs.Prelude.{Bool, false, true, List, Option, None, Some}
 use Rattle.std.specs.Option.{option_map}
 use Rattle.mdv_change.specs.Below.{Refusal, DriveNo, Geometry, Table, OneVolume, VolumeStatus, with_item, with_put}
 use Rattle.mdv_change.specs.Below.{Cause, Carried, order, first_of, nothing, told, stripe_condition, stripe_on, stripe_status, raid_condition, raid_on, raid_status}
 use Rattle.mdv_change.specs.declared.change.Change.{Change}
-use Rattle.mdv_change.specs.declared.change.Change.TheVariants.{MakeStripe, MakeRaid, MakeMirror, MakeSoft, Attach, AddRow, Grow, AddSpares, AddSparesToAll, DeleteSpares, ReplaceSpare, EnableSpares, Clear, ClearBelow, ClearAll}
+use Rattle.mdv_change.specs.declared.change.Change.TheVariants.{MakeStripe, MakeRaid, MakeMirror, MakeSoft, Attach, Detach, Offline, Online, AddRow, Grow, AddSpares, AddSparesToAll, DeleteSpares, ReplaceSpare, EnableSpares, Clear, ClearBelow, ClearAll}
 use Rattle.mdv_change.specs.Below.{carried_of, soft_condition, soft_on, soft_room, soft_status, grow_condition, grown, grown_room}
 use Rattle.mdv_change.specs.Below.{VolId, Plan, RowAsked, row_on, add_condition, added_states, filled, rows_of, with_row}
 use Rattle.mdv_change.specs.Below.{SliceName, Pool, spares_condition, pool_with, spare_states}
 use Rattle.mdv_change.specs.Below.{mirror_condition, mirror_on, mirror_status, all_joined, noted, attach_condition, with_sub, attach_states, volume_of, changed}
 use Rattle.mdv_change.specs.Below.{all_condition, spares_added, replace_condition, spare_replaced}
 use Rattle.mdv_change.specs.Below.{StateWord, Absent, delete_condition, spares_deleted, enable_condition, unbroken_word}
+use Rattle.mdv_change.specs.Below.{detach_condition, offline_condition, online_condition, without_sub, detach_states, online_states, online_word, sub_word, switched}
 use Rattle.mdv_change.specs.Clear.{clear_condition, cleared, emptied, given_back}
 use Rattle.mdv_change.specs.Levels.{with_levels}
 
@@ -25,6 +26,9 @@ condition g drives t (MakeRaid v raid) = raid_condition g drives t.plan v raid
 condition g drives t (MakeMirror v mirror) = mirror_condition t.plan v mirror.submirrors
 condition g drives t (MakeSoft v asked) = soft_condition g drives t v asked
 condition g drives t (Attach mirror sub) = attach_condition t.plan mirror sub
+condition g drives t (Detach mirror sub force) = detach_condition t mirror sub force
+condition g drives t (Offline mirror sub) = offline_condition t mirror sub
+condition g drives t (Online mirror sub) = online_condition t mirror sub
 condition g drives t (AddRow v r) = add_condition g drives t.plan v (row_behind t.plan v r)
 condition g drives t (Grow v blocks) = grow_condition g t v blocks
 condition g drives t (AddSpares q new slices) = spares_condition g drives t.plan new q slices
@@ -44,6 +48,9 @@ of_state state = record { state = state; blocks = 0 }
 abbrev pub carried : Geometry → Table → Change → Carried
 carried g t (MakeSoft v asked) = carried_of (soft_room g t.plan asked)
 carried g t (Grow v blocks) = carried_of (grown_room g t.plan v blocks)
+carried g t (Detach mirror sub force) = of_state (sub_word t mirror sub)
+carried g t (Offline mirror sub) = of_state (sub_word t mirror sub)
+carried g t (Online mirror sub) = of_state (online_word t mirror sub)
 carried g t (DeleteSpares pools slices) = of_state Absent
 carried g t (ReplaceSpare pools old new) = of_state Absent
 carried g t (EnableSpares slices) = of_state (unbroken_word t.status.spares slices)
@@ -92,6 +99,9 @@ table_after g t (MakeRaid v raid) = with_volume (raid_on g t.plan v raid) (raid_
 table_after g t (MakeMirror v mirror) = with_states (all_joined t.status mirror.submirrors) (with_volume (mirror_on t.plan v mirror) (mirror_status v mirror.submirrors) t)
 table_after g t (MakeSoft v asked) = with_volume (soft_on g t.plan v asked.base (soft_room g t.plan asked)) (soft_status v) t
 table_after g t (Attach mirror sub) = with_states (attach_states t.status mirror sub) (with_changed (option_map (with_sub sub) (volume_of t.plan mirror)) t)
+table_after g t (Detach mirror sub force) = with_states (detach_states t mirror sub) (with_changed (option_map (without_sub sub) (volume_of t.plan mirror)) t)
+table_after g t (Offline mirror sub) = with_states (switched t mirror sub true) t
+table_after g t (Online mirror sub) = with_states (online_states t mirror sub) t
 table_after g t (AddRow v r) = row_added g t v (row_behind t.plan v r)
 table_after g t (Grow v blocks) = with_changed (option_map (grown (grown_room g t.plan v blocks)) (volume_of t.plan v)) t
 table_after g t (AddSpares q new slices) = with_pool (pool_with g t.plan q slices) slices t

@@ -36,6 +36,22 @@ pub enum Change {
         mirror: VolId,
         sub: VolId,
     },
+    /// `metadetach d0 d20`: the submirror leaves the mirror; with `-f` also one that isn't all Okay.
+    Detach {
+        mirror: VolId,
+        sub: VolId,
+        force: bool,
+    },
+    /// `metaoffline d0 d20`: the submirror is neither read nor written until it comes back.
+    Offline {
+        mirror: VolId,
+        sub: VolId,
+    },
+    /// `metaonline d0 d20`: it comes back, and what was written meanwhile is copied to it.
+    Online {
+        mirror: VolId,
+        sub: VolId,
+    },
     /// `metattach d10 c0t3d0s0 c0t4d0s0 -i 32b`: one stripe more behind those of the volume. Where no interlace
     /// is asked for it has that of the last one.
     AddRow {

@@ -5,6 +5,7 @@ mod change;
 mod clearing;
 mod levels;
 mod making;
+mod mirroring;
 mod pooling;
 
 pub use change::Change;

@@ -10,6 +10,7 @@ ghost use Rattle.mdv_change.specs.Change.{with_changed, with_volume};
 use crate::change::Change;
 use crate::clearing::{clear, clear_all, refuse_clear};
 use crate::levels::with_levels;
+use crate::mirroring::{detach, take_offline, take_online};
 use crate::pooling::{add_spares_to_all, delete_spares, enable_spares, replace_spare};
 use mdv_base::{DriveNo, PoolId, Refusal, SliceName, VolId};
 use mdv_components::{
@@ -72,6 +73,9 @@ pub fn apply(
             make_soft(alloc, geometry, drives, table, *volume, *soft)
         }
         Change::Attach { mirror, sub } => attach(alloc, table, *mirror, *sub),
+        Change::Detach { mirror, sub, force } => detach(alloc, table, *mirror, *sub, *force),
+        Change::Offline { mirror, sub } => take_offline(alloc, table, *mirror, *sub),
+        Change::Online { mirror, sub } => take_online(alloc, table, *mirror, *sub),
         Change::AddRow { volume, row } => { add_row(alloc, geometry, drives, table, *volume, row) }
         Change::Grow { volume, blocks } => grow(alloc, geometry, table, *volume, *blocks),
         Change::AddSpares { pool, new, spares } => {
@@ -254,7 +258,7 @@ fn attach(alloc: Global, table: &mut Table, mirror: VolId, sub: VolId) -> Result
 }
 
 // Puts the volume in for the one of its number.
-fn replace_volume(table: &mut Table, volume: Option<Volume>)
+pub(crate) fn replace_volume(table: &mut Table, volume: Option<Volume>)
     ensures { table.new ≡ with_changed volume table.old }
 {
     if let Some(volume) = volume {

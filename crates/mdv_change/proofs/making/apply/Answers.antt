@@ -19,6 +19,21 @@ returns-in-Attach c =
     let made = c.attach.ensures c.args.geometry.now c.args.drives.now in
     subst (λ (x : Change). IsApplied c.args.geometry.now c.args.drives.now x c.args.table.now c.attach.new.table c.attach.result) (sym c.in-Attach.is) made
 
+pub returns-in-Detach : goal.returns-in-Detach
+returns-in-Detach c =
+    let made = c.detach.ensures c.args.geometry.now c.args.drives.now in
+    subst (λ (x : Change). IsApplied c.args.geometry.now c.args.drives.now x c.args.table.now c.detach.new.table c.detach.result) (sym c.in-Detach.is) made
+
+pub returns-in-Offline : goal.returns-in-Offline
+returns-in-Offline c =
+    let made = c.take_offline.ensures c.args.geometry.now c.args.drives.now in
+    subst (λ (x : Change). IsApplied c.args.geometry.now c.args.drives.now x c.args.table.now c.take_offline.new.table c.take_offline.result) (sym c.in-Offline.is) made
+
+pub returns-in-Online : goal.returns-in-Online
+returns-in-Online c =
+    let made = c.take_online.ensures c.args.geometry.now c.args.drives.now in
+    subst (λ (x : Change). IsApplied c.args.geometry.now c.args.drives.now x c.args.table.now c.take_online.new.table c.take_online.result) (sym c.in-Online.is) made
+
 pub returns-in-Grow : goal.returns-in-Grow
 returns-in-Grow c =
     let made = c.grow.ensures c.args.drives.now in
