@@ -2,9 +2,10 @@
 
 use crate::drives::*;
 use crate::facts::Fact::*;
-use crate::steps::Line::{Broken, InUse, Is, OnSpare, Short, Soft, Told};
+use crate::steps::Line::{Broken, InUse, Is, OnSpare, Replica, Short, Soft, Told};
 use crate::steps::Step::*;
 use crate::steps::{Line, first_wrong};
+use mdv_base::SliceName;
 use mdv_plan::Base::{Slice, Volume};
 use mdv_plan::{Resync, SpareState, State};
 use mdv_spares::Meant::{All, One};
@@ -200,6 +201,64 @@ const SPARES_LEAVE: &[Line] = &[
     Is(SpareStates(1, 1)),
 ];
 
+// One more than a pool can have.
+const MANY: &[SliceName] = &[S0; 101];
+
+// No such slice is 6, a slice in use 7, too many spares 9, a slice without room 10. A replica of 27984 blocks
+// has all of its slice.
+const SPARES_FOR_ALL: &[Line] = &[
+    Told(SparesToAll(&[S0]), 0),
+    Is(Pools(0)),
+    Is(SpareStates(0, 0)),
+    Told(SparesToAll(&[OTHER]), 6),
+    Told(NewPool(1, &[S0]), 0),
+    Told(NewPool(2, &[S1]), 0),
+    Told(SparesToAll(&[S4, S1]), 7),
+    Told(SparesToAll(&[S2]), 7),
+    Told(SparesToAll(&[S3, S3]), 7),
+    Told(SparesToAll(MANY), 9),
+    Told(SparesToAll(&[S3, S7]), 0),
+    Is(HasSpares(HSP1, &[S0, S3, S7])),
+    Is(HasSpares(HSP2, &[S1, S3, S7])),
+    Is(LastStart(HSP1, 8208)),
+    Is(SpareStates(4, 4)),
+    Told(DeleteSpares(All, &[S7]), 0),
+    Replica(27984),
+    Told(SparesToAll(&[S7]), 10),
+];
+
+// A spare that isn't there is 13, no such pool 26, a spare in use 27.
+const SPARES_REPLACED: &[Line] = &[
+    Told(NewPool(1, &[S0, S1]), 0),
+    Told(NewPool(2, &[S1, S3]), 0),
+    InUse(S3),
+    Told(ReplaceSpare(One(HSP9), S0, S4), 26),
+    Told(ReplaceSpare(One(HSP1), S0, OTHER), 6),
+    Told(ReplaceSpare(One(HSP1), OTHER, S4), 6),
+    Told(ReplaceSpare(One(HSP1), S3, S4), 13),
+    Told(ReplaceSpare(All, S4, S6), 13),
+    Told(ReplaceSpare(One(HSP1), S0, S2), 7),
+    Told(ReplaceSpare(One(HSP1), S0, S0), 7),
+    Told(ReplaceSpare(All, S0, S1), 7),
+    Told(ReplaceSpare(All, S3, S4), 27),
+    Told(ReplaceSpare(One(HSP1), S1, S4), 0),
+    Is(HasSpares(HSP1, &[S0, S4])),
+    Is(HasSpares(HSP2, &[S1, S3])),
+    Is(SpareStates(4, 3)),
+    Told(ReplaceSpare(One(HSP1), S0, S3), 0),
+    Is(HasSpares(HSP1, &[S3, S4])),
+    Is(SpareStates(3, 2)),
+    Told(Spares(1, &[S1]), 0),
+    Told(ReplaceSpare(All, S1, S7), 0),
+    Is(HasSpares(HSP1, &[S3, S4, S7])),
+    Is(HasSpares(HSP2, &[S7, S3])),
+    Is(LastStart(HSP1, 8208)),
+    Is(SpareStates(3, 2)),
+    Told(DeleteSpares(All, &[S7]), 0),
+    Replica(27984),
+    Told(ReplaceSpare(One(HSP1), S4, S7), 10),
+];
+
 // A base that another soft partition has stays.
 const CLEARED_BELOW: &[Line] = &[
     Told(MakeSoft(5, Slice(S0), 100), 0),
@@ -289,6 +348,18 @@ fn volumes_and_pools_are_cleared(rt: HostRuntime) -> Result<(), Fail> {
 #[test]
 fn spares_leave_pools(rt: HostRuntime) -> Result<(), Fail> {
     assert_eq!(rt; first_wrong(rt.alloc(), SPARES_LEAVE)?, None);
+    Ok(())
+}
+
+#[test]
+fn spares_come_into_all_pools(rt: HostRuntime) -> Result<(), Fail> {
+    assert_eq!(rt; first_wrong(rt.alloc(), SPARES_FOR_ALL)?, None);
+    Ok(())
+}
+
+#[test]
+fn spares_are_replaced(rt: HostRuntime) -> Result<(), Fail> {
+    assert_eq!(rt; first_wrong(rt.alloc(), SPARES_REPLACED)?, None);
     Ok(())
 }
 

@@ -120,11 +120,16 @@ pub(crate) fn drives(alloc: Global) -> Result<Geometry, Fail>
 }
 
 pub(crate) fn empty(alloc: Global) -> Table {
+    Table::empty(alloc, replica(8192))
+}
+
+/// One replica of so many blocks.
+pub(crate) fn replica(blocks: u32) -> Places {
     let mut places = Places::new();
     places.push(Place {
         slice: S7,
         start: 16,
-        blocks: 8192,
+        blocks,
     });
-    Table::empty(alloc, places)
+    places
 }

@@ -1,6 +1,6 @@
 //! What a table is like.
 
-use mdv_base::{PoolId, VolId};
+use mdv_base::{PoolId, SliceName, VolId};
 use mdv_plan::{KindStatus, SpareState, State, Table, VolumeKind};
 
 pub(crate) enum Fact {
@@ -27,6 +27,8 @@ pub(crate) enum Fact {
     SpareStates(usize, usize),
     /// The state of the first spare.
     FirstSpare(Option<SpareState>),
+    /// The slices of a pool's spares.
+    HasSpares(PoolId, &'static [SliceName]),
     /// The first block of the last spare of a pool.
     LastStart(PoolId, u64),
 }
@@ -50,6 +52,7 @@ pub(crate) fn holds(table: &Table, fact: &Fact) -> bool {
         }
         Fact::SpareStates(all, free) => spares(table) == (all, free),
         Fact::FirstSpare(state) => first_spare(table) == state,
+        Fact::HasSpares(pool, slices) => has_spares(table, pool, slices),
         Fact::LastStart(pool, start) => last_start(table, pool) == Some(start),
     }
 }
@@ -126,6 +129,20 @@ fn spares(table: &Table) -> (usize, usize) {
 
 fn first_spare(table: &Table) -> Option<SpareState> {
     Some(table.status.spares.as_slice().first()?.state)
+}
+
+fn has_spares(table: &Table, pool: PoolId, slices: &[SliceName]) -> bool {
+    match table.plan.pools.find(u32::from(pool.0)) {
+        Some(pool) => {
+            let spares = pool.spares.as_slice();
+            let same = spares
+                .iter()
+                .zip(slices)
+                .all(|(spare, s)| spare.slice == *s);
+            spares.len() == slices.len() && same
+        }
+        None => false,
+    }
 }
 
 fn last_start(table: &Table, pool: PoolId) -> Option<u64> {

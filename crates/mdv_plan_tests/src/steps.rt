@@ -2,7 +2,7 @@
 ghost use Rattle.std.specs.Prelude.{◌<◌, IfOk};
 ghost use Rattle.mdv_change.specs.Apply.{IsNumbered};
 
-use crate::drives::{drives, empty};
+use crate::drives::{drives, empty, replica};
 use crate::facts::{Fact, holds};
 use mdv_base::{DriveNo, PoolId, Refusal, SliceName, VolId};
 use mdv_change::{ApplyFault, Change, apply};
@@ -29,7 +29,10 @@ pub(crate) enum Step {
     AddRow(VolId, &'static [Base], Option<u64>),
     NewPool(u8, &'static [SliceName]),
     Spares(u8, &'static [SliceName]),
+    SparesToAll(&'static [SliceName]),
     DeleteSpares(Meant, &'static [SliceName]),
+    /// The second slice comes in the place of the first.
+    ReplaceSpare(Meant, SliceName, SliceName),
     EnableSpares(&'static [SliceName]),
     Clear(&'static [VolId], &'static [PoolId]),
     /// And what lies below the volumes.
@@ -51,6 +54,8 @@ pub(crate) enum Line {
     Broken(SliceName),
     /// From here on the only column of a RAID-5 volume lies on the spare.
     OnSpare(u8, SliceName),
+    /// From here on the replica has so many blocks.
+    Replica(u32),
 }
 
 /// The place of the first line that isn't so, where the first one finds an empty table.
@@ -74,6 +79,7 @@ fn is_so(alloc: Global, table: &mut Table, line: &Line) -> Result<bool, Fail> {
         Line::Soft(number, base) => add_soft(alloc, table, *number, *base),
         Line::InUse(spare) => note_spare(table, *spare, SpareState::InUse),
         Line::Broken(spare) => note_spare(table, *spare, SpareState::Broken),
+        Line::Replica(blocks) => set_replica(table, *blocks),
         Line::OnSpare(number, spare) => lay_on_spare(alloc, table, *number, *spare),
     }
 }
@@ -131,10 +137,14 @@ fn change_of(alloc: Global, step: &Step) -> Result<Change, Fail>
             new: false,
             spares: listed(alloc, slices)?,
         },
+        Step::SparesToAll(slices) => Change::AddSparesToAll {
+            spares: listed(alloc, slices)?,
+        },
         Step::DeleteSpares(pools, slices) => Change::DeleteSpares {
             pools,
             spares: listed(alloc, slices)?,
         },
+        Step::ReplaceSpare(pools, old, new) => Change::ReplaceSpare { pools, old, new },
         Step::EnableSpares(slices) => Change::EnableSpares {
             spares: listed(alloc, slices)?,
         },
@@ -219,6 +229,11 @@ fn add_soft(alloc: Global, table: &mut Table, number: u8, base: VolId) -> Result
 
 fn note_spare(table: &mut Table, slice: SliceName, state: SpareState) -> Result<bool, Fail> {
     table.status.spares.put(SpareStatus { slice, state })?;
+    Ok(true)
+}
+
+fn set_replica(table: &mut Table, blocks: u32) -> Result<bool, Fail> {
+    table.plan.lists = Lists::One(replica(blocks));
     Ok(true)
 }
 
