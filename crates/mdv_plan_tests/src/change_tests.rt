@@ -2,10 +2,13 @@
 
 use crate::drives::*;
 use crate::facts::Fact::*;
-use crate::steps::Line::{Broken, InUse, Is, OnSpare, Replica, Short, Soft, Told};
+use crate::steps::Line::{Broken, Dirty, Held, In, InUse, Is, OnSpare, Replica, Short, Soft, Told};
 use crate::steps::Step::*;
 use crate::steps::{Line, first_wrong};
 use mdv_base::SliceName;
+use mdv_base::StateWord::{
+    Absent, LastErred, Maintenance, Offline as IsOffline, Online as IsOnline, Resyncing,
+};
 use mdv_plan::Base::{Slice, Volume};
 use mdv_plan::{Resync, SpareState, State};
 use mdv_spares::Meant::{All, One};
@@ -81,6 +84,125 @@ const SUBMIRRORS: &[Line] = &[
     Is(StripeState(VOL10, WHOLE)),
     Is(Submirrors(VOL0, 3, 3, 990)),
     Is(Submirrors(VOL1, 1, 1, 19792)),
+];
+
+// No such volume is 4, a volume of another kind 12, the last copy of a block 14. The mirror has 990 blocks.
+const DETACHED: &[Line] = &[
+    Told(Stripe(10, &[Slice(S0)], None), 0),
+    Told(Stripe(20, &[Slice(S1)], None), 0),
+    Told(Stripe(30, &[Slice(S3)], None), 0),
+    Told(Mirror(0, &[VOL10, VOL20]), 0),
+    Told(Detach(VOL9, VOL10, true), 4),
+    Told(Detach(VOL0, VOL9, true), 4),
+    Told(Detach(VOL10, VOL20, true), 12),
+    Told(Detach(VOL0, VOL0, true), 12),
+    Held(Detach(VOL0, VOL30, true), Absent),
+    Held(Detach(VOL0, VOL20, false), Resyncing),
+    Told(Detach(VOL0, VOL10, true), 14),
+    Told(Detach(VOL0, VOL20, true), 0),
+    Is(Submirrors(VOL0, 1, 1, 990)),
+    Is(StripeState(VOL20, WHOLE)),
+    Told(Detach(VOL0, VOL10, false), 14),
+    Told(Attach(VOL0, VOL20), 0),
+    In(VOL20, &[State::LastErred]),
+    In(VOL10, &[State::Maintenance]),
+    Held(Detach(VOL0, VOL20, false), LastErred),
+    Told(Detach(VOL0, VOL20, true), 14),
+    Held(Detach(VOL0, VOL10, false), Maintenance),
+    Told(Detach(VOL0, VOL10, true), 0),
+    Is(Submirrors(VOL0, 1, 1, 990)),
+    Is(StripeState(VOL10, Some(State::Maintenance))),
+];
+
+// The first stripe has its 1000 good blocks in front, the second its good ones from block 900 on. With the
+// components of the second in the other order blocks 1000 to 1890 would be lost.
+const CONCATENATED: &[Line] = &[
+    Told(Stripe(10, &[Slice(S0)], None), 0),
+    Told(AddRow(VOL10, &[Slice(S1)], None), 0),
+    Told(Stripe(20, &[Slice(S4)], None), 0),
+    Told(AddRow(VOL20, &[Slice(S6)], None), 0),
+    Told(Stripe(30, &[Slice(S3)], None), 0),
+    Told(Mirror(0, &[VOL10, VOL20, VOL30]), 0),
+    Is(Submirrors(VOL0, 3, 3, 1800)),
+    In(VOL30, &[State::Okay]),
+    In(VOL10, &[State::Okay, State::Maintenance]),
+    In(VOL20, &[State::Okay, State::Maintenance]),
+    Told(Detach(VOL0, VOL30, false), 14),
+    In(VOL10, &[State::Maintenance, State::Okay]),
+    Told(Detach(VOL0, VOL30, false), 14),
+    In(VOL10, &[State::Okay, State::Maintenance]),
+    In(VOL20, &[State::Maintenance, State::LastErred]),
+    Told(Detach(VOL0, VOL30, false), 0),
+    Held(Detach(VOL0, VOL20, false), LastErred),
+    Told(Detach(VOL0, VOL20, true), 14),
+];
+
+// Units of 16 and of 32 blocks: the second unit of the first stripe lies in the first one of the second.
+const STRIPED: &[Line] = &[
+    Told(Stripe(10, &[Slice(S0), Slice(S1)], Some(16)), 0),
+    Told(Stripe(20, &[Slice(S4), Slice(S6)], Some(32)), 0),
+    Told(Stripe(30, &[Slice(S3)], None), 0),
+    Told(Mirror(0, &[VOL10, VOL20, VOL30]), 0),
+    In(VOL30, &[State::Okay]),
+    In(VOL10, &[State::Okay, State::Maintenance]),
+    In(VOL20, &[State::Maintenance, State::Okay]),
+    Told(Detach(VOL0, VOL30, false), 14),
+    In(VOL20, &[State::Okay, State::Okay]),
+    Told(Detach(VOL0, VOL30, false), 0),
+    In(VOL20, &[State::Maintenance, State::Okay]),
+    Told(Detach(VOL0, VOL10, true), 14),
+];
+
+// Stripes of one form, each with the half that the other lacks.
+const HALVES: &[Line] = &[
+    Told(Stripe(10, &[Slice(S0), Slice(S1)], Some(16)), 0),
+    Told(Stripe(20, &[Slice(S4), Slice(S6)], Some(16)), 0),
+    Told(Stripe(30, &[Slice(S3)], None), 0),
+    Told(Mirror(0, &[VOL10, VOL20, VOL30]), 0),
+    In(VOL30, &[State::Okay]),
+    In(VOL10, &[State::Okay, State::Maintenance]),
+    In(VOL20, &[State::Maintenance, State::Okay]),
+    Told(Offline(VOL0, VOL30), 0),
+    Told(Detach(VOL0, VOL20, true), 14),
+    Told(Detach(VOL0, VOL30, true), 0),
+    Is(Submirrors(VOL0, 2, 2, 1792)),
+    Is(Flags(VOL0, &[false, false])),
+];
+
+// One that is offline is no copy, and comes back Okay where nothing is dirty.
+const OFFLINE: &[Line] = &[
+    Told(Stripe(10, &[Slice(S0)], None), 0),
+    Told(Stripe(20, &[Slice(S1)], None), 0),
+    Told(Stripe(30, &[Slice(S3)], None), 0),
+    Told(Mirror(0, &[VOL10, VOL20]), 0),
+    Told(Offline(VOL0, VOL9), 4),
+    Told(Offline(VOL10, VOL20), 12),
+    Held(Offline(VOL0, VOL30), Absent),
+    Held(Offline(VOL0, VOL20), Resyncing),
+    Told(Offline(VOL0, VOL10), 14),
+    In(VOL20, &[State::Okay]),
+    Held(Online(VOL0, VOL20), IsOnline),
+    Held(Online(VOL0, VOL30), Absent),
+    Told(Offline(VOL0, VOL20), 0),
+    Is(Flags(VOL0, &[false, true])),
+    Is(StripeState(VOL20, OKAY)),
+    Held(Offline(VOL0, VOL20), IsOffline),
+    Held(Detach(VOL0, VOL20, false), IsOffline),
+    Told(Detach(VOL0, VOL10, false), 14),
+    Told(Online(VOL9, VOL20), 4),
+    Told(Online(VOL20, VOL20), 12),
+    Told(Online(VOL0, VOL20), 0),
+    Is(Flags(VOL0, &[false, false])),
+    Is(StripeState(VOL20, OKAY)),
+    Told(Offline(VOL0, VOL20), 0),
+    Dirty(VOL0),
+    Told(Online(VOL0, VOL20), 0),
+    Is(Flags(VOL0, &[false, false])),
+    Is(StripeState(VOL20, Some(State::Resyncing(Resync::Regions)))),
+    Dirty(VOL0),
+    Told(Online(VOL0, VOL20), 0),
+    Is(StripeState(VOL20, WHOLE)),
+    Is(StripeState(VOL10, OKAY)),
 ];
 
 // No such volume is 4, a name taken 5, a slice in use 7, a soft partition over another 16. The base has 1000
@@ -306,6 +428,31 @@ fn mirrors_are_made(rt: HostRuntime) -> Result<(), Fail> {
 #[test]
 fn submirrors_are_attached(rt: HostRuntime) -> Result<(), Fail> {
     assert_eq!(rt; first_wrong(rt.alloc(), SUBMIRRORS)?, None);
+    Ok(())
+}
+
+#[test]
+fn submirrors_are_detached(rt: HostRuntime) -> Result<(), Fail> {
+    assert_eq!(rt; first_wrong(rt.alloc(), DETACHED)?, None);
+    Ok(())
+}
+
+#[test]
+fn concatenations_are_detached(rt: HostRuntime) -> Result<(), Fail> {
+    assert_eq!(rt; first_wrong(rt.alloc(), CONCATENATED)?, None);
+    Ok(())
+}
+
+#[test]
+fn stripes_are_detached(rt: HostRuntime) -> Result<(), Fail> {
+    assert_eq!(rt; first_wrong(rt.alloc(), STRIPED)?, None);
+    assert_eq!(rt; first_wrong(rt.alloc(), HALVES)?, None);
+    Ok(())
+}
+
+#[test]
+fn submirrors_go_offline(rt: HostRuntime) -> Result<(), Fail> {
+    assert_eq!(rt; first_wrong(rt.alloc(), OFFLINE)?, None);
     Ok(())
 }
 

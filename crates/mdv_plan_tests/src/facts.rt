@@ -23,6 +23,8 @@ pub(crate) enum Fact {
     Extents(VolId, u64, &'static [(u64, u64)]),
     /// So many submirrors, so many flags of them, and the blocks of a mirror.
     Submirrors(VolId, usize, usize, u64),
+    /// Which submirrors of a mirror are offline.
+    Flags(VolId, &'static [bool]),
     /// So many spares have a state, and so many of them are available.
     SpareStates(usize, usize),
     /// The state of the first spare.
@@ -50,6 +52,7 @@ pub(crate) fn holds(table: &Table, fact: &Fact) -> bool {
         Fact::Submirrors(volume, subs, flags, blocks) => {
             mirror(table, volume) == Some((subs, flags, blocks))
         }
+        Fact::Flags(volume, flags) => has_flags(table, volume, flags),
         Fact::SpareStates(all, free) => spares(table) == (all, free),
         Fact::FirstSpare(state) => first_spare(table) == state,
         Fact::HasSpares(pool, slices) => has_spares(table, pool, slices),
@@ -89,6 +92,16 @@ fn mirror(table: &Table, volume: VolId) -> Option<(usize, usize, u64)> {
             mirror.blocks,
         )),
         _ => None,
+    }
+}
+
+fn has_flags(table: &Table, volume: VolId, flags: &[bool]) -> bool {
+    match table.status.volumes.find(u32::from(volume.0)) {
+        Some(status) => match &status.kind {
+            KindStatus::Mirror(mirror) => mirror.offline.as_slice() == flags,
+            _ => false,
+        },
+        None => false,
     }
 }
 

@@ -4,7 +4,7 @@ ghost use Rattle.mdv_change.specs.Apply.{IsNumbered};
 
 use crate::drives::{drives, empty, replica};
 use crate::facts::{Fact, holds};
-use mdv_base::{DriveNo, PoolId, Refusal, SliceName, VolId};
+use mdv_base::{DriveNo, PoolId, Refusal, SliceName, StateWord, VolId};
 use mdv_change::{ApplyFault, Change, apply};
 use mdv_components::{MAX_NAMES, RaidAsked, RowAsked};
 use mdv_extent::Run;
@@ -23,6 +23,10 @@ pub(crate) enum Step {
     Raid(u8, &'static [Base], Option<PoolId>),
     Mirror(u8, &'static [VolId]),
     Attach(VolId, VolId),
+    /// With `-f` or without.
+    Detach(VolId, VolId, bool),
+    Offline(VolId, VolId),
+    Online(VolId, VolId),
     MakeSoft(u8, Base, u64),
     Grow(VolId, u64),
     /// One stripe more, with this interlace.
@@ -45,7 +49,13 @@ pub(crate) enum Line {
     Told(Step, u8),
     /// It is refused, since there are only so many blocks.
     Short(Step, u64),
+    /// It is refused for this state.
+    Held(Step, StateWord),
     Is(Fact),
+    /// From here on the components of a stripe are in these states.
+    In(VolId, &'static [State]),
+    /// From here on a region of the mirror is dirty.
+    Dirty(VolId),
     /// From here on there is a soft partition on a volume.
     Soft(u8, VolId),
     /// From here on the spare is in use.
@@ -75,7 +85,12 @@ fn is_so(alloc: Global, table: &mut Table, line: &Line) -> Result<bool, Fail> {
         Line::Short(step, blocks) => Ok(
             outcome(alloc, table, step)? == Err(ApplyFault::Refused(Refusal::NoSpace(*blocks))),
         ),
+        Line::Held(step, state) => Ok(
+            outcome(alloc, table, step)? == Err(ApplyFault::Refused(Refusal::WrongState(*state))),
+        ),
         Line::Is(fact) => Ok(holds(table, fact)),
+        Line::In(stripe, states) => note_states(alloc, table, *stripe, states),
+        Line::Dirty(mirror) => note_dirty(alloc, table, *mirror),
         Line::Soft(number, base) => add_soft(alloc, table, *number, *base),
         Line::InUse(spare) => note_spare(table, *spare, SpareState::InUse),
         Line::Broken(spare) => note_spare(table, *spare, SpareState::Broken),
@@ -118,6 +133,9 @@ fn change_of(alloc: Global, step: &Step) -> Result<Change, Fail>
             mirror: mirror(alloc, subs)?,
         },
         Step::Attach(mirror, sub) => Change::Attach { mirror, sub },
+        Step::Detach(mirror, sub, force) => Change::Detach { mirror, sub, force },
+        Step::Offline(mirror, sub) => Change::Offline { mirror, sub },
+        Step::Online(mirror, sub) => Change::Online { mirror, sub },
         Step::MakeSoft(number, base, blocks) => Change::MakeSoft {
             volume: volume(number),
             soft: SoftAsked { base, blocks },
@@ -255,5 +273,40 @@ fn lay_on_spare(
         number: volume(number),
         kind: KindStatus::Raid(raid),
     })?;
+    Ok(true)
+}
+
+fn note_states(
+    alloc: Global,
+    table: &mut Table,
+    stripe: VolId,
+    states: &[State],
+) -> Result<bool, Fail> {
+    let mut parts = Vec::new(alloc);
+    for state in states {
+        parts.push(PartStatus {
+            state: *state,
+            spare: None,
+        })?;
+    }
+    if parts.len() > MAX_COMPONENTS {
+        return Ok(false);
+    }
+    table.status.volumes.replace(VolumeStatus {
+        number: stripe,
+        kind: KindStatus::Stripe(Listed::from_slice(alloc, parts.as_slice())?),
+    });
+    Ok(true)
+}
+
+// Of a mirror of two submirrors, the second offline.
+fn note_dirty(alloc: Global, table: &mut Table, mirror: VolId) -> Result<bool, Fail> {
+    table.status.volumes.replace(VolumeStatus {
+        number: mirror,
+        kind: KindStatus::Mirror(MirrorStatus {
+            offline: Listed::from_slice(alloc, &[false, true])?,
+            dirty: Regions::from_slice(alloc, &[1; 128])?,
+        }),
+    });
     Ok(true)
 }
