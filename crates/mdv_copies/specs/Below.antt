@@ -21,6 +21,7 @@ pub use Rattle.mdv_plan.specs.declared.volume.Row.{Row}
 pub use Rattle.mdv_plan.specs.declared.volume.Volume.{Volume as OneVolume}
 pub use Rattle.mdv_plan.specs.declared.volume.VolumeKind.{VolumeKind}
 pub use Rattle.mdv_plan.specs.declared.volume.VolumeKind.TheVariants.{Stripe, Mirror}
+pub use Rattle.mdv_rows.specs.Adding.{rows_of}
 pub use Rattle.mdv_submirrors.specs.Attaching.{is_no_mirror, size_of, subs_of}
 pub use Rattle.mdv_submirrors.specs.Joining.{kind_parts, parts_at, status_at}
 pub use Rattle.mdv_submirrors.specs.Sizes.{is_no_stripe, is_no_volume, row_blocks}

@@ -1,7 +1,7 @@
 -- Which blocks of a mirror have a copy that may be read, and whether a submirror has the last one.
 use Rattle.std.specs.Prelude.{◌≡◌, ◌<◌, ℕ, zero, suc, Bool, true, false, not, max, ◌+◌, ◌-◌, ◌/◌, ◌%◌, ◌||◌, nat_lt, List, [], ◌∷◌, length, drop, Option, None, Some, if◌then◌else◌}
 use Rattle.std.specs.List.{list_any, slice_get}
-use Rattle.mdv_copies.specs.Below.{VolId, Plan, Table, Row, OneVolume, VolumeKind, Stripe, PartStatus, State, Okay, LastErred, parts_at, row_blocks, size_of, status_at, volume_of}
+use Rattle.mdv_copies.specs.Below.{VolId, Table, Row, PartStatus, State, Okay, LastErred, parts_at, row_blocks, rows_of, size_of, status_at}
 use Rattle.mdv_copies.specs.Legs.{legs_of, others}
 
 abbrev pub is_usable : State → Bool
@@ -32,17 +32,6 @@ is_usable_in_row r parts b = is_usable_part (slice_get parts (place_in r b))
 abbrev pub is_usable_in : List Row → List PartStatus → ℕ → Bool
 is_usable_in [] parts b = false
 is_usable_in (r ∷ rs) parts b = if nat_lt b (row_blocks r) then is_usable_in_row r parts b else is_usable_in rs (drop (length r.components) parts) (b - row_blocks r)
-
-abbrev pub kind_rows : VolumeKind → List Row
-kind_rows (Stripe s) = s.rows
-kind_rows _ = []
-
-abbrev pub rows_at : Option OneVolume → List Row
-rows_at None = []
-rows_at (Some v) = kind_rows v.kind
-
-abbrev pub rows_of : Plan → VolId → List Row
-rows_of p v = rows_at (volume_of p v)
 
 -- whether the submirror, where it isn't offline, has a usable copy of the block
 abbrev pub has_copy : Table → ℕ → VolId → Bool

@@ -2,14 +2,14 @@
 ghost use Rattle.std.specs.Prelude.{◌≡◌, ◌<◌, ◌+◌, ◌≤◌, ℕ, false, true, drop, length};
 ghost use Rattle.std.specs.List.{slice_get};
 ghost use Rattle.mdv_copies.specs.Copies.{IsRun, is_usable as spec_is_usable, is_usable_part as spec_is_usable_part, unit_blocks as spec_unit_blocks, width as spec_width};
-ghost use Rattle.mdv_copies.specs.Copies.{place_in as spec_place_in, is_usable_in_row as spec_is_usable_in_row, is_usable_in as spec_is_usable_in, kind_rows as spec_kind_rows};
-ghost use Rattle.mdv_copies.specs.Copies.{rows_of as spec_rows_of, has_copy as spec_has_copy};
+ghost use Rattle.mdv_copies.specs.Copies.{place_in as spec_place_in, is_usable_in_row as spec_is_usable_in_row, is_usable_in as spec_is_usable_in};
+ghost use Rattle.mdv_copies.specs.Copies.{has_copy as spec_has_copy};
 ghost use Rattle.mdv_copies.specs.Below.{row_blocks as spec_row_blocks};
 
 use crate::states::parts_of;
 use mdv_base::VolId;
-use mdv_components::volume_of;
-use mdv_plan::{PartStatus, Plan, Row, State, Table, VolumeKind};
+use mdv_plan::{PartStatus, Row, State, Table};
+use mdv_rows::rows_of;
 use mdv_submirrors::row_blocks;
 
 fn is_usable(state: State) -> bool
@@ -111,24 +111,6 @@ fn run_in(rows: &[Row], parts: &[PartStatus], block: u64) -> u64
         rest = behind;
     }
     0
-}
-
-fn kind_rows(kind: &VolumeKind) -> &[Row]
-    ensures { result.now ≡ spec_kind_rows kind.now }
-{
-    match kind {
-        VolumeKind::Stripe(stripe) => stripe.rows.as_slice(),
-        _ => &[],
-    }
-}
-
-fn rows_of(plan: &Plan, volume: VolId) -> &[Row]
-    ensures { result.now ≡ spec_rows_of plan.now volume }
-{
-    match volume_of(plan, volume) {
-        Some(volume) => kind_rows(&volume.kind),
-        None => &[],
-    }
 }
 
 /// How many blocks from this one on have a usable copy in the submirror: none only where this one hasn't.

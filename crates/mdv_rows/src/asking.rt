@@ -27,7 +27,8 @@ fn kind_rows(kind: &VolumeKind) -> &[Row]
     }
 }
 
-pub(crate) fn rows_of(plan: &Plan, volume: VolId) -> &[Row]
+/// The stripes of the volume, in order; none of one that isn't there or has no stripes.
+pub fn rows_of(plan: &Plan, volume: VolId) -> &[Row]
     ensures value { result.now ≡ spec_rows_of plan.now volume }
     ensures few { length result.now ≤ 100 }
 {
