@@ -5,17 +5,21 @@ use Rattle.std.specs.Prelude.{ℕ, ◌≡◌, ◌+◌, ◌-◌, ◌^◌, ◌≤�
 abbrev pub Rose : ℕ → ℕ → Type 0
 Rose before now = min (before + 1) (2 ^ 64 - 1) ≤ now
 
--- a count never falls, a call fails only where it rose, and one that is answered leaves it as it was
+-- it rose by one, or stands at its type's end
+abbrev pub RoseOnce : ℕ → ℕ → Type 0
+RoseOnce before now = now ≡ min (before + 1) (2 ^ 64 - 1)
+
+-- a count never falls, a call fails only where it rose, by one, and one that is answered leaves it as it was
 pub record HasCause {T E : Type 0} (before now : ℕ) (result : Result T E) : Type 0 where
   pub later : before ≤ now
-  pub failed : OnErr result (Rose before now)
+  pub failed : OnErr result (RoseOnce before now)
   pub calm : OnOk result (now ≡ before)
 
--- how the calls on a part came out: some failed, or none
+-- how the calls on a part came out: one failed, and none behind it, or none did
 pub record Failures : Type 1 where
   pub some : Type 0
   pub none : Type 0
 
 -- by its count before them and behind them
 abbrev pub failures_of : ℕ → ℕ → Failures
-failures_of before now = record { some = Rose before now; none = now ≡ before }
+failures_of before now = record { some = RoseOnce before now; none = now ≡ before }

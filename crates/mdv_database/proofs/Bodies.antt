@@ -10,7 +10,8 @@ use Rattle.mdv_record.proofs.Codes.{one_table}
 use Rattle.mdv_replica.proofs.Bodies.{take-bytes_of_written}
 use Rattle.mdv_replica.proofs.Leaving.{leaves_weaker, leaves_slotting, leaves_slotted}
 use Rattle.mdv_database.specs.declared.body.ReadFault.{ReadFault}
-use Rattle.mdv_database.specs.Slots.{blocks_for, IsFitting, IsRead}
+use Rattle.mdv_database.specs.Slots.{IsFitting, IsRead}
+use Rattle.mdv_store_law.specs.Effort.{blocks_for}
 
 pub concat_flat : (blocks : List (List ℕ)) → concat blocks ≡ flat_map (λ x. x) blocks
 concat_flat [] = refl

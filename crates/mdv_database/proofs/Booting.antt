@@ -13,9 +13,10 @@ use Rattle.mdv_database.specs.declared.looking.Found.{Found}
 use Rattle.mdv_database.specs.Boot.{AdoptEnds, AdoptMoment, BootAnswer, BootEnds, BootMoment, BootedBy, IsAdoption, RewriteEnds, RewriteMoment}
 use Rattle.mdv_database.specs.Database.{IfAdopted, IsBooted, IsBootedTo, IsCertain, IsDrawn, IsFoundIn, IsInHand, IsLookedAt, IsQuiet, IsUnwritten, site_of}
 use Rattle.mdv_database.specs.Looks.{LookEnds}
-use Rattle.mdv_database.specs.Counts.{Made, open_slots}
+use Rattle.mdv_shelf.specs.Made.{Made}
+use Rattle.mdv_store_law.specs.Effort.{open_slots}
 use Rattle.mdv_database.specs.declared.body.ReadFault.TheVariants.{Memory as Wanting}
-use Rattle.mdv_database.specs.Slots.{blocks_for}
+use Rattle.mdv_store_law.specs.Effort.{blocks_for}
 use Rattle.mdv_database.proofs.Counting.{AdoptsBy}
 use Rattle.mdv_database.proofs.Quiet.{quiet_more, quiet_same, quiet_sized, unwritten_quiet}
 
@@ -224,8 +225,8 @@ module _ (site : Site) (old new : Option Tale) (looked : Moments IsUnwritten old
       )
 
   -- the look failed, or memory was wanting
-  pub down_ends : (failures : Failures) (made : Made) → failures.some → Ends (BootEnds failures made site Down) old new
-  down_ends failures made so t is =
+  pub down_ends : (failures : Failures) (made : Made) → failures.some → made.within 1 5 0 → Ends (BootEnds failures made site Down) old new
+  down_ends failures made so calls t is =
       let end = moments_end IsUnwritten old new looked t is in (
         end.0,
         end.1,
@@ -237,7 +238,7 @@ module _ (site : Site) (old new : Option Tale) (looked : Moments IsUnwritten old
           empty = λ same. absurd (cc (same));
           goes = kept_goes_on site t end.0 end.2.kept;
           refuses = λ refused. end.2.kept;
-          booted = tt;
+          booted = calls;
         },
       )
 

@@ -17,8 +17,10 @@ use Rattle.mdv_database.specs.declared.database.CommitFault.{CommitFault}
 use Rattle.mdv_database.specs.declared.database.CommitFault.TheVariants as unwritten
 use Rattle.mdv_database.specs.Below.{Gate, Closed, Open, Ghosts, Head, Slot, First, Second, gate_of, other_slot, shows}
 use Rattle.mdv_replica.specs.Form.{is_open}
-use Rattle.mdv_database.specs.Counts.{AreReadFor, Made, MadeCallsBetween, MadeReads, head_reads, made_of, open_slots, reads_of, IsAdoptionCounted, IsBootCounted, IsCommitCounted, IsFindCounted, IsHeldCounted, IsLookCounted}
-use Rattle.mdv_database.specs.Slots.{blocks_for}
+use Rattle.mdv_database.specs.Counts.{AreReadFor, MadeCallsBetween, MadeReads, head_reads, IsAdoptionCounted, IsBootCounted, IsCommitCounted, IsFindCounted, IsHeldCounted, IsLookCounted}
+use Rattle.mdv_shelf.specs.Made.{Made, made_of}
+use Rattle.mdv_store_law.specs.Effort.{open_slots, reads_of}
+use Rattle.mdv_store_law.specs.Effort.{blocks_for}
 
 -- a slot takes one read at most
 pub reads_few : (gate : Gate) → reads_of gate ≤ 1

@@ -3,8 +3,10 @@ use Rattle.std.proofs.Common.{◌≡◌, ℕ, true, List, ◌+◌, ◌<◌, leng
 use Rattle.mdv_shelf.specs.Shelves.{MadeCalls}
 use Rattle.mdv_shelf.proofs.Between.{between_of, between_then}
 use Rattle.mdv_store_law.specs.Adoptable.{IsHeaded}
-use Rattle.mdv_database.specs.Boot.{EmptyBy}
-use Rattle.mdv_database.specs.Counts.{AreReadFor, MadeCallsBetween, MadeReads, head_reads, made_behind, made_of, open_slots}
+use Rattle.mdv_store_law.specs.Effort.{EmptyBy}
+use Rattle.mdv_database.specs.Counts.{AreReadFor, MadeCallsBetween, MadeReads, head_reads, made_behind}
+use Rattle.mdv_shelf.specs.Made.{made_of}
+use Rattle.mdv_store_law.specs.Effort.{open_slots}
 use Rattle.mdv_database.specs.Looks.{LookedBy}
 use Rattle.mdv_database.specs.declared.body.ReadFault.{ReadFault}
 use Rattle.mdv_database.specs.declared.body.ReadFault.TheVariants.{Failed, Memory}

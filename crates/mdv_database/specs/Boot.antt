@@ -1,13 +1,12 @@
 -- What a boot and its adoption say: of each moment, of the end, and of their answers.
-use Rattle.std.specs.Prelude.{◌≡◌, ℕ, ◌+◌, ◌≤◌, ◌<◌, ◌^◌, true, List, length}
+use Rattle.std.specs.Prelude.{◌≡◌, ℕ, ◌+◌, ◌≤◌, ◌<◌, ◌^◌, List}
 use Rattle.mdv_shelf.specs.Shelves.{AtEnd, DriveFailures}
-use Rattle.mdv_database.specs.Below.{Failures, Ghosts, Head, IsReplica, record_text, shows, Mark, Key, Geometry, PlaceAt, Slot, greatest, with_blocks, Leaves, KeptOutside, nowhere, IsSynced, Tale, last, Site, IsTableAt, Newest, GoesOn, GoesOnTo, IsOpened, ShowsNothing, IsAdopted, Rewrites, Rewritten, Table, adopted_newest}
+use Rattle.mdv_database.specs.Below.{Failures, Ghosts, Mark, Key, Geometry, PlaceAt, Slot, greatest, with_blocks, Leaves, KeptOutside, nowhere, IsSynced, Tale, last, Site, IsTableAt, Newest, GoesOn, GoesOnTo, IsOpened, ShowsNothing, IsAdopted, Rewrites, Rewritten, Table, adopted_newest}
 use Rattle.mdv_database.specs.declared.database.BootEnd.{BootEnd}
 use Rattle.mdv_database.specs.declared.database.BootEnd.TheVariants as end
 use Rattle.mdv_database.specs.declared.looking.Found.{Found}
-use Rattle.mdv_database.specs.Counts.{Made, made_of, open_slots}
-use Rattle.mdv_store_law.specs.Adoptable.{IsHeaded}
-use Rattle.mdv_database.specs.Slots.{blocks_for}
+use Rattle.mdv_shelf.specs.Made.{Made, made_of}
+use Rattle.mdv_store_law.specs.Effort.{AdoptedBy, EmptyBy, LostBy, SpentBy, WantingBy}
 use Rattle.mdv_database.specs.Database.{IsQuiet, IsFoundIn, IsBooted, IsBootedTo, IsRefusal, IsCertain, IsLaid, IfAdopted, site_of}
 
 -- by each moment nothing was told, nothing done outside the place, and the log goes on without a creation or a change
@@ -15,46 +14,11 @@ pub record BootMoment (site : Site) (t m : Tale) : Type 0 where
   pub quiet : IsQuiet site.at t m
   pub goes : GoesOn site t m
 
--- A boot that adopted a replica made eleven calls and one for each slot of it that was open, and wrote as many blocks as the claim, two gates and the table's text have.
-pub record AdoptedBy (made : Made) (site : Site) (content : ℕ → List ℕ) (newest : Newest) : Type 0 where
-  pub head : Head
-  pub replica : IsReplica site content head
-  pub shown : shows head ≡ true
-  pub calls : made.exactly (11 + open_slots head) (3 + blocks_for (length (record_text newest.table)))
-
--- One that found none made two calls, a third for the head where the drive has a block of the place, and then no more than one for each open slot
--- of a head that shows a table.
-pub record EmptyBy (made : Made) (site : Site) (content : ℕ → List ℕ) : Type 0 where
-  pub beyond : site.size ≤ site.at.first → made.exactly 2 0
-  pub headless : site.at.first < site.size → (IsHeaded site content → ⊥) → made.exactly 3 0
-  pub headed : (headed : IsHeaded site content) → made.within 3 (3 + open_slots headed.head) 0
-
--- one that is lost made a call more at least than a look at all of a replica takes, and began to write
-pub record LostBy (made : Made) (site : Site) (content : ℕ → List ℕ) : Type 0 where
-  pub head : Head
-  pub replica : IsReplica site content head
-  pub shown : shows head ≡ true
-  pub calls : made.within (4 + open_slots head) (11 + open_slots head) 4097
-  pub wrote : made.wrote
-
--- one that is spent made as many calls as that look takes
-pub record SpentBy (made : Made) (site : Site) (content : ℕ → List ℕ) : Type 0 where
-  pub head : Head
-  pub replica : IsReplica site content head
-  pub shown : shows head ≡ true
-  pub spent : 2 ^ 63 ≤ greatest head + 1
-  pub calls : made.exactly (3 + open_slots head) 0
-
--- one that wants memory made no more than that look takes, of a head that shows a table, and three at least
-pub record WantingBy (made : Made) (site : Site) (content : ℕ → List ℕ) : Type 0 where
-  pub headed : IsHeaded site content
-  pub calls : made.within 3 (3 + open_slots headed.head) 0
-
--- the calls of a boot, by its answer and what the blocks held; of one that is down no more is said than how many it made
+-- the calls of a boot, by its answer and what the blocks held; one that is down made no more than a look at all of a replica takes
 abbrev pub BootedBy : Made → Site → (ℕ → List ℕ) → BootEnd → Type 0
 BootedBy made site content (end.Adopted newest) = AdoptedBy made site content newest
 BootedBy made site content end.Empty = EmptyBy made site content
-BootedBy made site content end.Down = Unit {0}
+BootedBy made site content end.Down = made.within 1 5 0
 BootedBy made site content end.Lost = LostBy made site content
 BootedBy made site content end.Spent = SpentBy made site content
 BootedBy made site content end.Memory = WantingBy made site content

@@ -1,8 +1,9 @@
 -- How many calls on the drive a boot, a creation and a commit make, and how many blocks they write.
 use Rattle.std.specs.Prelude.{◌≡◌, ℕ, zero, suc, ◌+◌, ◌-◌, ◌≤◌, min, Option, Some, None, Result, Ok, Err}
 use Rattle.mdv_shelf.specs.Between.{RoseByAtLeast, TookBetween}
+use Rattle.mdv_shelf.specs.Made.{Made}
 use Rattle.mdv_shelf.specs.Shelves.{MadeCalls}
-use Rattle.mdv_database.specs.Below.{Gate, Closed, Open, Ghosts, Head}
+use Rattle.mdv_database.specs.Below.{Gate, Ghosts}
 use Rattle.mdv_database.specs.declared.database.BootEnd.{BootEnd}
 use Rattle.mdv_database.specs.declared.database.BootEnd.TheVariants as end
 use Rattle.mdv_database.specs.declared.database.CreateFault.{CreateFault}
@@ -14,25 +15,11 @@ use Rattle.mdv_database.specs.declared.body.ReadFault.TheVariants.{Failed, Memor
 use Rattle.mdv_database.specs.declared.looking.Found.{Found}
 use Rattle.mdv_database.specs.declared.looking.Held.{Held}
 use Rattle.mdv_database.specs.declared.looking.Held.TheVariants.{Nothing, Kept, Other}
-use Rattle.mdv_database.specs.Slots.{blocks_for}
+use Rattle.mdv_store_law.specs.Effort.{blocks_for, open_slots, reads_of}
 
 -- it took so many calls at least, and so many at most, and wrote no more than so many blocks
 abbrev pub MadeCallsBetween : {S : Type 0} → Ghosts S → S → S → ℕ → ℕ → ℕ → Type 0
 MadeCallsBetween shelf old new least most blocks = TookBetween shelf.calls shelf.written old new least most blocks
-
--- what is told of the calls of a stretch: exactly so many, with so many blocks written; so many at least and at most; and that it began to write
-pub record Made : Type 1 where
-  pub exactly : ℕ → ℕ → Type 0
-  pub within : ℕ → ℕ → ℕ → Type 0
-  pub wrote : Type 0
-
--- as the shelf counts them
-abbrev pub made_of : {S : Type 0} → Ghosts S → S → S → Made
-made_of shelf old new = record {
-  exactly = λ calls blocks. MadeCalls shelf old new calls blocks;
-  within = λ least most blocks. MadeCallsBetween shelf old new least most blocks;
-  wrote = RoseByAtLeast 1 (shelf.written old) (shelf.written new);
-}
 
 -- The same of a longer stretch, whose first calls were so many and wrote nothing.
 abbrev pub made_behind : {S : Type 0} → Ghosts S → ℕ → S → S → Made
@@ -41,15 +28,6 @@ made_behind {S} shelf before old new = record {
   within = λ least most blocks. (start : S) → MadeCalls shelf start old before 0 → MadeCallsBetween shelf start new least most blocks;
   wrote = (start : S) → MadeCalls shelf start old before 0 → RoseByAtLeast 1 (shelf.written start) (shelf.written new);
 }
-
--- one read of a slot whose gate is open, and none of another
-abbrev pub reads_of : Gate → ℕ
-reads_of Closed = 0
-reads_of (Open mark bytes) = 1
-
--- how many slots of a replica are open
-abbrev pub open_slots : Head → ℕ
-open_slots head = reads_of head.first + reads_of head.second
 
 -- exactly so many reads; where there is none the shelf is as it was
 abbrev pub MadeReads : {S : Type 0} → Ghosts S → S → S → ℕ → Type 0

@@ -4,8 +4,9 @@ use Rattle.mdv_database.specs.Below.{Failures, Geometry, Head, PlaceAt, IsHead, 
 use Rattle.mdv_database.specs.declared.body.ReadFault.{ReadFault}
 use Rattle.mdv_database.specs.declared.body.ReadFault.TheVariants.{Failed, Memory}
 use Rattle.mdv_database.specs.declared.looking.Found.{Found}
-use Rattle.mdv_database.specs.Boot.{EmptyBy, WantingBy}
-use Rattle.mdv_database.specs.Counts.{Made, open_slots}
+use Rattle.mdv_store_law.specs.Effort.{EmptyBy, WantingBy}
+use Rattle.mdv_shelf.specs.Made.{Made}
+use Rattle.mdv_store_law.specs.Effort.{open_slots}
 use Rattle.mdv_database.specs.Database.{IsInHand, IsLookedAt}
 use Rattle.mdv_database.specs.Slots.{HasReadCause}
 

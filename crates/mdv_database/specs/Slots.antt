@@ -1,15 +1,11 @@
 -- What the slots of a replica have, as a boot reads it.
-use Rattle.std.specs.Prelude.{◌≡◌, ℕ, ◌+◌, ◌/◌, ◌≤◌, max, List, length, Option, Some, None}
+use Rattle.std.specs.Prelude.{◌≡◌, ℕ, ◌≤◌, List, length, Option, Some, None}
 use Rattle.mdv_database.specs.Below.{Failures, Mark, Geometry, record_text, Gate, Closed, Open, PlaceAt, Head, Slot, First, Second, SlotFits, gate_of, other_slot, room_of, text_of, with_blocks, Table, IsTableAt, IsRecordAt}
 use Rattle.mdv_database.specs.declared.body.ReadFault.{ReadFault}
 use Rattle.mdv_database.specs.declared.body.ReadFault.TheVariants.{Failed, Memory}
 use Rattle.mdv_database.specs.declared.looking.Found.{Found}
 use Rattle.mdv_database.specs.declared.looking.Held.{Held}
 use Rattle.mdv_database.specs.declared.looking.Held.TheVariants.{Nothing, Kept, Other}
-
--- how many blocks are read and written for a text of so many bytes: one at least
-abbrev pub blocks_for : ℕ → ℕ
-blocks_for bytes = max 1 ((bytes + 511) / 512)
 
 -- a table of this place, whose text fits a slot
 pub record IsFitting (g : Geometry) (at : PlaceAt) (table : Table) : Type 0 where

@@ -15,7 +15,8 @@ ghost use Rattle.mdv_table.specs.Slices.{IsSound};
 ghost use Rattle.mdv_store_law.specs.Site.{IsRecordAt, IsTableAt};
 ghost use Rattle.mdv_database.specs.Counts.{AreReadFor};
 ghost use Rattle.mdv_database.specs.Looks.{OnlyReads, ReadAnswer};
-ghost use Rattle.mdv_database.specs.Slots.{blocks_for as spec_blocks_for, IsFitting, IsRead};
+ghost use Rattle.mdv_database.specs.Slots.{IsFitting, IsRead};
+ghost use Rattle.mdv_store_law.specs.Effort.{blocks_for as spec_blocks_for};
 ghost use Rattle.mdv_database.specs.Write.{WriteAnswer, WriteEnds, WriteMoment};
 
 use mdv_base::{BLOCK_BYTES, Block, Failed, Mark, Place, ZERO_BLOCK};

@@ -15,7 +15,7 @@ ghost use Rattle.mdv_database.specs.Commit.{CommitAnswer, CommitDone, CommitMome
 ghost use Rattle.mdv_database.specs.Counts.{IsAdoptionCounted, IsBootCounted, IsCommitCounted, IsCreationCounted};
 ghost use Rattle.mdv_database.specs.Create.{CreateAnswer, CreateEnds, CreateMoment};
 ghost use Rattle.mdv_database.specs.Database.{IsOnDrive, IsInHand, IsLaid, site_of, first_table as spec_first_table};
-ghost use Rattle.mdv_database.specs.Slots.{blocks_for};
+ghost use Rattle.mdv_store_law.specs.Effort.{blocks_for};
 ghost use Rattle.mdv_database.specs.Write.{WriteAnswer};
 
 use crate::body::{Body, ReadFault};

@@ -1,9 +1,7 @@
 -- What a read and a write of a volume's blocks come to.
 use Rattle.mdv_engine_law.specs.Line.{Ask, ToDo}
-use Rattle.std.proofs.Common.{◌≡◌, inl, inr, ◌+◌, ◌++◌, ◌&&◌, not, ℕ, Bool, true, false, List, [], ◌∷◌, Option, Some, None, Err, All, refl, sym, ap, ◌∙◌, subst, arith}
+use Rattle.std.proofs.Common.{◌≡◌, inl, inr, ◌+◌, ℕ, List, [], ◌∷◌, Option, Some, None, Err, refl, sym, ap, ◌∙◌, subst, arith}
 use Rattle.mdv_engine.specs.Below.{Failures, VolId, Refusal, IoFault, Moments, Ends, IsSettled, Settling, Tale, Read, Write, Wrote, Host, IsReady, Memory, AreBlocksAt, CameTo, kept_at, IsPlain, CarriedTo, CarryMoment, Knows}
-use Rattle.std.specs.List.{find}
-use Rattle.std.specs.Prelude.{nat_lt, is_some}
 use Rattle.mdv_engine.proofs.Judged.{blocks_judged, judged_said}
 use Rattle.mdv_shelf.proofs.Moments.{moments_end, moments_none, moments_weaker, ends_both}
 use Rattle.mdv_engine_law.specs.Commands as came

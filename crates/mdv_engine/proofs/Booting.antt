@@ -1,7 +1,7 @@
 -- What a boot of the host's database leaves, told of the host.
 use Rattle.std.proofs.Common.{◌≡◌, ℕ, false, List, Option, Some, None, refl, sym, subst, ap, ◌∙◌}
 use Rattle.mdv_database.specs.Boot.{BootedBy}
-use Rattle.mdv_database.specs.Counts.{Made}
+use Rattle.mdv_shelf.specs.Made.{Made}
 use Rattle.mdv_database.specs.declared.database.BootEnd.{BootEnd}
 use Rattle.mdv_store_law.specs.Adoptable.{IsAdoptable, IsHeaded}
 use Rattle.mdv_engine_law.specs.Line.{IsSameBeside, drive_content}

@@ -93,9 +93,9 @@ is_refused host memory newest opened table same change r is =
 pub none_open : (host : Host) (opened : Option Newest) (change : Change) → opened ≡ None → change_refusal host opened change ≡ Some NoDatabase
 none_open host opened change is = ap (λ (x : Option Newest). change_refusal host x change) is
 
--- where a database is open memory may be wanting
-pub may_want : (host : Host) (memory : Memory) (newest : Newest) → memory.opened ≡ Some newest → (change : Change) → HasChangeCause host memory change OutOfMemory
-may_want host memory newest opened change = inr (λ none. absurd (cc (opened, none)), refl)
+-- where the open table says nothing against the change memory may be wanting
+pub may_want : (host : Host) (memory : Memory) (newest : Newest) → memory.opened ≡ Some newest → (table : Table) → table ≡ newest.table → (change : Change) → refusal_of host.drives table.plan change ≡ None → HasChangeCause host memory change OutOfMemory
+may_want host memory newest opened table same change free = inr ((newest, opened, subst (λ (t : Table). refusal_of host.drives t.plan change ≡ None) same free), refl)
 
 -- a change that is refused before anything is done
 module _ (host : Host) (memory : Memory) (volume : VolId) (slice : SliceName) where

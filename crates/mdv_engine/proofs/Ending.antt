@@ -3,7 +3,7 @@ use Rattle.mdv_engine_law.specs.Line.{Ask}
 use Rattle.std.proofs.Common.{◌≡◌, ◌≤◌, ◌+◌, ℕ, zero, suc, [], ◌∷◌, Option, None, Some, Bool, Contains, refl, sym, subst, arith}
 use Rattle.mdv_shelf.proofs.Moments.{ends_both}
 use Rattle.mdv_words.specs.declared.command.Command.{Command}
-use Rattle.mdv_database.specs.Counts.{Made}
+use Rattle.mdv_shelf.specs.Made.{Made}
 use Rattle.mdv_engine_law.specs.Line.{drive_content}
 use Rattle.mdv_engine.specs.Below.{Failures, Refusal, Ends, Tale, Deed, Created, Answer, Ended, Host, Memory, kept_at, unbooted, asked_by, CameTo, IsRebooted, adopted, empty, down, lost, spent, wanting, IsPlain, BootedTo, CarriedTo, CarryEnd, Knows}
 use Rattle.mdv_engine_law.specs.Answers.{accepted, refusing}
@@ -12,7 +12,8 @@ use Rattle.mdv_engine_law.specs.declared.answer.Answer.TheVariants.{Said, Over}
 use Rattle.mdv_engine_law.specs.declared.answer.Ended.TheVariants as ended
 use Rattle.mdv_engine_law.specs.declared.answer.Outcome.{Outcome}
 use Rattle.mdv_engine.specs.declared.engine.Engine.{Engine}
-use Rattle.mdv_engine.specs.Ends.{BootCalls, CommandEnd, HasAnswered, IsBootEnd, LeavesMade}
+use Rattle.mdv_engine_law.specs.Efforts.{BootCalls}
+use Rattle.mdv_engine.specs.Ends.{CommandEnd, HasAnswered, IsBootEnd, LeavesMade}
 use Rattle.mdv_engine.specs.Engine.{IsWell}
 
 module _ (failures : Failures) (old : Engine) (command : Command) (answer : Answer) (new : Engine) (a b : Option Tale)

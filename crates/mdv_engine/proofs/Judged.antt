@@ -1,5 +1,5 @@
 -- What a refusal says that comes before anything is done: nothing of a failed call, and nothing of want of memory.
-use Rattle.std.proofs.Common.{◌≡◌, inl, inr, ◌+◌, ◌++◌, ◌&&◌, not, ℕ, Bool, true, false, List, [], ◌∷◌, Option, Some, None, All, sym, subst, ap, ◌∙◌}
+use Rattle.std.proofs.Common.{◌≡◌, inl, inr, ◌++◌, ◌&&◌, not, ℕ, Bool, true, false, List, [], Option, Some, None, All, sym, subst, ◌∙◌}
 use Rattle.std.proofs.lemmas.List.Elements.{All-append, All-cons, All-nil}
 use Rattle.std.specs.List.{find}
 use Rattle.std.specs.Prelude.{nat_lt, is_some, is_none}

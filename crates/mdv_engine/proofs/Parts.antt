@@ -6,7 +6,7 @@ use Rattle.mdv_store_law.specs.Standing.{ShowsReplica}
 use Rattle.mdv_shelf.proofs.Moments.{moments_weaker}
 use Rattle.mdv_database.specs.Database.{IsBooted, IsBootedTo, IsCertain, IsCreatedTo, IsRefusal, site_of}
 use Rattle.mdv_database.specs.Boot.{BootedBy, BootMoment, BootEnds}
-use Rattle.mdv_database.specs.Counts.{Made}
+use Rattle.mdv_shelf.specs.Made.{Made}
 use Rattle.mdv_database.specs.Commit.{CommitMoment, CommitDone}
 use Rattle.mdv_database.specs.Create.{CreateMoment, CreateEnds}
 use Rattle.mdv_database.specs.declared.database.BootEnd.{BootEnd}

@@ -1,7 +1,7 @@
 -- What the calls of an engine say of their answers, and of the drive in the end.
 use Rattle.mdv_engine_law.specs.Line.{Ask, deeds}
-use Rattle.std.specs.Prelude.{◌≡◌, ◌≢◌, ◌≤◌, ◌+◌, ℕ, Bool, true, false, List, Option, Some, None, Result, Ok, Err, IfOk, IfErr, OnOk, Contains, length}
-use Rattle.mdv_shelf.specs.Shelves.{AtEachMoment, AtEachTale, AtEnd, DriveFailures, EndsTold, GivingFailures, MadeCalls, MadeCallsAtMost, RestsOnceTold}
+use Rattle.std.specs.Prelude.{◌≡◌, ◌≢◌, ◌≤◌, ◌+◌, ℕ, Bool, List, Option, Some, None, Result, Ok, Err, IfOk, IfErr, OnOk, Contains, length}
+use Rattle.mdv_shelf.specs.Shelves.{AtEachMoment, AtEachTale, AtEnd, DriveFailures, EndsTold, GivingFailed, GivingFailures, MadeCalls, MadeCallsAtMost, RestsOnceTold}
 use Rattle.mdv_shelf.specs.declared.shelf.Shelf.{Ghosts}
 use Rattle.mdv_words.specs.declared.command.Command.{Command}
 use Rattle.mdv_words.specs.declared.command.Command.TheVariants.{Create, MakeStripe}
@@ -9,9 +9,8 @@ use Rattle.mdv_words.specs.declared.command.Line.TheVariants as words
 use Rattle.mdv_engine.specs.Below.{Failures, site_of, identity_of, SliceName, VolId, Refusal, IoFault, OutOfMemory, KeptOutside, nowhere, IsSettled, Settling, Tale, last, Change, Table, Created, Answer, Ended, Host, Kept, Memory, kept_at, unbooted, asked_by, blocks_of, AreBlocksAt, CameTo, IsRebooted, IsPlainAnswer, BootedTo, CarryEnd, Executed, Knows, TellsFront, TurnMoment, Turned}
 use Rattle.mdv_store_law.specs.Site.{Newest}
 use Rattle.mdv_store_law.specs.Standing.{ShowsReplica}
-use Rattle.mdv_database.specs.Boot.{AdoptedBy, EmptyBy, LostBy, SpentBy, WantingBy}
-use Rattle.mdv_database.specs.Counts.{Made, made_of}
-use Rattle.mdv_engine_law.specs.declared.answer.Answer.TheVariants.{Said, Over}
+use Rattle.mdv_shelf.specs.Made.{Made, and_more, made_of}
+use Rattle.mdv_engine_law.specs.declared.answer.Answer.TheVariants.{Over}
 use Rattle.mdv_engine_law.specs.declared.answer.Ended.TheVariants as ended
 use Rattle.mdv_engine_law.specs.Line.{drive_content}
 use Rattle.mdv_engine_law.specs.Answers.{accepted}
@@ -23,8 +22,9 @@ use Rattle.mdv_engine_law.specs.declared.answer.Reply.TheVariants as reply
 use Rattle.mdv_engine_law.specs.Replies.{HasAnswerCause, HasCommandCause, IsAccepted, IsLost, IsReplied, IsReplyTo}
 use Rattle.mdv_engine_law.specs.Standing.{IsAwake}
 use Rattle.mdv_engine.specs.declared.engine.Engine.{Engine}
-use Rattle.mdv_engine.specs.Counts as counts
-use Rattle.mdv_engine.specs.Counts.{IsDoneCounted, IsFaultCounted, IsLossCounted, IsQuietRefusal, IsUnlooked, calls_of, wanting_calls}
+use Rattle.mdv_engine_law.specs.Efforts.{BootCalls, DoneCalls, FaultCalls, LossCalls, calls_of, wanting_calls}
+use Rattle.mdv_engine_law.specs.Efforts as efforts
+use Rattle.mdv_engine.specs.Counts.{IsQuietRefusal, IsUnlooked}
 use Rattle.mdv_engine.specs.Engine.{HasBootCause, IsNextTable, IsWell, case_at}
 
 -- what a command leaves that the run is over with, for a place was lost: each crash then leaves the new replica of a creation
@@ -79,14 +79,17 @@ CarriesOut host command failures kept answer next = CameTo failures host kept co
 abbrev pub OnlyAnswers : Answer → Failures → Kept → Answer → Kept → Type 0
 OnlyAnswers this failures kept answer next = failures.none × (answer ≡ this) × (next ≡ kept)
 
--- The end of a command and its reply: what it came to, what it led to, what is known where the run isn't lost; a refusal behind which
+-- The end of a command and its reply: what it came to and with how many calls, what it led to, what is known where the run isn't lost; a refusal behind which
 -- nothing was written; and what a command left that lost a place.
-pub record TurnEnd (drive : Failures) (replies : Type 0) (old : Engine) (command : Command) (given : Reply) (new : Engine) (t u : Tale) : Type 0 where
-  pub answered : Knows old.host old.state t → Executed drive replies old.host (words.Command command) old.state new.state given t u
+pub record TurnEnd (drive : Failures) (replies : Type 0) (made : Made) (old : Engine) (command : Command) (given : Reply) (new : Engine) (t u : Tale) : Type 0 where
+  pub answered : Knows old.host old.state t → Executed drive replies made old.host (words.Command command) old.state new.state given t u
   pub turned : IsReplied given → Turned old.host (asked_by command) old.state new.state t u
   pub knows : (IsLost given → ⊥) → Knows old.host old.state t → Knows old.host new.state u
   pub quiet : IsQuietRefusal given → KeptOutside nowhere t u
   pub lost : (active listed : ℕ) → given ≡ reply.Panic active listed → LeavesMade old.host old.state command u
+
+abbrev pub TurnEnds : {S : Type 0} → Ghosts S → S → S → Engine → Command → Reply → Engine → Type 0
+TurnEnds shelf from to old command given new = AtEnd shelf (TurnEnd (DriveFailures shelf from to 0) (GivingFailed shelf from to) (made_of shelf from to) old command given new) from to
 
 -- a reply to a command has its cause, and what the engine keeps
 pub record HasReplied (drive : Failures) (replies : Type 0) (old : Engine) (given : Reply) (new : Engine) : Type 0 where
@@ -106,20 +109,20 @@ pub record HasOnlyReplied (drive : Failures) (replies : Type 0) (said : Outcome)
 -- makes no call on the drive, unless memory was wanting behind it; where a call failed it made no more than it makes then. A count that is
 -- spent takes no call. Where the reply was told whole, none failed behind its first byte; and unless it was cut short no giving failed.
 pub record IsTurnCounted {S : Type 0} (shelf : Ghosts S) (old new : S) (command : Command) (r : Reply) (opened : Option Newest) : Type 0 where
-  pub most : MadeCallsAtMost shelf old new (1 + calls_of command) (counts.blocks_of command)
-  pub done : r ≡ reply.Ok → IsDoneCounted shelf.calls shelf.written old new 1 command opened
+  pub most : MadeCallsAtMost shelf old new (1 + calls_of command) (efforts.blocks_of command)
+  pub done : r ≡ reply.Ok → DoneCalls (and_more 1 (made_of shelf old new)) command opened
   pub unlooked : IsUnlooked r → MadeCallsAtMost shelf old new 1 0
   pub unwritten : IsQuietRefusal r → MadeCallsAtMost shelf old new (1 + calls_of command) 0
   pub wanting : r ≡ reply.Refused OutOfMemory → MadeCallsAtMost shelf old new (1 + wanting_calls command) 0
-  pub faulted : r ≡ reply.Refused IoFault → IsFaultCounted shelf.calls shelf.written old new 1 command
-  pub lost : (active listed : ℕ) → r ≡ reply.Panic active listed → IsLossCounted shelf.calls shelf.written old new command
+  pub faulted : r ≡ reply.Refused IoFault → FaultCalls (and_more 1 (made_of shelf old new)) command
+  pub lost : (active listed : ℕ) → r ≡ reply.Panic active listed → LossCalls (made_of shelf old new) command
   pub spent : r ≡ reply.Spent → MadeCallsAtMost shelf old new 0 0
   pub told : IsReplied r → EndsTold shelf old new
   pub given : r ≢ reply.Told → (GivingFailures shelf old new).none
 
 -- The call of a reply alone, where the same holds.
 pub record IsReplyCounted {S : Type 0} (shelf : Ghosts S) (old new : S) (r : Reply) : Type 0 where
-  pub most : MadeCallsAtMost shelf old new 1 0
+  pub once : MadeCalls shelf old new 1 0
   pub told : IsReplied r → EndsTold shelf old new
   pub given : IsReplied r → (GivingFailures shelf old new).none
 
@@ -131,19 +134,6 @@ kept_by begun (Err end) = unbooted begun
 abbrev pub left_by : Result Engine Ended → Memory
 left_by (Ok engine) = engine.state
 left_by (Err end) = unbooted 0
-
--- the calls of a boot that opened this, or none, and read the drive or not
-abbrev pub OpenedBy : Made → Host → (ℕ → List ℕ) → Option Newest → Bool → Type 0
-OpenedBy made host content (Some newest) unread = AdoptedBy made (site_of host) content newest
-OpenedBy made host content None false = EmptyBy made (site_of host) content
-OpenedBy made host content None true = Unit {0}
-
--- and of a boot by its answer
-abbrev pub BootCalls : Made → Host → Answer → Memory → (ℕ → List ℕ) → Type 0
-BootCalls made host (Said this) memory content = OpenedBy made host content memory.opened memory.down
-BootCalls made host (Over (ended.Lost active listed)) memory content = LostBy made (site_of host) content
-BootCalls made host (Over ended.Spent) memory content = SpentBy made (site_of host) content
-BootCalls made host (Over ended.Memory) memory content = WantingBy made (site_of host) content
 
 -- the end of a boot: what it came to; where it was answered, what is known; and how many calls it made, by what the drive held
 pub record IsBootEnd (failures : Failures) (made : Made) (host : Host) (old : Memory) (answer : Answer) (new : Memory) (t u : Tale) : Type 0 where
@@ -199,8 +189,9 @@ AreWritten shelf old new engine volume at blocks (Ok done) = ArePut shelf old ne
 AreWritten shelf old new engine volume at blocks (Err IoFault) = ArePutting shelf old new engine volume at blocks
 AreWritten shelf old new engine volume at blocks (Err other) = Unit {0}
 
--- the calls of a read or a write of blocks: just so many where it was done, and none where it was refused for another cause than a failed call
+-- the calls of a read or a write of blocks: just so many where it was done, one at least and no more where a call failed, and none where it was refused for
+-- another cause
 pub record AreBlocksCounted {S : Type 0} (shelf : Ghosts S) (old new : S) (calls written : ℕ) (engine : Engine) (volume : VolId) (at count : ℕ) (result : Result (Unit {0}) Refusal) : Type 0 where
   pub done : OnOk result (MadeCalls shelf old new calls written)
-  pub most : MadeCallsAtMost shelf old new calls written
+  pub failed : result ≡ Err IoFault → (made_of shelf old new).within 1 calls written
   pub refused : IfErr result (λ refusal. blocks_refusal engine.state.opened volume (at + count) ≡ Some refusal → new ≡ old)

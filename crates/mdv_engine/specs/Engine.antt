@@ -1,12 +1,12 @@
 -- What an engine keeps, what its boots answer, and why blocks and changes are refused.
-use Rattle.std.specs.Prelude.{◌≡◌, ◌≢◌, ◌⊎◌, ◌+◌, ◌≤◌, ℕ, Bool, true, false, Option, Some, None, IfSome, Result, Ok, Err}
+use Rattle.std.specs.Prelude.{◌≡◌, ◌⊎◌, ◌+◌, ◌≤◌, ℕ, Bool, true, false, Option, Some, None, IfSome, Result, Ok, Err}
 use Rattle.mdv_engine.specs.Below.{Failures, VolId, Refusal, IoFault, OutOfMemory, with_blocks, Change, Table, Newest, IsTableAt, Answer, Host, site_of, Memory, IsSound, AreBlocksAt}
 use Rattle.mdv_table.specs.Change.{table_after}
 use Rattle.mdv_table.specs.Change as table
 use Rattle.mdv_table.specs.declared.change.ApplyFault.{ApplyFault}
 use Rattle.mdv_table.specs.declared.change.ApplyFault.TheVariants.{Refused, Memory as ApplyMemory}
 use Rattle.mdv_engine_law.specs.Answers.{accepted}
-use Rattle.mdv_engine_law.specs.Refusals.{Case, blocks_refusal, change_refusal}
+use Rattle.mdv_engine_law.specs.Refusals.{Case, IsUnopposed, blocks_refusal, change_refusal}
 use Rattle.mdv_engine_law.specs.Replies.{HasEndCause}
 use Rattle.mdv_engine_law.specs.declared.answer.Answer.TheVariants.{Over}
 use Rattle.mdv_engine_law.specs.declared.answer.Ended.{Ended}
@@ -67,11 +67,11 @@ pub record IsNextTable (host : Host) (memory : Memory) (change : Change) (next :
   pub is : next ≡ table_after host.drives change newest.table
   pub placed : IsTableOf host newest.blocks next
 
--- why there is none: the first cause that refuses the change; or, where a database is open, memory was wanting
+-- why there is none: the first cause that refuses the change; or memory was wanting, where the open table says nothing against it
 abbrev pub HasChangeCause : Host → Memory → Change → Refusal → Type 0
-HasChangeCause host memory change refusal = (change_refusal host memory.opened change ≡ Some refusal) ⊎ ((memory.opened ≢ None) × (refusal ≡ OutOfMemory))
+HasChangeCause host memory change refusal = (change_refusal host memory.opened change ≡ Some refusal) ⊎ (IsUnopposed host memory change × (refusal ≡ OutOfMemory))
 
--- what refuses the change, or want of memory, before or behind the judging
+-- what refuses the change, or want of memory, where nothing does
 abbrev pub HasApplyFault : Option Refusal → ApplyFault → Type 0
 HasApplyFault refusal (Refused r) = refusal ≡ Some r
-HasApplyFault refusal ApplyMemory = Unit {0}
+HasApplyFault refusal ApplyMemory = refusal ≡ None

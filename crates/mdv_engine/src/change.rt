@@ -103,7 +103,7 @@ impl Engine {
     }
 }
 
-// The table after the change.
+// The table after the change. It is judged before it is copied, so that a refusal needs no memory.
 fn changed(
     alloc: Global,
     drives: &Geometry,
@@ -117,6 +117,9 @@ fn changed(
     ensures allowed { OnOk result (refusal_of drives.now table.now.plan change.now ≡ None) }
     ensures fault { IfErr result (HasApplyFault (refusal_of drives.now table.now.plan change.now)) }
 {
+    if let Some(refusal) = table.refusal(drives, change) {
+        return Err(ApplyFault::Refused(refusal));
+    }
     let mut next = table.copy(alloc)?;
     next.apply(alloc, drives, change)?;
     Ok(next)

@@ -7,7 +7,7 @@ ghost use Rattle.mdv_engine_law.specs.Line.{IsExecuted, asked_by, unbooted, Ask,
 ghost use Rattle.mdv_engine_law.specs.Replies.{IsPlain};
 ghost use Rattle.mdv_engine_law.specs.Standing.{BootMoment, CarryMoment, OnlyReplied};
 ghost use Rattle.mdv_engine.specs.Counts.{IsBootedCounted, IsCommandCounted};
-ghost use Rattle.mdv_engine.specs.Ends.{BootEndsAs, CarriesOut, CommandEnd, HasAnswered, HasBooted, HasBootedFrom, HasOnlyReplied, HasRebooted, HasReplied, IsReplyCounted, IsTurnCounted, LineMoments, OnlyAnswers, TurnEnd, kept_by, left_by};
+ghost use Rattle.mdv_engine.specs.Ends.{BootEndsAs, CarriesOut, CommandEnd, HasAnswered, HasBooted, HasBootedFrom, HasOnlyReplied, HasRebooted, HasReplied, IsReplyCounted, IsTurnCounted, LineMoments, OnlyAnswers, TurnEnds, kept_by, left_by};
 ghost use Rattle.mdv_engine.specs.Engine.{IsWell, boot_answer};
 
 use crate::state::State;
@@ -70,7 +70,7 @@ impl Engine {
         requires begun { self.old.state.begun + 1 < 2 ^ 32 }
         requires executed { IsExecuted command.now }
         ensures moments { LineMoments B.Shelf self.old.host (asked_by command.now) self.old.state (CarriesOut self.old.host command.now) bench.old bench.new }
-        ensures end { AtEnd B.Shelf (TurnEnd (DriveFailures B.Shelf bench.old bench.new 0) (GivingFailed B.Shelf bench.old bench.new) self.old command.now result self.new) bench.old bench.new }
+        ensures end { TurnEnds B.Shelf bench.old bench.new self.old command.now result self.new }
         ensures answer { HasReplied (DriveFailures B.Shelf bench.old bench.new 0) (GivingFailed B.Shelf bench.old bench.new) self.old result self.new }
         ensures counted { IsTurnCounted B.Shelf bench.old bench.new command.now result self.new.state.opened }
         ensures kept { KeptInTime B.Shelf bench.old bench.new }

@@ -1,5 +1,5 @@
 -- What a boot leaves of a host's history, and what is known then.
-use Rattle.std.proofs.Common.{◌≡◌, ℕ, true, false, List, [], Option, Some, None, IfSome, sym, subst}
+use Rattle.std.proofs.Common.{◌≡◌, ℕ, true, false, List, [], Option, Some, None, IfSome, refl, sym, subst}
 use Rattle.mdv_engine_law.specs.Below.{KeptOutside, nowhere, IsSynced, Tale, told, Log, NoCreation, is_firm, Newest, area_of, ShowsNothing, IsOpened, IsNewestIn, Anything, GoesOn, GoesOnTo, History, Event, HasWoken}
 use Rattle.mdv_history.proofs.Histories.{woken_second}
 use Rattle.mdv_engine_law.specs.declared.host.Host.{Host}
@@ -9,7 +9,6 @@ use Rattle.mdv_engine_law.specs.Standing.{StandsAt, Goes, Reached, Knows, IsKnow
 use Rattle.mdv_engine_law.proofs.Going.{goes_none, goes_more, no_creation}
 use Rattle.mdv_engine_law.proofs.Knowing.{stands_kept}
 use Rattle.mdv_engine_law.proofs.Lifting.{lift_log, goes_woken}
-use Rattle.mdv_engine_law.proofs.Staying.{stays_in_replica, stays_still}
 
 -- what a boot leaves in memory that has read the drive, and one that hasn't
 abbrev pub booted : Option Newest → ℕ → Memory
@@ -33,7 +32,7 @@ module _ (host : Host) (t : Tale) where
     booted_by : (opened : Option Newest) (After : Log → Type 0) → Knows host (booted opened begun) u → ((lg : Log) → After lg → IfSome opened (λ newest. IsNewestIn newest lg))
         → GoesOnTo (site_of host) After t u → BootedTo host (booted opened begun) t u
     booted_by opened After knows newest goes = record {
-      home = stays_in_replica host t u kept;
+      kept = kept;
       quiet = quiet;
       knows = knows;
       goes = λ h stands.
@@ -57,7 +56,7 @@ module _ (host : Host) (t : Tale) where
   booted_down u begun kept quiet =
       let knows : Knows host (unread begun) u = record { nothing = λ none up. absurd (cc (up)); opened = tt } in
       record {
-        home = stays_still host t u kept;
+        kept = λ drive block out. kept drive block refl;
         quiet = quiet;
         knows = knows;
         goes = λ h stands.

@@ -34,7 +34,7 @@ module _ (host : Host) (memory : Memory) (newest : Newest) (opened : memory.open
       (record { is_log = known.stands.stands.database.is_log; is_newest = opened_has memory newest (λ n. IsNewestIn n h.database) opened known.newest })
 
   pub changing_moment : told m ≡ told t → Commits host newest change Anything t m → CarryMoment host (ToDo (Changed change)) memory t m
-  changing_moment quiet goes = record { home = stays_in_replica host t m kept; quiet = quiet; goes = λ h known. changing Anything Reached goes h known (λ es g there is. tt) }
+  changing_moment quiet goes = record { home = stays_in_replica host t m kept; within = kept; quiet = quiet; goes = λ h known. changing Anything Reached goes h known (λ es g there is. tt) }
 
   -- it was committed, and its `ok` may be told
   pub changed : (table : Table) (next : Memory) → next.opened ≡ Some (next_newest newest table) → (IsOpened (site_of host) newest t → IsOpened (site_of host) (next_newest newest table) m)

@@ -1,5 +1,5 @@
 -- What a command came to, told of the longer stretch that its reply ends.
-use Rattle.std.proofs.Common.{◌≡◌, inl, inr, ℕ, ◌+◌, ◌-◌, ◌^◌, ◌≤◌, min, List, ◌++◌, sym, refl, ◌∙◌, ap, subst, arith, rules}
+use Rattle.std.proofs.Common.{◌≡◌, inl, inr, ℕ, List, ◌++◌, sym, refl, ◌∙◌, ap, subst, rules}
 use Rattle.mdv_base.proofs.Causes.{IsWithin}
 use Rattle.mdv_base.specs.declared.refusal.Refusal.TheVariants as refusal
 use Rattle.mdv_engine_law.specs.Below.{Failures, Refusal, KeptOutside, nowhere, Tale, told, Command, Create, Read, Write, Line}
@@ -18,6 +18,8 @@ use Rattle.mdv_engine_law.specs.Commands as came
 use Rattle.mdv_engine_law.specs.Commands.{CameTo, ComesTo, GivesUp}
 use Rattle.mdv_engine_law.specs.Line.{Memory, Kept, kept_at, drive_content, IsRebooted, adopted, empty, down, lost, spent, wanting}
 use Rattle.mdv_engine_law.specs.Replies.{IsTold, HasAnswerCause, HasCommandCause, IsReplyTo, reply_at, reply_to}
+use Rattle.mdv_engine_law.specs.Efforts.{LineCalls, replied_to}
+use Rattle.mdv_shelf.specs.Made.{Made}
 use Rattle.mdv_engine_law.specs.Standing.{OnlyReplied, Executed}
 
 -- a read of the drive gives what it gave
@@ -91,12 +93,14 @@ reply_cause failed piece this r (inl whole) = inl whole.0
 reply_cause failed piece this r (inr cut) = inr (cut.given_is, cut.cause)
 
 -- a line that was carried out, and then replied to
-pub executed : (drive failed : Failures) (replies more : Type 0) (host : Host) (line : Line) (old new : Memory) (answer : Answer) (r : Reply) (t u v : Tale) → IsWithin drive failed → (replies → more) → told u ≡ told t
-    → ComesTo drive host (kept_at old t) line answer (kept_at new u) → OnlyReplied replies answer r u v → Executed failed more host line old new r t v
-executed drive failed replies more host line old new answer r t u v one other quiet carried given = record {
+pub executed : (drive failed : Failures) (replies more : Type 0) (made : Made) (host : Host) (line : Line) (old new : Memory) (answer : Answer) (r : Reply) (t u v : Tale) → IsWithin drive failed → (replies → more) → told u ≡ told t
+    → ComesTo drive host (kept_at old t) line answer (kept_at new u) → OnlyReplied replies answer r u v → LineCalls (replied_to answer made) host (kept_at old t) line answer (kept_at new v)
+    → Executed failed more made host line old new r t v
+executed drive failed replies more made host line old new answer r t u v one other quiet carried given calls = record {
   answer = answer;
   carried = subst (λ (content : ℕ → List ℕ). ComesTo failed host (kept_at old t) line answer (record { memory = new; content = content })) (content_kept u v given.kept)
       (comes_more drive failed one host (kept_at old t) (kept_at new u) answer line carried);
+  calls = calls;
   replied = record {
     piece = given.replied.piece;
     is_told = given.replied.is_told ∙ ap (λ (l : List ℕ). l ++ given.replied.piece) quiet;

@@ -1,4 +1,6 @@
 pub mod Giving
+pub mod Efforts
+pub mod Writing
 pub mod Executing
 pub mod Plain
 pub mod Knowing

@@ -28,7 +28,7 @@ module _ (host : Host) (memory : Memory) (room : 8208 ≤ host.home.blocks) (non
       lift_log host (Created ∷ []) Then Anything (IsThis (identity_of host memory.begun)) (None ∷ []) After t m kept mine (part_itself (Created ∷ [])) then (goes (known.knows.nothing none up)) h known.stands tt
 
   pub making_moment : told m ≡ told t → Makes host memory Anything t m → CarryMoment host (ToDo Created) memory t m
-  making_moment quiet goes = record { home = stays_in_replica host t m kept; quiet = quiet; goes = λ h known. making Anything Reached goes h known (λ es g there is. tt) }
+  making_moment quiet goes = record { home = stays_in_replica host t m kept; within = kept; quiet = quiet; goes = λ h known. making Anything Reached goes h known (λ es g there is. tt) }
 
   -- it was made, and its `ok` may be told
   pub made : (table : Table) (next : Memory) → next.opened ≡ Some (created_newest (site_of host) table) → (ShowsNothing (site_of host) t → IsOpened (site_of host) (created_newest (site_of host) table) m)

@@ -1,8 +1,10 @@
 -- The texts of replies: which refusals are plain, and that of each text one line answers.
-use Rattle.std.proofs.Common.{◌≡◌, ◌⊎◌, ⊎_elim, inl, inr, ℕ, zero, suc, ◌≤◌, ◌<◌, Bool, true, false, ◌&&◌, ◌==◌, not, List, [], ◌∷◌, ◌++◌, ◌+◌, length, take, Option, Some, None, All, refl, sym, ◌∙◌, ap, subst, append_assoc, length-append, arith}
-use Rattle.std.proofs.lemmas.List.{append-nil, append_cancel_right, take_all, take-append-le}
+use Rattle.std.proofs.Common.{◌≡◌, ◌⊎◌, ⊎_elim, inl, inr, ℕ, zero, suc, ◌≤◌, ◌<◌, Bool, true, false, ◌&&◌, ◌||◌, ◌==◌, if◌then◌else◌, not, List, [], ◌∷◌, ◌++◌, ◌+◌, length, take, Option, Some, None, All, refl, sym, ◌∙◌, ap, subst, append_assoc, length-append, arith}
+use Rattle.std.proofs.Math.Bool.{or-true}
+use Rattle.std.proofs.lemmas.List.{append-nil, append_cancel_right, length-take, take_all, take-append-le, take_min}
 use Rattle.std.proofs.lemmas.List.Elements.{All-append, All-nil, All-cons}
 use Rattle.std.proofs.lemmas.List.Folds.{list_all-append}
+use Rattle.std.proofs.lemmas.Slice.Eq.{bytes_eq-Decides}
 use Rattle.std.specs.List.{find}
 use Rattle.std.specs.Option.{is_none}
 use Rattle.std.specs.Prelude.{is_some, nat_lt}
@@ -27,7 +29,7 @@ use Rattle.mdv_table.specs.Change as table
 use Rattle.mdv_table.specs.Change.{is_db}
 use Rattle.mdv_table.specs.Plan.{is_in_use, used_slices}
 use Rattle.mdv_table.specs.Volumes.{has_volume}
-use Rattle.mdv_engine_law.specs.Replies.{Acks, AcksAnswer, AcksBy, AcksFront, AcksIn, IsRefusalFront, IsPlain, IsPlainAnswer, AreValues, IsReply, IsFront, IsAccepted, issuable, issuable_in, issuable_of, issued_by, text_of, refusal_line, ok_line}
+use Rattle.mdv_engine_law.specs.Replies.{Acks, AcksAnswer, AcksBy, AcksFront, AcksIn, IsRefusalFront, IsPlain, IsPlainAnswer, AreValues, IsReply, IsFront, IsAccepted, is_front_of, issuable, issuable_front, issuable_in, issuable_of, issued_by, text_of, refusal_line, ok_line}
 use Rattle.mdv_store_law.specs.Part.{IsPart}
 use Rattle.mdv_store_law.proofs.Parts.{part_itself}
 
@@ -166,6 +168,10 @@ front_ways text answers count = ⊎_elim
     (λ (long : length text ≤ count). (let whole = take_all count text long in inr (whole, ap said_in whole ∙ alone text answers)))
     (le_or_gt count (length text))
 
+-- what is taken of a text is a front of it
+taken_front : (text : List ℕ) (count : ℕ) → is_front_of text (take count text) ≡ true
+taken_front text count = (bytes_eq-Decides (take count text) (take (length (take count text)) text)).1 (sym (ap (λ (size : ℕ). take size text) (length-take count text) ∙ take_min count text))
+
 take_none : (count : ℕ) → take {A = ℕ} count [] ≡ []
 take_none zero = refl
 take_none (suc count) = refl
@@ -235,8 +241,8 @@ module _ (ask : Ask) where
   acks_one : (bytes reply : List ℕ) (done : List Deed) → said_in bytes ≡ one_reply reply → AcksBy ask reply done → Acks ask bytes done
   acks_one bytes reply done one acks = subst (λ (s : SaidBytes). AcksIn ask s.replies s.left done) (sym one) acks
 
-  issuable_unsaid : (bytes : List ℕ) → said_in bytes ≡ unsaid bytes → issuable_of ask bytes ≡ deeds ask
-  issuable_unsaid bytes none = ap (λ (s : SaidBytes). issuable_in ask s.replies) none
+  issuable_unsaid : (bytes : List ℕ) → said_in bytes ≡ unsaid bytes → issuable_of ask bytes ≡ issuable_front ask bytes
+  issuable_unsaid bytes none = ap (λ (s : SaidBytes). issuable_in ask s.replies s.left) none
 
   pub nothing_issuable : issuable_of ask [] ≡ deeds ask
   nothing_issuable = issuable_unsaid [] nothing_said
@@ -265,6 +271,29 @@ module _ (ask : Ask) where
   let_refusal IoFault = part_itself (deeds ask)
   let_refusal other = tt
 
+  -- a front of `ok`, or of the reply that a call failed, lets the line begin all that it asks, and so it is before the first byte
+  ok_lets : (count : ℕ) → issuable_front ask (take count ok_line) ≡ deeds ask
+  ok_lets count = ap (λ (ok : Bool). if ok || is_front_of (refusal_line IoFault) (take count ok_line) then deeds ask else []) (taken_front ok_line count)
+
+  fault_lets : (count : ℕ) → issuable_front ask (take count (refusal_line IoFault)) ≡ deeds ask
+  fault_lets count =
+      let ok = is_front_of ok_line (take count (refusal_line IoFault)) in
+      ap (λ (fault : Bool). if ok || fault then deeds ask else []) (taken_front (refusal_line IoFault) count) ∙ ap (λ (one : Bool). if one then deeds ask else []) (or-true ok)
+
+  none_lets : (count : ℕ) → issuable_front ask (take count []) ≡ deeds ask
+  none_lets count = ap (issuable_front ask) (take_none count)
+
+  all_lets : (answer : Answer) (bytes : List ℕ) → issuable_front ask bytes ≡ deeds ask → IsPart (issued_by ask answer) (issuable_front ask bytes)
+  all_lets answer bytes all = subst (λ (may : List Deed). IsPart (issued_by ask answer) may) (sym all) (issued_asked answer)
+
+  -- so no front of an answer's text lets it begin less than the answer does
+  let_front : (answer : Answer) (count : ℕ) → IsPart (issued_by ask answer) (issuable_front ask (take count (text_of answer)))
+  let_front (Said outcome.Ok) count = all_lets (Said outcome.Ok) (take count ok_line) (ok_lets count)
+  let_front (Said (outcome.Values text)) count = tt
+  let_front (Said (outcome.Refused IoFault)) count = all_lets (Said (outcome.Refused IoFault)) (take count (refusal_line IoFault)) (fault_lets count)
+  let_front (Said (outcome.Refused other)) count = tt
+  let_front (Over end) count = all_lets (Over end) (take count []) (none_lets count)
+
   -- what an answer that acknowledges these deeds tells: them, where it accepts what is asked, or nothing
   abbrev pub TellsAll : Answer → List Deed → List Deed → Type 0
   TellsAll answer done told = (told ≡ []) ⊎ (IsAccepted answer × (told ≡ done))
@@ -291,11 +320,11 @@ module _ (ask : Ask) where
     pub lets : IsPart (issued_by ask answer) (issuable_of ask bytes)
     pub all : TellsAll answer done told
 
-  unsaid_way : (answer : Answer) (done : List Deed) (bytes : List ℕ) (told : List Deed) → said_in bytes ≡ unsaid bytes → AcksFront ask bytes told → TellsAll answer done told → Way answer done bytes
-  unsaid_way answer done bytes told none acks all = record {
+  unsaid_way : (answer : Answer) (done : List Deed) (bytes : List ℕ) (told : List Deed) → said_in bytes ≡ unsaid bytes → AcksFront ask bytes told → IsPart (issued_by ask answer) (issuable_front ask bytes) → TellsAll answer done told → Way answer done bytes
+  unsaid_way answer done bytes told none acks lets all = record {
     told = told;
     acks = acks_unsaid bytes told none acks;
-    lets = subst (λ (may : List Deed). IsPart (issued_by ask answer) may) (sym (issuable_unsaid bytes none)) (issued_asked answer);
+    lets = subst (λ (may : List Deed). IsPart (issued_by ask answer) may) (sym (issuable_unsaid bytes none)) lets;
     all = all;
   }
 
@@ -313,27 +342,27 @@ module _ (ask : Ask) where
   whole_way answer done bytes reply told one way = record {
     told = told;
     acks = acks_one bytes reply told one way.acks;
-    lets = subst (λ (may : List Deed). IsPart (issued_by ask answer) may) (sym (ap (λ (s : SaidBytes). issuable_in ask s.replies) one)) way.lets;
+    lets = subst (λ (may : List Deed). IsPart (issued_by ask answer) may) (sym (ap (λ (s : SaidBytes). issuable_in ask s.replies s.left) one)) way.lets;
     all = way.all;
   }
 
-  accepted_way : (answer : Answer) → IsAccepted answer → (done : List Deed) (text : List ℕ) → Answers text → ReplyWay answer done text done → (count : ℕ) → Way answer done (take count text)
-  accepted_way answer on done text answers way count = ⊎_elim
-      (λ (none : said_in (take count text) ≡ unsaid (take count text)). (let front = accepted_front answer on done text way.acks (take count text) count refl in unsaid_way answer done (take count text) front.0 none front.1 front.2))
+  accepted_way : (answer : Answer) → IsAccepted answer → (done : List Deed) (text : List ℕ) → Answers text → ReplyWay answer done text done → (count : ℕ) → IsPart (issued_by ask answer) (issuable_front ask (take count text)) → Way answer done (take count text)
+  accepted_way answer on done text answers way count lets = ⊎_elim
+      (λ (none : said_in (take count text) ≡ unsaid (take count text)). (let front = accepted_front answer on done text way.acks (take count text) count refl in unsaid_way answer done (take count text) front.0 none front.1 lets front.2))
       (λ (one : (take count text ≡ text) × (said_in (take count text) ≡ one_reply text)). whole_way answer done (take count text) text done one.1 way)
       (front_ways text answers count)
 
   refused_way : (r : Refusal) (done : List Deed) → IsPlain r → (count : ℕ) → Way (Said (outcome.Refused r)) done (take count (refusal_line r))
   refused_way r done plain count = ⊎_elim
-      (λ (none : said_in (take count (refusal_line r)) ≡ unsaid (take count (refusal_line r))). unsaid_way (Said (outcome.Refused r)) done (take count (refusal_line r)) [] none (refusal_front (take count (refusal_line r)) (r, count, refl)) (inl refl))
+      (λ (none : said_in (take count (refusal_line r)) ≡ unsaid (take count (refusal_line r))). unsaid_way (Said (outcome.Refused r)) done (take count (refusal_line r)) [] none (refusal_front (take count (refusal_line r)) (r, count, refl)) (let_front (Said (outcome.Refused r)) count) (inl refl))
       (λ (one : (take count (refusal_line r) ≡ refusal_line r) × (said_in (take count (refusal_line r)) ≡ one_reply (refusal_line r))). whole_way (Said (outcome.Refused r)) done (take count (refusal_line r)) (refusal_line r) [] one.1 (refusal_way r done))
       (front_ways (refusal_line r) (refusal_answers r plain) count)
 
   untold_way : (answer : Answer) (done : List Deed) (count : ℕ) → Way answer done (take count [])
-  untold_way answer done count = unsaid_way answer done (take count []) [] (none_ways count) (no_front (take count []) (take_none count)) (inl refl)
+  untold_way answer done count = unsaid_way answer done (take count []) [] (none_ways count) (no_front (take count []) (take_none count)) (all_lets answer (take count []) (none_lets count)) (inl refl)
 
   pub ways : (answer : Answer) → IsPlainAnswer answer → (done : List Deed) → AcksAnswer ask answer done → (count : ℕ) → Way answer done (take count (text_of answer))
-  ways (Said outcome.Ok) plain done acks count = accepted_way (Said outcome.Ok) tt done ok_line ok_answers (ok_way done acks) count
-  ways (Said (outcome.Values text)) plain done acks count = accepted_way (Said (outcome.Values text)) tt done text (values_answer text plain) (values_way text done acks) count
+  ways (Said outcome.Ok) plain done acks count = accepted_way (Said outcome.Ok) tt done ok_line ok_answers (ok_way done acks) count (let_front (Said outcome.Ok) count)
+  ways (Said (outcome.Values text)) plain done acks count = accepted_way (Said (outcome.Values text)) tt done text (values_answer text plain) (values_way text done acks) count (let_front (Said (outcome.Values text)) count)
   ways (Said (outcome.Refused r)) plain done acks count = refused_way r done plain count
   ways (Over end) plain done acks count = untold_way (Over end) done count

@@ -145,7 +145,7 @@ module _ (host : Host) (sizes : List ℕ) (ready : IsReady host sizes) (memory :
       }
 
   pub writing_moment : StaysHome host t m → CarryMoment host (ToDo wrote) memory t m
-  writing_moment home = record { home = home; quiet = settling.quiet; goes = issued_by Reached (λ h has known. tt) }
+  writing_moment home = record { home = home; within = inr (block, there, settling.outside); quiet = settling.quiet; goes = issued_by Reached (λ h has known. tt) }
 
   -- they are on the disk, and the `ok` may be told
   pub wrote_blocks : IsSettled 0 block blocks m → CarriedTo host (ToDo wrote) memory (Said outcome.Ok) memory t m

@@ -21,6 +21,7 @@ use Rattle.mdv_engine_law.proofs.Going.{goes_none, goes_more, goes_weaker}
 use Rattle.mdv_engine_law.proofs.Knowing.{knows_kept, known_kept}
 use Rattle.mdv_engine_law.proofs.Deeds.{told_all}
 use Rattle.mdv_engine_law.proofs.Staying.{stays_more, stays_same, stays_still}
+use Rattle.mdv_engine_law.proofs.Writing.{writes_none, writes_still}
 use Rattle.mdv_engine_law.proofs.Longer.{ended_lost, never_ended}
 use Rattle.mdv_engine_law.proofs.Plain.{front_of, nothing_said, nothing_acked, nothing_issuable, TellsAll, ReplyWay, ok_way, values_way, refusal_way, ways, ok_reply, values_are_reply, refusal_reply}
 
@@ -53,6 +54,7 @@ module _ (host : Host) (ask : Ask) (old : Memory) where
   pub turn_carry : (t m : Tale) → CarryMoment host ask old t m → TurnMoment host ask old t m
   turn_carry t m carry = record {
     home = carry.home;
+    within = carry.within;
     bytes = [];
     is_told = carry.quiet ∙ sym (append-nil (told t));
     front = inl nothing_said;
@@ -65,7 +67,7 @@ module _ (host : Host) (ask : Ask) (old : Memory) where
 
   -- a line that leaves all as it was
   pub carry_none : (t : Tale) → CarryMoment host ask old t t
-  carry_none t = record { home = stays_same host t; quiet = refl; goes = λ h known. goes_none host (deeds ask) Reached t h known.stands tt }
+  carry_none t = record { home = stays_same host t; within = writes_none host old ask t t (kept_outside_same nowhere t); quiet = refl; goes = λ h known. goes_none host (deeds ask) Reached t h known.stands tt }
 
   module _ (new : Memory) where
     -- what is known behind an answer that is accepted
@@ -116,6 +118,7 @@ module _ (host : Host) (ask : Ask) (old : Memory) where
             let way = ways ask answer plain carried.done carried.acks tell.count in
             record {
               home = stays_more host t u m carry.home (stays_still host u m tell.kept);
+              within = writes_still host old ask t u m carry.within tell.kept;
               bytes = take tell.count (text_of answer);
               is_told = tell.is_told ∙ ap (λ (l : List ℕ). l ++ take tell.count (text_of answer)) carry.quiet;
               front = front_of answer plain tell.count;

@@ -1,5 +1,5 @@
 -- What a command comes to, and a line.
-use Rattle.std.specs.Prelude.{◌≡◌, ◌≢◌, ◌+◌, ◌<◌, ◌≤◌, ◌^◌, ℕ, [], ◌∷◌, Some, None}
+use Rattle.std.specs.Prelude.{◌≡◌, ◌+◌, ◌<◌, ◌≤◌, ◌^◌, ℕ, [], ◌∷◌, Some, None}
 use Rattle.mdv_engine_law.specs.Below.{Failures, Refusal, IoFault, OutOfMemory, values_reply, MakeStripe, Command, Create, Read, Write, Line, Newest}
 use Rattle.mdv_store_law.specs.Standing.{IsReplicaMade}
 use Rattle.mdv_table.specs.Change.{table_after}
@@ -13,7 +13,7 @@ use Rattle.mdv_engine_law.specs.declared.host.Host.{Host}
 use Rattle.mdv_engine_law.specs.Answers.{accepted, refusing, telling}
 use Rattle.mdv_engine_law.specs.Home.{site_of, identity_of}
 use Rattle.mdv_engine_law.specs.Line.{Kept, IsSameBeside, Stays, IsCreated, IsUncreated, IsUnbegun, IsCommitted, AreBlocksAt, ArePut, MayBePut, IsRebooted, IsTurnedDown, blocks_of}
-use Rattle.mdv_engine_law.specs.Refusals.{Case, refusal_of}
+use Rattle.mdv_engine_law.specs.Refusals.{Case, IsUnopposed, refusal_of}
 
 -- by what a command is judged that is carried out where this is kept
 abbrev pub case_of : Host → Kept → Case
@@ -41,10 +41,10 @@ Fault host kept (command.MakeStripe volume slice) next = ⊥
 Fault host kept (Read volume at count) next = Stays kept next
 Fault host kept (Write volume at block) next = (place : ℕ) × AreBlocksAt host kept.memory volume at 1 place × (next.memory ≡ kept.memory) × MayBePut place (block ∷ []) kept.content next.content
 
--- What is left where memory was wanting. A table is copied before it is judged; a write takes none.
+-- What is left where memory was wanting. A table is judged before it is copied, and how long its record is behind that; a write takes none.
 abbrev pub Wanting : Host → Kept → Command → Kept → Type 0
 Wanting host kept (Create slice force) next = IsAllowed (case_of host kept) (Create slice force) × IsUnbegun kept next
-Wanting host kept (command.MakeStripe volume slice) next = (kept.memory.opened ≢ None) × Stays kept next
+Wanting host kept (command.MakeStripe volume slice) next = IsUnopposed host kept.memory (MakeStripe volume slice) × Stays kept next
 Wanting host kept (Read volume at count) next = IsAllowed (case_of host kept) (Read volume at count) × Stays kept next
 Wanting host kept (Write volume at block) next = ⊥
 

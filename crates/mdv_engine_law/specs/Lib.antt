@@ -5,5 +5,6 @@ pub mod Home
 pub mod Line
 pub mod Refusals
 pub mod Commands
+pub mod Efforts
 pub mod Replies
 pub mod Standing

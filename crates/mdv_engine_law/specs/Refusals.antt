@@ -1,5 +1,5 @@
 -- Why a command is refused before anything is done: each cause by itself, and the first of them in the one order.
-use Rattle.std.specs.Prelude.{ℕ, Bool, false, not, ◌==◌, ◌&&◌, ◌+◌, nat_lt, List, [], ◌∷◌, ◌++◌, length, Option, None, Some, is_some}
+use Rattle.std.specs.Prelude.{◌≡◌, ℕ, Bool, false, not, ◌==◌, ◌&&◌, ◌+◌, nat_lt, List, [], ◌∷◌, ◌++◌, length, Option, None, Some, is_some}
 use Rattle.std.specs.List.{find}
 use Rattle.mdv_base.specs.Order.{first_refusal, where_so}
 use Rattle.mdv_engine_law.specs.Below.{SliceName, VolId, Refusal, NoDatabase, NeedForce, NoSuchVolume, NoSuchSlice, SliceInUse, TooSmall, WrongKind, WrongState, OutOfRange, ReplicaFull, Down, SliceAt, record_text, Change, MakeStripe, Volume, VolumeKind, Command, Create, Read, Write, Newest}
@@ -58,6 +58,10 @@ held_of_blocks (Some newest) volume end = held_past (find (has_number volume) ne
 
 abbrev pub change_refusal : Host → Option Newest → Change → Option Refusal
 change_refusal host opened change = first_refusal (held_of_change host opened change)
+
+-- a database is open, and its table says nothing against the change
+abbrev pub IsUnopposed : Host → Memory → Change → Type 0
+IsUnopposed host memory change = (newest : Newest) × (memory.opened ≡ Some newest) × (table.refusal_of host.drives newest.table.plan change ≡ None)
 
 abbrev pub blocks_refusal : Option Newest → VolId → ℕ → Option Refusal
 blocks_refusal opened volume end = first_refusal (held_of_blocks opened volume end)

@@ -1,8 +1,8 @@
 -- The bytes of replies, how they are told, and what they acknowledge.
-use Rattle.std.specs.Prelude.{◌≡◌, ◌≢◌, ◌⊎◌, ℕ, true, ◌||◌, List, [], ◌∷◌, ◌++◌, length, take, codes, if◌then◌else◌}
+use Rattle.std.specs.Prelude.{◌≡◌, ◌≢◌, ◌⊎◌, ℕ, Bool, true, ◌||◌, List, [], ◌∷◌, ◌++◌, length, take, codes, if◌then◌else◌}
 use Rattle.std.specs.Str.{bytes_eq}
 use Rattle.mdv_shelf.specs.Calls.{OnDrive}
-use Rattle.mdv_shelf.specs.Shelves.{MadeCalls, MadeCallsAtMost}
+use Rattle.mdv_shelf.specs.Shelves.{MadeCalls}
 use Rattle.mdv_shelf.specs.Story.{NoFewer}
 use Rattle.mdv_shelf.specs.declared.shelf.Shelf.{Ghosts}
 use Rattle.mdv_engine_law.specs.Below.{Failures, refusal_text, VolId, Refusal, IoFault, Deed, Saw, lacks, left_in, one_reply, refused, replies_in, said_in, unsaid, with_reply, values_reply}
@@ -127,13 +127,22 @@ issued_by ask (Over ended.Memory) = []
 abbrev pub issuable : Ask → List ℕ → List Deed
 issuable ask reply = if bytes_eq reply ok_line || bytes_eq reply (refusal_line IoFault) then deeds ask else []
 
--- and by the bytes told of it: all, while they are no reply yet
-abbrev pub issuable_in : Ask → List (List ℕ) → List Deed
-issuable_in ask [] = deeds ask
-issuable_in ask (reply ∷ more) = issuable ask reply
+-- the bytes are a front of the text: none of it, some, or all
+abbrev pub is_front_of : List ℕ → List ℕ → Bool
+is_front_of text bytes = bytes_eq bytes (take (length bytes) text)
+
+-- By a front of a reply, while no whole one is told: all, where it is a front of `ok` or of the reply that a call failed, as it is before the first byte;
+-- and nothing, where it is one of other replies alone.
+abbrev pub issuable_front : Ask → List ℕ → List Deed
+issuable_front ask front = if is_front_of ok_line front || is_front_of (refusal_line IoFault) front then deeds ask else []
+
+-- by the bytes told of it
+abbrev pub issuable_in : Ask → List (List ℕ) → List ℕ → List Deed
+issuable_in ask [] left = issuable_front ask left
+issuable_in ask (reply ∷ more) left = issuable ask reply
 
 abbrev pub issuable_of : Ask → List ℕ → List Deed
-issuable_of ask bytes = issuable_in ask (replies_in bytes)
+issuable_of ask bytes = issuable_in ask (replies_in bytes) (left_in bytes)
 
 -- the reply to what was told whole
 abbrev pub reply_to : Outcome → Reply
@@ -224,11 +233,9 @@ HasAnswerCause drive (Over (ended.Lost active listed)) = drive.some × (active �
 HasAnswerCause drive (Over ended.Spent) = drive.none
 HasAnswerCause drive (Over ended.Memory) = ⊥
 
--- The calls of a telling: one at most, by which no drive's count rose; one where the reply was told whole, by which none rose at all; and none
--- where the run is over.
+-- The calls of a telling: one, by which no drive's count rose, and none at all where the reply was told whole; and none where the run is over.
 pub record IsTellingCounted {S : Type 0} (shelf : Ghosts S) (old new : S) (given : Reply) : Type 0 where
-  pub most : MadeCallsAtMost shelf old new 1 0
-  pub once : IsReplied given → MadeCalls shelf old new 1 0
+  pub once : (IsLost given → ⊥) → MadeCalls shelf old new 1 0
   pub silent : IsLost given → new ≡ old
   pub calm : IsReplied given → NoFewer (shelf.faults new) (shelf.faults old)
   pub drives : (drive : ℕ) → shelf.faults new (OnDrive drive) ≡ shelf.faults old (OnDrive drive)

@@ -1,8 +1,9 @@
 -- How the drive stands with its history at each moment of a line.
-use Rattle.std.specs.Prelude.{◌≡◌, ◌≢◌, ◌⊎◌, ℕ, ◌≤◌, false, List, [], ◌∷◌, ◌++◌, take, None, IfSome, Contains}
-use Rattle.mdv_engine_law.specs.Below.{Failures, Identity, KeptOutside, nowhere, Tale, told, Line, area_of, ShowsNothing, IsOpened, IsNewestIn, History, Deed, Created, Event, history_after, MayHappen, Adds, HasWoken, CanTell}
+use Rattle.std.specs.Prelude.{◌≡◌, ◌≢◌, ◌⊎◌, ℕ, ◌≤◌, false, List, [], ◌∷◌, ◌++◌, length, take, None, IfSome, Contains}
+use Rattle.mdv_engine_law.specs.Below.{Failures, Identity, KeptOutside, nowhere, range, Wrote, Tale, told, Line, area_of, ShowsNothing, IsOpened, IsNewestIn, History, Deed, Created, Event, history_after, MayHappen, Adds, HasWoken, CanTell}
 use Rattle.mdv_store_law.specs.Machine as machine
 use Rattle.mdv_shelf.specs.Calls.{OnDrive}
+use Rattle.mdv_shelf.specs.Made.{Made}
 use Rattle.mdv_shelf.specs.Story.{FailuresBy, Moment}
 use Rattle.mdv_history.specs.Standing as history
 use Rattle.mdv_engine_law.specs.declared.answer.Answer.{Answer}
@@ -12,7 +13,8 @@ use Rattle.mdv_engine_law.specs.declared.answer.Reply.{Reply}
 use Rattle.mdv_engine_law.specs.declared.host.Host.{Host}
 use Rattle.mdv_engine_law.specs.Home.{StaysHome, site_of}
 use Rattle.mdv_engine_law.specs.Commands.{ComesTo}
-use Rattle.mdv_engine_law.specs.Line.{Ask, Kept, Memory, IsSame, deeds, drive_content, kept_at}
+use Rattle.mdv_engine_law.specs.Efforts.{LineCalls, replied_to}
+use Rattle.mdv_engine_law.specs.Line.{Ask, AreBlocksAt, Kept, Nothing, ToDo, ToSee, Memory, IsSame, deeds, drive_content, kept_at}
 use Rattle.mdv_engine_law.specs.Replies.{Acks, AcksAnswer, AcksBy, IsReply, IsFront, IsTold, issuable, issuable_of, issued_by, text_of}
 
 -- the drive stands with the history, in which a database was made only where there is room for it
@@ -48,10 +50,11 @@ pub record OnlyReplied (failed : Type 0) (answer : Answer) (reply : Reply) (t u 
   pub replied : Replied failed answer reply t u
   pub kept : KeptOutside nowhere t u
 
--- a line that was carried out and replied to, where calls on the drive and the giving of replies may have failed
-pub record Executed (drive : Failures) (replies : Type 0) (host : Host) (line : Line) (old new : Memory) (reply : Reply) (t u : Tale) : Type 0 where
+-- a line that was carried out and replied to, with so many calls, of which some on the drive and the giving of replies may have failed
+pub record Executed (drive : Failures) (replies : Type 0) (made : Made) (host : Host) (line : Line) (old new : Memory) (reply : Reply) (t u : Tale) : Type 0 where
   pub answer : Answer
   pub carried : ComesTo drive host (kept_at old t) line answer (kept_at new u)
+  pub calls : LineCalls (replied_to answer made) host (kept_at old t) line answer (kept_at new u)
   pub replied : Replied replies answer reply t u
 
 -- What is known of the drive between two lines: where no database is open and the last boot read the drive, nothing is
@@ -74,14 +77,23 @@ pub record BootMoment (host : Host) (t m : Tale) : Type 0 where
 
 -- a boot that is answered, and leaves this in memory: where it has read the drive, each block has one value since
 pub record BootedTo (host : Host) (memory : Memory) (t u : Tale) : Type 0 where
-  pub home : StaysHome host t u
+  pub kept : KeptOutside (area_of (site_of host)) t u
   pub quiet : told u ≡ told t
   pub knows : Knows host memory u
   pub goes : (h : History) → StandsAt host h t → Goes host [] [] (λ es after. IsKnown host memory after u × (memory.down ≡ false → HasWoken es)) u h
 
--- a moment while a line is carried out that asks this, with nothing told, and nothing done outside the host's blocks
+-- The blocks that a line which asks this may write, and all others are kept: a boot, a creation and a change those of the replica, a write its own, and a
+-- read none.
+abbrev pub WritesOnly : Host → Ask → Memory → Tale → Tale → Type 0
+WritesOnly host Nothing memory t m = KeptOutside (area_of (site_of host)) t m
+WritesOnly host (ToDo (Wrote volume at blocks)) memory t m = KeptOutside nowhere t m ⊎ ((place : ℕ) × AreBlocksAt host memory volume at (length blocks) place × KeptOutside (range 0 place (length blocks)) t m)
+WritesOnly host (ToDo other) memory t m = KeptOutside (area_of (site_of host)) t m
+WritesOnly host (ToSee volume at count) memory t m = KeptOutside nowhere t m
+
+-- a moment while a line is carried out that asks this, with nothing told, and nothing done outside the host's blocks, nor outside those that it may write
 pub record CarryMoment (host : Host) (ask : Ask) (memory : Memory) (t m : Tale) : Type 0 where
   pub home : StaysHome host t m
+  pub within : WritesOnly host ask memory t m
   pub quiet : told m ≡ told t
   pub goes : (h : History) → IsKnown host memory h t → Goes host (deeds ask) [] Reached m h
 
@@ -143,6 +155,7 @@ TellsFront Comes old t m = (told m.tale ≡ told t.tale) ⊎ FrontTold Comes old
 -- history goes on by telling them, with what the front lets the line begin. A creation is told only where no database was open.
 pub record TurnMoment (host : Host) (ask : Ask) (old : Memory) (t m : Tale) : Type 0 where
   pub home : StaysHome host t m
+  pub within : WritesOnly host ask old t m
   pub bytes : List ℕ
   pub is_told : told m ≡ told t ++ bytes
   pub front : IsFront bytes

@@ -1,5 +1,5 @@
 ghost use Rattle.std.specs.Prelude.{◌≡◌, ℕ, List};
-ghost use Rattle.mdv_base.specs.Causes.{Rose};
+ghost use Rattle.mdv_base.specs.Causes.{RoseOnce};
 ghost use Rattle.mdv_shelf.specs.Calls.{Gives, HasGivingCause, IsCounted, OnReplies};
 ghost use Rattle.mdv_shelf.specs.Moments.{Moments, Ends};
 ghost use Rattle.mdv_shelf.specs.Shelves.{Keeps, KeptOn};
@@ -15,9 +15,9 @@ const OK: &[u8] = b"ok\n";
 
 /// Tells the reply of an answer, whole and at once; nothing of an answer that ends the run.
 pub fn tell<B: Bench>(bench: &mut B, answer: &Answer) -> Reply
-    ensures told { Ends (OnlyReplied (Rose (B.faults bench.old OnReplies) (B.faults bench.new OnReplies)) answer.now result) (B.tale bench.old) (B.tale bench.new) }
+    ensures told { Ends (OnlyReplied (RoseOnce (B.faults bench.old OnReplies) (B.faults bench.new OnReplies)) answer.now result) (B.tale bench.old) (B.tale bench.new) }
     ensures fronts { Moments (TellMoment (text_of answer.now)) (B.tale bench.old) (B.tale bench.new) }
-    ensures answers { (piece : List ℕ) × IsTold (Rose (B.faults bench.old OnReplies) (B.faults bench.new OnReplies)) answer.now result piece }
+    ensures answers { (piece : List ℕ) × IsTold (RoseOnce (B.faults bench.old OnReplies) (B.faults bench.new OnReplies)) answer.now result piece }
     ensures counted { IsTellingCounted B.Shelf bench.old bench.new result }
     ensures kept { KeptOn B.Shelf bench.old bench.new OnReplies }
 {

@@ -9,7 +9,7 @@ use Rattle.mdv_table.specs.Slices.{HasBlock, Overlap}
 use Rattle.mdv_name.proofs.Sound.{sound_geometry}
 use Rattle.mdv_home.specs.declared.geometry.Home.{Home}
 use Rattle.mdv_home.specs.Home.{line_of, place_of}
-use Rattle.mdv_home.specs.Placed.{slice_area, SlicesWithin, SlicesApart, ReplicaApart, PlainApart, OnePlace}
+use Rattle.mdv_home.specs.Placed.{slice_area, SlicesWithin, SlicesApart, ReplicaApart, ReplicaWithin, PlainApart, OnePlace}
 use Rattle.mdv_home.proofs.Homes.{slice_within}
 
 has_block : (at : SliceAt) (drive block : ℕ) → slice_area at drive block ≡ true → HasBlock at block
@@ -32,6 +32,9 @@ slices_apart table h name at is has plain =
 
 pub replica_apart : ReplicaApart
 replica_apart table h name at is has plain drive block in_slice_area in_replica = slices_apart table h name at is has plain drive block in_slice_area (in_slice h.start h.blocks drive block in_replica)
+
+pub replica_within : ReplicaWithin
+replica_within h drive block in_replica = in_slice h.start h.blocks drive block in_replica
 
 pub plain_apart : PlainApart
 plain_apart table h m n a b is first second never =

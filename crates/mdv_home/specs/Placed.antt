@@ -1,5 +1,5 @@
 -- Where the slices of a table with a home lie: none but the home's has a block of it.
-use Rattle.std.specs.Prelude.{◌≡◌, ◌<◌, ◌≤◌, ◌+◌, ℕ, false, List}
+use Rattle.std.specs.Prelude.{◌≡◌, ◌<◌, ◌≤◌, ◌+◌, ℕ, true, false, List}
 use Rattle.mdv_base.specs.declared.drive.SliceName.{SliceName}
 use Rattle.mdv_name.specs.declared.geometry.Geometry.{Geometry}
 use Rattle.mdv_name.specs.declared.slice_lines.SliceAt.{SliceAt}
@@ -45,6 +45,10 @@ SlicesApart = (table : Geometry) (h : Home) (name : SliceName) (at : SliceAt) �
 -- nor one that its replica may have
 abbrev pub ReplicaApart : Type 0
 ReplicaApart = (table : Geometry) (h : Home) (name : SliceName) (at : SliceAt) → IsHomeTable table h → HasSlice table.slices name at → at.db ≡ false → AreApart (slice_area at) (replica_area h)
+
+-- the blocks that a replica may have are some of its slice's, so its area ends with the slice at the latest
+abbrev pub ReplicaWithin : Type 0
+ReplicaWithin = (h : Home) (drive block : ℕ) → replica_area h drive block ≡ true → home_area h drive block ≡ true
 
 -- slices that don't overlap have no block in common
 abbrev pub PlainApart : Type 0

@@ -3,7 +3,7 @@ ghost use Rattle.mdv_name.specs.declared.geometry.Geometry.{Geometry};
 ghost use Rattle.mdv_name.specs.Geometry.{IsGeometry as IsTable};
 ghost use Rattle.mdv_home.specs.declared.geometry.Home.{Home};
 ghost use Rattle.mdv_home.specs.Home.{IsHome, IsSmall, IsGeometry};
-ghost use Rattle.mdv_home.specs.Placed.{SlicesWithin, SlicesApart, ReplicaApart, PlainApart, OnePlace};
+ghost use Rattle.mdv_home.specs.Placed.{SlicesWithin, SlicesApart, ReplicaApart, ReplicaWithin, PlainApart, OnePlace};
 
 /// What is read as a table of drives has names, sizes and slices in range, so its home is one.
 pub fn homes_are_small()
@@ -22,10 +22,11 @@ pub fn slices_are_within()
 {}
 
 /// What is written to a slice that isn't set aside for replicas leaves the home's slice as it was, and the
-/// replica there.
+/// replica there, which has no block outside that slice.
 pub fn slices_are_apart()
     ensures slice { SlicesApart }
     ensures replica { ReplicaApart }
+    ensures within { ReplicaWithin }
 {}
 
 /// What is written to one slice leaves those as they were that don't overlap it. A slice is named once, so

@@ -7,8 +7,8 @@ use Rattle.mdv_engine_law.specs.declared.answer.Outcome.{Outcome}
 use Rattle.mdv_engine_law.specs.declared.answer.Outcome.TheVariants as outcome
 use Rattle.mdv_engine_law.specs.declared.answer.Reply.TheVariants as reply
 use Rattle.mdv_engine_law.specs.Line.{Nothing, Ask}
-use Rattle.std.proofs.Common.{inl, inr, ℕ, List, [], refl, sym, ◌∙◌, ap, subst}
-use Rattle.mdv_run.specs.Below.{Script, line, Tale, Command, Create, MakeStripe, Read, Write, Spelled, Boot, IsCommand, IsLine, Reply, IsReplied, IsTurnedDown, Host, Memory, IsExecuted, Executed, Knows, IsAwake, Turned, Asks, RanTo, behind, kept_at}
+use Rattle.std.proofs.Common.{◌≡◌, Option, Some, inl, inr, ℕ, List, [], refl, sym, ◌∙◌, ap, subst}
+use Rattle.mdv_run.specs.Below.{Answer, Kept, Script, line, Tale, Command, Create, MakeStripe, Read, Write, Spelled, Boot, IsCommand, IsLine, Reply, IsReplied, IsTurnedDown, Host, Memory, IsExecuted, Executed, Knows, IsAwake, Turned, Asks, RanTo, behind, kept_at}
 use Rattle.mdv_run.specs.Promise.{IsUncut}
 use Rattle.mdv_run.specs.Turns.{LineAnswered}
 use Rattle.mdv_shelf.proofs.Blocks.{both_ways}
@@ -21,6 +21,14 @@ use Rattle.mdv_engine_law.specs.Replies.{IsPlain}
 use Rattle.mdv_engine_law.specs.Standing.{OnlyReplied}
 use Rattle.mdv_history.specs.History.{Created}
 use Rattle.mdv_base.specs.declared.refusal.Refusal.{Refusal}
+use Rattle.mdv_shelf.specs.Made.{Made}
+use Rattle.mdv_shelf.proofs.Made.{IsToo}
+use Rattle.mdv_engine_law.proofs.Efforts.{line_too, none_too, replied_too}
+use Rattle.mdv_run_law.specs.Run.{TextCalls}
+use Rattle.mdv_engine_law.specs.Line.{Ask, asked_by_line}
+use Rattle.mdv_engine_law.specs.Standing.{TurnMoment, WritesOnly}
+use Rattle.mdv_shelf.specs.Moments.{Moments}
+use Rattle.mdv_shelf.proofs.Moments.{moments_end, some_is}
 use Rattle.mdv_run_law.proofs.Coming.{behind_none}
 use Rattle.mdv_run_law.proofs.Turning.{line_ran, only_reply, reply_replies}
 
@@ -59,8 +67,28 @@ module _ (host : Host) (text : List ℕ) (more : Script) (ask : Ask) (asks : Ask
   ]
 
 -- a line that was carried out is answered
-pub line_executed : (text : List ℕ) (spelled : Spelled) → IsLine text spelled → (drive : Failures) (replies : Type 0) (host : Host) (old new : Memory) (reply : Reply) (t u : Tale) → Executed drive replies host spelled old new reply t u → LineAnswered drive replies host text old new reply t u
-line_executed text spelled is drive replies host old new reply t u done = record { answer = done.answer; done = inr (spelled, is, done.carried); replied = done.replied }
+pub line_executed : (text : List ℕ) (spelled : Spelled) → IsLine text spelled → (drive : Failures) (replies : Type 0) (made : Made) (host : Host) (old new : Memory) (reply : Reply) (t u : Tale) → Executed drive replies made host spelled old new reply t u → WritesOnly host (asked_by_line spelled) old t u → LineAnswered drive replies made host text old new reply t u
+line_executed text spelled is drive replies made host old new reply t u done writes = record { answer = done.answer; done = inr (spelled, is, done.carried); calls = inr (spelled, is, done.calls); writes = inr (spelled, is, writes); replied = done.replied }
+
+-- the calls of a line, told of another stretch
+text_too : (one other : Made) → IsToo one other → (host : Host) (kept next : Kept) (text : List ℕ) (answer : Answer) → TextCalls one host kept text answer next → TextCalls other host kept text answer next
+text_too one other too host kept next text answer (inl (never, none)) = inl (never, none_too one other too none)
+text_too one other too host kept next text answer (inr (spelled, is, calls)) = inr (spelled, is, line_too one other too host kept spelled answer next calls)
+
+pub answered_too : {drive : Failures} {replies : Type 0} {one : Made} {host : Host} {text : List ℕ} {old new : Memory} {reply : Reply} {t u : Tale} (other : Made) → IsToo one other → LineAnswered drive replies one host text old new reply t u → LineAnswered drive replies other host text old new reply t u
+answered_too {drive} {replies} {one} {host} {text} {old} {new} {reply} {t} {u} other too done = record {
+  answer = done.answer;
+  done = done.done;
+  calls = text_too _ _ (replied_too one other too done.answer) host (kept_at old t) (kept_at new u) text done.answer done.calls;
+  writes = done.writes;
+  replied = done.replied;
+}
+
+-- the blocks that it wrote in the end
+pub turn_writes : (host : Host) (ask : Ask) (old : Memory) (a b : Option Tale) → Moments (TurnMoment host ask old) a b → (t u : Tale) → a ≡ Some t → b ≡ Some u → WritesOnly host ask old t u
+turn_writes host ask old a b moments t u is_t is_u =
+    let end = moments_end (TurnMoment host ask old) a b moments t is_t in
+    subst (WritesOnly host ask old t) (some_is b end.0 u end.1 is_u) end.2.within
 
 -- a refusal that was told, and nothing else happened
 module _ (host : Host) (memory : Memory) (r : Refusal) (plain : IsPlain r) (replies : Type 0) (reply : Reply) (t u : Tale) (given : OnlyReplied replies (refusing r) reply t u) where

@@ -5,7 +5,9 @@ use Rattle.mdv_run_law.specs.Run.{RoseCalmly}
 use Rattle.std.proofs.Common.{◌≡◌, inl, inr, ℕ, Bool, List, [], ◌++◌, take, Option, refl, sym, ◌∙◌, ap, subst, arith}
 use Rattle.std.proofs.lemmas.List.{append-nil}
 use Rattle.mdv_run.specs.Below.{Answer, Boot, Counts, Host, IsAnswered, IsLine, IsRebooted, IsSame, IsTurnedDown, Kept, Knows, LineTooLong, Memory, OnDrive, Script, TellsFront, counts, drive_content, kept_at, line, told, too_long}
+use Rattle.mdv_run.specs.Promise.{point_of}
 use Rattle.mdv_run.specs.Turns.{Point, TurnFront, at}
+use Rattle.mdv_shelf.specs.Made.{Effort, effort_of}
 use Rattle.mdv_shelf.specs.Calls.{Part}
 use Rattle.mdv_shelf.specs.Shelves.{AtEachMoment}
 use Rattle.mdv_shelf.specs.Story.{FailuresBy, Moment, NoFewer, Story}
@@ -101,10 +103,10 @@ module _ (host : Host) (old : Memory) (now : Point) (refused : Bool) (t m : Mome
   })
 
 -- a turn without a call
-pub still_front : {S : Type 0} (shelf : Ghosts S) (host : Host) (old : Memory) (source : ℕ) (refused : Bool) (script : Script) (s : S) → AtEachMoment shelf (ScriptFront host (record { counts = counts (shelf.faults s) source; story = shelf.story s }) old refused script) s s
+pub still_front : {S : Type 0} (shelf : Ghosts S) (host : Host) (old : Memory) (source : ℕ) (refused : Bool) (script : Script) (s : S) → AtEachMoment shelf (ScriptFront host (point_of shelf source s) old refused script) s s
 still_front shelf host old source refused script s =
-    each_none (ScriptFront host (record { counts = counts (shelf.faults s) source; story = shelf.story s }) old refused script) _ _ _ _ refl (λ part. omega arith) (still host old source (shelf.story s) refused script) (still host old source (shelf.story s) refused script) where
-      still : {faults : Part → ℕ} (host : Host) (old : Memory) (source : ℕ) (story : Option Story) (refused : Bool) (script : Script) (x : Story)
-          → ScriptFront host (record { counts = counts faults source; story = story }) old refused script (moment x faults) (moment x faults)
-      still {faults} host old source story refused script x known =
-          no_front host old (record { counts = counts faults source; story = story }) refused (moment x faults) (moment x faults) refl (λ part. omega arith) script refl
+    each_none (ScriptFront host (point_of shelf source s) old refused script) _ _ _ _ refl (λ part. omega arith) (still host old source (shelf.story s) (effort_of shelf s) refused script) (still host old source (shelf.story s) (effort_of shelf s) refused script) where
+      still : {faults : Part → ℕ} (host : Host) (old : Memory) (source : ℕ) (story : Option Story) (effort : Effort) (refused : Bool) (script : Script) (x : Story)
+          → ScriptFront host (record { counts = counts faults source; story = story; effort = effort }) old refused script (moment x faults) (moment x faults)
+      still {faults} host old source story effort refused script x known =
+          no_front host old (record { counts = counts faults source; story = story; effort = effort }) refused (moment x faults) (moment x faults) refl (λ part. omega arith) script refl

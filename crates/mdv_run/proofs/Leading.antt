@@ -1,8 +1,13 @@
 -- How one turn of a run goes on from the script that is before it.
 use Rattle.mdv_base.specs.Causes.{failures_of}
+use Rattle.mdv_base.proofs.Causes.{rose_of_once}
+use Rattle.mdv_shelf.specs.Made.{Effort, made_between}
+use Rattle.mdv_engine_law.specs.Efforts.{NoCalls, replied_to}
+use Rattle.mdv_shelf.specs.Area.{KeptOutside, nowhere}
+use Rattle.mdv_run.specs.Promise.{point_of}
 use Rattle.std.proofs.Common.{◌≡◌, ◌≤◌, inl, inr, ℕ, Bool, true, List, [], ◌++◌, Option, Some, refl, sym, ◌∙◌, ap, subst}
-use Rattle.mdv_run.specs.Below.{LineTooLong, Reader, Script, at_end, spent, too_long, line, asked_before, IsAskedTurn, Line, TooLong, End, Spent, Tale, told, Answer, Reply, Host, Memory, IsTold, IsReplied, Kept, IsTurnedDown, kept_at, Replied, RunStatus, Panic, ReadFault, WriteFault, NoMemory, NumbersSpent, At, Counts, NextLine, OnDrive, OnReplies, Stretch, IsAnswered, IsSame, counts, drive_content, drive_failed, replies_failed}
-use Rattle.mdv_run_law.specs.Run.{AreInTime, IsPassage, OnlyReplying, OnlyUngiven, OnlyUnread, RoseCalmly, drive_failures, Over as IsOver, broken, ended as script_ended, unread, EndsAs, EndsWith, IsSaid, refused_by}
+use Rattle.mdv_run.specs.Below.{LineTooLong, Reader, Script, at_end, spent, too_long, line, asked_before, IsAskedTurn, Line, TooLong, End, Spent, Tale, told, Answer, Reply, Host, Memory, IsTold, IsReplied, Kept, IsTurnedDown, kept_at, Replied, RunStatus, Panic, ReadFault, WriteFault, NoMemory, NumbersSpent, At, Counts, NextLine, OnDrive, OnReplies, Stretch, IsAnswered, IsSame, drive_content}
+use Rattle.mdv_run_law.specs.Run.{AreInTime, EndsAt, FromTo, IsPassage, NextCalls, NextWrites, giving_failed, OnlyReplying, OnlyUngiven, OnlyUnread, RoseCalmly, drive_failures, Over as IsOver, broken, ended as script_ended, unread, EndsAs, EndsWith, IsSaid, refused_by}
 use Rattle.mdv_engine_law.specs.Answers.{refusing}
 use Rattle.mdv_engine_law.specs.Replies.{HasReplyCause, IsLost, outcome_text, reply_at, reply_to, text_of}
 use Rattle.mdv_engine_law.specs.declared.answer.Answer.TheVariants.{Said, Over as Ends}
@@ -86,12 +91,16 @@ pub record Passes (now then : Point) (t u : Tale) : Type 0 where
   pub last : (s : Story) → then.story ≡ Some s → tale_of s ≡ u
 
 pub passes_in_time : {S : Type 0} (shelf : Ghosts S) (telling : (s : S) → shelf.tale s ≡ option_map tale_of (shelf.story s)) (a b : S) (from to : ℕ) (t u : Tale) → KeptInTime shelf a b → shelf.tale a ≡ Some t → shelf.tale b ≡ Some u
-    → Passes (record { counts = counts (shelf.faults a) from; story = shelf.story a }) (record { counts = counts (shelf.faults b) to; story = shelf.story b }) t u
+    → Passes (point_of shelf from a) (point_of shelf to b) t u
 passes_in_time shelf telling a b from to t u kept is_t is_u = record {
   in_time = record { drive = kept.in_time (OnDrive 0); replies = kept.in_time OnReplies };
   first = λ s is. some_is (shelf.tale a) (tale_of s) t (telling a ∙ ap (λ (o : Option Story). option_map tale_of o) is) is_t;
   last = λ s is. some_is (shelf.tale b) (tale_of s) u (telling b ∙ ap (λ (o : Option Story). option_map tale_of o) is) is_u;
 }
+
+-- what holds from the one tale to the other holds between the points
+from_to : (now then : Point) (t u : Tale) → Passes now then t u → (P : Tale → Tale → Type 0) → P t u → FromTo P now.story then.story
+from_to now then t u passes P is s v is_s is_v = subst (λ (x : Tale). P x (tale_of v)) (sym (passes.first s is_s)) (subst (P t) (sym (passes.last v is_v)) is)
 
 passage_of : (now then : Point) (t u : Tale) → Passes now then t u → (old new : Memory) (any : Bool) (script more : Script) (piece : List ℕ) → told u ≡ told t ++ piece → IsPassage (at now (kept_at old t) any script) piece (at then (kept_at new u) any more)
 passage_of now then t u passes old new any script more piece is_told = record {
@@ -108,7 +117,8 @@ ended_uncut ended.Memory r is told = absurd (cc (is, told))
 
 -- how one turn leads on: its answer is the next line's, by whatever counts the drive failed as often
 module _ (host : Host) (from : At) (then : Point) (r : Reply) (rose : RoseInTurn from.counts then.counts r) (next : Kept) (more : Script) (before : Option Script) (before_is : before ≡ Some more) (answer : Answer)
-    (comes : (c : Counts) → RoseCalmly from.counts c → c.drive ≡ then.counts.drive → NextLine host from.counts from.kept from.script answer c next more) (piece : List ℕ) (passage : IsPassage from piece (at then next from.refused more))
+    (comes : (c : Counts) → RoseCalmly from.counts c → c.drive ≡ then.counts.drive → NextLine host from.counts from.kept from.script answer c next more) (calls : NextCalls (replied_to answer (made_between from.effort then.effort)) host from.kept from.script answer next) (writes : FromTo (NextWrites host from.kept.memory from.script) from.story then.story) (piece : List ℕ)
+    (passage : IsPassage from piece (at then next from.refused more))
   where
     line_on : IsReplied r → (any : Bool) → IsSaid answer → piece ≡ text_of answer → any ≡ refused_by answer from.refused → Leads host from piece then next before (On any)
     line_on on any said text is = (
@@ -117,6 +127,8 @@ module _ (host : Host) (from : At) (then : Point) (r : Reply) (rose : RoseInTurn
       record {
         answer = answer;
         comes = comes then.counts (rose_whole from.counts then.counts r rose on) refl;
+        calls = calls;
+        writes = writes;
         said = said;
         as_text = text;
         as_refused = is;
@@ -124,56 +136,65 @@ module _ (host : Host) (from : At) (then : Point) (r : Reply) (rose : RoseInTurn
       },
     )
 
-    over_by : OnlyReplying answer (carried_by from.counts then.counts) then.counts → (status : RunStatus) → EndsWith (replies_failed from.counts then.counts) answer next piece status next → Leads host from piece then next before (Over status)
+    over_by : OnlyReplying answer (carried_by from.counts then.counts) then.counts → (status : RunStatus) → EndsWith (giving_failed from.counts then.counts) answer next piece status next → Leads host from piece then next before (Over status)
     over_by only status with = λ stretch bytes ends shown.
         broken answer (carried_by from.counts then.counts) next more (comes (carried_by from.counts then.counts) (rose_carried from.counts then.counts r rose) refl) shown only
-        (subst (λ (o : Option Story). AreInTime from.counts from.story o) (sym ends) passage.in_time) with
+        (record {
+          in_time = subst (λ (o : Option Story). AreInTime from.counts from.story o) (sym ends.quiet) passage.in_time;
+          calls = subst (λ (e : Effort). NextCalls (replied_to answer (made_between from.effort e)) host from.kept from.script answer next) (sym ends.uncalled) calls;
+          writes = λ s u is_s is_u. writes s u is_s (sym ends.quiet ∙ is_u);
+        }) with
 
 -- what a reply leads to, by its answer
 leads : (host : Host) (from : At) (then : Point) (r : Reply) → RoseInTurn from.counts then.counts r → (next : Kept) (more : Script) (before : Option Script) → before ≡ Some more → (answer : Answer) (piece : List ℕ)
-    → ((c : Counts) → RoseCalmly from.counts c → c.drive ≡ then.counts.drive → NextLine host from.counts from.kept from.script answer c next more) → IsPassage from piece (at then next from.refused more)
-    → IsTold (replies_failed from.counts then.counts) answer r piece → Leads host from piece then next before (turn_of r from.refused)
-leads host from then r rose next more before is (Said this) piece comes passage (inl whole) = subst (λ (x : Reply). Leads host from piece then next before (turn_of x from.refused)) (sym whole.0) (by this comes whole.1) where
+    → ((c : Counts) → RoseCalmly from.counts c → c.drive ≡ then.counts.drive → NextLine host from.counts from.kept from.script answer c next more) → NextCalls (replied_to answer (made_between from.effort then.effort)) host from.kept from.script answer next → FromTo (NextWrites host from.kept.memory from.script) from.story then.story
+    → IsPassage from piece (at then next from.refused more)
+    → IsTold (giving_failed from.counts then.counts) answer r piece → Leads host from piece then next before (turn_of r from.refused)
+leads host from then r rose next more before is (Said this) piece comes calls writes passage (inl whole) = subst (λ (x : Reply). Leads host from piece then next before (turn_of x from.refused)) (sym whole.0) (by this comes calls whole.1) where
   on : IsReplied r
   on = replied_whole this r whole.0
 
-  by : (this : Outcome) → ((c : Counts) → RoseCalmly from.counts c → c.drive ≡ then.counts.drive → NextLine host from.counts from.kept from.script (Said this) c next more) → piece ≡ outcome_text this → Leads host from piece then next before (turn_of (reply_to this) from.refused)
-  by outcome.Ok comes is_text = line_on host from then r rose next more before is (Said outcome.Ok) comes piece passage on from.refused tt is_text refl
-  by (outcome.Values text) comes is_text = line_on host from then r rose next more before is (Said (outcome.Values text)) comes piece passage on from.refused tt is_text refl
-  by (outcome.Refused refusal) comes is_text = line_on host from then r rose next more before is (Said (outcome.Refused refusal)) comes piece passage on true tt is_text refl
-leads host from then r rose next more before is (Said this) piece comes passage (inr cut) =
+  by : (this : Outcome) → ((c : Counts) → RoseCalmly from.counts c → c.drive ≡ then.counts.drive → NextLine host from.counts from.kept from.script (Said this) c next more) → NextCalls (replied_to (Said this) (made_between from.effort then.effort)) host from.kept from.script (Said this) next → piece ≡ outcome_text this → Leads host from piece then next before (turn_of (reply_to this) from.refused)
+  by outcome.Ok comes calls is_text = line_on host from then r rose next more before is (Said outcome.Ok) comes calls writes piece passage on from.refused tt is_text refl
+  by (outcome.Values text) comes calls is_text = line_on host from then r rose next more before is (Said (outcome.Values text)) comes calls writes piece passage on from.refused tt is_text refl
+  by (outcome.Refused refusal) comes calls is_text = line_on host from then r rose next more before is (Said (outcome.Refused refusal)) comes calls writes piece passage on true tt is_text refl
+leads host from then r rose next more before is (Said this) piece comes calls writes passage (inr cut) =
     subst (λ (x : Reply). Leads host from piece then next before (turn_of x from.refused)) (sym cut.given_is)
-    (over_by host from then r rose next more before is (Said this) comes piece passage (rose_told from.counts then.counts r rose) WriteFault (record { cause = cut.cause; count = cut.count; front = cut.front; ended = refl; keeps = refl }))
-leads host from then r rose next more before is (Ends end) piece comes passage told = subst (λ (x : Reply). Leads host from piece then next before (turn_of x from.refused)) (sym told.0) (by end comes) where
+    (over_by host from then r rose next more before is (Said this) comes calls writes piece passage (rose_told from.counts then.counts r rose) WriteFault (record { cause = cut.cause; count = cut.count; front = cut.front; ended = refl; keeps = refl }))
+leads host from then r rose next more before is (Ends end) piece comes calls writes passage told = subst (λ (x : Reply). Leads host from piece then next before (turn_of x from.refused)) (sym told.0) (by end comes calls) where
   only : then.counts ≡ carried_by from.counts then.counts
   only = same_carried from.counts then.counts (rose.given (ended_uncut end r told.0))
 
-  by : (end : Ended) → ((c : Counts) → RoseCalmly from.counts c → c.drive ≡ then.counts.drive → NextLine host from.counts from.kept from.script (Ends end) c next more) → Leads host from piece then next before (turn_of (reply_at end) from.refused)
-  by (ended.Lost active listed) comes = over_by host from then r rose next more before is (Ends (ended.Lost active listed)) comes piece passage only (Panic active listed) (record { silent = told.1; ended = refl; keeps = refl })
-  by ended.Spent comes = over_by host from then r rose next more before is (Ends ended.Spent) comes piece passage only NumbersSpent (record { silent = told.1; ended = refl; keeps = refl })
-  by ended.Memory comes = over_by host from then r rose next more before is (Ends ended.Memory) comes piece passage only NoMemory (record { silent = told.1; ended = refl; keeps = refl })
+  by : (end : Ended) → ((c : Counts) → RoseCalmly from.counts c → c.drive ≡ then.counts.drive → NextLine host from.counts from.kept from.script (Ends end) c next more) → NextCalls (replied_to (Ends end) (made_between from.effort then.effort)) host from.kept from.script (Ends end) next → Leads host from piece then next before (turn_of (reply_at end) from.refused)
+  by (ended.Lost active listed) comes calls = over_by host from then r rose next more before is (Ends (ended.Lost active listed)) comes calls writes piece passage only (Panic active listed) (record { silent = told.1; ended = refl; keeps = refl })
+  by ended.Spent comes calls = over_by host from then r rose next more before is (Ends ended.Spent) comes calls writes piece passage only NumbersSpent (record { silent = told.1; ended = refl; keeps = refl })
+  by ended.Memory comes calls = over_by host from then r rose next more before is (Ends ended.Memory) comes calls writes piece passage only NoMemory (record { silent = told.1; ended = refl; keeps = refl })
 
 -- a line
 pub leads_line : (now then : Point) (r : Reply) → RoseInTurn now.counts then.counts r → (host : Host) (old new : Memory) (any : Bool) (s more : Script) (text : List ℕ) (before : Option Script) (t u : Tale) → Passes now then t u
-    → s ≡ line text more → before ≡ Some more → LineAnswered (drive_failures now.counts then.counts) (replies_failed now.counts then.counts) host text old new r t u → Turns host now then old new any s before (turn_of r any) t u
+    → s ≡ line text more → before ≡ Some more → LineAnswered (drive_failures now.counts then.counts) (giving_failed now.counts then.counts) (made_between now.effort then.effort) host text old new r t u → Turns host now then old new any s before (turn_of r any) t u
 leads_line now then r rose host old new any s more text before t u passes is next done = record {
   piece = done.replied.piece;
   is_told = done.replied.is_told;
   leads = leads host (at now (kept_at old t) any s) then r rose (kept_at new u) more before next done.answer done.replied.piece
       (λ c up same. subst (λ (x : Script). NextLine host now.counts (kept_at old t) x done.answer c (kept_at new u) more) (sym is)
       (refl, up, subst (λ (d : ℕ). IsAnswered (failures_of now.counts.drive d) host (kept_at old t) text done.answer (kept_at new u)) (sym same) done.done))
+      (subst (λ (x : Script). NextCalls (replied_to done.answer (made_between now.effort then.effort)) host (kept_at old t) x done.answer (kept_at new u)) (sym is) done.calls)
+      (from_to now then t u passes (NextWrites host old s) (subst (λ (x : Script). NextWrites host old x t u) (sym is) done.writes))
       (passage_of now then t u passes old new any s more done.replied.piece done.replied.is_told) done.replied.as_told;
 }
 
 -- a line that was too long
 pub leads_long : (now then : Point) (r : Reply) → RoseInTurn now.counts then.counts r → then.counts.drive ≡ now.counts.drive → (host : Host) (old : Memory) (any : Bool) (s more : Script) (before : Option Script) (t u : Tale) → Passes now then t u
-    → s ≡ too_long more → before ≡ Some more → IsTurnedDown LineTooLong (kept_at old t) (refusing LineTooLong) (kept_at old u) → Replied (replies_failed now.counts then.counts) (refusing LineTooLong) r t u
+    → s ≡ too_long more → before ≡ Some more → IsTurnedDown LineTooLong (kept_at old t) (refusing LineTooLong) (kept_at old u) → Replied (giving_failed now.counts then.counts) (refusing LineTooLong) r t u → KeptOutside nowhere t u → NoCalls (replied_to (refusing LineTooLong) (made_between now.effort then.effort))
     → Turns host now then old old any s before (turn_of r any) t u
-leads_long now then r rose still host old any s more before t u passes is next down replied = record {
+leads_long now then r rose still host old any s more before t u passes is next down replied kept none = record {
   piece = replied.piece;
   is_told = replied.is_told;
   leads = leads host (at now (kept_at old t) any s) then r rose (kept_at old u) more before next (refusing LineTooLong) replied.piece
       (λ c up same. subst (λ (x : Script). NextLine host now.counts (kept_at old t) x (refusing LineTooLong) c (kept_at old u) more) (sym is) (refl, up, same ∙ still, down))
+      (subst (λ (x : Script). NextCalls (replied_to (refusing LineTooLong) (made_between now.effort then.effort)) host (kept_at old t) x (refusing LineTooLong) (kept_at old u)) (sym is) none)
+      (from_to now then t u passes (NextWrites host old s) (subst (λ (x : Script). NextWrites host old x t u) (sym is) kept))
       (passage_of now then t u passes old old any s more replied.piece replied.is_told) replied.as_told;
 }
 
@@ -190,17 +211,17 @@ on_replied r any turn is on = by r (subst IsOn is on) where
 
 -- a turn with which the run is over, and nothing is told
 over_turn : (host : Host) (now then : Point) (memory : Memory) (any : Bool) (script : Script) (before : Option Script) (status : RunStatus) (t : Tale)
-    → ((stretch : Stretch) (bytes : ℕ) → stretch.new ≡ then.story → IsOver host stretch bytes then.counts (at now (kept_at memory t) any script) [] status (kept_at memory t)) → Turns host now then memory memory any script before (Over status) t t
+    → ((stretch : Stretch) (bytes : ℕ) → EndsAt stretch then.story then.effort → IsOver host stretch bytes then.counts (at now (kept_at memory t) any script) [] status (kept_at memory t)) → Turns host now then memory memory any script before (Over status) t t
 over_turn host now then memory any script before status t over = record { piece = []; is_told = sym (append-nil (told t)); leads = λ stretch bytes ends shown. over stretch bytes ends }
 
 -- the source failed
-pub unread_turn : (host : Host) (now then : Point) → OnlyUnread now.counts then.counts → then.story ≡ now.story → (memory : Memory) (any : Bool) (script : Script) (before : Option Script) (t : Tale) → Turns host now then memory memory any script before (Over ReadFault) t t
-unread_turn host now then so still memory any script before t = over_turn host now then memory any script before ReadFault t (λ stretch bytes ends. unread so (ends ∙ still) (record { silent = refl; ended = refl; keeps = refl }))
+pub unread_turn : (host : Host) (now then : Point) → OnlyUnread now.counts then.counts → then.story ≡ now.story → then.effort ≡ now.effort → (memory : Memory) (any : Bool) (script : Script) (before : Option Script) (t : Tale) → Turns host now then memory memory any script before (Over ReadFault) t t
+unread_turn host now then so still uncalled memory any script before t = over_turn host now then memory any script before ReadFault t (λ stretch bytes ends. unread so (record { quiet = ends.quiet ∙ still; uncalled = ends.uncalled ∙ uncalled }) (record { silent = refl; ended = refl; keeps = refl }))
 
 -- the script is at its end, or past its limit
-pub ended_turn : (host : Host) (now then : Point) → then.counts ≡ now.counts → then.story ≡ now.story → (memory : Memory) (any : Bool) (script : Script) (before : Option Script) (status : RunStatus) (t : Tale)
+pub ended_turn : (host : Host) (now then : Point) → then.counts ≡ now.counts → then.story ≡ now.story → then.effort ≡ now.effort → (memory : Memory) (any : Bool) (script : Script) (before : Option Script) (status : RunStatus) (t : Tale)
     → EndsAs any script status → Turns host now then memory memory any script before (Over status) t t
-ended_turn host now then same still memory any script before status t how = over_turn host now then memory any script before status t (λ stretch bytes ends. script_ended how same (ends ∙ still) (record { silent = refl; ended = refl; keeps = refl }))
+ended_turn host now then same still uncalled memory any script before status t how = over_turn host now then memory any script before status t (λ stretch bytes ends. script_ended how same (record { quiet = ends.quiet ∙ still; uncalled = ends.uncalled ∙ uncalled }) (record { silent = refl; ended = refl; keeps = refl }))
 
 -- a turn is lost where its reply is
 pub lost_reply : (r : Reply) (any : Bool) → IsLost r → IsLostTurn (turn_of r any)
@@ -218,10 +239,10 @@ same_left left other one two = both (sym two ∙ one) where
   both is = cc
 
 -- the cause of a reply is that of its turn
-pub turn_cause : (now then : Counts) (r : Reply) (any : Bool) → HasReplyCause (drive_failed now then) (replies_failed now then) r → HasTurnCause now then (turn_of r any)
+pub turn_cause : (now then : Counts) (r : Reply) (any : Bool) → HasReplyCause (drive_failures now then).some (giving_failed now then) r → HasTurnCause now then (turn_of r any)
 turn_cause now then reply.Ok any cause = tt
 turn_cause now then (reply.Refused refusal) any cause = tt
-turn_cause now then (reply.Panic active listed) any cause = cause
+turn_cause now then (reply.Panic active listed) any cause = (rose_of_once _ _ cause.0, cause.1, cause.2)
 turn_cause now then reply.Spent any cause = tt
 turn_cause now then reply.NoMemory any cause = tt
-turn_cause now then reply.Told any cause = cause
+turn_cause now then reply.Told any cause = rose_of_once _ _ cause

@@ -8,4 +8,3 @@ pub mod Shown
 pub mod Fronts
 pub mod Fronting
 pub mod Asking
-pub mod Counting

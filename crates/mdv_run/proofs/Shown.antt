@@ -2,7 +2,7 @@
 use Rattle.std.proofs.Common.{◌≡◌, ℕ, Bool, List, ◌+◌, ◌≤◌, ◌<◌, length, Option, Some, ◌∙◌, ap, subst, arith}
 use Rattle.std.specs.Option.{option_map}
 use Rattle.mdv_run.specs.Below.{AreLast, AreShown, At, Counts, Ends, IsLastShown, IsShown, Memory, OnDrive, OnReplies, RoseTo, Script, Tale, counts, drive_content, kept_at, told}
-use Rattle.mdv_run.specs.Promise.{between}
+use Rattle.mdv_run.specs.Promise.{between, point_of}
 use Rattle.mdv_run.specs.Turns.{at}
 use Rattle.mdv_shelf.specs.Calls.{Part}
 use Rattle.mdv_shelf.specs.Shelves.{AtEachTale, EndsTold, GoesOn, IsAtRest, RestsOnceTold}
@@ -51,10 +51,10 @@ module _ {S : Type 0} (shelf : Ghosts S) (telling : (s : S) → shelf.tale s ≡
 
   -- and so is where a run is at the end of a stretch by which a reply was told
   pub shown_now : EndsTold shelf b c → RestsOnceTold shelf b c → (bytes piece source : ℕ) (memory : Memory) (refused : Bool) (script : Script) (t u v : Tale) → shelf.tale a ≡ Some t → shelf.tale b ≡ Some u → shelf.tale c ≡ Some v
-      → length (told t) + bytes ≡ length (told u) → length (told u) + piece ≡ length (told v) → IsShown (between shelf a c) bytes piece (at (record { counts = counts (shelf.faults c) source; story = shelf.story c }) (kept_at memory v) refused script)
+      → length (told t) + bytes ≡ length (told u) → length (told u) + piece ≡ length (told v) → IsShown (between shelf a c) bytes piece (at (point_of shelf source c) (kept_at memory v) refused script)
   shown_now ends rests bytes piece source memory refused script t u v is_t is_u is_v until same =
       each_joined (λ _ _. Unit {0}) (λ y m. (length (told y.tale) < length (told m.tale) → NoFewer (shelf.faults c) m.faults) × (length (told y.tale) < length (told m.tale) → IsAtRest (shelf.faults c) v m))
-      (AreShown bytes piece (at (record { counts = counts (shelf.faults c) source; story = shelf.story c }) (kept_at memory v) refused script)) _ _ _ _ _ _
+      (AreShown bytes piece (at (point_of shelf source c) (kept_at memory v) refused script)) _ _ _ _ _ _
       (λ s x w first mid last turn there ahead m here within.
       let start = told_at a s t first is_t in
       let turned = told_at b x u mid is_u in

@@ -8,6 +8,14 @@ use Rattle.mdv_shelf.specs.declared.shelf.Shelf.{Ghosts}
 use Rattle.mdv_shelf.proofs.Moments.{moments_end, some_is}
 use Rattle.mdv_engine_law.specs.Line.{IsSame}
 use Rattle.mdv_run.specs.Below.{counts}
+use Rattle.mdv_base.proofs.Causes.{rose_of_once}
+use Rattle.mdv_shelf.specs.Made.{Effort, made_between}
+use Rattle.mdv_engine_law.specs.Efforts.{BootCalls}
+use Rattle.mdv_engine_law.specs.Home.{site_of}
+use Rattle.mdv_engine_law.specs.Standing.{BootMoment}
+use Rattle.mdv_shelf.specs.Area.{KeptOutside}
+use Rattle.mdv_store_law.specs.Site.{area_of}
+use Rattle.mdv_run_law.specs.Run.{FromTo}
 use Rattle.mdv_run.specs.Promise.{between}
 use Rattle.std.proofs.Common.{◌≡◌, ℕ, Bool, List, [], ◌++◌, Option, Some, Err, refl, sym, subst, ◌∙◌, ap, false}
 use Rattle.std.proofs.lemmas.List.{append-nil}
@@ -20,15 +28,16 @@ use Rattle.mdv_run.specs.Turns.{LinesRun}
 
 module _ (host : Host) (stretch : Stretch) (start : Counts) (t : Tale) (script : Script) (tale : Option Tale) where
   -- a run that is over with its boot
-  pub whole_over : (T : Type 0) (end : Counts) → RoseCalmly start end → (u : Tale) (memory : Memory) (r : Ended) → IsPoint stretch start.source end stretch.new (drive_content u) → tale ≡ Some u → told u ≡ told t → IsRebooted (drive_failures start end) host (kept_at (unbooted 0) t) (boot_answer {T = T} (Err r)) (kept_at memory u) → IsWholeRun host stretch start end t script tale (status_at r)
-  whole_over T end rose u memory r point is quiet rebooted = record {
+  pub whole_over : (T : Type 0) (end : Counts) → RoseCalmly start end → (u : Tale) (memory : Memory) (r : Ended) → IsPoint stretch start.source end stretch.new (drive_content u) → tale ≡ Some u → told u ≡ told t → IsRebooted (drive_failures start end) host (kept_at (unbooted 0) t) (boot_answer {T = T} (Err r)) (kept_at memory u)
+      → BootCalls (made_between stretch.made_before stretch.made_after) host (boot_answer {T = T} (Err r)) memory (drive_content t) → FromTo (KeptOutside (area_of (site_of host))) stretch.old stretch.new → IsWholeRun host stretch start end t script tale (status_at r)
+  whole_over T end rose u memory r point is quiet rebooted calls writes = record {
     u = u;
     tells = is;
     more = [];
     is_told = quiet ∙ sym (append-nil (told t));
     last = kept_at memory u;
     left = record { content = λ block. refl; opened = λ known. absurd (known (lost r)) };
-    runs = record { answer = boot_answer {T = T} (Err r); booted = end; rose = rose; kept = kept_at memory u; boots = rebooted; story = stretch.new; point = point; runs = (refl, refl, record { silent = refl; ended = refl; keeps = refl }) };
+    runs = record { answer = boot_answer {T = T} (Err r); booted = end; rose = rose; kept = kept_at memory u; boots = rebooted; by = record { story = stretch.new; effort = stretch.made_after }; calls = calls; writes = writes; point = point; runs = (refl, record { quiet = refl; uncalled = refl }, record { silent = refl; ended = refl; keeps = refl }) };
   } where
     lost : (r : Ended) → IsLostStatus (status_at r)
     lost (ended.Lost active listed) = tt
@@ -36,21 +45,27 @@ module _ (host : Host) (stretch : Stretch) (start : Counts) (t : Tale) (script :
     lost ended.Memory = tt
 
   -- a run that goes on to its lines
-  pub whole_lines : (mid end : Counts) → RoseCalmly start mid → (u v : Tale) (memory : Memory) (status : RunStatus) (story : Option Story) → IsPoint stretch start.source mid story (drive_content u) → tale ≡ Some v → told u ≡ told t → IsRebooted (drive_failures start mid) host (kept_at (unbooted 0) t) accepted (kept_at memory u)
-      → LinesRun host stretch (record { counts = mid; story = story }) end memory false script status u v → IsWholeRun host stretch start end t script tale status
-  whole_lines mid end rose u v memory status story point is quiet rebooted lines = record {
+  pub whole_lines : (mid end : Counts) → RoseCalmly start mid → (u v : Tale) (memory : Memory) (status : RunStatus) (story : Option Story) (effort : Effort) → IsPoint stretch start.source mid story (drive_content u) → tale ≡ Some v → told u ≡ told t → IsRebooted (drive_failures start mid) host (kept_at (unbooted 0) t) accepted (kept_at memory u) → BootCalls (made_between stretch.made_before effort) host accepted memory (drive_content t) → FromTo (KeptOutside (area_of (site_of host))) stretch.old story
+      → LinesRun host stretch (record { counts = mid; story = story; effort = effort }) end memory false script status u v → IsWholeRun host stretch start end t script tale status
+  whole_lines mid end rose u v memory status story effort point is quiet rebooted calls writes lines = record {
     u = v;
     tells = is;
     more = lines.more;
     is_told = lines.is_told ∙ ap (λ (l : List ℕ). l ++ lines.more) quiet;
     last = lines.last;
     left = lines.left;
-    runs = record { answer = accepted; booted = mid; rose = rose; kept = kept_at memory u; boots = rebooted; story = story; point = point; runs = lines.runs };
+    runs = record { answer = accepted; booted = mid; rose = rose; kept = kept_at memory u; boots = rebooted; by = record { story = story; effort = effort }; calls = calls; writes = writes; point = point; runs = lines.runs };
   }
+
+-- the blocks that a boot wrote
+pub boot_writes : {S : Type 0} (shelf : Ghosts S) (telling : (s : S) → shelf.tale s ≡ option_map tale_of (shelf.story s)) (host : Host) (a b : S) → AtEachTale shelf (BootMoment host) a b → FromTo (KeptOutside (area_of (site_of host))) (shelf.story a) (shelf.story b)
+boot_writes shelf telling host a b moments s u is_s is_u =
+    let end = moments_end (BootMoment host) (shelf.tale a) (shelf.tale b) moments (tale_of s) (telling a ∙ ap (λ (o : Option Story). option_map tale_of o) is_s) in
+    subst (KeptOutside (area_of (site_of host)) (tale_of s)) (some_is (shelf.tale b) end.0 (tale_of u) end.1 (telling b ∙ ap (λ (o : Option Story). option_map tale_of o) is_u)) end.2.kept
 
 -- why a run is over with its boot
 pub over_cause : (T : Type 0) (start end : Counts) (r : Ended) (unread : Bool) → HasBootCause {T = T} (drive_failures start end) unread (Err r) → HasStatusCause start end (status_at r)
-over_cause T start end (ended.Lost active listed) unread why = why
+over_cause T start end (ended.Lost active listed) unread why = (rose_of_once _ _ why.0, why.1, why.2)
 over_cause T start end ended.Spent unread why = tt
 over_cause T start end ended.Memory unread why = tt
 

@@ -1,6 +1,5 @@
 pub mod Below
 pub mod Lines
-pub mod Calls
 pub use Rattle.mdv_base.specs.Causes
 pub mod Turns
 pub mod Promise

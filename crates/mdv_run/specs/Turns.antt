@@ -3,15 +3,19 @@ use Rattle.mdv_base.specs.Causes.{Failures}
 use Rattle.std.specs.Prelude.{◌≡◌, ℕ, Bool, true, List, ◌++◌, Option, Some}
 use Rattle.mdv_run.specs.Below.{Script, Tale, told, Answer, Reply, Host, Kept, Memory, kept_at, Replied, RunStatus, Panic, WriteFault, NoMemory, NumbersSpent, At, Counts, IsNextFront, LinesToldBy, LineTold, Runs, Stretch, IsAnswered, IsLeft, HasStatusCause}
 use Rattle.mdv_shelf.specs.Story.{Moment, Story}
-use Rattle.mdv_run_law.specs.Run.{IsLastShown, IsLostStatus, Over as IsOver}
+use Rattle.mdv_shelf.specs.Made.{Effort, Made}
+use Rattle.mdv_engine_law.specs.Efforts.{replied_to}
+use Rattle.mdv_run_law.specs.Run.{EndsAt, IsLastShown, IsLostStatus, TextCalls, TextWrites, Over as IsOver}
 use Rattle.mdv_engine_law.specs.declared.answer.Reply.TheVariants as reply
 use Rattle.mdv_run.specs.declared.session.Turn.{Turn}
 use Rattle.mdv_run.specs.declared.session.Turn.TheVariants.{On, Over}
 
--- a line that was carried out and replied to, where calls on the drive and the giving of replies may have failed
-pub record LineAnswered (drive : Failures) (replies : Type 0) (host : Host) (text : List ℕ) (old new : Memory) (reply : Reply) (t u : Tale) : Type 0 where
+-- a line that was carried out and replied to, with so many calls, of which some on the drive and the giving of replies may have failed
+pub record LineAnswered (drive : Failures) (replies : Type 0) (made : Made) (host : Host) (text : List ℕ) (old new : Memory) (reply : Reply) (t u : Tale) : Type 0 where
   pub answer : Answer
   pub done : IsAnswered drive host (kept_at old t) text answer (kept_at new u)
+  pub calls : TextCalls (replied_to answer made) host (kept_at old t) text answer (kept_at new u)
+  pub writes : TextWrites host old text t u
   pub replied : Replied replies answer reply t u
 
 -- how a run goes on with a reply
@@ -28,20 +32,21 @@ abbrev pub IsLostTurn : Turn → Type 0
 IsLostTurn (On r) = ⊥
 IsLostTurn (Over status) = IsLostStatus status
 
--- where bench and source are: how often each part had failed, and the bench's story
+-- where bench and source are: how often each part had failed, the bench's story, and how many calls it made
 pub record Point : Type 0 where
   pub counts : Counts
   pub story : Option Story
+  pub effort : Effort
 
 -- where a run is before a turn
 abbrev pub at : Point → Kept → Bool → Script → At
-at now kept refused script = record { counts = now.counts; story = now.story; kept = kept; refused = refused; script = script }
+at now kept refused script = record { counts = now.counts; story = now.story; effort = now.effort; kept = kept; refused = refused; script = script }
 
 -- One turn told this piece: a line's reply, and the run goes on; or the run is over with it, by each stretch that ends there, and shows how often the drive
 -- failed, and what it has.
 abbrev pub Leads : Host → At → List ℕ → Point → Kept → Option Script → Turn → Type 0
 Leads host from piece then kept before (On r) = (more : Script) × (before ≡ Some more) × LineTold host from piece (at then kept r more)
-Leads host from piece then kept before (Over status) = (stretch : Stretch) (bytes : ℕ) → stretch.new ≡ then.story → IsLastShown stretch bytes then.counts.drive kept.content → IsOver host stretch bytes then.counts from piece status kept
+Leads host from piece then kept before (Over status) = (stretch : Stretch) (bytes : ℕ) → EndsAt stretch then.story then.effort → IsLastShown stretch bytes then.counts.drive kept.content → IsOver host stretch bytes then.counts from piece status kept
 
 -- a turn, from one point to another, told by the script before it
 pub record Turns (host : Host) (now then : Point) (old new : Memory) (refused : Bool) (script : Script) (before : Option Script) (turn : Turn) (t u : Tale) : Type 0 where

@@ -2,7 +2,6 @@ ghost use Rattle.std.specs.Prelude.{◌≡◌, Err, IfOk, ◌<◌, ◌≤◌, �
 ghost use Rattle.mdv_shelf.specs.Shelves.{AtEachTale, Kept, KeptInTime};
 ghost use Rattle.mdv_port.specs.Script.{Script, line as line_of};
 ghost use Rattle.mdv_run.specs.Lines.{asked_before};
-ghost use Rattle.mdv_run.specs.Calls.{TextCalls};
 ghost use Rattle.mdv_home.specs.declared.geometry.Home.{Home};
 ghost use Rattle.mdv_words.specs.declared.command.Line.TheVariants.{Boot};
 ghost use Rattle.mdv_words.specs.Line.{IsLine};
@@ -218,7 +217,7 @@ fn answer<B: Bench>(engine: &mut Engine, alloc: Global, bench: &mut B, line: &[u
     ensures moments { (more : Script) → AtEachTale B.Shelf (LinesMoment engine.old.host (line_of line.now more) engine.old.state) bench.old bench.new }
     ensures end { LineEnds B.Shelf bench.old bench.new engine.old.host line.now engine.old.state engine.new.state result }
     ensures stays { LineStays B.Shelf engine.old.host (IsReplied result) (IsUncut result) (LineTells B.Shelf engine.old line.now bench.old bench.new) bench.old bench.new }
-    ensures answer { LineReplies B.Shelf engine.old bench.old bench.new (TextCalls line.now) engine.new result }
+    ensures answer { LineReplies B.Shelf engine.old bench.old bench.new engine.new result }
     ensures kept { KeptInTime B.Shelf bench.old bench.new }
 {
     let Some(spelled) = read_line(line) else {
@@ -236,7 +235,7 @@ fn boot_anew<B: Bench>(engine: &mut Engine, alloc: Global, bench: &mut B) -> Rep
     ensures moments { AtEachTale B.Shelf (TurnMoment engine.old.host Nothing engine.old.state) bench.old bench.new }
     ensures end { (text : List ℕ) → IsLine text Boot → LineEnds B.Shelf bench.old bench.new engine.old.host text engine.old.state engine.new.state result }
     ensures stays { (text : List ℕ) → IsLine text Boot → LineStays B.Shelf engine.old.host (IsReplied result) (IsUncut result) (LineTells B.Shelf engine.old text bench.old bench.new) bench.old bench.new }
-    ensures answer { LineReplies B.Shelf engine.old bench.old bench.new (λ n. n ≡ 14) engine.new result }
+    ensures answer { LineReplies B.Shelf engine.old bench.old bench.new engine.new result }
     ensures kept { KeptInTime B.Shelf bench.old bench.new }
 {
     match engine.reboot(bench, alloc) {

@@ -1,6 +1,6 @@
 -- What the events of runs begin was asked by their lines, and what they tell their replies tell, in the same order.
 use Rattle.std.proofs.Common.{◌≡◌, inl, inr, ℕ, Bool, List, [], ◌∷◌, ◌++◌, refl, sym, ◌∙◌, ap, subst}
-use Rattle.mdv_run_law.specs.Below.{Geometry, Script, at_end, spent, too_long, line, left_in, replies_in, Deed, Event, Host, deeds, issuable, issued_by, told_by}
+use Rattle.mdv_run_law.specs.Below.{Geometry, Script, at_end, spent, too_long, line, left_in, replies_in, Deed, Event, Host, issuable, issuable_front, issued_by, told_by}
 use Rattle.mdv_store_law.specs.Part.{IsPart}
 use Rattle.mdv_store_law.proofs.Parts.{part_more}
 use Rattle.mdv_history.specs.History as history
@@ -35,13 +35,13 @@ idle_answers host Asked Said es none nothing idle = record { asked = []; are_ask
 none_answers : (Asked Said : List Deed → Type 0) (es : List Event) → Asked [] → Said [] → es ≡ [] → Answers Asked Said es
 none_answers Asked Said es none nothing empty = record { asked = []; are_asked = none; begins = subst (λ (l : List Event). IsPart (issued_by l) []) (sym empty) tt; said = []; are_said = nothing; tells = ap told_by empty }
 
-work_answers : (host : Host) (front : List ℕ) (down : Bool) (script : Script) (es : List Event) → InWork host front down script es → Answers (AreBegun script []) (AreTold script [] front) es
-work_answers host front down at_end es work = idle_answers host (AreBegun at_end []) (AreTold at_end [] front) es refl refl work
-work_answers host front down (spent lines bytes) es work = idle_answers host (AreBegun (spent lines bytes) []) (AreTold (spent lines bytes) [] front) es refl refl work
-work_answers host front down (too_long more) es work = idle_answers host (AreBegun (too_long more) []) (AreTold (too_long more) [] front) es refl refl work
-work_answers host front down (line text more) es (inl none) = none_answers (AreBegun (line text more) []) (AreTold (line text more) [] front) es (inl refl) (inl refl) none.1
+work_answers : (host : Host) (front : List ℕ) (down : Bool) (script : Script) (es : List Event) → InWork host front down script es → Answers (AreBegun script [] front) (AreTold script [] front) es
+work_answers host front down at_end es work = idle_answers host (AreBegun at_end [] front) (AreTold at_end [] front) es refl refl work
+work_answers host front down (spent lines bytes) es work = idle_answers host (AreBegun (spent lines bytes) [] front) (AreTold (spent lines bytes) [] front) es refl refl work
+work_answers host front down (too_long more) es work = idle_answers host (AreBegun (too_long more) [] front) (AreTold (too_long more) [] front) es refl refl work
+work_answers host front down (line text more) es (inl none) = none_answers (AreBegun (line text more) [] front) (AreTold (line text more) [] front) es (inl refl) (inl refl) none.1
 work_answers host front down (line text more) es (inr work) = record {
-  asked = deeds work.ask;
+  asked = issuable_front work.ask front;
   are_asked = inr (work.ask, work.asks, refl);
   begins = work.does.begins;
   said = work.done;
@@ -49,19 +49,19 @@ work_answers host front down (line text more) es (inr work) = record {
   tells = work.does.tells;
 }
 
-come_answers : (host : Host) (front : List ℕ) (down : Bool) (script : Script) (replies : List (List ℕ)) (es : List Event) → ComeOf host (InWork host front) down script replies es → Answers (AreBegun script replies) (AreTold script replies front) es
+come_answers : (host : Host) (front : List ℕ) (down : Bool) (script : Script) (replies : List (List ℕ)) (es : List Event) → ComeOf host (InWork host front) down script replies es → Answers (AreBegun script replies front) (AreTold script replies front) es
 come_answers host front down script [] es come = work_answers host front down script es come
-come_answers host front down at_end (reply ∷ replies) es come = idle_answers host (AreBegun at_end (reply ∷ replies)) (AreTold at_end (reply ∷ replies) front) es refl refl come
+come_answers host front down at_end (reply ∷ replies) es come = idle_answers host (AreBegun at_end (reply ∷ replies) front) (AreTold at_end (reply ∷ replies) front) es refl refl come
 come_answers host front down (spent lines bytes) (reply ∷ replies) es come =
-    idle_answers host (AreBegun (spent lines bytes) (reply ∷ replies)) (AreTold (spent lines bytes) (reply ∷ replies) front) es refl refl come
+    idle_answers host (AreBegun (spent lines bytes) (reply ∷ replies) front) (AreTold (spent lines bytes) (reply ∷ replies) front) es refl refl come
 come_answers host front down (too_long more) (reply ∷ replies) es come =
     let rest = come_answers host front down more replies come.1 come.4 in
-    answers_both (AreBegun (too_long more) (reply ∷ replies)) (AreTold (too_long more) (reply ∷ replies) front) es come.0 come.1 [] rest.asked [] rest.said come.2 rest.are_asked rest.are_said
+    answers_both (AreBegun (too_long more) (reply ∷ replies) front) (AreTold (too_long more) (reply ∷ replies) front) es come.0 come.1 [] rest.asked [] rest.said come.2 rest.are_asked rest.are_said
     come.3.begins rest.begins come.3.tells rest.tells
 come_answers host front down (line text more) (reply ∷ replies) es come =
     let of_line = come.4 in
     let rest = come_answers host front come.3 more replies come.1 come.5 in
-    answers_both (AreBegun (line text more) (reply ∷ replies)) (AreTold (line text more) (reply ∷ replies) front) es come.0 come.1 (issuable of_line.ask reply) rest.asked of_line.done rest.said come.2
+    answers_both (AreBegun (line text more) (reply ∷ replies) front) (AreTold (line text more) (reply ∷ replies) front) es come.0 come.1 (issuable of_line.ask reply) rest.asked of_line.done rest.said come.2
     (of_line.ask, of_line.asks, rest.asked, rest.are_asked, refl) (of_line.ask, of_line.asks, of_line.done, of_line.acks, rest.said, rest.are_said, refl)
     of_line.does.begins rest.begins of_line.does.tells rest.tells
 
@@ -72,8 +72,8 @@ runs_answer drives (ran ∷ before) es are =
     let old = runs_answer drives before are.0 are.3 in
     let run = are.4 in
     let lines = come_answers (host_of drives ran.home ran.fresh) (left_in ran.bytes) run.down ran.script (replies_in ran.bytes) run.lines run.come in
-    let new : Answers (AreBegun ran.script (replies_in ran.bytes)) (AreTold ran.script (replies_in ran.bytes) (left_in ran.bytes)) are.1 =
-    answers_both (AreBegun ran.script (replies_in ran.bytes)) (AreTold ran.script (replies_in ran.bytes) (left_in ran.bytes)) are.1 run.boot run.lines [] lines.asked [] lines.said run.both lines.are_asked lines.are_said
+    let new : Answers (AreBegun ran.script (replies_in ran.bytes) (left_in ran.bytes)) (AreTold ran.script (replies_in ran.bytes) (left_in ran.bytes)) are.1 =
+    answers_both (AreBegun ran.script (replies_in ran.bytes) (left_in ran.bytes)) (AreTold ran.script (replies_in ran.bytes) (left_in ran.bytes)) are.1 run.boot run.lines [] lines.asked [] lines.said run.both lines.are_asked lines.are_said
     run.idle.begins lines.begins run.idle.tells lines.tells in
     answers_both (AreAsked (ran ∷ before)) (AreSaid (ran ∷ before)) es are.0 are.1 old.asked new.asked old.said new.said are.2
     (old.asked, old.are_asked, new.asked, new.are_asked, refl) (old.said, old.are_said, new.said, new.are_said, refl)

@@ -9,6 +9,8 @@ use Rattle.mdv_engine_law.proofs.Plain.{nothing_answers, nothing_said, nothing_a
 use Rattle.mdv_engine_law.proofs.Going.{goes_more}
 use Rattle.mdv_store_law.proofs.Parts.{part_itself}
 use Rattle.mdv_engine_law.proofs.Staying.{stays_in_replica, stays_more}
+use Rattle.mdv_shelf.proofs.Frame.{kept_outside_more}
+use Rattle.mdv_store_law.specs.Site.{area_of}
 use Rattle.mdv_engine_law.specs.Standing as turn
 use Rattle.mdv_run_law.specs.Standing.{Asks, AreIdle, AreOfRun, ComeOf, InWork, IsTold, behind, LinesMoment, RanTo, RunMoment}
 use Rattle.mdv_run_law.proofs.Coming.{behind_none, told_none, in_work_none, idle_none}
@@ -31,6 +33,7 @@ module _ (host : Host) where
   pub boot_turn : (old : Memory) (t m : Tale) → BootMoment host t m → TurnMoment host Nothing old t m
   boot_turn old t m moment = record {
     home = stays_in_replica host t m moment.kept;
+    within = moment.kept;
     bytes = [];
     is_told = moment.quiet ∙ sym (append-nil (told t));
     front = inl nothing_said;
@@ -50,7 +53,8 @@ module _ (host : Host) where
     booted_turn m moment =
         let none = none_acked moment.bytes moment.done moment.acks in
         record {
-          home = stays_more host t u m booted.home moment.home;
+          home = stays_more host t u m (stays_in_replica host t u booted.kept) moment.home;
+          within = kept_outside_more (area_of (site_of host)) t u m booted.kept moment.within;
           bytes = moment.bytes;
           is_told = told_both m moment.bytes moment.is_told;
           front = moment.front;

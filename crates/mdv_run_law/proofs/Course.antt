@@ -1,8 +1,8 @@
 -- Where nothing failed and memory was never wanting, a run has one course.
-use Rattle.std.proofs.Common.{◌≡◌, inl, inr, ℕ, Bool, List, [], ◌∷◌, ◌++◌, length, ◌+◌, ◌≤◌, Option, Contains, refl, sym, ◌∙◌, ap, subst, append_assoc, arith}
+use Rattle.std.proofs.Common.{◌≡◌, inl, inr, ℕ, Bool, List, [], ◌∷◌, ◌++◌, length, ◌+◌, ◌≤◌, Contains, refl, sym, ◌∙◌, ap, subst, append_assoc, arith}
 use Rattle.std.proofs.lemmas.List.Elements.{Contains-append_right}
 use Rattle.mdv_base.specs.Causes.{Failures}
-use Rattle.mdv_base.proofs.Causes.{IsWithin, rose_within}
+use Rattle.mdv_base.proofs.Causes.{IsWithin, rose_of_once, rose_within}
 use Rattle.mdv_run_law.specs.Below.{Refusal, BadLine, OutOfMemory, Script, at_end, spent, too_long, line, replies_in, Command, Create, MakeStripe, Read, Write, Boot, Line, Answer, Host, site_of, Kept, CameTo, ComesTo, IsRebooted, adopted, empty, down, lost, wanting, IsPlain, IsPlainAnswer, IsReply, refusal_line}
 use Rattle.mdv_words.specs.declared.command.Line.TheVariants as words
 use Rattle.mdv_engine_law.specs.declared.answer.Answer.TheVariants.{Said, Over as Ends}
@@ -13,14 +13,13 @@ use Rattle.mdv_engine_law.specs.Answers.{accepted, refusing}
 use Rattle.mdv_engine_law.specs.Commands as came
 use Rattle.mdv_engine_law.specs.Commands.{Effect, case_of}
 use Rattle.mdv_engine_law.specs.Line as boot
-use Rattle.mdv_shelf.specs.Story.{Story}
 use Rattle.mdv_status.specs.Telling.{Said as SaidBytes}
 use Rattle.mdv_engine_law.specs.Replies.{text_of}
 use Rattle.mdv_engine_law.proofs.Executing.{comes_more, rebooted_more}
 use Rattle.mdv_engine_law.proofs.Plain.{bad_line_plain, too_long_plain, memory_plain, refusal_plain, ok_reply, values_are_reply, refusal_reply}
 use Rattle.mdv_run_law.specs.declared.status.RunStatus.{RunStatus}
 use Rattle.mdv_run_law.specs.declared.status.RunStatus.TheVariants.{NoMemory}
-use Rattle.mdv_run_law.specs.Run.{Counts, RoseTo, RoseCalmly, OnlyReplying, IsUndisturbed, IsSated, Stops, At, NextLine, IsSaid, refused_by, LineTold, LinesTold, Stretch, no_line, one_more, EndsAs, EndsWith, Over, unread, ended as script_ended, broken, Runs, RunsFrom, behind_boot, IsAnswered, IsLostStatus, IsSameEnd, HasHome, OneCourse, started, drive_failed, drive_failures, status_at}
+use Rattle.mdv_run_law.specs.Run.{Counts, RoseTo, RoseCalmly, OnlyReplying, IsUndisturbed, IsSated, Stops, At, NextLine, IsSaid, refused_by, LineTold, LinesTold, Stretch, no_line, one_more, EndsAs, EndsAt, EndsWith, Over, unread, ended as script_ended, broken, Runs, RunsFrom, behind_boot, Progress, IsAnswered, IsLostStatus, IsSameEnd, HasHome, OneCourse, started, drive_failures, giving_failed, status_at}
 use Rattle.mdv_run_law.proofs.Again.{Alike, neither, alike_itself}
 use Rattle.mdv_run_law.proofs.Carrying.{one_answer}
 use Rattle.mdv_run_law.proofs.Keeping.{IsSatisfied, Same, One, stays_same, one_boot}
@@ -117,8 +116,12 @@ calm_within a b c d before behind calm = record {
 }
 
 -- a drive that never failed failed in no part of the stretch
-drive_calm : (a b c d : Counts) → a.drive ≤ b.drive → c.drive ≤ d.drive → IsUndisturbed a d → drive_failed b c → ⊥
-drive_calm a b c d before behind calm rose = calm.drive (rose_within _ _ _ _ before behind rose)
+drive_calm : (a b c d : Counts) → a.drive ≤ b.drive → c.drive ≤ d.drive → IsUndisturbed a d → (drive_failures b c).some → ⊥
+drive_calm a b c d before behind calm once = calm.drive (rose_within _ _ _ _ before behind (rose_of_once _ _ once))
+
+-- nor did a giving
+giving_calm : (a b : Counts) → IsUndisturbed a b → giving_failed a b → ⊥
+giving_calm a b calm once = calm.replies (rose_of_once _ _ once)
 
 drive_replying : (answer : Answer) (a b : Counts) → OnlyReplying answer a b → a.drive ≤ b.drive
 drive_replying (Said this) a b given = let same = given.drive in omega arith
@@ -184,7 +187,7 @@ module _ (host : Host) (content : ℕ → List ℕ) (has : HasHome host content)
     plain : IsPlainAnswer answer
     kept : IsSaid answer → Same host next also
 
-  one_next : (now then from to : Counts) → (drive_failed now then → ⊥) → (drive_failed from to → ⊥) → (n m next also : Kept) → Same host n m → (script rest left : Script) (answer other : Answer) → IsSatisfied answer → IsSatisfied other
+  one_next : (now then from to : Counts) → ((drive_failures now then).some → ⊥) → ((drive_failures from to).some → ⊥) → (n m next also : Kept) → Same host n m → (script rest left : Script) (answer other : Answer) → IsSatisfied answer → IsSatisfied other
       → NextLine host now n script answer then next rest → NextLine host from m script other to also left → Next answer other next also rest left
   one_next now then from to calm calm_too n m next also same at_end rest left answer other enough enough_too one two = absurd one
   one_next now then from to calm calm_too n m next also same (spent lines bytes) rest left answer other enough enough_too one two = absurd one
@@ -242,8 +245,8 @@ module _ (host : Host) (content : ℕ → List ℕ) (has : HasHome host content)
   module _ (w v : Stretch) (c d : ℕ) (e f : Counts) (s r : RunStatus) (k j : Kept) where
     -- both are over before a line, or with its answer
     one_over : (n m : At) (a b : List ℕ) → Beside n m → IsUndisturbed n.counts e → IsUndisturbed m.counts f → IsSated a s → IsSated b r → Over host w c e n a s k → Over host v d f m b r j → SameEnds host a b s r k j
-    one_over n m a b beside calm calm_too sated sated_too (unread only quiet stops) two = absurd (calm.source only.source)
-    one_over n m a b beside calm calm_too sated sated_too one (unread only quiet stops) = absurd (calm_too.source only.source)
+    one_over n m a b beside calm calm_too sated sated_too (unread only quiet stops) two = absurd (calm.source (rose_of_once _ _ only.source))
+    one_over n m a b beside calm calm_too sated sated_too one (unread only quiet stops) = absurd (calm_too.source (rose_of_once _ _ only.source))
     one_over n m a b beside calm calm_too sated sated_too (script_ended how same_counts quiet stops) (script_ended how_too same_too quiet_too stops_too) =
         let same = one_end n.refused m.refused n.script m.script s r beside.refused beside.script how how_too in
         (stops.silent ∙ sym stops_too.silent, same, λ known. subst (λ (x : Kept). IsSameEnd host x j) (sym stops.keeps) (subst (λ (x : Kept). IsSameEnd host n.kept x) (sym stops_too.keeps) (beside.kept.memory, beside.kept.beside)))
@@ -256,22 +259,22 @@ module _ (host : Host) (content : ℕ → List ℕ) (has : HasHome host content)
         let there = drive_calm m.counts m.counts to f (omega arith) (drive_replying other to f given_too) calm_too in
         let last = calm_within n.counts then e e (next_rose host n.counts then n.kept next n.script left answer is) (rose_itself e) calm in
         let last_too = calm_within m.counts to f f (next_rose host m.counts to m.kept also m.script behind other is_too) (rose_itself f) calm_too in
-        let both = one_next n.counts then m.counts to here there n.kept m.kept next also beside.kept n.script left behind answer other (end_satisfied _ last.replies answer next a s k with sated) (end_satisfied _ last_too.replies other also b r j with_too sated_too)
+        let both = one_next n.counts then m.counts to here there n.kept m.kept next also beside.kept n.script left behind answer other (end_satisfied _ (giving_calm _ _ last) answer next a s k with sated) (end_satisfied _ (giving_calm _ _ last_too) other also b r j with_too sated_too)
         is (subst (λ (x : Script). NextLine host m.counts m.kept x other to also behind) (sym beside.script) is_too) in
-        one_with _ _ last.replies last_too.replies answer other both.same next also a b s r k j with with_too
+        one_with _ _ (giving_calm _ _ last) (giving_calm _ _ last_too) answer other both.same next also a b s r k j with with_too
 
     -- one is over where the other goes on
     one_stays : (n m then : At) (a piece rest : List ℕ) → Beside n m → IsUndisturbed n.counts e → IsUndisturbed m.counts f → then.counts.drive ≤ f.drive → IsSated a s → IsSated (piece ++ rest) r → Over host w c e n a s k → LineTold host m piece then → ⊥
-    one_stays n m then a piece rest beside calm calm_too rose_too sated sated_too (unread only quiet stops) two = calm.source only.source
+    one_stays n m then a piece rest beside calm calm_too rose_too sated sated_too (unread only quiet stops) two = calm.source (rose_of_once _ _ only.source)
     one_stays n m then a piece rest beside calm calm_too rose_too sated sated_too (script_ended how same quiet stops) two =
         never_next n.refused n.script m.script s m.counts then.counts m.kept then.kept then.script two.answer beside.script how two.comes
     one_stays n m then a piece rest beside calm calm_too rose_too sated sated_too (broken answer to next left is shown given led with) two =
         let here = drive_calm n.counts n.counts to e (omega arith) (drive_replying answer to e given) calm in
         let there = drive_calm m.counts m.counts then.counts f (omega arith) rose_too calm_too in
         let last = calm_within n.counts to e e (next_rose host n.counts to n.kept next n.script left answer is) (rose_itself e) calm in
-        let both = one_next n.counts to m.counts then.counts here there n.kept m.kept next then.kept beside.kept n.script left then.script answer two.answer (end_satisfied _ last.replies answer next a s k with sated) (line_satisfied two.answer piece rest r two.said two.as_text sated_too)
+        let both = one_next n.counts to m.counts then.counts here there n.kept m.kept next then.kept beside.kept n.script left then.script answer two.answer (end_satisfied _ (giving_calm _ _ last) answer next a s k with sated) (line_satisfied two.answer piece rest r two.said two.as_text sated_too)
         is (subst (λ (x : Script). NextLine host m.counts m.kept x two.answer then.counts then.kept then.script) (sym beside.script) two.comes) in
-        said_text answer _ last.replies (subst IsSaid both.same two.said) next a s k with
+        said_text answer _ (giving_calm _ _ last) (subst IsSaid both.same two.said) next a s k with
 
   beside_back : (n m : At) → Beside n m → Beside m n
   beside_back n m is = record {
@@ -313,7 +316,7 @@ module _ (host : Host) (content : ℕ → List ℕ) (has : HasHome host content)
     runs_rose : (w : Stretch) (n : At) (told : List ℕ) → Runs host w e n told s k → n.counts.drive ≤ e.drive
     runs_rose w n told runs = drive_on n.counts runs.at.counts e (lines_rose host w 0 n runs.at runs.so_far runs.lines) (over_rose host w (length runs.so_far) e runs.at runs.rest s k runs.over)
 
-    one_from : (w v : Stretch) (answer : Answer) (now from : Counts) (p q : Option Story) (n m : Kept) → (IsSaid answer → Same host n m) → (script : Script) (a b : List ℕ) → IsUndisturbed now e → IsUndisturbed from f → IsSated a s → IsSated b r
+    one_from : (w v : Stretch) (answer : Answer) (now from : Counts) (p q : Progress) (n m : Kept) → (IsSaid answer → Same host n m) → (script : Script) (a b : List ℕ) → IsUndisturbed now e → IsUndisturbed from f → IsSated a s → IsSated b r
         → RunsFrom host w e answer now p n script a s k → RunsFrom host v f answer from q m script b r j → SameEnds host a b s r k j
     one_from w v (Said outcome.Ok) now from p q n m same script a b calm calm_too sated sated_too one two =
         let ends = one_run w v 0 0 (length one.so_far) (length two.so_far) (behind_boot now p n script) (behind_boot from q m script) one.at two.at one.so_far two.so_far one.rest two.rest
@@ -325,16 +328,16 @@ module _ (host : Host) (content : ℕ → List ℕ) (has : HasHome host content)
 
   -- the boot at a run's start
   module _ (e : Counts) (s : RunStatus) (k : Kept) where
-    from_rose : (w : Stretch) (answer : Answer) (now : Counts) (p : Option Story) (n : Kept) (script : Script) (told : List ℕ) → RunsFrom host w e answer now p n script told s k → now.drive ≤ e.drive
+    from_rose : (w : Stretch) (answer : Answer) (now : Counts) (p : Progress) (n : Kept) (script : Script) (told : List ℕ) → RunsFrom host w e answer now p n script told s k → now.drive ≤ e.drive
     from_rose w (Said outcome.Ok) now p n script told from = runs_rose e e s s k k w (behind_boot now p n script) told from
     from_rose w (Said (outcome.Values text)) now p n script told from = absurd from
     from_rose w (Said (outcome.Refused refusal)) now p n script told from = absurd from
     from_rose w (Ends end) now p n script told from = let drives = ap (λ (x : Counts). x.drive) from.0 in omega arith
 
-    satisfied_from : (w : Stretch) (answer : Answer) (now : Counts) (p : Option Story) (n : Kept) (script : Script) (told : List ℕ) → IsSated told s → RunsFrom host w e answer now p n script told s k → IsSatisfied answer
+    satisfied_from : (w : Stretch) (answer : Answer) (now : Counts) (p : Progress) (n : Kept) (script : Script) (told : List ℕ) → IsSated told s → RunsFrom host w e answer now p n script told s k → IsSatisfied answer
     satisfied_from w answer now p n script told sated from = record {
       not_refused = λ is. (let never : ⊥ = subst (λ (x : Answer). RunsFrom host w e x now p n script told s k) is from in never);
-      not_wanting = λ is. (let stops : (e ≡ now) × (w.new ≡ p) × Stops n NoMemory told s k = subst (λ (x : Answer). RunsFrom host w e x now p n script told s k) is from in sated.end stops.2.ended);
+      not_wanting = λ is. (let stops : (e ≡ now) × EndsAt w p.story p.effort × Stops n NoMemory told s k = subst (λ (x : Answer). RunsFrom host w e x now p n script told s k) is from in sated.end stops.2.ended);
     }
 
   alike_start : (kept next : Kept) (answer : Answer) → IsSatisfied answer → IsRebooted unfailing host kept answer next → Alike (site_of host) has.sound kept.content kept.content
@@ -352,15 +355,15 @@ module _ (host : Host) (content : ℕ → List ℕ) (has : HasHome host content)
 
 pub one_course : OneCourse
 one_course = λ host content has script w v start end from to calm calm_too a b s r k j sated sated_too first second.
-    let up = from_rose host content has end s k w first.answer first.booted first.story first.kept script a first.runs in
-    let up_too = from_rose host content has to r j v second.answer second.booted second.story second.kept script b second.runs in
+    let up = from_rose host content has end s k w first.answer first.booted first.by first.kept script a first.runs in
+    let up_too = from_rose host content has to r j v second.answer second.booted second.by second.kept script b second.runs in
     let here = drive_calm start start first.booted end (omega arith) up calm in
     let there = drive_calm from from second.booted to (omega arith) up_too calm_too in
     let left = calm_within start first.booted end end (calmly_rose start first.booted first.rose) (rose_itself end) calm in
     let left_too = calm_within from second.booted to to (calmly_rose from second.booted second.rose) (rose_itself to) calm_too in
     let both = one_start host content has first.kept second.kept first.answer second.answer
-    (satisfied_from host content has end s k w first.answer first.booted first.story first.kept script a sated first.runs) (satisfied_from host content has to r j v second.answer second.booted second.story second.kept script b sated_too second.runs)
+    (satisfied_from host content has end s k w first.answer first.booted first.by first.kept script a sated first.runs) (satisfied_from host content has to r j v second.answer second.booted second.by second.kept script b sated_too second.runs)
     (rebooted_more (drive_failures start first.booted) unfailing (calm_is (drive_failures start first.booted) here) host (started content) first.kept first.answer first.boots)
     (rebooted_more (drive_failures from second.booted) unfailing (calm_is (drive_failures from second.booted) there) host (started content) second.kept second.answer second.boots) in
-    one_from host content has end to s r k j w v first.answer first.booted second.booted first.story second.story first.kept second.kept both.1 script a b left left_too sated sated_too first.runs
-    (subst (λ (x : Answer). RunsFrom host v to x second.booted second.story second.kept script b r j) (sym both.0) second.runs)
+    one_from host content has end to s r k j w v first.answer first.booted second.booted first.by second.by first.kept second.kept both.1 script a b left left_too sated sated_too first.runs
+    (subst (λ (x : Answer). RunsFrom host v to x second.booted second.by second.kept script b r j) (sym both.0) second.runs)

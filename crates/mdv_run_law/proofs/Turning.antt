@@ -2,7 +2,7 @@
 use Rattle.std.proofs.Common.{◌≡◌, ◌≢◌, ◌⊎◌, inl, inr, ℕ, Bool, true, false, ◌||◌, cond, List, [], ◌∷◌, ◌++◌, None, Contains, refl, sym, ◌∙◌, ap, subst, arith}
 use Rattle.std.specs.Str.{bytes_eq}
 use Rattle.mdv_base.specs.declared.refusal.Refusal.TheVariants.{IoFault}
-use Rattle.mdv_run_law.specs.Below.{Script, too_long, line, Tale, Said, left_in, replies_in, Boot, IsLine, History, Deed, Created, Event, history_after_all, HasWoken, Host, Ask, Nothing, Memory, IsFront, IsReply, Acks, AcksBy, AcksFront, AcksIn, deeds, issuable, issuable_in, issuable_of, ok_line, refusal_line, StandsAt, Does, Knows, IsKnown, IsAwake, TurnMoment, Turned}
+use Rattle.mdv_run_law.specs.Below.{Script, too_long, line, Tale, Said, left_in, replies_in, Boot, IsLine, History, Deed, Created, Event, history_after_all, HasWoken, Host, Ask, Nothing, Memory, IsFront, IsReply, Acks, AcksBy, AcksFront, AcksIn, is_front_of, issuable, issuable_front, issuable_in, issuable_of, ok_line, refusal_line, StandsAt, Does, Knows, IsKnown, IsAwake, TurnMoment, Turned}
 use Rattle.mdv_engine_law.specs.Standing as turn
 use Rattle.mdv_run_law.specs.Standing.{Asks, AreIdle, AreOfLine, ComeOf, InWork, NothingLeft, IsTold, AreReplies, behind, LinesMoment, RanTo}
 use Rattle.mdv_run_law.proofs.Coming.{one_asked, acked_once, behind_none, told_none, in_work_none, come_line, come_long}
@@ -77,11 +77,11 @@ module _ (host : Host) (text : List ℕ) (ask : Ask) (asks : Asks text ask) (mor
       → ComeOf host (InWork host (left_in bytes)) old.down (line text more) (replies_in bytes) es
   front_come old bytes (inl none) done acks awake es does =
       let front : AcksFront ask bytes done = subst (λ (s : Said). AcksIn ask s.replies s.left done) none acks in
-      let does_so : Does host (deeds ask) done es = subst (λ (s : Said). Does host (issuable_in ask s.replies) done es) none does in
+      let does_so : Does host (issuable_front ask bytes) done es = subst (λ (s : Said). Does host (issuable_in ask s.replies s.left) done es) none does in
       subst (λ (s : Said). ComeOf host (InWork host s.left) old.down (line text more) s.replies es) (sym none) (inr (record { ask = ask; asks = asks; done = done; acks = front; does = does_so; awake = awake }))
   front_come old bytes (inr one) done acks awake es does =
       let by : AcksBy ask bytes done = subst (λ (s : Said). AcksIn ask s.replies s.left done) one acks in
-      let here = of_line old true bytes done by awake es (subst (λ (s : Said). Does host (issuable_in ask s.replies) done es) one does) (λ is. absurd (cc (is))) in
+      let here = of_line old true bytes done by awake es (subst (λ (s : Said). Does host (issuable_in ask s.replies s.left) done es) one does) (λ is. absurd (cc (is))) in
       subst (λ (s : Said). ComeOf host (InWork host s.left) old.down (line text more) s.replies es) (sym one) (come_line host (InWork host []) old.down true text more bytes es here (in_work_none host true more))
 
   -- a creation that the reply tells is among what it acknowledges
@@ -132,8 +132,8 @@ none_issuable_by reply = either_none (bytes_eq reply ok_line || bytes_eq reply (
 
 none_issuable : (bytes : List ℕ) → issuable_of Nothing bytes ≡ []
 none_issuable bytes = by (replies_in bytes) where
-  by : (replies : List (List ℕ)) → issuable_in Nothing replies ≡ []
-  by [] = refl
+  by : (replies : List (List ℕ)) → issuable_in Nothing replies (left_in bytes) ≡ []
+  by [] = either_none (is_front_of ok_line (left_in bytes) || is_front_of (refusal_line IoFault) (left_in bytes))
   by (reply ∷ replies) = none_issuable_by reply
 
 -- the same of a line that was too long, by which nothing is asked

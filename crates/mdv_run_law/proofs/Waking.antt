@@ -9,6 +9,7 @@ use Rattle.mdv_engine_law.specs.Commands.{Effect, Fault, Wanting, IsAllowed, cas
 use Rattle.mdv_engine_law.proofs.Allowed.{allowed_up}
 use Rattle.mdv_engine_law.proofs.Longer.{never_ended}
 use Rattle.mdv_run_law.specs.Run.{IsSaid}
+use Rattle.mdv_shelf.specs.Made.{Made}
 
 -- an answer whose reply was told whole
 said_whole : (failed : Type 0) (answer : Answer) (r : Reply) (piece : List ℕ) → IsTold failed answer r piece → IsReplied r → IsSaid answer
@@ -45,6 +46,6 @@ module _ (failures : Failures) (host : Host) (kept next : Kept) (answer : Answer
   carried_awake command (came.over end free is gives) said = absurd (let never : ⊥ = subst IsSaid is said in never)
 
 -- a command that was executed and replied to
-pub executed_awake : (drive : Failures) (replies : Type 0) (host : Host) (command : Command) (old new : Memory) (r : Reply) (t u : Tale) → Executed drive replies host (words.Command command) old new r t u → IsExecuted command → IsReplied r → IsAwake new → IsAwake old
-executed_awake drive replies host command old new r t u is executed replied up =
+pub executed_awake : (drive : Failures) (replies : Type 0) (made : Made) (host : Host) (command : Command) (old new : Memory) (r : Reply) (t u : Tale) → Executed drive replies made host (words.Command command) old new r t u → IsExecuted command → IsReplied r → IsAwake new → IsAwake old
+executed_awake drive replies made host command old new r t u is executed replied up =
     carried_awake drive host (kept_at old t) (kept_at new u) is.answer up command is.carried (said_whole replies is.answer r is.replied.piece is.replied.as_told replied)

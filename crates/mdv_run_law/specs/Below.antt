@@ -15,10 +15,10 @@ pub use Rattle.mdv_engine_law.specs.Commands.{CameTo, ComesTo}
 pub use Rattle.mdv_engine_law.specs.Line.{AreBlocksAt, ArePut, HasVolumeOn}
 pub use Rattle.mdv_engine_law.specs.Line.{IsCommitted, IsCreated, IsExecuted, IsNew}
 pub use Rattle.mdv_engine_law.specs.Line.{IsRebooted, IsRewritten, IsSame, IsSameBeside, IsTurnedDown, Kept}
-pub use Rattle.mdv_engine_law.specs.Line.{Ask, Memory, Nothing, Stays, ToDo, ToSee, adopted, asked_by, asked_by_line, blocks_of, deeds, down, drive_content}
+pub use Rattle.mdv_engine_law.specs.Line.{Ask, Memory, Nothing, Stays, ToDo, ToSee, adopted, asked_by, asked_by_line, blocks_of, down, drive_content}
 pub use Rattle.mdv_engine_law.specs.Line.{empty, kept_at, lost, record_room}
 pub use Rattle.mdv_engine_law.specs.Line.{unbooted, wanting}
-pub use Rattle.mdv_engine_law.specs.Replies.{Acks, AcksBy, AcksFront, AcksIn, IsFront, IsPlain, IsPlainAnswer, IsReplied, IsReply, IsTold, issuable, issuable_in, issuable_of}
+pub use Rattle.mdv_engine_law.specs.Replies.{Acks, AcksBy, AcksFront, AcksIn, IsFront, IsPlain, IsPlainAnswer, IsReplied, IsReply, IsTold, is_front_of, issuable, issuable_front, issuable_in, issuable_of}
 pub use Rattle.mdv_engine_law.specs.Replies.{ok_line, refusal_line}
 pub use Rattle.mdv_engine_law.specs.Standing.{BootMoment, BootedTo, Does, Executed, IsAwake, IsKnown, IsOfRun, Knows, Reached}
 pub use Rattle.mdv_engine_law.specs.Standing.{StandsAt, TurnMoment, Turned}

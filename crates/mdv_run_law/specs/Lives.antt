@@ -56,7 +56,7 @@ AreSaid (ran ∷ before) said = (first : List Deed) × AreSaid before first × (
 
 abbrev pub AreAsked : List Ran → List Deed → Type 0
 AreAsked [] asked = asked ≡ []
-AreAsked (ran ∷ before) asked = (first : List Deed) × AreAsked before first × (rest : List Deed) × AreBegun ran.script (replies_in ran.bytes) rest × (asked ≡ first ++ rest)
+AreAsked (ran ∷ before) asked = (first : List Deed) × AreAsked before first × (rest : List Deed) × AreBegun ran.script (replies_in ran.bytes) (left_in ran.bytes) rest × (asked ≡ first ++ rest)
 
 -- a history of these drives behind these runs, with which they stand
 pub record IsHistoryOf (drives : Geometry) (home : Home) (made : Image) (ran : List Ran) (t : Tale) : Type 0 where
@@ -74,8 +74,8 @@ abbrev pub RunsHaveHome : Type 0
 RunsHaveHome = (drives : Geometry) (home : Home) (made : Image) (ran : List Ran) (t : Tale) (fresh : ℕ) → IsHome drives home → IsLife drives made ran t → HasHome (host_of drives home fresh) (drive_content t)
 
 -- A table of volumes that is one of a history of these runs, made by the changes that the history has for it, the newest first. Lines of these runs asked them,
--- in their order and each once, and weren't refused for another cause than a call that failed; and all that were told ok are among them, in the order in
--- which they were told.
+-- in their order and each once, and what was told of each of these lines is `ok`, or that a call failed, or a front of one of these, as nothing told is; and
+-- all that were told ok are among them, in the order in which they were told.
 pub record HasToldChanges (drives : Geometry) (home : Home) (made : Image) (ran : List Ran) (t : Tale) (table : Table) : Type 0 where
   pub history : IsHistoryOf drives home made ran t
   pub version : Version

@@ -1,6 +1,7 @@
 -- The run of one host, told by what its script asks.
 use Rattle.std.specs.Prelude.{◌≡◌, ◌≢◌, ◌⊎◌, ◌≤◌, ◌<◌, ◌+◌, ℕ, Bool, true, false, List, [], ◌++◌, take, length, Option, Some, IfSome, Contains, if◌then◌else◌}
-use Rattle.mdv_base.specs.Causes.{Failures, failures_of}
+use Rattle.mdv_base.specs.Causes.{RoseOnce, Failures, failures_of}
+use Rattle.mdv_shelf.specs.Made.{Effort, Made, made_between}
 use Rattle.mdv_run_law.specs.Below.{Rose, BadLine, LineTooLong, OutOfMemory, IsHome, Script, at_end, spent, too_long, line, Head, Part, OnDrive, OnReplies, Tale, told, replies_in, IsSound, Line, IsLine, IsFound, IsOpened, Answer, Host, site_of, Kept, IsSame, IsSameBeside, ComesTo, IsRebooted, IsTurnedDown, drive_content, unbooted}
 use Rattle.mdv_shelf.specs.Story.{Moment, Story, Mark, marked, AtEach, InTime, tale_of}
 use Rattle.mdv_engine_law.specs.Replies.{outcome_text, refusal_line, text_of}
@@ -9,6 +10,11 @@ use Rattle.mdv_engine_law.specs.declared.answer.Ended.{Ended}
 use Rattle.mdv_engine_law.specs.declared.answer.Ended.TheVariants as stop
 use Rattle.mdv_engine_law.specs.declared.answer.Outcome.TheVariants as outcome
 use Rattle.mdv_engine_law.specs.Answers.{accepted}
+use Rattle.mdv_engine_law.specs.Line.{Memory, asked_by_line}
+use Rattle.mdv_engine_law.specs.Standing.{WritesOnly}
+use Rattle.mdv_shelf.specs.Area.{KeptOutside, nowhere}
+use Rattle.mdv_store_law.specs.Site.{area_of}
+use Rattle.mdv_engine_law.specs.Efforts.{BootCalls, LineCalls, NoCalls, replied_to}
 use Rattle.mdv_run_law.specs.declared.status.RunStatus.{RunStatus}
 use Rattle.mdv_run_law.specs.declared.status.RunStatus.TheVariants.{Done, SomeRefused, Usage, NoQuorum, Panic, ReadFault, WriteFault, NoMemory, TwoDatabases, ScriptTooLong, NumbersSpent}
 
@@ -34,10 +40,10 @@ pub record RoseCalmly (now later : Counts) : Type 0 where
   pub source : later.source ≡ now.source
   pub replies : later.replies ≡ now.replies
 
--- a call of the source failed, and nothing else
+-- one call of the source failed, and nothing else
 pub record OnlyUnread (now later : Counts) : Type 0 where
   pub drive : later.drive ≡ now.drive
-  pub source : Rose now.source later.source
+  pub source : RoseOnce now.source later.source
   pub no_fewer : now.source ≤ later.source
   pub replies : later.replies ≡ now.replies
 
@@ -59,6 +65,10 @@ source_failed now later = Rose now.source later.source
 
 abbrev pub replies_failed : Counts → Counts → Type 0
 replies_failed now later = Rose now.replies later.replies
+
+-- one giving of replies failed
+abbrev pub giving_failed : Counts → Counts → Type 0
+giving_failed now later = RoseOnce now.replies later.replies
 
 -- nothing that the grammar has
 abbrev pub IsNoCommand : List ℕ → Type 0
@@ -85,10 +95,12 @@ pub record Stops (known : Kept) (end : RunStatus) (told : List ℕ) (status : Ru
 abbrev pub status_of : Bool → RunStatus
 status_of refused = if refused then SomeRefused else Done
 
--- where a run is between two lines: the counts by then, the story by then, what is kept, whether some reply was a refusal, and the script that is left
+-- where a run is between two lines: the counts by then, the story by then and how many calls were made, what is kept, whether some reply was a refusal, and
+-- the script that is left
 pub record At : Type 0 where
   pub counts : Counts
   pub story : Option Story
+  pub effort : Effort
   pub kept : Kept
   pub refused : Bool
   pub script : Script
@@ -101,6 +113,32 @@ NextLine host now kept at_end answer later next more = ⊥
 NextLine host now kept (spent lines bytes) answer later next more = ⊥
 NextLine host now kept (too_long rest) answer later next more = (more ≡ rest) × RoseCalmly now later × (drive_failures now later).none × IsTurnedDown LineTooLong kept answer next
 NextLine host now kept (line text rest) answer later next more = (more ≡ rest) × RoseCalmly now later × IsAnswered (drive_failures now later) host kept text answer next
+
+-- the calls of a line by its text: none of one that isn't in the grammar
+abbrev pub TextCalls : Made → Host → Kept → List ℕ → Answer → Kept → Type 0
+TextCalls made host kept text answer next = (IsNoCommand text × NoCalls made) ⊎ ((spelled : Line) × IsLine text spelled × LineCalls made host kept spelled answer next)
+
+-- and of the next line of a script
+abbrev pub NextCalls : Made → Host → Kept → Script → Answer → Kept → Type 0
+NextCalls made host kept at_end answer next = ⊥
+NextCalls made host kept (spent lines bytes) answer next = ⊥
+NextCalls made host kept (too_long rest) answer next = NoCalls made
+NextCalls made host kept (line text rest) answer next = TextCalls made host kept text answer next
+
+-- the blocks that a line may write, by its text, where this is in memory: all others are kept, and each where the line isn't in the grammar
+abbrev pub TextWrites : Host → Memory → List ℕ → Tale → Tale → Type 0
+TextWrites host memory text t u = (IsNoCommand text × KeptOutside nowhere t u) ⊎ ((spelled : Line) × IsLine text spelled × WritesOnly host (asked_by_line spelled) memory t u)
+
+-- and the next line of a script
+abbrev pub NextWrites : Host → Memory → Script → Tale → Tale → Type 0
+NextWrites host memory at_end t u = ⊥
+NextWrites host memory (spent lines bytes) t u = ⊥
+NextWrites host memory (too_long rest) t u = KeptOutside nowhere t u
+NextWrites host memory (line text rest) t u = TextWrites host memory text t u
+
+-- it holds from one point of a story to another
+abbrev pub FromTo : (Tale → Tale → Type 0) → Option Story → Option Story → Type 0
+FromTo P old new = (s u : Story) → old ≡ Some s → new ≡ Some u → P (tale_of s) (tale_of u)
 
 -- an answer that is told, and with which the run goes on
 abbrev pub IsSaid : Answer → Type 0
@@ -130,10 +168,12 @@ pub record IsPassage (now : At) (piece : List ℕ) (later : At) : Type 0 where
   pub told : (s u : Story) → now.story ≡ Some s → later.story ≡ Some u → told (tale_of u) ≡ told (tale_of s) ++ piece
   pub reads : (u : Story) → later.story ≡ Some u → IsSame later.kept.content (drive_content (tale_of u))
 
--- a line that was answered, and whose reply was told whole
+-- a line that was answered, and whose reply was told whole: by as many calls as it takes, and one, by which no block was written but those that it may write
 pub record LineTold (host : Host) (now : At) (piece : List ℕ) (later : At) : Type 0 where
   pub answer : Answer
   pub comes : NextLine host now.counts now.kept now.script answer later.counts later.kept later.script
+  pub calls : NextCalls (replied_to answer (made_between now.effort later.effort)) host now.kept now.script answer later.kept
+  pub writes : FromTo (NextWrites host now.kept.memory now.script) now.story later.story
   pub said : IsSaid answer
   pub as_text : piece ≡ text_of answer
   pub as_refused : later.refused ≡ refused_by answer now.refused
@@ -158,8 +198,22 @@ pub record AreLast (bytes drive : ℕ) (content : ℕ → List ℕ) (t m : Momen
 pub record Stretch : Type 0 where
   pub old : Option Story
   pub before : Part → ℕ
+  pub made_before : Effort
   pub new : Option Story
   pub after : Part → ℕ
+  pub made_after : Effort
+
+-- it ends where a run is behind a line: nothing more was told, done or called
+pub record EndsAt (stretch : Stretch) (story : Option Story) (effort : Effort) : Type 0 where
+  pub quiet : stretch.new ≡ story
+  pub uncalled : stretch.made_after ≡ effort
+
+-- It ends behind a line with which a run is over: no call that changed something was made behind one on the same part that failed, and the line took as many calls
+-- as it takes, its reply's among them, and wrote no block but those that it may write.
+pub record EndsBehind (stretch : Stretch) (host : Host) (now : At) (answer : Answer) (next : Kept) : Type 0 where
+  pub in_time : AreInTime now.counts now.story stretch.new
+  pub calls : NextCalls (replied_to answer (made_between now.effort stretch.made_after)) host now.kept now.script answer next
+  pub writes : FromTo (NextWrites host now.kept.memory now.script) now.story stretch.new
 
 -- A point of what the bench told, by which the parts had failed so often, nothing was told, and the drive's blocks read so; no call until then that changed something was made
 -- behind one on the same part that failed.
@@ -212,13 +266,13 @@ OnlyReplying (Said this) later end = OnlyUngiven later end
 OnlyReplying (Ends over) later end = end ≡ later
 
 -- How a run is over, which has come so far, with so many bytes told, by these counts: the source failed; the script is at its end, or past its limit; or a line
--- was answered so that no line is run behind it, or its reply couldn't be told. What that line did the moments show, and no call of it that changed
--- something was made behind one on the same part that failed; where there was none the story ends at the point behind the line before.
+-- was answered so that no line is run behind it, or its reply couldn't be told. What that line did the moments show, and its calls are counted as those of the lines
+-- before; where there was none the story ends at the point behind the line before.
 pub data Over (host : Host) (stretch : Stretch) (bytes : ℕ) (end : Counts) (now : At) (told : List ℕ) (status : RunStatus) (last : Kept) : Type 0 where
-  unread : OnlyUnread now.counts end → stretch.new ≡ now.story → Stops now.kept ReadFault told status last → Over host stretch bytes end now told status last
-  ended : EndsAs now.refused now.script status → end ≡ now.counts → stretch.new ≡ now.story → Stops now.kept status told status last → Over host stretch bytes end now told status last
+  unread : OnlyUnread now.counts end → EndsAt stretch now.story now.effort → Stops now.kept ReadFault told status last → Over host stretch bytes end now told status last
+  ended : EndsAs now.refused now.script status → end ≡ now.counts → EndsAt stretch now.story now.effort → Stops now.kept status told status last → Over host stretch bytes end now told status last
   broken : (answer : Answer) (later : Counts) (next : Kept) (more : Script) → NextLine host now.counts now.kept now.script answer later next more → IsLastShown stretch bytes later.drive next.content → OnlyReplying answer later end
-      → AreInTime now.counts now.story stretch.new → EndsWith (replies_failed later end) answer next told status last → Over host stretch bytes end now told status last
+      → EndsBehind stretch host now answer next → EndsWith (giving_failed later end) answer next told status last → Over host stretch bytes end now told status last
 
 -- The run of a script, from there on: line after line, until it is over. A line is excused by the calls alone that failed until the first byte of its reply
 -- was told, and behind the last of the reply before; one of whose reply nothing was told, by those until the run's end.
@@ -234,18 +288,23 @@ pub record Runs (host : Host) (stretch : Stretch) (end : Counts) (now : At) (tol
 abbrev pub started : (ℕ → List ℕ) → Kept
 started content = record { memory = unbooted 0; content = content }
 
+-- how far a bench is: its story, and how many calls it made
+pub record Progress : Type 0 where
+  pub story : Option Story
+  pub effort : Effort
+
 -- where a run is behind its boot
-abbrev pub behind_boot : Counts → Option Story → Kept → Script → At
-behind_boot booted story kept script = record { counts = booted; story = story; kept = kept; refused = false; script = script }
+abbrev pub behind_boot : Counts → Progress → Kept → Script → At
+behind_boot booted by kept script = record { counts = booted; story = by.story; effort = by.effort; kept = kept; refused = false; script = script }
 
 -- what follows on the boot at a run's start, to which nothing is replied: the lines from the point behind it on, or nothing
-abbrev pub RunsFrom : Host → Stretch → Counts → Answer → Counts → Option Story → Kept → Script → List ℕ → RunStatus → Kept → Type 0
-RunsFrom host stretch end (Said outcome.Ok) later story kept script told status last = Runs host stretch end (behind_boot later story kept script) told status last
-RunsFrom host stretch end (Said other) later story kept script told status last = ⊥
-RunsFrom host stretch end (Ends over) later story kept script told status last = (end ≡ later) × (stretch.new ≡ story) × Stops kept (status_at over) told status last
+abbrev pub RunsFrom : Host → Stretch → Counts → Answer → Counts → Progress → Kept → Script → List ℕ → RunStatus → Kept → Type 0
+RunsFrom host stretch end (Said outcome.Ok) later by kept script told status last = Runs host stretch end (behind_boot later by kept script) told status last
+RunsFrom host stretch end (Said other) later by kept script told status last = ⊥
+RunsFrom host stretch end (Ends over) later by kept script told status last = (end ≡ later) × EndsAt stretch by.story by.effort × Stops kept (status_at over) told status last
 
--- A whole run, from these counts to those: the boot answers from what the drive's blocks held, excused by the calls that failed until the counts `booted`, and the script is run from
--- there. They are those of a point of the run, by which the drive's blocks read as the boot left them: the first of the points between two lines, each of which is
+-- A whole run, from these counts to those: the boot answers from what the drive's blocks held, by as many calls as that takes, excused by the one that failed until the counts `booted`, and
+-- the script is run from there. They are those of a point of the run, by which the drive's blocks read as the boot left them: the first of the points between two lines, each of which is
 -- behind the one before.
 pub record IsRun (host : Host) (stretch : Stretch) (start end : Counts) (content : ℕ → List ℕ) (script : Script) (told : List ℕ) (status : RunStatus) (last : Kept) : Type 0 where
   pub answer : Answer
@@ -253,9 +312,11 @@ pub record IsRun (host : Host) (stretch : Stretch) (start end : Counts) (content
   pub rose : RoseCalmly start booted
   pub kept : Kept
   pub boots : IsRebooted (drive_failures start booted) host (started content) answer kept
-  pub story : Option Story
-  pub point : IsPoint stretch start.source booted story kept.content
-  pub runs : RunsFrom host stretch end answer booted story kept script told status last
+  pub by : Progress
+  pub calls : BootCalls (made_between stretch.made_before by.effort) host answer kept.memory content
+  pub writes : FromTo (KeptOutside (area_of (site_of host))) stretch.old by.story
+  pub point : IsPoint stretch start.source booted by.story kept.content
+  pub runs : RunsFrom host stretch end answer booted by kept script told status last
 
 -- Of the next line's reply nothing was told by that moment, or a front: of the reply to what it came to, where the drive had failed so often, and its blocks read as
 -- the line left them.
@@ -293,9 +354,11 @@ pub record RunToldBy (host : Host) (stretch : Stretch) (start : Counts) (content
   pub rose : RoseCalmly start booted
   pub kept : Kept
   pub boots : IsRebooted (drive_failures start booted) host (started content) accepted kept
-  pub story : Option Story
-  pub point : IsPoint stretch start.source booted story kept.content
-  pub lines : LinesToldBy host stretch (behind_boot booted story kept script) told m
+  pub by : Progress
+  pub calls : BootCalls (made_between stretch.made_before by.effort) host accepted kept.memory content
+  pub writes : FromTo (KeptOutside (area_of (site_of host))) stretch.old by.story
+  pub point : IsPoint stretch start.source booted by.story kept.content
+  pub lines : LinesToldBy host stretch (behind_boot booted by kept script) told m
 
 -- By a moment of a run that began at t nothing was told, or what the script asks for, as far as it had come: values that were told are those of
 -- blocks as the lines before left them, by the relation of lines alone. It says so too of a run that was stopped there.

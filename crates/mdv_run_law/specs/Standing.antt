@@ -1,6 +1,6 @@
 -- How the drive stands with its history at each moment of a run.
 use Rattle.std.specs.Prelude.{◌≡◌, ◌≢◌, ◌⊎◌, ℕ, Bool, true, false, List, [], ◌∷◌, ◌++◌, Some, Contains}
-use Rattle.mdv_run_law.specs.Below.{Script, at_end, spent, too_long, line, Head, shows, Tale, told, Everywhere, left_in, replies_in, Line, Boot, IsLine, is_firm, IsReplica, History, Deed, Created, Event, HasWoken, history_after, MayHappen, Host, site_of, identity_of, Ask, Nothing, Memory, asked_by_line, AcksBy, AcksFront, deeds, issuable, StandsAt, Does, Reached, Knows, IsKnown}
+use Rattle.mdv_run_law.specs.Below.{Script, at_end, spent, too_long, line, Head, shows, Tale, told, Everywhere, left_in, replies_in, Line, Boot, IsLine, is_firm, IsReplica, History, Deed, Created, Event, HasWoken, history_after, MayHappen, Host, site_of, identity_of, Ask, Nothing, Memory, asked_by_line, AcksBy, AcksFront, issuable, issuable_front, StandsAt, Does, Reached, Knows, IsKnown}
 use Rattle.mdv_store_law.specs.Machine as machine
 use Rattle.mdv_run_law.specs.Run.{IsNoCommand}
 
@@ -25,13 +25,14 @@ pub record AreOfLine (host : Host) (text : List ℕ) (down : Bool) (reply : List
   pub awake : done ≢ [] → down ≡ false
   pub up : then ≡ false → (IsLine text Boot × HasWoken es) ⊎ ((down ≡ false) × (IsLine text Boot → ⊥))
 
--- events of the line in work
+-- Events of the line in work, by the front of its reply that was told: they begin what it asks only where that is a front of `ok`, or of the reply
+-- that a call on a drive failed, as it is before the first byte, and else nothing; and they tell what this front acknowledges.
 pub record LineInWork (host : Host) (front : List ℕ) (down : Bool) (text : List ℕ) (es : List Event) : Type 0 where
   pub ask : Ask
   pub asks : Asks text ask
   pub done : List Deed
   pub acks : AcksFront ask front done
-  pub does : Does host (deeds ask) done es
+  pub does : Does host (issuable_front ask front) done es
   pub awake : done ≢ [] → down ≡ false
 
 -- Events that come, in order, of the lines of the script that these replies answer, one for each, where the last boot
@@ -45,8 +46,9 @@ ComeOf host Left down (too_long more) (reply ∷ replies) es =
 ComeOf host Left down (line text more) (reply ∷ replies) es =
     (first : List Event) × (rest : List Event) × (es ≡ first ++ rest) × (then : Bool) × AreOfLine host text down reply first then × ComeOf host Left then more replies rest
 
--- Of the line in work, of which these bytes were told, that are no reply yet: nothing came and nothing was told; or they begin only what it asks, and
--- tell what this front of its reply acknowledges, which of a read is its values from the first byte on.
+-- Of the line in work, of which these bytes were told, that are no reply yet: nothing came and nothing was told; or they begin what it asks only where the
+-- bytes are a front of `ok`, or of the reply that a call failed, and tell what this front of its reply acknowledges, which of a read is its values from the
+-- first byte on.
 abbrev pub InWork : Host → List ℕ → Bool → Script → List Event → Type 0
 InWork host front down at_end es = AreIdle host es
 InWork host front down (spent lines bytes) es = AreIdle host es
@@ -75,15 +77,15 @@ AreTold (too_long more) (reply ∷ replies) front told = AreTold more replies fr
 AreTold (line text more) [] front told = (told ≡ []) ⊎ ((ask : Ask) × Asks text ask × AcksFront ask front told)
 AreTold (line text more) (reply ∷ replies) front told = (ask : Ask) × Asks text ask × (done : List Deed) × AcksBy ask reply done × (rest : List Deed) × AreTold more replies front rest × (told ≡ done ++ rest)
 
--- What the lines may have begun, in their order: each what it asks, where its reply is `ok` or tells that a call failed, or where it is
--- the next one, of which no whole reply was told yet.
-abbrev pub AreBegun : Script → List (List ℕ) → List Deed → Type 0
-AreBegun at_end replies begun = begun ≡ []
-AreBegun (spent lines bytes) replies begun = begun ≡ []
-AreBegun (too_long more) [] begun = begun ≡ []
-AreBegun (too_long more) (reply ∷ replies) begun = AreBegun more replies begun
-AreBegun (line text more) [] begun = (begun ≡ []) ⊎ ((ask : Ask) × Asks text ask × (begun ≡ deeds ask))
-AreBegun (line text more) (reply ∷ replies) begun = (ask : Ask) × Asks text ask × (rest : List Deed) × AreBegun more replies rest × (begun ≡ issuable ask reply ++ rest)
+-- What the lines may have begun, in their order: each what it asks, where its reply is `ok` or tells that a call failed; and the next
+-- one, of whose reply this front was told, where that is a front of one of these, as it is before the first byte.
+abbrev pub AreBegun : Script → List (List ℕ) → List ℕ → List Deed → Type 0
+AreBegun at_end replies front begun = begun ≡ []
+AreBegun (spent lines bytes) replies front begun = begun ≡ []
+AreBegun (too_long more) [] front begun = begun ≡ []
+AreBegun (too_long more) (reply ∷ replies) front begun = AreBegun more replies front begun
+AreBegun (line text more) [] front begun = (begun ≡ []) ⊎ ((ask : Ask) × Asks text ask × (begun ≡ issuable_front ask front))
+AreBegun (line text more) (reply ∷ replies) front begun = (ask : Ask) × Asks text ask × (rest : List Deed) × AreBegun more replies front rest × (begun ≡ issuable ask reply ++ rest)
 
 -- the events of a run, of which these bytes were told: those of its boot, and those of the lines so far
 pub record AreOfRun (host : Host) (script : Script) (bytes : List ℕ) (es : List Event) : Type 0 where
@@ -106,9 +108,10 @@ pub record ShowsMade (host : Host) (t : Tale) : Type 0 where
 
 -- A moment of a run of that script that began at t: the drive stands with each history that it stood with at the start, gone on
 -- by the events of the boot and of the lines so far, in their order; each line's events begin what it asks only where it was answered
--- `ok`, or that a call failed, or where nothing whole was told of it, and tell exactly what its reply acknowledges: a deed where it is `ok`, and
--- of a read the values that it tells, each of which its block may have. Wherever one is told, the last boot before it has read the drive, since when each block has
--- one value until it is written. Where a creation was told, whatever a crash leaves is a replica of a database that this run made.
+-- `ok`, or that a call failed, or where no more of its reply was told than a front of one of these, and tell exactly what its reply
+-- acknowledges: a deed where it is `ok`, and of a read the values that it tells, each of which its block may have. Wherever one is told, the last boot
+-- before it has read the drive, since when each block has one value until it is written. Where a creation was told, whatever a crash leaves is a replica of a
+-- database that this run made.
 pub record RunMoment (host : Host) (script : Script) (t m : Tale) : Type 0 where
   pub bytes : List ℕ
   pub is_told : told m ≡ told t ++ bytes
@@ -129,7 +132,7 @@ pub record AreReplies (bytes : List ℕ) : Type 0 where
   pub replies : (rest : List ℕ) → replies_in (bytes ++ rest) ≡ replies_in bytes ++ replies_in rest
   pub left : (rest : List ℕ) → left_in (bytes ++ rest) ≡ left_in rest
 
--- a moment of a stretch of lines that began with that memory
+-- a moment of a stretch of lines that began with that memory; of its line in work come the events that the front of its reply lets come
 pub record LinesMoment (host : Host) (script : Script) (first : Memory) (t m : Tale) : Type 0 where
   pub bytes : List ℕ
   pub is_told : told m ≡ told t ++ bytes

@@ -1,6 +1,6 @@
 -- What one call more does to each block: to what a read gives, and to what a crash may leave.
 use Rattle.std.proofs.Common.{◌≡◌, ◌⊎◌, inl, inr, ℕ, Bool, true, false, List, refl, sym, subst}
-use Rattle.mdv_shelf.specs.Tale.{Tale, Begun, Then, Call, writes, written, syncs, last, values, MayLeave}
+use Rattle.mdv_shelf.specs.Tale.{Tale, Begun, Then, Call, writes, written, syncs, last, values, MayLeave, times_written}
 use Rattle.mdv_shelf.specs.Area.{IsKept}
 
 -- a test that came out one way or the other
@@ -16,6 +16,10 @@ module _ (t : Tale) (c : Call) (drive block : ℕ) where
   pub last_unwritten : writes c drive block ≡ false → last (Then t c) drive block ≡ last t drive block
   unfolding last
   last_unwritten not = rw not
+
+  pub times_unwritten : writes c drive block ≡ false → times_written (Then t c) drive block ≡ times_written t drive block
+  unfolding times_written
+  times_unwritten not = rw not
 
   pub left_written : (x : List ℕ) → writes c drive block ≡ true → MayLeave (Then t c) drive block x → (x ≡ written c block) ⊎ MayLeave t drive block x
   unfolding MayLeave values
@@ -61,4 +65,5 @@ kept_unwritten t c drive block not = record {
     | inl does ↦ subst (λ (y : List ℕ). MayLeave t drive block y) (sym (left_synced t c drive block x not does left)) (last_may_be_left t drive block)
     | inr nor ↦ left_alone t c drive block x not nor left
   ];
+  unwritten = times_unwritten t c drive block not;
 }

@@ -11,6 +11,7 @@ pub kept_more : (t u v : Tale) (drive block : ℕ) → IsKept t u drive block �
 kept_more t u v drive block first second = record {
   last = second.last ∙ first.last;
   left = λ x left. first.left x (second.left x left);
+  unwritten = second.unwritten ∙ first.unwritten;
 }
 
 pub kept_outside_same : (area : Area) (t : Tale) → KeptOutside area t t

@@ -1,6 +1,7 @@
 pub mod Blocks
 pub mod Counts
 pub mod Between
+pub mod Made
 pub mod Frame
 pub mod Everywhere
 pub mod Moments

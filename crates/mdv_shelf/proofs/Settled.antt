@@ -27,7 +27,7 @@ pub same_block : (t : Tale) (drive block : ℕ) (new : List ℕ) → IsOldOrNew 
 same_block t drive block new = record { last = inl refl; left = λ x left. inl left }
 
 pub same_kept : (t : Tale) (drive block : ℕ) → IsKept t t drive block
-same_kept t drive block = record { last = refl; left = λ x left. left }
+same_kept t drive block = record { last = refl; left = λ x left. left; unwritten = refl }
 
 and_false : (a b : Bool) → a ≡ false → a && b ≡ false
 and_false a b is = rw is
@@ -85,7 +85,7 @@ module _ (t : Tale) (drive at : ℕ) (blocks : List (List ℕ)) where
     outside = λ other block out.
         let was = so_far.outside other block out in
         let kept = kept_unwritten m (Synced drive) other block refl in
-        record { last = kept.last ∙ was.last; left = λ x left. was.left x (kept.left x left) };
+        record { last = kept.last ∙ was.last; left = λ x left. was.left x (kept.left x left); unwritten = kept.unwritten ∙ was.unwritten };
     quiet = told_synced m drive ∙ so_far.quiet;
   }
 

@@ -8,6 +8,7 @@ pub mod Settle
 pub mod Everywhere
 pub mod Story
 pub mod Shelves
+pub mod Made
 pub mod MemHistory
 pub mod MemStory
 pub mod MemShelf

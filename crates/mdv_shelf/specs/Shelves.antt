@@ -1,6 +1,6 @@
 -- Words over a whole shelf: the ghosts of its bound are passed as one, as `S.Shelf`.
 use Rattle.std.specs.Prelude.{◌≡◌, ◌≢◌, ◌≤◌, ◌<◌, ℕ, length, Some}
-use Rattle.mdv_base.specs.Causes.{Rose, Failures, failures_of}
+use Rattle.mdv_base.specs.Causes.{Rose, RoseOnce, Failures, failures_of}
 use Rattle.mdv_shelf.specs.Tale.{Tale, last, told}
 use Rattle.mdv_shelf.specs.Calls.{Part, OnDrive, OnReplies, Took, TookAtMost, Keeps as KeepsOf}
 use Rattle.mdv_shelf.specs.Moments.{Moments, Ends}
@@ -15,9 +15,9 @@ Keeps shelf old new = KeepsOf shelf.sizes shelf.faults shelf.rest shelf.held old
 abbrev pub DriveFailed : {S : Type 0} → Ghosts S → S → S → ℕ → Type 0
 DriveFailed shelf old new drive = Rose (shelf.faults old (OnDrive drive)) (shelf.faults new (OnDrive drive))
 
--- a giving of replies failed
+-- a giving of replies failed, and none else
 abbrev pub GivingFailed : {S : Type 0} → Ghosts S → S → S → Type 0
-GivingFailed shelf old new = Rose (shelf.faults old OnReplies) (shelf.faults new OnReplies)
+GivingFailed shelf old new = RoseOnce (shelf.faults old OnReplies) (shelf.faults new OnReplies)
 
 -- how the calls on the drive came out, and the givings of replies
 abbrev pub DriveFailures : {S : Type 0} → Ghosts S → S → S → ℕ → Failures

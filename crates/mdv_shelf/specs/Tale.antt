@@ -56,6 +56,11 @@ values (Begun start) drive block = start.block drive block ∷ []
 values (Then t c) drive block =
     if writes c drive block then written c block ∷ values t drive block else if syncs c drive then last t drive block ∷ [] else values t drive block
 
+-- how many writes took the block
+unfoldable pub times_written : Tale → ℕ → ℕ → ℕ
+times_written (Begun start) drive block = 0
+times_written (Then t c) drive block = if writes c drive block then times_written t drive block + 1 else times_written t drive block
+
 -- one of them is this
 abbrev pub Among : List (List ℕ) → List ℕ → Type 0
 Among [] x = ⊥

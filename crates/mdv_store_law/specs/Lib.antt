@@ -7,5 +7,6 @@ pub mod Log
 pub mod Standing
 pub mod Steps
 pub mod Adoptable
+pub mod Effort
 pub mod Going
 pub mod Laws

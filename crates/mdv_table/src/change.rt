@@ -28,6 +28,19 @@ pub enum ApplyFault {
 }
 
 impl Table {
+    /// Why the change is refused, if it is, before anything is copied for it: the first cause in the order no such
+    /// slice, name taken, wrong kind, slice in use. The work is linear in the number of volumes.
+    pub fn refusal(&self, geometry: &Geometry, change: &Change) -> Option<Refusal>
+        requires { IsSound geometry.now }
+        ensures { result ≡ refusal_of geometry.now self.now.plan change.now }
+    {
+        match *change {
+            Change::MakeStripe { volume, slice } => {
+                self.plan.stripe_refusal(geometry, volume, slice)
+            }
+        }
+    }
+
     /// Makes the change, or tells why not. A refusal is the first cause in the order no such slice, name
     /// taken, wrong kind, slice in use. The work is linear in the number of volumes. No change has a
     /// list of its own yet, for which it would need the allocator.
@@ -70,6 +83,21 @@ impl Plan {
         self.volumes
             .insert(Volume::stripe_on(number, slice, at.blocks))?;
         Ok(())
+    }
+
+    fn stripe_refusal(
+        &self,
+        geometry: &Geometry,
+        number: VolId,
+        slice: SliceName,
+    ) -> Option<Refusal>
+        requires { IsSound geometry.now }
+        ensures { result ≡ refusal_of geometry.now self.now (Change.MakeStripe number slice) }
+    {
+        match self.check_stripe(geometry, number, slice) {
+            Ok(_) => None,
+            Err(refusal) => Some(refusal),
+        }
     }
 
     // Where the slice lies, unless the stripe is refused.

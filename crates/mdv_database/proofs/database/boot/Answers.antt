@@ -7,7 +7,7 @@ use Rattle.mdv_database.specs.Database.{site_of}
 use Rattle.mdv_database.specs.Looks.{IsFoundAt}
 use Rattle.mdv_database.proofs.Booting.{HasLooked, adopted_ends, adopted_moments, adoption_answer, down_ends, empty_ends, looked_from, looked_moments, memory_ends}
 use Rattle.mdv_database.proofs.Counting.{boot_counted, boot_made, few_blocks, slots_few, slots_some}
-use Rattle.mdv_database.specs.Counts.{open_slots}
+use Rattle.mdv_store_law.specs.Effort.{open_slots}
 use Rattle.mdv_database.proofs.database.boot.Goals as goal
 use Rattle.mdv_database.proofs.database.boot.Goals.{After-look, In-Ok-Some}
 
@@ -20,6 +20,7 @@ returns-in-Err-Failed-clause-moments g c = looked_moments (site g (goal.at.retur
 pub returns-in-Err-Failed-clause-end : goal.returns-in-Err-Failed-clause-end
 returns-in-Err-Failed-clause-end g c =
     down_ends (site g (goal.at.returns-in-Err-Failed-clause-end g c).After-look) _ _ c.look.ensures.moments _ _ (rw c.in-Err-Failed.field-0-is at c.in-Err-Failed.ensures.answer.cause)
+    (rw c.in-Err-Failed.field-0-is at c.in-Err-Failed.ensures.counted)
 
 pub returns-in-Err-Memory-clause-moments : goal.returns-in-Err-Memory-clause-moments
 returns-in-Err-Memory-clause-moments g c = looked_moments (site g (goal.at.returns-in-Err-Memory-clause-moments g c).After-look) _ _ c.look.ensures.moments

@@ -8,7 +8,7 @@ use Rattle.mdv_shelf.proofs.Moments.{moments_weaker, moments_after, moments_end,
 use Rattle.mdv_replica.proofs.Leaving.{leaves_settling, leaves_settled}
 use Rattle.mdv_database.specs.Boot.{RewriteEnds, RewriteMoment}
 use Rattle.mdv_database.specs.Database.{IsQuiet}
-use Rattle.mdv_database.specs.Slots.{blocks_for}
+use Rattle.mdv_store_law.specs.Effort.{blocks_for}
 use Rattle.mdv_database.proofs.Quiet.{quiet_settling, quiet_more}
 use Rattle.mdv_database.proofs.Booting.{rewriting, rewritten}
 use Rattle.mdv_database.proofs.database.rewrite.Goals as goal

@@ -7,7 +7,8 @@ use Rattle.mdv_shelf.proofs.Counts.{took_more, took_one}
 use Rattle.mdv_shelf.proofs.Settled.{synced_drive}
 use Rattle.mdv_database.proofs.Counting.{err_is, looked_counted}
 use Rattle.mdv_database.proofs.Finding.{looked_by}
-use Rattle.mdv_database.specs.Counts.{made_behind, made_of}
+use Rattle.mdv_database.specs.Counts.{made_behind}
+use Rattle.mdv_shelf.specs.Made.{made_of}
 use Rattle.mdv_database.specs.Database.{site_of}
 use Rattle.mdv_database.specs.Looks.{Finds}
 use Rattle.mdv_database.proofs.Quiet.{unwritten_synced}

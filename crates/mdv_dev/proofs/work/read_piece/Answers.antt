@@ -1,3 +1,4 @@
+use Rattle.mdv_base.proofs.Causes.{rose_of_once}
 use Rattle.std.proofs.Common.{◌+◌, ◌-◌, ◌<◌, ◌≤◌, ◌≡◌, ℕ, List, length, Option, refl, sym, ◌∙◌, subst, arith, rules}
 use Rattle.mdv_shelf.specs.Tale.{Tale}
 use Rattle.mdv_shelf.specs.Calls.{InDrive}
@@ -54,7 +55,7 @@ returns-in_err-read-clause-turned g c =
     let filled = same_length w.kind _ _ c.requires.kind (filled_long w.done count out room news long) in
     let here = drive_here v w.at w.done w.count c.piece-piece.result c.piece-piece.ensures w.done (omega arith) (omega arith) in
     missed v (DriveFailed g.S.Shelf c.args.shelf.now c.read.new.self) w out _ c.from_residual.result filled (filled_before w.done count out room news long) (search rules) c.requires.open.some_left c.requires.open.begins
-    (subst (λ (d : ℕ). DriveFailed g.S.Shelf c.args.shelf.now c.read.new.self d) (sym here) c.in_err-read.ensures.cause.own.failed)
+    (subst (λ (d : ℕ). DriveFailed g.S.Shelf c.args.shelf.now c.read.new.self d) (sym here) (rose_of_once _ _ c.in_err-read.ensures.cause.own.failed))
 
 pub returns-in_err-read-clause-counted : goal.returns-in_err-read-clause-counted
 returns-in_err-read-clause-counted g c =

@@ -1,3 +1,4 @@
+use Rattle.mdv_base.proofs.Causes.{rose_of_once}
 use Rattle.std.proofs.Common.{◌+◌, ◌-◌, ◌<◌, ◌≤◌, ◌≡◌, inl, inr, ℕ, false, [], nat_lt, Option, refl, sym, ◌∙◌, subst, arith, rules}
 use Rattle.mdv_shelf.specs.Tale.{Tale}
 use Rattle.mdv_shelf.specs.Moments.{Ends}
@@ -55,7 +56,7 @@ returns-in_err-sync-clause-turned g c =
     let some = c.piece-piece.ensures.some in
     let here = drive_here v w.at w.done w.count c.piece-piece.result c.piece-piece.ensures w.done (omega arith) (omega arith) in
     missed v (DriveFailed g.S.Shelf c.args.shelf.now c.sync.new.self) w [] [] c.from_residual.result (same_buffer w.kind c.requires.kind) refl (search rules) c.requires.open.some_left c.requires.open.begins
-    (subst (λ (d : ℕ). DriveFailed g.S.Shelf c.args.shelf.now c.sync.new.self d) (sym here) c.in_err-sync.ensures.cause.own.failed)
+    (subst (λ (d : ℕ). DriveFailed g.S.Shelf c.args.shelf.now c.sync.new.self d) (sym here) (rose_of_once _ _ c.in_err-sync.ensures.cause.own.failed))
 
 pub returns-in_err-sync-clause-counted : goal.returns-in_err-sync-clause-counted
 returns-in_err-sync-clause-counted g c =

@@ -1,3 +1,4 @@
+use Rattle.mdv_base.proofs.Causes.{rose_of_once}
 use Rattle.std.proofs.Common.{◌+◌, ◌-◌, ◌≤◌, ◌≡◌, ℕ, List, length, Option, refl, sym, ◌∙◌, subst, arith, rules}
 use Rattle.mdv_shelf.specs.Tale.{Tale}
 use Rattle.mdv_shelf.specs.Calls.{InDrive}
@@ -82,7 +83,7 @@ returns-in_err-write-clause-turned g c =
     let some = c.piece-piece.ensures.some in
     let here = drive_here v w.at w.done w.count c.piece-piece.result c.piece-piece.ensures w.done (omega arith) (omega arith) in
     missed v (DriveFailed g.S.Shelf c.args.shelf.now c.write.new.self) w c.args.from.now c.args.from.now c.from_residual.result (same_buffer w.kind c.args.from.now c.requires.kind) refl (search rules) c.requires.open.some_left c.requires.open.begins
-    (subst (λ (d : ℕ). DriveFailed g.S.Shelf c.args.shelf.now c.write.new.self d) (sym here) c.in_err-write.ensures.cause.own.failed)
+    (subst (λ (d : ℕ). DriveFailed g.S.Shelf c.args.shelf.now c.write.new.self d) (sym here) (rose_of_once _ _ c.in_err-write.ensures.cause.own.failed))
 
 pub returns-in_err-write-clause-counted : goal.returns-in_err-write-clause-counted
 returns-in_err-write-clause-counted g c =

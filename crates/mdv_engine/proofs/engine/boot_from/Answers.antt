@@ -61,7 +61,7 @@ returns-in-Down-clause-end g c =
     (unwritten _ _ _ _ _ _ c.in-Down.ensures.end tt) t start in
     (end.0, end.1, end.2 (unbooted c.args.begun) _ refl c.without_database-in-Down.ensures))
     (down_booted c.args.host.now (g.S.Shelf.sizes c.args.shelf.now) c.requires c.place_at.result c.place_at.ensures c.args.begun _ _ (boot_quiet _ _ _ c.boot.ensures.moments) (unwritten _ _ _ _ _ _ c.in-Down.ensures.end tt))
-    (λ t start. tt)
+    (λ t start. booted_by _ _ _ _ _ _ c.in-Down.ensures.end t start)
 
 pub returns-in-Lost-clause-end : goal.returns-in-Lost-clause-end
 returns-in-Lost-clause-end g c =

@@ -1,9 +1,9 @@
 use Rattle.std.proofs.Common.{inl, inr, sym, subst, refl, length, ap, []}
-use Rattle.mdv_shelf.proofs.Between.{at_most_one}
 use Rattle.mdv_shelf.proofs.Counts.{took_one}
 use Rattle.mdv_shelf.proofs.InTime.{kept_on_call}
 use Rattle.mdv_shelf.proofs.Telling.{told_calm}
-use Rattle.mdv_engine_law.specs.Below.{Rose, OnReplies}
+use Rattle.mdv_base.specs.Causes.{RoseOnce}
+use Rattle.mdv_engine_law.specs.Below.{OnReplies}
 use Rattle.mdv_engine_law.specs.Replies.{IsLost, IsTold, outcome_text, reply_to, text_of}
 use Rattle.mdv_engine_law.specs.declared.answer.Answer.{Answer}
 use Rattle.mdv_engine_law.specs.declared.answer.Outcome.{Outcome}
@@ -22,7 +22,7 @@ goes_on (outcome.Refused refusal) lost = lost
 -- it was told whole
 pub returns-in-Ok-clause-told : goal.returns-in-Ok-clause-told
 returns-in-Ok-clause-told g c = λ t is.
-    let failed = Rose (g.B.Shelf.faults c.args.bench.now OnReplies) (g.B.Shelf.faults c.give.new.bench OnReplies) in
+    let failed = RoseOnce (g.B.Shelf.faults c.args.bench.now OnReplies) (g.B.Shelf.faults c.give.new.bench OnReplies) in
     let text = outcome_text c.in-Said.outcome in
     told_whole failed c.args.answer.now c.reply_to.result text t _ _ is c.in-Ok.ensures.gives (subst (λ (a : Answer). IsTold failed a c.reply_to.result text) (sym c.in-Said.is) (inl (c.reply_to.ensures, refl)))
 
@@ -33,12 +33,11 @@ returns-in-Ok-clause-fronts g c = λ t is.
 
 pub returns-in-Ok-clause-answers : goal.returns-in-Ok-clause-answers
 returns-in-Ok-clause-answers g c =
-    let failed = Rose (g.B.Shelf.faults c.args.bench.now OnReplies) (g.B.Shelf.faults c.give.new.bench OnReplies) in
+    let failed = RoseOnce (g.B.Shelf.faults c.args.bench.now OnReplies) (g.B.Shelf.faults c.give.new.bench OnReplies) in
     (outcome_text c.in-Said.outcome, subst (λ (a : Answer). IsTold failed a c.reply_to.result (outcome_text c.in-Said.outcome)) (sym c.in-Said.is) (inl (c.reply_to.ensures, refl)))
 
 pub returns-in-Ok-clause-counted : goal.returns-in-Ok-clause-counted
 returns-in-Ok-clause-counted g c = record {
-  most = at_most_one g.B.Shelf.calls g.B.Shelf.written _ _ 0 c.give.ensures.counted;
   once = λ told. took_one g.B.Shelf.calls g.B.Shelf.written _ _ 0 c.give.ensures.counted;
   silent = λ lost. absurd (goes_on c.in-Said.outcome (subst IsLost c.reply_to.ensures lost));
   calm = λ told. told_calm (g.B.Shelf.faults c.args.bench.now) (g.B.Shelf.faults c.give.new.bench) c.in-Ok.ensures.cause;
@@ -51,7 +50,7 @@ returns-in-Ok-clause-kept g c = kept_on_call g.B.Shelf OnReplies _ _ c.give.ensu
 -- a front of it, or nothing
 pub returns-in-Err-clause-told : goal.returns-in-Err-clause-told
 returns-in-Err-clause-told g c = λ t is.
-    let failed = Rose (g.B.Shelf.faults c.args.bench.now OnReplies) (g.B.Shelf.faults c.give.new.bench OnReplies) in
+    let failed = RoseOnce (g.B.Shelf.faults c.args.bench.now OnReplies) (g.B.Shelf.faults c.give.new.bench OnReplies) in
     tells_some failed (outcome_text c.in-Said.outcome) c.args.answer.now t _ _ is
     (λ count piece front. subst (λ (a : Answer). IsTold failed a reply.Told piece) (sym c.in-Said.is) (inr (record { cause = c.in-Err.ensures.cause.own.failed; given_is = refl; count = count; front = front })))
     c.in-Err.ensures.gives
@@ -61,11 +60,11 @@ returns-in-Err-clause-fronts g c = λ t is. telling_some (text_of c.args.answer.
 
 pub returns-in-Err-clause-answers : goal.returns-in-Err-clause-answers
 returns-in-Err-clause-answers g c =
-    let failed = Rose (g.B.Shelf.faults c.args.bench.now OnReplies) (g.B.Shelf.faults c.give.new.bench OnReplies) in
+    let failed = RoseOnce (g.B.Shelf.faults c.args.bench.now OnReplies) (g.B.Shelf.faults c.give.new.bench OnReplies) in
     ([], subst (λ (a : Answer). IsTold failed a reply.Told []) (sym c.in-Said.is) (inr (record { cause = c.in-Err.ensures.cause.own.failed; given_is = refl; count = 0; front = refl })))
 
 pub returns-in-Err-clause-counted : goal.returns-in-Err-clause-counted
-returns-in-Err-clause-counted g c = record { most = at_most_one g.B.Shelf.calls g.B.Shelf.written _ _ 0 c.give.ensures.counted; once = λ on. absurd on; silent = λ lost. absurd lost; calm = λ on. absurd on; drives = c.in-Err.ensures.cause.drives }
+returns-in-Err-clause-counted g c = record { once = λ told. took_one g.B.Shelf.calls g.B.Shelf.written _ _ 0 c.give.ensures.counted; silent = λ lost. absurd lost; calm = λ on. absurd on; drives = c.in-Err.ensures.cause.drives }
 
 pub returns-in-Err-clause-kept : goal.returns-in-Err-clause-kept
 returns-in-Err-clause-kept g c = kept_on_call g.B.Shelf OnReplies _ _ c.give.ensures.noted c.give.ensures.keeps (replies_alone _ _ c.in-Err.ensures.cause.drives)

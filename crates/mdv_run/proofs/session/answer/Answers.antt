@@ -1,7 +1,7 @@
-use Rattle.mdv_shelf.specs.Calls.{RoseByAtMost}
-use Rattle.mdv_run.proofs.Counting.{refused_calls, spelled_calls}
+use Rattle.mdv_shelf.specs.Made.{made_of}
+use Rattle.mdv_shelf.proofs.Between.{between_of}
 use Rattle.mdv_engine_law.specs.declared.answer.Outcome.TheVariants as outcome
-use Rattle.std.proofs.Common.{◌≤◌, ◌+◌, ℕ, refl, inl, inr, ap, subst, sym, arith}
+use Rattle.std.proofs.Common.{◌≤◌, ◌+◌, refl, inl, inr, ap, subst, sym, arith}
 use Rattle.mdv_engine_law.specs.Line.{Nothing}
 use Rattle.mdv_run.specs.Below.{line, Ends, IsWell, Boot, IsCommand, IsLine, asked_by, IsAnswered, Knows, TellsFront, TurnMoment, Engine, LinesMoment}
 use Rattle.mdv_words.specs.declared.command.Line.TheVariants as words
@@ -17,7 +17,7 @@ use Rattle.mdv_run.specs.Promise.{LineEnd}
 use Rattle.mdv_shelf.proofs.Noted.{moment_weaker}
 use Rattle.mdv_run.proofs.Fronts.{AnswerFront, LineFront, front_of, only_refused}
 use Rattle.mdv_engine.specs.Ends.{CarriesOut, OnlyAnswers}
-use Rattle.mdv_run.proofs.Answering.{uncut_replied, command_reply, told_reply, executed_line, no_boot, known_ran, line_executed, refused_turned, refused_down, refused_knows}
+use Rattle.mdv_run.proofs.Answering.{uncut_replied, command_reply, told_reply, executed_line, no_boot, known_ran, line_executed, refused_turned, refused_down, refused_knows, turn_writes}
 use Rattle.mdv_run.proofs.session.answer.Goals as goal
 
 pub exec-requires-clause-executed : goal.exec-requires-clause-executed
@@ -44,13 +44,14 @@ returns-in-Command-clause-end g c = λ t told.
     let is : IsCommand c.args.line.now command = subst (IsLine c.args.line.now) c.in-Command.is c.in-Some.ensures.value in
     let drive = DriveFailures g.B.Shelf c.args.bench.now c.exec.new.bench 0 in
     let replies = GivingFailed g.B.Shelf c.args.bench.now c.exec.new.bench in
+    let made = made_of g.B.Shelf c.args.bench.now c.exec.new.bench in
     let end = c.exec.ensures.end t told in (
       end.0,
       end.1,
       record {
-        answered = λ knows. line_executed c.args.line.now (words.Command command) is drive replies host old new c.exec.result t end.0 (end.2.answered knows);
+        answered = λ knows. line_executed c.args.line.now (words.Command command) is drive replies made host old new c.exec.result t end.0 (end.2.answered knows) (turn_writes host (asked_by command) old _ _ c.exec.ensures.moments.each t end.0 told end.1);
         ran = λ on more. known_ran host c.args.line.now more (asked_by command) (inr (words.Command command, is, refl)) old new t end.0 (end.2.turned on) (no_boot c.args.line.now command is)
-            (λ knows. executed_awake drive replies host command old new c.exec.result t end.0 (end.2.answered knows) (executed_line c.args.line.now command is) on);
+            (λ knows. executed_awake drive replies made host command old new c.exec.result t end.0 (end.2.answered knows) (executed_line c.args.line.now command is) on);
         knows = end.2.knows;
       },
     )
@@ -79,13 +80,14 @@ returns-in_default-clause-end g c =
     let old = c.args.engine.now.state in
     let drive = DriveFailures g.B.Shelf c.args.bench.now c.refuse.new.bench 0 in
     let replies = GivingFailed g.B.Shelf c.args.bench.now c.refuse.new.bench in
-    subst (λ (e : Engine). Ends (LineEnd drive replies host c.args.line.now old e.state c.refuse.result) (g.B.Shelf.tale c.args.bench.now) (g.B.Shelf.tale c.refuse.new.bench)) (sym c.refuse.ensures.answer.same)
+    let made = made_of g.B.Shelf c.args.bench.now c.refuse.new.bench in
+    subst (λ (e : Engine). Ends (LineEnd drive replies made host c.args.line.now old e.state c.refuse.result) (g.B.Shelf.tale c.args.bench.now) (g.B.Shelf.tale c.refuse.new.bench)) (sym c.refuse.ensures.answer.same)
     (λ t told. (
     let end = c.refuse.ensures.end t told in (
       end.0,
       end.1,
       record {
-        answered = λ knows. record { answer = refusing BadLine; done = inl (c.in_default.ensures.none, c.refuse.ensures.answer.calm, refused_down host old BadLine bad_line_plain replies c.refuse.result t end.0 end.2); replied = end.2.replied };
+        answered = λ knows. record { answer = refusing BadLine; done = inl (c.in_default.ensures.none, c.refuse.ensures.answer.calm, refused_down host old BadLine bad_line_plain replies c.refuse.result t end.0 end.2); calls = inl (c.in_default.ensures.none, between_of g.B.Shelf.calls g.B.Shelf.written _ _ 1 0 1 1 0 (omega arith) (omega arith) (omega arith) c.refuse.ensures.counted.once); writes = inl (c.in_default.ensures.none, end.2.kept); replied = end.2.replied };
         ran = λ on more. line_ran host c.args.line.now Nothing (inl (c.in_default.ensures.none, refl)) more old old t end.0 (refused_turned host old BadLine bad_line_plain replies c.refuse.result t end.0 end.2 Nothing on) (λ up. up) (c.in_default.ensures.none Boot);
         knows = λ kept. refused_knows host old BadLine bad_line_plain replies c.refuse.result t end.0 end.2;
       },
@@ -121,9 +123,6 @@ returns-in-Command-clause-answer g c = record {
   same = c.exec.ensures.answer.host;
   well = c.exec.ensures.answer.well;
   begun = c.exec.ensures.answer.begun;
-  counted = λ n calls.
-      let is : IsLine c.args.line.now (words.Command c.in-Command.command) = subst (IsLine c.args.line.now) c.in-Command.is c.in-Some.ensures.value in
-      subst (λ (k : ℕ). RoseByAtMost k (g.B.Shelf.calls c.args.bench.now) (g.B.Shelf.calls c.exec.new.bench)) (sym (spelled_calls c.args.line.now (words.Command c.in-Command.command) is n calls)) c.exec.ensures.counted.most.in_calls;
 }
 
 pub returns-in_default-clause-answer : goal.returns-in_default-clause-answer
@@ -132,7 +131,6 @@ returns-in_default-clause-answer g c = record {
   same = ap (λ (e : Engine). e.host) c.refuse.ensures.answer.same;
   well = subst (λ (e : Engine). IsWell c.args.engine.now.host e.state) (sym c.refuse.ensures.answer.same) c.requires.well;
   begun = subst (λ (e : Engine). e.state.begun ≤ c.args.engine.now.state.begun + 1) (sym c.refuse.ensures.answer.same) (omega arith);
-  counted = λ n calls. subst (λ (k : ℕ). RoseByAtMost k (g.B.Shelf.calls c.args.bench.now) (g.B.Shelf.calls c.refuse.new.bench)) (sym (refused_calls c.args.line.now c.in_default.ensures.none n calls)) c.refuse.ensures.counted.most.in_calls;
 }
 
 pub returns-in-Boot-clause-answer : goal.returns-in-Boot-clause-answer
@@ -142,5 +140,4 @@ returns-in-Boot-clause-answer g c =
       same = up.same;
       well = up.well;
       begun = up.begun;
-      counted = λ n calls. up.counted n (spelled_calls c.args.line.now Boot (subst (IsLine c.args.line.now) c.in-Boot.is c.in-Some.ensures.value) n calls);
     }

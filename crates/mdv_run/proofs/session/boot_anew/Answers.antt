@@ -1,12 +1,11 @@
-use Rattle.mdv_run.proofs.Counting.{boot_calls, over_calls}
 use Rattle.mdv_engine_law.specs.declared.answer.Outcome.TheVariants as outcome
 use Rattle.std.proofs.Common.{◌≡◌, ◌≤◌, ◌+◌, [], inl, inr, Option, refl, sym, ◌∙◌, ap, subst, arith}
 use Rattle.mdv_engine_law.specs.Line.{Nothing}
 use Rattle.std.proofs.lemmas.List.{append-nil}
-use Rattle.mdv_shelf.specs.Shelves.{DriveFailed, DriveFailures, GivingFailed}
+use Rattle.mdv_shelf.specs.Shelves.{DriveFailures, GivingFailed}
 use Rattle.mdv_run.specs.Below.{OnDrive, OnReplies, Moments, Ends, told, Boot, Host, StaysHome, BootMoment, BootedTo, TurnMoment, Engine, IsWell, Knows, IsRebooted, Tale, kept_at}
 use Rattle.mdv_run.specs.Promise.{LineEnd}
-use Rattle.mdv_run.proofs.Answering.{uncut_replied, line_executed, accepted_turned, ended_reply, reply_more, told_reply}
+use Rattle.mdv_run.proofs.Answering.{uncut_replied, line_executed, accepted_turned, ended_reply, reply_more, told_reply, turn_writes}
 use Rattle.std.specs.Option.{option_map}
 use Rattle.mdv_shelf.specs.Shelves.{AtEachMoment}
 use Rattle.mdv_shelf.specs.Story.{OfTales, Story, tale_of}
@@ -20,7 +19,14 @@ use Rattle.mdv_engine_law.specs.Answers.{accepted}
 use Rattle.mdv_engine_law.specs.Replies.{HasReplyCause, IsLost, IsReplied}
 use Rattle.mdv_engine_law.proofs.Longer.{ended_lost, never_ended}
 use Rattle.mdv_engine_law.proofs.Executing.{executed}
-use Rattle.mdv_base.proofs.Causes.{rose_within, within_calm}
+use Rattle.mdv_base.proofs.Causes.{calm_before, within_calm}
+use Rattle.mdv_shelf.specs.Made.{and_more, made_of}
+use Rattle.mdv_shelf.proofs.Made.{with_more}
+use Rattle.mdv_engine_law.specs.Line.{drive_content}
+use Rattle.mdv_engine_law.specs.Home.{site_of}
+use Rattle.mdv_shelf.specs.Area.{KeptOutside}
+use Rattle.mdv_store_law.specs.Site.{area_of}
+use Rattle.mdv_engine_law.proofs.Efforts.{boot_too}
 use Rattle.mdv_engine_law.proofs.Knowing.{knows_kept}
 use Rattle.mdv_engine_law.proofs.Staying.{both_stay, boot_stays, turn_stays}
 use Rattle.mdv_run_law.proofs.Booting.{boot_turn, booted_turn, booted_ran}
@@ -44,7 +50,8 @@ returns-in-Ok-clause-end g c = λ text boots.
     let new = c.reboot.new.self.state in
     let drive = DriveFailures g.B.Shelf c.args.bench.now c.accept.new.bench 0 in
     let replies = GivingFailed g.B.Shelf c.args.bench.now c.accept.new.bench in
-    subst (λ (e : Engine). Ends (LineEnd drive replies host text old e.state c.accept.result) (g.B.Shelf.tale c.args.bench.now) (g.B.Shelf.tale c.accept.new.bench)) (sym c.accept.ensures.answer.same)
+    let made = made_of g.B.Shelf c.args.bench.now c.accept.new.bench in
+    subst (λ (e : Engine). Ends (LineEnd drive replies made host text old e.state c.accept.result) (g.B.Shelf.tale c.args.bench.now) (g.B.Shelf.tale c.accept.new.bench)) (sym c.accept.ensures.answer.same)
     (λ t is. (
     let quiet = moments_end (BootMoment host) _ _ c.reboot.ensures.moments t is in
     let up = c.in-Ok.ensures.end t is in
@@ -52,11 +59,13 @@ returns-in-Ok-clause-end g c = λ text boots.
       end.0,
       end.1,
       record {
-        answered = λ knows. line_executed text Boot boots drive replies host old new c.accept.result t end.0
-            (executed _ _ _ _ host Boot old new accepted c.accept.result t up.0 end.0
+        answered = λ knows. line_executed text Boot boots drive replies made host old new c.accept.result t end.0
+            (executed _ _ _ _ made host Boot old new accepted c.accept.result t up.0 end.0
             (within_calm _ _ _ c.accept.ensures.answer.calm)
-            (λ rose. rose_within _ _ _ _ (c.reboot.ensures.kept.keeps.no_fewer_faults OnReplies) (omega arith) rose)
-            (ap told (some_is _ up.0 quiet.0 up.1 quiet.1) ∙ quiet.2.quiet) up.2.rebooted end.2);
+            (calm_before _ _ _ (c.reboot.ensures.kept.others OnReplies replies_apart)).some
+            (ap told (some_is _ up.0 quiet.0 up.1 quiet.1) ∙ quiet.2.quiet) up.2.rebooted end.2
+            (boot_too (made_of g.B.Shelf c.args.bench.now c.reboot.new.shelf) (and_more 1 made) (with_more g.B.Shelf.calls g.B.Shelf.written _ _ _ 1 c.accept.ensures.counted.once) host accepted new (drive_content t) up.2.calls))
+            (turn_writes host Nothing old _ _ (returns-in-Ok-clause-moments g c) t end.0 is end.1);
         ran = λ on more. booted_ran host old new t up.0 (up.2.booted refl) text more boots end.0 (accepted_turned host new _ c.accept.result up.0 end.0 end.2 on);
         knows = λ kept known. knows_kept host up.0 end.0 end.2.kept new (up.2.booted refl).knows;
       },
@@ -96,6 +105,8 @@ returns-in-Err-clause-end g c = λ text boots t is.
         answered = λ knows. record {
           answer = Over c.in-Err.end;
           done = inr (Boot, boots, done.2.rebooted);
+          calls = inr (Boot, boots, done.2.calls);
+          writes = inr (Boot, boots, subst (KeptOutside (area_of (site_of host)) t) (some_is _ quiet.0 done.0 quiet.1 done.1) quiet.2.kept);
           replied = record { piece = []; is_told = ap told (some_is _ done.0 quiet.0 done.1 quiet.1) ∙ quiet.2.quiet ∙ sym (append-nil (told t)); as_told = (c.reply_at.ensures, refl) };
         };
         ran = λ on more. absurd (never_ended c.in-Err.end (subst IsReplied c.reply_at.ensures on));
@@ -125,17 +136,15 @@ returns-in-Err-clause-answer g c = record {
   same = c.in-Err.ensures.answer.host;
   well = c.in-Err.ensures.answer.well;
   begun = (let same = c.in-Err.ensures.answer.begun in omega arith);
-  counted = λ n calls. over_calls g.B.Shelf _ _ c.in-Err.end c.reboot.new.self.state c.in-Err.ensures.counted n calls;
 }
 
 pub returns-in-Ok-clause-answer : goal.returns-in-Ok-clause-answer
 returns-in-Ok-clause-answer g c = record {
-  cause = told_reply (DriveFailed g.B.Shelf c.args.bench.now c.accept.new.bench 0) (GivingFailed g.B.Shelf c.args.bench.now c.accept.new.bench) outcome.Ok c.accept.result
-      (reply_more _ _ (λ rose. rose_within _ _ _ _ (c.reboot.ensures.kept.keeps.no_fewer_faults OnReplies) (omega arith) rose) outcome.Ok c.accept.result c.accept.ensures.answer.cause);
+  cause = told_reply (DriveFailures g.B.Shelf c.args.bench.now c.accept.new.bench 0).some (GivingFailed g.B.Shelf c.args.bench.now c.accept.new.bench) outcome.Ok c.accept.result
+      (reply_more _ _ (calm_before _ _ _ (c.reboot.ensures.kept.others OnReplies replies_apart)).some outcome.Ok c.accept.result c.accept.ensures.answer.cause);
   same = ap (λ (e : Engine). e.host) c.accept.ensures.answer.same ∙ c.in-Ok.ensures.answer.host;
   well = subst (λ (e : Engine). IsWell c.args.engine.now.host e.state) (sym c.accept.ensures.answer.same) c.in-Ok.ensures.answer.well;
   begun = subst (λ (e : Engine). e.state.begun ≤ c.args.engine.now.state.begun + 1) (sym c.accept.ensures.answer.same) (let same = c.in-Ok.ensures.answer.begun in omega arith);
-  counted = λ n calls. boot_calls g.B.Shelf _ _ _ c.reboot.new.self.state c.in-Ok.ensures.counted c.accept.ensures.counted.most n calls;
 }
 
 pub returns-in-Ok-clause-kept : goal.returns-in-Ok-clause-kept

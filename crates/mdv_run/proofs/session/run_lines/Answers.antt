@@ -1,4 +1,3 @@
-use Rattle.mdv_run.proofs.Counting.{all_left, took_on, took_over}
 use Rattle.std.proofs.Common.{◌≤◌, false, refl, sym, ◌∙◌, subst, arith}
 use Rattle.mdv_run.specs.Below.{Reader, asked_of, asked_before, OnDrive, OnReplies, Moments, Ends, Host, IsReady, Knows, IsWell, counts, LinesMoment, StaysHome}
 use Rattle.mdv_run.specs.Promise.{between, point_at}
@@ -22,7 +21,6 @@ loop-refused-init g c = record {
   limit = subst (λ (r : Reader). r.lines ≤ 1048576) (sym c.new-reader.ensures) (omega arith);
   kept = kept_itself g.B.Shelf c.args.bench.now;
   source = omega arith;
-  calls = λ input left n calls. all_left _ _ (asked_of input) n (script_at_start _ _ _ c.new-reader.ensures left) calls;
   home = nothing_stays c.args.engine.now.host _ _ refl;
   fronts = λ input left. fronts_start c.args.engine.now.host (point_at g.B.Shelf g.I.Source c.args.bench.now c.args.script.now) c.args.engine.now.state (asked_of input) g.B.Shelf g.met.B.Shelf.telling c.args.bench.now refl;
   so_far = λ input left. so_far_start c.args.engine.now.host c.args.engine.now.state input _ (between g.B.Shelf c.args.bench.now c.args.bench.now) _ _ (script_at_start _ _ _ c.new-reader.ensures left);
@@ -40,7 +38,6 @@ loop-refused-preserved g c =
       limit = (answer.on tt).1;
       kept = kept_more before.kept (kept_of_time c.in-On.ensures.kept);
       source = let first = before.source in let more = answer.source in omega arith;
-      calls = λ input left n calls. took_on _ _ _ n _ _ (before.calls input left n calls) answer.counted;
       home = both_stay c.args.engine.now.host _ _ _ before.home
           (subst (λ (h : Host). Moments (StaysHome h) (g.B.Shelf.tale c.loop-refused.bench) (g.B.Shelf.tale c.take_turn.new.bench)) before.host c.in-On.ensures.stays.home);
       fronts = λ input left. subst (λ (h : Host). AtEachMoment g.B.Shelf (RunFront h (between g.B.Shelf c.args.bench.now c.take_turn.new.bench) (point_at g.B.Shelf g.I.Source c.args.bench.now c.args.script.now) c.args.engine.now.state (asked_of input)) c.args.bench.now c.take_turn.new.bench) (sym answer.same)
@@ -67,7 +64,7 @@ returns-in-Over-clause-lines g c =
           (over_ends c.loop-refused.engine.host c.args.engine.now.state input (point_at g.B.Shelf g.I.Source c.args.bench.now c.args.script.now) (point_at g.B.Shelf g.I.Source c.loop-refused.bench c.loop-refused.script) (point_at g.B.Shelf g.I.Source c.take_turn.new.bench c.take_turn.new.script) c.loop-refused.engine.state c.take_turn.new.engine.state c.loop-refused.any_refused _ _ _ _ _ _ here
           (between g.B.Shelf c.args.bench.now c.take_turn.new.bench) c.in-Over.status (record {
             still = λ t u is_t is_u bytes piece shown some le seen. shown_later g.B.Shelf g.met.B.Shelf.telling _ _ _ before.kept.goes c.in-Over.ensures.kept.goes bytes piece shown t u some is_t is_u le seen;
-            ends = refl;
+            ends = record { quiet = refl; uncalled = refl };
             last = λ t u v is_t is_u is_v bytes until. last_now g.B.Shelf g.met.B.Shelf.telling _ _ _ before.kept.goes c.in-Over.ensures.stays.rests bytes t u v is_t is_u is_v until;
           }) c.in-Over.ensures.end);
       tells = λ input left. subst (λ (h : Host). AtEachMoment g.B.Shelf (RunFront h (between g.B.Shelf c.args.bench.now c.take_turn.new.bench) (point_at g.B.Shelf g.I.Source c.args.bench.now c.args.script.now) c.args.engine.now.state (asked_of input)) c.args.bench.now c.take_turn.new.bench) before.host
@@ -79,7 +76,6 @@ returns-in-Over-clause-lines g c =
           subst (λ (h : Host). Moments (LinesMoment h (asked_of input) c.args.engine.now.state) (g.B.Shelf.tale c.args.bench.now) (g.B.Shelf.tale c.take_turn.new.bench)) before.host
           (moments_over c.loop-refused.engine.host c.args.engine.now.state input (point_at g.B.Shelf g.I.Source c.args.bench.now c.args.script.now) (point_at g.B.Shelf g.I.Source c.loop-refused.bench c.loop-refused.script) (point_at g.B.Shelf g.I.Source c.take_turn.new.bench c.take_turn.new.script) c.loop-refused.engine.state c.take_turn.new.engine.state c.loop-refused.any_refused _ (asked_before c.take_turn.new.reader (g.I.Source.left c.take_turn.new.script)) _ _ _ _ here
           c.in-Over.ensures.moments);
-      counted = λ input left n calls. took_over _ _ _ n _ (before.calls input left n calls) c.in-Over.ensures.answer.counted;
       home = both_stay c.args.engine.now.host _ _ _ before.home
           (subst (λ (h : Host). Moments (StaysHome h) (g.B.Shelf.tale c.loop-refused.bench) (g.B.Shelf.tale c.take_turn.new.bench)) before.host c.in-Over.ensures.stays.home);
       causes = cause_within (counts (g.B.Shelf.faults c.args.bench.now) (g.I.Source.faults c.args.script.now)) (counts (g.B.Shelf.faults c.loop-refused.bench) (g.I.Source.faults c.loop-refused.script)) (counts (g.B.Shelf.faults c.take_turn.new.bench) (g.I.Source.faults c.take_turn.new.script)) (counts (g.B.Shelf.faults c.take_turn.new.bench) (g.I.Source.faults c.take_turn.new.script)) c.in-Over.status

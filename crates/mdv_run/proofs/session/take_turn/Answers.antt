@@ -1,5 +1,6 @@
-use Rattle.mdv_run.specs.Calls.{TurnTook}
-use Rattle.mdv_run.proofs.Counting.{line_took, long_took}
+use Rattle.mdv_shelf.specs.Made.{made_between}
+use Rattle.mdv_shelf.proofs.Between.{between_of}
+use Rattle.mdv_shelf.proofs.Made.{by_efforts}
 use Rattle.mdv_engine_law.specs.declared.answer.Outcome.TheVariants as outcome
 use Rattle.std.proofs.Common.{◌≡◌, ◌≤◌, ℕ, refl, sym, ap, subst, arith}
 use Rattle.mdv_engine_law.specs.Line.{Nothing}
@@ -20,7 +21,7 @@ use Rattle.mdv_run_law.proofs.Turning.{long_moment, long_ran}
 use Rattle.mdv_run.proofs.Leading.{passes_in_time, end_is, spent_is, long_is, line_is, leads_line, leads_long, on_replied, lost_reply, ended_turn, unread_turn, same_left, turn_cause}
 use Rattle.mdv_engine_law.proofs.Staying.{nothing_stays, turn_stays}
 use Rattle.mdv_base.specs.declared.refusal.Refusal.TheVariants.{LineTooLong}
-use Rattle.mdv_run.proofs.Answering.{uncut_replied, told_reply, refused_turned, refused_down, refused_knows}
+use Rattle.mdv_run.proofs.Answering.{answered_too, uncut_replied, told_reply, refused_turned, refused_down, refused_knows}
 use Rattle.mdv_engine_law.specs.Answers.{refusing}
 use Rattle.mdv_run.proofs.session.take_turn.Goals as goal
 
@@ -52,7 +53,7 @@ returns-in-Ok-Line-clause-end g c = λ lines before t told.
       subst (λ (turn : Turn). TurnEnd host now last old new c.args.any_refused lines rest turn t end.0) (sym c.turn_of.ensures)
           (record {
             turns = λ knows. leads_line now last c.answer.result (record { drive = c.answer.ensures.kept.keeps.no_fewer_faults (OnDrive 0); source = c.in-Ok-Line.ensures.cause.calm; replies = c.answer.ensures.kept.keeps.no_fewer_faults OnReplies; given = c.answer.ensures.stays.given })
-                host old new c.args.any_refused lines script.0 c.line.result.now rest t end.0 (passes_in_time g.B.Shelf g.met.B.Shelf.telling _ _ _ _ t end.0 c.answer.ensures.kept told end.1) script.1 script.2 (end.2.answered knows);
+                host old new c.args.any_refused lines script.0 c.line.result.now rest t end.0 (passes_in_time g.B.Shelf g.met.B.Shelf.telling _ _ _ _ t end.0 c.answer.ensures.kept told end.1) script.1 script.2 (answered_too (made_between now.effort last.effort) (by_efforts g.B.Shelf c.args.bench.now c.answer.new.bench) (end.2.answered knows));
             ran = λ on left is. subst (λ (s : Script). RanTo host s old new left t end.0) (sym script.1)
                 (subst (λ (s : Script). RanTo host (line c.line.result.now s) old new left t end.0) (sym (same_left left script.0 is script.2)) (end.2.ran (on_replied c.answer.result c.args.any_refused _ refl on) left));
             knows = λ kept. end.2.knows (λ lost. kept (lost_reply c.answer.result c.args.any_refused lost));
@@ -67,11 +68,6 @@ returns-in-Ok-Line-clause-answer g c = record {
   well = c.answer.ensures.answer.well;
   begun = let up = (rw c.in-Ok-Line.field-0-is at c.in-Ok-Line.ensures.passed).lines in let more = c.answer.ensures.answer.begun in let before = c.requires.begun in omega arith;
   on = λ on. (let up = (rw c.in-Ok-Line.field-0-is at c.in-Ok-Line.ensures.passed).lines in omega arith, (rw c.in-Ok-Line.field-0-is at c.in-Ok-Line.ensures.passed).limit);
-  counted = λ lines before n calls.
-      let reads : IsAskedTurn lines Line c.next_asked.new.reader (g.I.Source.left c.next_asked.new.source) = rw c.in-Ok-Line.field-0-is at (c.in-Ok-Line.ensures.reads lines before) in
-      let script = line_is lines c.line.result.now c.next_asked.new.reader (g.I.Source.left c.next_asked.new.source) c.line.ensures.value reads in
-      subst (λ (turn : Turn). TurnTook turn (asked_before c.next_asked.new.reader (g.I.Source.left c.next_asked.new.source)) (g.B.Shelf.calls c.args.bench.now) (g.B.Shelf.calls c.answer.new.bench) n) (sym c.turn_of.ensures)
-      (line_took _ _ lines _ c.line.result.now script.0 script.1 script.2 c.answer.ensures.answer.counted n calls c.answer.result c.args.any_refused);
   goes_on = λ on lines before.
       let reads : IsAskedTurn lines Line c.next_asked.new.reader (g.I.Source.left c.next_asked.new.source) = rw c.in-Ok-Line.field-0-is at (c.in-Ok-Line.ensures.reads lines before) in
       let script = line_is lines c.line.result.now c.next_asked.new.reader (g.I.Source.left c.next_asked.new.source) c.line.ensures.value reads in
@@ -117,7 +113,8 @@ returns-in-Ok-TooLong-clause-end g c = λ lines before t told.
           (subst (λ (turn : Turn). TurnEnd host now last old old c.args.any_refused lines rest turn t end.0) (sym c.turn_of-in-Ok-TooLong.ensures)
           (record {
             turns = λ knows. leads_long now last c.refuse.result (record { drive = c.refuse.ensures.kept.keeps.no_fewer_faults (OnDrive 0); source = c.in-Ok-TooLong.ensures.cause.calm; replies = c.refuse.ensures.kept.keeps.no_fewer_faults OnReplies; given = λ uncut. c.refuse.ensures.counted.given (uncut_replied _ (outcome.Refused LineTooLong) c.refuse.result c.refuse.ensures.answer.cause uncut) }) c.refuse.ensures.answer.calm
-                host old c.args.any_refused lines script.0 rest t end.0 (passes_in_time g.B.Shelf g.met.B.Shelf.telling _ _ _ _ t end.0 c.refuse.ensures.kept told end.1) script.1 script.2 (refused_down host old LineTooLong too_long_plain _ c.refuse.result t end.0 end.2) end.2.replied;
+                host old c.args.any_refused lines script.0 rest t end.0 (passes_in_time g.B.Shelf g.met.B.Shelf.telling _ _ _ _ t end.0 c.refuse.ensures.kept told end.1) script.1 script.2 (refused_down host old LineTooLong too_long_plain _ c.refuse.result t end.0 end.2) end.2.replied end.2.kept
+                ((by_efforts g.B.Shelf c.args.bench.now c.refuse.new.bench).within 1 1 0 (between_of g.B.Shelf.calls g.B.Shelf.written _ _ 1 0 1 1 0 (omega arith) (omega arith) (omega arith) c.refuse.ensures.counted.once));
             ran = λ on left is.
                 let turned = refused_turned host old LineTooLong too_long_plain _ c.refuse.result t end.0 end.2 Nothing (on_replied c.refuse.result c.args.any_refused _ refl on) in
                 subst (λ (s : Script). RanTo host s old old left t end.0) (sym script.1)
@@ -134,11 +131,6 @@ returns-in-Ok-TooLong-clause-answer g c = record {
   well = subst (λ (e : Engine). IsWell c.args.engine.now.host e.state) (sym c.refuse.ensures.answer.same) c.requires.well;
   begun = subst (λ (e : Engine). e.state.begun ≤ c.next_asked.new.reader.lines) (sym c.refuse.ensures.answer.same) (let up = (rw c.in-Ok-TooLong.field-0-is at c.in-Ok-TooLong.ensures.passed).lines in let before = c.requires.begun in omega arith);
   on = λ on. (let up = (rw c.in-Ok-TooLong.field-0-is at c.in-Ok-TooLong.ensures.passed).lines in omega arith, (rw c.in-Ok-TooLong.field-0-is at c.in-Ok-TooLong.ensures.passed).limit);
-  counted = λ lines before n calls.
-      let reads : IsAskedTurn lines TooLong c.next_asked.new.reader (g.I.Source.left c.next_asked.new.source) = rw c.in-Ok-TooLong.field-0-is at (c.in-Ok-TooLong.ensures.reads lines before) in
-      let script = long_is lines c.next_asked.new.reader (g.I.Source.left c.next_asked.new.source) reads in
-      subst (λ (turn : Turn). TurnTook turn (asked_before c.next_asked.new.reader (g.I.Source.left c.next_asked.new.source)) (g.B.Shelf.calls c.args.bench.now) (g.B.Shelf.calls c.refuse.new.bench) n) (sym c.turn_of-in-Ok-TooLong.ensures)
-      (long_took _ _ lines _ script.0 script.1 script.2 c.refuse.ensures.counted.most.in_calls n calls c.refuse.result c.args.any_refused);
   goes_on = λ on lines before.
       let reads : IsAskedTurn lines TooLong c.next_asked.new.reader (g.I.Source.left c.next_asked.new.source) = rw c.in-Ok-TooLong.field-0-is at (c.in-Ok-TooLong.ensures.reads lines before) in
       let script = long_is lines c.next_asked.new.reader (g.I.Source.left c.next_asked.new.source) reads in
@@ -177,7 +169,7 @@ returns-in-Ok-End-clause-end g c = λ lines before t told.
       t,
       told,
       record {
-        turns = λ knows. ended_turn host _ _ (ap (λ (n : ℕ). counts (g.B.Shelf.faults c.args.bench.now) n) c.in-Ok-End.ensures.cause.calm) refl state c.args.any_refused lines _ c.ended.result t
+        turns = λ knows. ended_turn host _ _ (ap (λ (n : ℕ). counts (g.B.Shelf.faults c.args.bench.now) n) c.in-Ok-End.ensures.cause.calm) refl refl state c.args.any_refused lines _ c.ended.result t
             (subst (λ (x : Script). EndsAs c.args.any_refused x c.ended.result) (sym script) c.ended.ensures);
         ran = λ on. absurd on;
         knows = λ kept known. known;
@@ -194,7 +186,7 @@ returns-in-Ok-Spent-clause-end g c = λ lines before t told.
       t,
       told,
       record {
-        turns = λ knows. ended_turn host _ _ (ap (λ (n : ℕ). counts (g.B.Shelf.faults c.args.bench.now) n) c.in-Ok-Spent.ensures.cause.calm) refl state c.args.any_refused lines _ status t (subst (λ (x : Script). EndsAs c.args.any_refused x status) (sym script) refl);
+        turns = λ knows. ended_turn host _ _ (ap (λ (n : ℕ). counts (g.B.Shelf.faults c.args.bench.now) n) c.in-Ok-Spent.ensures.cause.calm) refl refl state c.args.any_refused lines _ status t (subst (λ (x : Script). EndsAs c.args.any_refused x status) (sym script) refl);
         ran = λ on. absurd on;
         knows = λ kept known. known;
       },
@@ -205,7 +197,7 @@ returns-in-Err-clause-end g c = λ lines before t told. (
   t,
   told,
   record {
-    turns = λ knows. unread_turn c.args.engine.now.host _ _ (record { drive = refl; source = c.in-Err.ensures.cause.failed; no_fewer = c.next_asked.ensures.cause.later; replies = refl }) refl c.args.engine.now.state c.args.any_refused lines _ t;
+    turns = λ knows. unread_turn c.args.engine.now.host _ _ (record { drive = refl; source = c.in-Err.ensures.cause.failed; no_fewer = c.next_asked.ensures.cause.later; replies = refl }) refl refl c.args.engine.now.state c.args.any_refused lines _ t;
     ran = λ on. absurd on;
     knows = λ kept known. known;
   },

@@ -1,7 +1,7 @@
 use Rattle.std.proofs.Common.{ℕ, ◌+◌, ◌<◌, ◌≤◌, ◌^◌, length, subst, ap, ◌∙◌, arith}
 use Rattle.mdv_shelf.proofs.Between.{between_wider}
 use Rattle.mdv_database.specs.Below.{other_slot, with_blocks, next_mark, Newest, record_text}
-use Rattle.mdv_database.specs.Slots.{blocks_for}
+use Rattle.mdv_store_law.specs.Effort.{blocks_for}
 use Rattle.mdv_database.proofs.Committing.{IsNextPlace, commit_done, commit_moments}
 use Rattle.mdv_database.proofs.Counting.{few_text}
 use Rattle.mdv_database.proofs.database.Database.commit.Goals as goal

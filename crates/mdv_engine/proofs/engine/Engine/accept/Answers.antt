@@ -9,7 +9,7 @@ use Rattle.mdv_engine_law.proofs.Executing.{reply_cause}
 use Rattle.mdv_engine_law.proofs.Fronts.{fronts_alone, telling_rests}
 use Rattle.mdv_engine_law.proofs.Longer.{replied_more}
 use Rattle.mdv_engine_law.proofs.Turning.{ok_told}
-use Rattle.mdv_engine.proofs.Counting.{calm_given}
+use Rattle.mdv_engine.proofs.Counting.{calm_given, only_told}
 use Rattle.mdv_engine.proofs.engine.Engine.accept.Goals as goal
 
 pub returns-clause-moments : goal.returns-clause-moments
@@ -26,7 +26,7 @@ returns-clause-answer g c = record { cause = reply_cause _ c.tell.ensures.answer
 
 pub returns-clause-counted : goal.returns-clause-counted
 returns-clause-counted g c = record {
-  most = c.tell.ensures.counted.most;
+  once = c.tell.ensures.counted.once (only_told _ outcome.Ok c.tell.result _ c.tell.ensures.answers.1);
   told = λ on. told_once g.B.Shelf _ _ c.tell.ensures.kept.goes (replied_more _ accepted tt c.tell.result on _ _ c.tell.ensures.told) (c.tell.ensures.counted.calm on);
   given = λ on. calm_given g.B.Shelf.faults _ _ _ refl (c.tell.ensures.kept.keeps.no_fewer_faults OnReplies) (c.tell.ensures.counted.calm on OnReplies);
 }

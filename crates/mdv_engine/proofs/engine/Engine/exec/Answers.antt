@@ -6,14 +6,15 @@ use Rattle.mdv_shelf.proofs.InTime.{in_time_both}
 use Rattle.mdv_shelf.proofs.Counts.{at_most_then}
 use Rattle.mdv_words.specs.declared.command.Line.TheVariants as words
 use Rattle.mdv_engine_law.proofs.Executing.{came_more, command_cause, executed}
-use Rattle.mdv_base.proofs.Causes.{rose_within, within_calm}
+use Rattle.mdv_base.proofs.Causes.{calm_before, within_calm}
 use Rattle.mdv_engine_law.proofs.Longer.{replied_more}
 use Rattle.mdv_engine_law.proofs.Fronts.{fronts_then, telling_rests}
 use Rattle.mdv_engine_law.proofs.Turning.{Carried, carried_ends, turn_carry, turn_tell, turned, knows_after}
 use Rattle.mdv_engine.specs.Ends.{CarriesOut, LeavesMade}
-use Rattle.mdv_engine.specs.Counts.{IsLossCounted, blocks_of, calls_of, wanting_calls}
-use Rattle.mdv_engine_law.specs.Replies.{IsLost, IsReplied}
-use Rattle.mdv_engine.proofs.Counting.{calm_given, command_most, done_told, done_then, fault_then, fault_told, lost_told, none_at_most, quiet_told, spent_told, told_lost, unlooked_told, unwritten_told, wanting_told, whole_or_lost}
+use Rattle.mdv_engine_law.specs.Efforts.{LossCalls, blocks_of, calls_of, wanting_calls}
+use Rattle.mdv_shelf.specs.Made.{made_of}
+use Rattle.mdv_engine_law.specs.Replies.{IsLost}
+use Rattle.mdv_engine.proofs.Counting.{calm_given, command_calls, command_most, done_told, replied_calls, telling_most, done_then, fault_then, fault_told, lost_told, none_at_most, quiet_told, spent_told, told_lost, unlooked_told, unwritten_told, wanting_told, whole_or_lost}
 use Rattle.mdv_engine.proofs.engine.Engine.exec.Goals as goal
 
 pub returns-clause-moments : goal.returns-clause-moments
@@ -55,10 +56,12 @@ returns-clause-end g c = λ t is.
       end.0,
       end.1,
       record {
-        answered = λ known. executed _ _ _ _ host (words.Command c.args.command.now) old new answer c.tell.result t done.0 end.0
+        answered = λ known. executed _ _ _ _ _ host (words.Command c.args.command.now) old new answer c.tell.result t done.0 end.0
             (within_calm _ _ _ (c.tell.ensures.counted.drives 0))
-            (λ rose. rose_within _ _ _ _ (c.carry_out-answer.ensures.kept.keeps.no_fewer_faults OnReplies) (omega arith) rose)
-            quiet (done.2.carry.answered known) end.2;
+            (calm_before _ _ _ (c.carry_out-answer.ensures.kept.others OnReplies (λ is. absurd (cc (is))))).some
+            quiet (done.2.carry.answered known) end.2
+            (replied_calls g.B.Shelf.calls g.B.Shelf.written _ _ _ _ c.args.command.now new.opened answer c.tell.result _ c.tell.ensures.answers.1 c.tell.ensures.counted.once c.tell.ensures.counted.silent
+            (command_calls g.B.Shelf.tale g.B.Shelf.calls g.B.Shelf.written _ _ c.args.command.now new.opened answer c.carry_out-answer.ensures.counted));
         turned = λ on. turned host asked old new _ t done.0 end.0 quiet answer says.plain (λ on some. says.awake on) says.free done.2.carry.carried c.tell.result on end.2;
         knows = λ on. knows_after host asked old new _ t done.0 end.0 quiet answer done.2.carry.carried c.tell.result on end.2;
         quiet = λ still.
@@ -73,7 +76,7 @@ returns-clause-end g c = λ t is.
 pub returns-clause-answer : goal.returns-clause-answer
 returns-clause-answer g c = record {
   cause = command_cause _ _ _ _ c.tell.ensures.answers.0 (within_calm _ _ _ (c.tell.ensures.counted.drives 0))
-      (λ rose. rose_within _ _ _ _ (c.carry_out-answer.ensures.kept.keeps.no_fewer_faults OnReplies) (omega arith) rose)
+      (calm_before _ _ _ (c.carry_out-answer.ensures.kept.others OnReplies (λ is. absurd (cc (is))))).some
       c.carry_out-answer.result c.tell.result c.carry_out-answer.ensures.answer.cause c.tell.ensures.answers.1;
   host = c.carry_out-answer.ensures.answer.host;
   well = c.carry_out-answer.ensures.answer.well;
@@ -89,23 +92,23 @@ returns-clause-counted g c =
     let answers = c.tell.ensures.answers.1 in
     record {
       most = at_most_then g.B.Shelf.calls g.B.Shelf.written _ _ _ count 1 blocks 0 _ _ (omega arith) (omega arith)
-          (command_most g.B.Shelf.tale g.B.Shelf.calls g.B.Shelf.written _ _ c.args.command.now opened c.carry_out-answer.result by) c.tell.ensures.counted.most;
+          (command_most g.B.Shelf.tale g.B.Shelf.calls g.B.Shelf.written _ _ c.args.command.now opened c.carry_out-answer.result by) (telling_most g.B.Shelf _ _ c.tell.result c.tell.ensures.counted);
       done = λ is. done_then g.B.Shelf.tale g.B.Shelf.calls g.B.Shelf.written _ _ _ c.args.command.now opened
           (done_told g.B.Shelf.tale g.B.Shelf.calls g.B.Shelf.written _ _ c.args.command.now opened _ c.carry_out-answer.result c.tell.ensures.answers.0 (rw is at answers) by)
-          (c.tell.ensures.counted.once (subst IsReplied (sym is) tt));
+          (c.tell.ensures.counted.once (λ lost. subst IsLost is lost));
       unlooked = λ is.
           let same = unlooked_told g.B.Shelf.tale g.B.Shelf.calls g.B.Shelf.written _ _ c.args.command.now opened _ c.carry_out-answer.result c.tell.result _ answers is by in
-          rw same at c.tell.ensures.counted.most;
+          rw same at (telling_most g.B.Shelf _ _ c.tell.result c.tell.ensures.counted);
       unwritten = λ is. at_most_then g.B.Shelf.calls g.B.Shelf.written _ _ _ count 1 0 0 _ _ (omega arith) (omega arith)
-          (unwritten_told g.B.Shelf.tale g.B.Shelf.calls g.B.Shelf.written _ _ c.args.command.now opened _ c.carry_out-answer.result c.tell.result _ answers is by) c.tell.ensures.counted.most;
+          (unwritten_told g.B.Shelf.tale g.B.Shelf.calls g.B.Shelf.written _ _ c.args.command.now opened _ c.carry_out-answer.result c.tell.result _ answers is by) (telling_most g.B.Shelf _ _ c.tell.result c.tell.ensures.counted);
       wanting = λ is. at_most_then g.B.Shelf.calls g.B.Shelf.written _ _ _ (wanting_calls c.args.command.now) 1 0 0 _ _ (omega arith) (omega arith)
-          (wanting_told g.B.Shelf.tale g.B.Shelf.calls g.B.Shelf.written _ _ c.args.command.now opened _ c.carry_out-answer.result c.tell.ensures.answers.0 (rw is at answers) by) c.tell.ensures.counted.most;
+          (wanting_told g.B.Shelf.tale g.B.Shelf.calls g.B.Shelf.written _ _ c.args.command.now opened _ c.carry_out-answer.result c.tell.ensures.answers.0 (rw is at answers) by) (telling_most g.B.Shelf _ _ c.tell.result c.tell.ensures.counted);
       faulted = λ is. fault_then g.B.Shelf.tale g.B.Shelf.calls g.B.Shelf.written _ _ _ c.args.command.now
           (fault_told g.B.Shelf.tale g.B.Shelf.calls g.B.Shelf.written _ _ c.args.command.now opened _ c.carry_out-answer.result c.tell.ensures.answers.0 (rw is at answers) by)
-          (c.tell.ensures.counted.once (subst IsReplied (sym is) tt));
+          (c.tell.ensures.counted.once (λ lost. subst IsLost is lost));
       lost = λ active listed is.
           let same = c.tell.ensures.counted.silent (subst IsLost (sym is) tt) in
-          subst (λ (x : g.row.B.Denot). IsLossCounted g.B.Shelf.calls g.B.Shelf.written c.args.bench.now x c.args.command.now) (sym same)
+          subst (λ (x : g.row.B.Denot). LossCalls (made_of g.B.Shelf c.args.bench.now x) c.args.command.now) (sym same)
           (lost_told g.B.Shelf.tale g.B.Shelf.calls g.B.Shelf.written _ _ c.args.command.now opened _ c.carry_out-answer.result active listed c.tell.ensures.answers.0 (rw is at answers) by);
       spent = λ is.
           let same = c.tell.ensures.counted.silent (subst IsLost (sym is) tt) in

@@ -1,8 +1,9 @@
-use Rattle.std.proofs.Common.{◌≡◌, ◌+◌, None, sym, subst, ℕ, refl, arith}
+use Rattle.std.proofs.Common.{◌≡◌, ◌+◌, None, sym, subst, ℕ, refl}
 use Rattle.mdv_base.specs.declared.refusal.Refusal.TheVariants.{IoFault}
 use Rattle.mdv_engine_law.specs.Refusals.{blocks_refusal}
 use Rattle.mdv_engine.proofs.Judged.{blocks_judged}
-use Rattle.mdv_shelf.proofs.Counts.{took_at_most, took_one}
+use Rattle.mdv_shelf.proofs.Between.{between_one}
+use Rattle.mdv_shelf.proofs.Counts.{took_one}
 use Rattle.mdv_engine_law.specs.Line.{AreBlocksAt}
 use Rattle.mdv_engine_law.proofs.Keeping.{blocks_shown}
 use Rattle.mdv_shelf.specs.Calls.{OnDrive}
@@ -23,12 +24,12 @@ returns-in-Ok-clause-ok g c = record {
 pub returns-in-Ok-clause-counted : goal.returns-in-Ok-clause-counted
 returns-in-Ok-clause-counted g c =
     let took = took_one g.S.Shelf.calls g.S.Shelf.written _ _ _ c.read.ensures.counted in
-    record { done = took; most = took_at_most g.S.Shelf.calls g.S.Shelf.written _ _ 1 0 1 0 (omega arith) (omega arith) took; refused = tt }
+    record { done = took; failed = λ is. absurd (cc (is)); refused = tt }
 
 pub returns-in-Err-clause-counted : goal.returns-in-Err-clause-counted
 returns-in-Err-clause-counted g c = record {
   done = tt;
-  most = took_at_most g.S.Shelf.calls g.S.Shelf.written _ _ 1 0 1 0 (omega arith) (omega arith) (took_one g.S.Shelf.calls g.S.Shelf.written _ _ _ c.read.ensures.counted);
+  failed = λ is. between_one g.S.Shelf.calls g.S.Shelf.written _ _ 0 c.read.ensures.counted;
   refused = λ is. absurd (blocks_judged c.args.self.now.state.opened c.args.volume _ IoFault is);
 }
 

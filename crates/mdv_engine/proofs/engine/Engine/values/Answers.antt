@@ -1,9 +1,10 @@
-use Rattle.std.proofs.Common.{◌≡◌, ◌∙◌, ◌+◌, None, inl, ℕ, length, take, ◌++◌, drop, sym, subst, ap}
+use Rattle.std.proofs.Common.{◌≡◌, ◌∙◌, ◌+◌, None, Err, inl, ℕ, length, take, ◌++◌, drop, sym, subst, ap, arith}
 use Rattle.std.proofs.Math.Seq.{take-append_seam}
 use Rattle.mdv_shelf.specs.Shelves.{DriveFailures}
 use Rattle.mdv_engine.specs.Below.{Read, last, values_reply, AreBlocksAt, blocks_of}
 use Rattle.mdv_engine.specs.Engine.{HasBlocksCause}
 use Rattle.mdv_engine_law.specs.Refusals.{blocks_refusal}
+use Rattle.mdv_shelf.proofs.Between.{between_of}
 use Rattle.mdv_engine.proofs.Counting.{blocks_counted}
 use Rattle.mdv_engine.proofs.engine.Engine.values.Goals as goal
 
@@ -32,4 +33,8 @@ returns-in-Ok-new-clause-ok g c =
 
 pub returns-in-Err-clause-counted : goal.returns-in-Err-clause-counted
 returns-in-Err-clause-counted g c =
-    blocks_counted g.S.Shelf.tale g.S.Shelf.calls g.S.Shelf.written _ _ (Read c.args.volume c.args.at c.args.count) _ c.args.self.now.host c.args.self.now.state c.args.volume c.args.at _ c.in-Err.refusal _ c.in-Err.ensures.err c.in-Err.ensures.counted.refused c.in-Err.ensures.counted.most
+    blocks_counted g.S.Shelf.tale g.S.Shelf.calls g.S.Shelf.written _ _ (Read c.args.volume c.args.at c.args.count) _ c.args.self.now.host c.args.self.now.state c.args.volume c.args.at _ c.in-Err.refusal _ c.in-Err.ensures.err c.in-Err.ensures.counted.refused (λ is. c.in-Err.ensures.counted.failed (ap Err is))
+
+-- the text of the blocks that were read had no room
+pub returns-clause-counted : goal.returns-clause-counted
+returns-clause-counted g c = (between_of g.S.Shelf.calls g.S.Shelf.written _ _ 1 0 0 1 0 (omega arith) (omega arith) (omega arith) c.in-Ok.ensures.counted.done, c.read_blocks.ensures.same)

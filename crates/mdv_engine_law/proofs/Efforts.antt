@@ -1,0 +1,71 @@
+-- The calls of a line, told of another stretch.
+use Rattle.std.proofs.Common.{ℕ, Bool, true, false, List, Option, Some, None}
+use Rattle.mdv_base.specs.declared.refusal.Refusal.TheVariants as refusal
+use Rattle.mdv_shelf.specs.Made.{Made}
+use Rattle.mdv_shelf.proofs.Made.{IsToo, more_too}
+use Rattle.mdv_engine_law.specs.Below.{Refusal, Command, Create, Read, Write, Line, Newest}
+use Rattle.mdv_words.specs.declared.command.Command.TheVariants.{MakeStripe}
+use Rattle.mdv_words.specs.declared.command.Line.TheVariants as words
+use Rattle.mdv_engine_law.specs.declared.answer.Answer.{Answer}
+use Rattle.mdv_engine_law.specs.declared.answer.Answer.TheVariants.{Said, Over}
+use Rattle.mdv_engine_law.specs.declared.answer.Ended.TheVariants as ended
+use Rattle.mdv_engine_law.specs.declared.answer.Outcome.TheVariants as outcome
+use Rattle.mdv_engine_law.specs.declared.host.Host.{Host}
+use Rattle.mdv_engine_law.specs.Efforts.{BootCalls, CommandCalls, DoneCalls, FaultCalls, LineCalls, LossCalls, NoCalls, OpenedBy, replied_to}
+use Rattle.mdv_engine_law.specs.Line.{Kept, Memory}
+
+module _ (one other : Made) (too : IsToo one other) where
+  pub none_too : NoCalls one → NoCalls other
+  none_too none = too.within _ _ _ none
+
+  pub done_too : (command : Command) (opened : Option Newest) → DoneCalls one command opened → DoneCalls other command opened
+  done_too command opened done = record { exactly = too.exactly _ _ done.exactly; few = done.few }
+
+  pub fault_too : (command : Command) → FaultCalls one command → FaultCalls other command
+  fault_too (Create slice force) calls = too.within _ _ _ calls
+  fault_too (MakeStripe volume slice) calls = absurd calls
+  fault_too (Read volume at count) calls = too.within _ _ _ calls
+  fault_too (Write volume at block) calls = too.within _ _ _ calls
+
+  loss_too : (command : Command) → LossCalls one command → LossCalls other command
+  loss_too (Create slice force) calls = too.within _ _ _ calls
+  loss_too (MakeStripe volume slice) calls = too.within _ _ _ calls
+  loss_too (Read volume at count) calls = absurd calls
+  loss_too (Write volume at block) calls = absurd calls
+
+  refused_too : (command : Command) (r : Refusal) (opened : Option Newest) → CommandCalls one command (Said (outcome.Refused r)) opened → CommandCalls other command (Said (outcome.Refused r)) opened
+  refused_too command refusal.IoFault opened calls = fault_too command calls
+  refused_too command refusal.OutOfMemory opened calls = too.within _ _ _ calls
+  refused_too command other_one opened calls = none_too calls
+
+  pub command_too : (command : Command) (answer : Answer) (opened : Option Newest) → CommandCalls one command answer opened → CommandCalls other command answer opened
+  command_too command (Said outcome.Ok) opened calls = done_too command opened calls
+  command_too command (Said (outcome.Values text)) opened calls = done_too command opened calls
+  command_too command (Said (outcome.Refused r)) opened calls = refused_too command r opened calls
+  command_too command (Over (ended.Lost active listed)) opened calls = loss_too command calls
+  command_too command (Over ended.Spent) opened calls = none_too calls
+  command_too command (Over ended.Memory) opened calls = none_too calls
+
+  opened_too : (host : Host) (content : ℕ → List ℕ) (opened : Option Newest) (unread : Bool) → OpenedBy one host content opened unread → OpenedBy other host content opened unread
+  opened_too host content (Some newest) unread by = record { head = by.head; replica = by.replica; shown = by.shown; calls = too.exactly _ _ by.calls }
+  opened_too host content None false by = record {
+    beyond = λ past. too.exactly _ _ (by.beyond past);
+    headless = λ some none. too.exactly _ _ (by.headless some none);
+    headed = λ headed. too.within _ _ _ (by.headed headed);
+  }
+  opened_too host content None true by = too.within _ _ _ by
+
+  pub boot_too : (host : Host) (answer : Answer) (memory : Memory) (content : ℕ → List ℕ) → BootCalls one host answer memory content → BootCalls other host answer memory content
+  boot_too host (Said this) memory content by = opened_too host content memory.opened memory.down by
+  boot_too host (Over (ended.Lost active listed)) memory content by = record { head = by.head; replica = by.replica; shown = by.shown; calls = too.within _ _ _ by.calls; wrote = too.wrote by.wrote }
+  boot_too host (Over ended.Spent) memory content by = record { head = by.head; replica = by.replica; shown = by.shown; spent = by.spent; calls = too.exactly _ _ by.calls }
+  boot_too host (Over ended.Memory) memory content by = record { headed = by.headed; calls = too.within _ _ _ by.calls }
+
+  pub line_too : (host : Host) (kept : Kept) (line : Line) (answer : Answer) (next : Kept) → LineCalls one host kept line answer next → LineCalls other host kept line answer next
+  line_too host kept words.Boot answer next by = boot_too host answer next.memory kept.content by
+  line_too host kept (words.Command command) answer next by = command_too command answer next.memory.opened by
+
+-- its reply's call goes with it
+pub replied_too : (one other : Made) → IsToo one other → (answer : Answer) → IsToo (replied_to answer one) (replied_to answer other)
+replied_too one other too (Said this) = more_too 1 one other too
+replied_too one other too (Over end) = too
