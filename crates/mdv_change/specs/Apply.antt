@@ -1,11 +1,11 @@
 -- Why a change isn't made, and which changes there are.
 use Rattle.std.specs.Prelude.{ℕ, ◌≡◌, ◌<◌, List, Option, None, Some, Result, Ok, Err, Bool}
-use Rattle.mdv_change.specs.Below.{Refusal, DriveNo, Geometry, Table, VolId, PoolId, RaidAsked, RowAsked, MirrorAsked, SoftAsked, SliceName, Meant}
+use Rattle.mdv_change.specs.Below.{Refusal, DriveNo, Geometry, Table, VolId, PoolId, RaidAsked, RowAsked, MirrorAsked, SoftAsked, SliceName, Meant, Base}
 use Rattle.mdv_change.specs.declared.making.ApplyFault.{ApplyFault}
 use Rattle.mdv_change.specs.declared.making.ApplyFault.TheVariants.{Refused, Memory}
 use Rattle.mdv_change.specs.Change.{refusal_of, table_after}
 use Rattle.mdv_change.specs.declared.change.Change.{Change}
-use Rattle.mdv_change.specs.declared.change.Change.TheVariants.{MakeStripe, MakeRaid, MakeMirror, MakeSoft, Attach, Detach, Offline, Online, AddRow, Grow, AddSpares, AddSparesToAll, DeleteSpares, ReplaceSpare, EnableSpares, Clear, ClearBelow}
+use Rattle.mdv_change.specs.declared.change.Change.TheVariants.{MakeStripe, MakeRaid, MakeMirror, MakeSoft, Attach, Detach, Offline, Online, EnablePart, ReplacePart, AddRow, Grow, AddSpares, AddSparesToAll, DeleteSpares, ReplaceSpare, EnableSpares, Clear, ClearBelow}
 
 -- what refuses the change, or want of memory, which has no cause
 abbrev pub HasFault : Option Refusal → ApplyFault → Type 0
@@ -44,6 +44,12 @@ offline_change mirror sub = Offline mirror sub
 
 abbrev pub online_change : VolId → VolId → Change
 online_change mirror sub = Online mirror sub
+
+abbrev pub enable_part_change : VolId → Base → Change
+enable_part_change v part = EnablePart v part
+
+abbrev pub replace_part_change : VolId → Base → Base → Change
+replace_part_change v old new = ReplacePart v old new
 
 abbrev pub row_change : VolId → RowAsked → Change
 row_change v row = AddRow v row

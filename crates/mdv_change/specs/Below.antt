@@ -37,6 +37,8 @@ pub use Rattle.mdv_plan.specs.declared.volume.Component.{Component}
 pub use Rattle.mdv_plan.specs.declared.volume.Row.{Row}
 pub use Rattle.mdv_plan.specs.declared.volume.Volume.{Volume as OneVolume}
 pub use Rattle.mdv_plan.specs.declared.volume.VolumeKind.{VolumeKind}
+pub use Rattle.mdv_replacing.specs.Refusing.{enable_part_condition, replace_part_condition, told_word}
+pub use Rattle.mdv_replacing.specs.Renewing.{freed_spares, part_states, renewed_volume}
 pub use Rattle.mdv_rows.specs.Adding.{add_condition, added_states, filled, rows_of, with_row}
 pub use Rattle.mdv_softs.specs.Asking.{carried_of}
 pub use Rattle.mdv_softs.specs.Growing.{grow_condition, grown, grown_room}

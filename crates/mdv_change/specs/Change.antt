@@ -4,7 +4,7 @@ use Rattle.std.specs.Option.{option_map}
 use Rattle.mdv_change.specs.Below.{Refusal, DriveNo, Geometry, Table, OneVolume, VolumeStatus, with_item, with_put}
 use Rattle.mdv_change.specs.Below.{Cause, Carried, order, first_of, nothing, told, stripe_condition, stripe_on, stripe_status, raid_condition, raid_on, raid_status}
 use Rattle.mdv_change.specs.declared.change.Change.{Change}
-use Rattle.mdv_change.specs.declared.change.Change.TheVariants.{MakeStripe, MakeRaid, MakeMirror, MakeSoft, Attach, Detach, Offline, Online, AddRow, Grow, AddSpares, AddSparesToAll, DeleteSpares, ReplaceSpare, EnableSpares, Clear, ClearBelow, ClearAll}
+use Rattle.mdv_change.specs.declared.change.Change.TheVariants.{MakeStripe, MakeRaid, MakeMirror, MakeSoft, Attach, Detach, Offline, Online, EnablePart, ReplacePart, AddRow, Grow, AddSpares, AddSparesToAll, DeleteSpares, ReplaceSpare, EnableSpares, Clear, ClearBelow, ClearAll}
 use Rattle.mdv_change.specs.Below.{carried_of, soft_condition, soft_on, soft_room, soft_status, grow_condition, grown, grown_room}
 use Rattle.mdv_change.specs.Below.{VolId, Plan, RowAsked, row_on, add_condition, added_states, filled, rows_of, with_row}
 use Rattle.mdv_change.specs.Below.{SliceName, Pool, spares_condition, pool_with, spare_states}
@@ -12,6 +12,7 @@ use Rattle.mdv_change.specs.Below.{mirror_condition, mirror_on, mirror_status, a
 use Rattle.mdv_change.specs.Below.{all_condition, spares_added, replace_condition, spare_replaced}
 use Rattle.mdv_change.specs.Below.{StateWord, Absent, delete_condition, spares_deleted, enable_condition, unbroken_word}
 use Rattle.mdv_change.specs.Below.{detach_condition, offline_condition, online_condition, without_sub, detach_states, online_states, online_word, sub_word, switched}
+use Rattle.mdv_change.specs.Below.{Base, enable_part_condition, replace_part_condition, told_word, freed_spares, part_states, renewed_volume}
 use Rattle.mdv_change.specs.Clear.{clear_condition, cleared, emptied, given_back}
 use Rattle.mdv_change.specs.Levels.{with_levels}
 
@@ -29,6 +30,8 @@ condition g drives t (Attach mirror sub) = attach_condition t.plan mirror sub
 condition g drives t (Detach mirror sub force) = detach_condition t mirror sub force
 condition g drives t (Offline mirror sub) = offline_condition t mirror sub
 condition g drives t (Online mirror sub) = online_condition t mirror sub
+condition g drives t (EnablePart v part) = enable_part_condition g drives t v part
+condition g drives t (ReplacePart v old new) = replace_part_condition g drives t v old new
 condition g drives t (AddRow v r) = add_condition g drives t.plan v (row_behind t.plan v r)
 condition g drives t (Grow v blocks) = grow_condition g t v blocks
 condition g drives t (AddSpares q new slices) = spares_condition g drives t.plan new q slices
@@ -51,6 +54,8 @@ carried g t (Grow v blocks) = carried_of (grown_room g t.plan v blocks)
 carried g t (Detach mirror sub force) = of_state (sub_word t mirror sub)
 carried g t (Offline mirror sub) = of_state (sub_word t mirror sub)
 carried g t (Online mirror sub) = of_state (online_word t mirror sub)
+carried g t (EnablePart v part) = of_state (told_word t v part true)
+carried g t (ReplacePart v old new) = of_state (told_word t v old false)
 carried g t (DeleteSpares pools slices) = of_state Absent
 carried g t (ReplaceSpare pools old new) = of_state Absent
 carried g t (EnableSpares slices) = of_state (unbroken_word t.status.spares slices)
@@ -93,6 +98,14 @@ row_added g t v r = with_states (added_states t.status v r) (with_changed (optio
 abbrev pub spares_enabled : List SliceName → Table → Table
 spares_enabled slices t = record t { status = record t.status { spares = given_back t.status.spares slices } }
 
+-- the component is copied whole, and the spare on which it lay is Available
+abbrev pub part_enabled : Table → VolId → Base → Table
+part_enabled t v part = spares_enabled (freed_spares t v part) (with_states (part_states t v part) t)
+
+-- the same, with the new component in the place of the old one
+abbrev pub part_replaced : Geometry → Table → VolId → Base → Base → Table
+part_replaced g t v old new = spares_enabled (freed_spares t v old) (with_states (part_states t v old) (with_changed (renewed_volume g t.plan v old new) t))
+
 abbrev pub table_after : Geometry → Table → Change → Table
 table_after g t (MakeStripe v rows pool) = with_volume (stripe_on g t.plan v rows pool) (stripe_status v rows) t
 table_after g t (MakeRaid v raid) = with_volume (raid_on g t.plan v raid) (raid_status v raid) t
@@ -102,6 +115,8 @@ table_after g t (Attach mirror sub) = with_states (attach_states t.status mirror
 table_after g t (Detach mirror sub force) = with_states (detach_states t mirror sub) (with_changed (option_map (without_sub sub) (volume_of t.plan mirror)) t)
 table_after g t (Offline mirror sub) = with_states (switched t mirror sub true) t
 table_after g t (Online mirror sub) = with_states (online_states t mirror sub) t
+table_after g t (EnablePart v part) = part_enabled t v part
+table_after g t (ReplacePart v old new) = part_replaced g t v old new
 table_after g t (AddRow v r) = row_added g t v (row_behind t.plan v r)
 table_after g t (Grow v blocks) = with_changed (option_map (grown (grown_room g t.plan v blocks)) (volume_of t.plan v)) t
 table_after g t (AddSpares q new slices) = with_pool (pool_with g t.plan q slices) slices t

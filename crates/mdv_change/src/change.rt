@@ -1,6 +1,6 @@
 use mdv_base::{PoolId, SliceName, VolId};
 use mdv_components::{MAX_NAMES, RaidAsked, RowAsked};
-use mdv_plan::Listed;
+use mdv_plan::{Base, Listed};
 use mdv_softs::SoftAsked;
 use mdv_spares::Meant;
 use mdv_submirrors::MirrorAsked;
@@ -51,6 +51,19 @@ pub enum Change {
     Online {
         mirror: VolId,
         sub: VolId,
+    },
+    /// `metareplace -e d0 c0t0d0s0`: the component of a mirror or RAID-5 volume is copied whole again, to its own
+    /// base; a spare on which it lay comes free.
+    EnablePart {
+        volume: VolId,
+        part: Base,
+    },
+    /// `metareplace d0 c0t0d0s0 c0t2d0s0`: the new component comes in the place of the old one, and is copied
+    /// whole.
+    ReplacePart {
+        volume: VolId,
+        old: Base,
+        new: Base,
     },
     /// `metattach d10 c0t3d0s0 c0t4d0s0 -i 32b`: one stripe more behind those of the volume. Where no interlace
     /// is asked for it has that of the last one.

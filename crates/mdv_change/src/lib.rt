@@ -7,6 +7,7 @@ mod levels;
 mod making;
 mod mirroring;
 mod pooling;
+mod replacing;
 
 pub use change::Change;
 pub use making::{ApplyFault, apply};

@@ -12,6 +12,7 @@ use crate::clearing::{clear, clear_all, refuse_clear};
 use crate::levels::with_levels;
 use crate::mirroring::{detach, take_offline, take_online};
 use crate::pooling::{add_spares_to_all, delete_spares, enable_spares, replace_spare};
+use crate::replacing::{enable_part, replace_part};
 use mdv_base::{DriveNo, PoolId, Refusal, SliceName, VolId};
 use mdv_components::{
     Carried, RaidAsked, RowAsked, raid_on, raid_status, refuse_raid, refuse_stripe, row_on,
@@ -76,6 +77,12 @@ pub fn apply(
         Change::Detach { mirror, sub, force } => detach(alloc, table, *mirror, *sub, *force),
         Change::Offline { mirror, sub } => take_offline(alloc, table, *mirror, *sub),
         Change::Online { mirror, sub } => take_online(alloc, table, *mirror, *sub),
+        Change::EnablePart { volume, part } => {
+            enable_part(alloc, geometry, drives, table, *volume, *part)
+        }
+        Change::ReplacePart { volume, old, new } => {
+            replace_part(alloc, geometry, drives, table, *volume, *old, *new)
+        }
         Change::AddRow { volume, row } => { add_row(alloc, geometry, drives, table, *volume, row) }
         Change::Grow { volume, blocks } => grow(alloc, geometry, table, *volume, *blocks),
         Change::AddSpares { pool, new, spares } => {

@@ -7,6 +7,7 @@ pub use Rattle.mdv_components.specs.Causes.{first_of, order, told}
 pub use Rattle.mdv_components.specs.declared.cause.Carried.{Carried}
 pub use Rattle.mdv_components.specs.declared.cause.Cause.{Cause}
 pub use Rattle.mdv_components.specs.declared.cause.Cause.TheVariants.{NoSuchVolume, WrongKind, WrongState, LastCopy}
+pub use Rattle.mdv_plan.specs.Uses.{same_base}
 pub use Rattle.mdv_plan.specs.declared.plan.Plan.{Plan}
 pub use Rattle.mdv_plan.specs.declared.status.KindStatus.{KindStatus}
 pub use Rattle.mdv_plan.specs.declared.status.KindStatus.TheVariants.{Mirror as MirrorKind, Stripe as StripeKind}
@@ -17,6 +18,8 @@ pub use Rattle.mdv_plan.specs.declared.status.State.TheVariants.{Okay, Resyncing
 pub use Rattle.mdv_plan.specs.declared.status.Status.{Status}
 pub use Rattle.mdv_plan.specs.declared.status.VolumeStatus.{VolumeStatus}
 pub use Rattle.mdv_plan.specs.declared.table.Table.{Table}
+pub use Rattle.mdv_plan.specs.declared.volume.Base.{Base}
+pub use Rattle.mdv_plan.specs.declared.volume.Component.{Component}
 pub use Rattle.mdv_plan.specs.declared.volume.Row.{Row}
 pub use Rattle.mdv_plan.specs.declared.volume.Volume.{Volume as OneVolume}
 pub use Rattle.mdv_plan.specs.declared.volume.VolumeKind.{VolumeKind}

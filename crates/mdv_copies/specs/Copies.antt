@@ -1,7 +1,7 @@
 -- Which blocks of a mirror have a copy that may be read, and whether a submirror has the last one.
-use Rattle.std.specs.Prelude.{◌≡◌, ◌<◌, ℕ, zero, suc, Bool, true, false, not, max, ◌+◌, ◌-◌, ◌/◌, ◌%◌, ◌||◌, nat_lt, List, [], ◌∷◌, length, drop, Option, None, Some, if◌then◌else◌}
+use Rattle.std.specs.Prelude.{◌≡◌, ◌<◌, ℕ, zero, suc, Bool, true, false, not, max, ◌+◌, ◌-◌, ◌/◌, ◌%◌, ◌&&◌, ◌||◌, nat_lt, List, [], ◌∷◌, length, drop, Option, None, Some, if◌then◌else◌}
 use Rattle.std.specs.List.{list_any, slice_get}
-use Rattle.mdv_copies.specs.Below.{VolId, Table, Row, PartStatus, State, Okay, LastErred, parts_at, row_blocks, rows_of, size_of, status_at}
+use Rattle.mdv_copies.specs.Below.{VolId, Base, Component, Table, Row, PartStatus, State, Okay, LastErred, parts_at, row_blocks, rows_of, same_base, size_of, status_at}
 use Rattle.mdv_copies.specs.Legs.{legs_of, others}
 
 abbrev pub is_usable : State → Bool
@@ -49,6 +49,33 @@ any_below test (suc n) = test n || any_below test n
 -- some block of the mirror has no usable copy in another submirror
 abbrev pub is_last : Table → VolId → VolId → Bool
 is_last t m v = any_below (is_bare t (others (legs_of t m) v)) (size_of t.plan m)
+
+abbrev pub is_part_on : Base → Component → Bool
+is_part_on on c = same_base c.on on
+
+abbrev pub has_part_on : Base → Row → Bool
+has_part_on on r = list_any (is_part_on on) r.components
+
+abbrev pub is_on : Base → Option Component → Bool
+is_on on None = false
+is_on on (Some c) = is_part_on on c
+
+-- whether a block of the stripe lies on the component that has this base
+abbrev pub lies_in_row : Row → Base → ℕ → Bool
+lies_in_row r on b = is_on on (slice_get r.components (place_in r b))
+
+-- the same of a block of stripes that follow one another
+abbrev pub lies_in : List Row → Base → ℕ → Bool
+lies_in [] on b = false
+lies_in (r ∷ rs) on b = if nat_lt b (row_blocks r) then lies_in_row r on b else lies_in rs on (b - row_blocks r)
+
+-- the block lies on that component of the submirror, and no one of these has a usable copy
+abbrev pub is_bare_on : Table → List VolId → VolId → Base → ℕ → Bool
+is_bare_on t vs v on b = lies_in (rows_of t.plan v) on b && is_bare t vs b
+
+-- some block of the mirror that lies on that component of the submirror has no usable copy in another submirror
+abbrev pub is_last_on : Table → VolId → VolId → Base → Bool
+is_last_on t m v on = any_below (is_bare_on t (others (legs_of t m) v) v on) (size_of t.plan m)
 
 -- so many numbers from this one on pass the test, and none only where that one doesn't
 pub record IsRun (test : ℕ → Bool) (from n : ℕ) : Type 0 where

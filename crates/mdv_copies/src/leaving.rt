@@ -15,7 +15,8 @@ use mdv_plan::{Copied, Listed, MAX_SUBMIRRORS, Mirror, Plan, Table, Volume, Volu
 use mdv_submirrors::{is_no_mirror, is_no_stripe, is_no_volume};
 use std::alloc::{AllocError, Global};
 
-fn with_word(cause: Option<Cause>, state: StateWord) -> Option<Refusal>
+/// The refusal for the cause, if there is one; one for a state tells this state.
+pub fn with_word(cause: Option<Cause>, state: StateWord) -> Option<Refusal>
     ensures { result ≡ option_map (told (spec_with_word state)) cause }
 {
     match cause {

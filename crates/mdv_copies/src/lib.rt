@@ -1,5 +1,5 @@
 //! Submirrors that are taken away, go offline or come back: what refuses it, which one has the last copy of
-//! a block, and the states that are left.
+//! a block, which component has it, and the states that are left.
 #![tactic(auto)]
 
 mod copies;
@@ -8,6 +8,8 @@ mod legs;
 mod runs;
 mod states;
 
-pub use leaving::{mirror_without, refuse_detach, refuse_offline, refuse_online};
+pub use copies::is_last_on;
+pub use leaving::{mirror_without, refuse_detach, refuse_offline, refuse_online, with_word};
 pub use legs::Leg;
-pub use states::{detach_states, offline_states, online_states};
+pub use runs::{has_part_on, is_part_on};
+pub use states::{are_okay, detach_states, offline_states, online_states, worst};

@@ -45,7 +45,8 @@ fn has_one(bad: u8, parts: &[PartStatus]) -> bool
     parts.iter().any(|part| is_as_bad(bad, *part))
 }
 
-fn worst(parts: &[PartStatus]) -> StateWord
+/// The worst state of these components.
+pub fn worst(parts: &[PartStatus]) -> StateWord
     ensures { result ≡ spec_worst parts.now }
 {
     if has_one(3, parts) {
@@ -85,7 +86,8 @@ fn is_okay(part: PartStatus) -> bool
     is_as_bad(0, part)
 }
 
-fn are_okay(parts: &[PartStatus]) -> bool
+/// Whether all these components are Okay.
+pub fn are_okay(parts: &[PartStatus]) -> bool
     ensures { result ≡ list_all spec_is_okay parts.now }
 {
     parts.iter().all(|part| is_okay(*part))

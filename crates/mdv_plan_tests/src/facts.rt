@@ -1,7 +1,7 @@
 //! What a table is like.
 
 use mdv_base::{PoolId, SliceName, VolId};
-use mdv_plan::{KindStatus, SpareState, State, Table, VolumeKind};
+use mdv_plan::{Base, Component, KindStatus, SpareState, State, Table, VolumeKind};
 
 pub(crate) enum Fact {
     /// Whether there is such a volume.
@@ -17,6 +17,11 @@ pub(crate) enum Fact {
     Pools(usize),
     /// The state of the only component of a stripe; `None` of what is no such stripe.
     StripeState(VolId, Option<State>),
+    /// The states of the components of a stripe or RAID-5 volume.
+    Parts(VolId, &'static [State]),
+    /// The first block and the blocks of the component with this base of a RAID-5 volume, or of a volume of one
+    /// stripe.
+    PartOn(VolId, Base, u64, u64),
     /// So many stripes, and so many states of components.
     Rows(VolId, usize, usize),
     /// The start and the extents of a soft partition, each as its first block and how many.
@@ -47,6 +52,10 @@ pub(crate) fn holds(table: &Table, fact: &Fact) -> bool {
         }
         Fact::Pools(pools) => plan.pools.as_slice().len() == pools,
         Fact::StripeState(volume, state) => component(table, volume) == state,
+        Fact::Parts(volume, states) => has_parts(table, volume, states),
+        Fact::PartOn(volume, base, start, blocks) => {
+            place(table, volume, base) == Some((start, blocks))
+        }
         Fact::Rows(volume, rows, states) => stripes(table, volume) == Some((rows, states)),
         Fact::Extents(volume, start, extents) => has_extents(table, volume, start, extents),
         Fact::Submirrors(volume, subs, flags, blocks) => {
@@ -79,6 +88,36 @@ fn component(table: &Table, volume: VolId) -> Option<State> {
         [part] => Some(part.state),
         _ => None,
     }
+}
+
+fn has_parts(table: &Table, volume: VolId, states: &[State]) -> bool {
+    let parts = match table.status.volumes.find(u32::from(volume.0)) {
+        Some(status) => match &status.kind {
+            KindStatus::Stripe(parts) => parts.as_slice(),
+            KindStatus::Raid(raid) => raid.columns.as_slice(),
+            _ => return false,
+        },
+        None => return false,
+    };
+    let same = parts
+        .iter()
+        .zip(states)
+        .all(|(part, state)| part.state == *state);
+    parts.len() == states.len() && same
+}
+
+fn components(table: &Table, volume: VolId) -> Option<&[Component]> {
+    match &table.plan.volumes.find(u32::from(volume.0))?.kind {
+        VolumeKind::Stripe(stripe) => Some(stripe.rows.as_slice().first()?.components.as_slice()),
+        VolumeKind::Raid(raid) => Some(raid.columns.as_slice()),
+        _ => None,
+    }
+}
+
+fn place(table: &Table, volume: VolId, base: Base) -> Option<(u64, u64)> {
+    let components = components(table, volume)?;
+    let found = components.iter().find(|component| component.on == base)?;
+    Some((found.start, found.blocks))
 }
 
 fn mirror(table: &Table, volume: VolId) -> Option<(usize, usize, u64)> {

@@ -12,4 +12,6 @@ mod facts;
 #[cfg(test)]
 mod plan_tests;
 #[cfg(test)]
+mod replacing_tests;
+#[cfg(test)]
 mod steps;

@@ -27,6 +27,9 @@ pub(crate) enum Step {
     Detach(VolId, VolId, bool),
     Offline(VolId, VolId),
     Online(VolId, VolId),
+    Enable(VolId, Base),
+    /// The second component comes in the place of the first.
+    Replace(VolId, Base, Base),
     MakeSoft(u8, Base, u64),
     Grow(VolId, u64),
     /// One stripe more, with this interlace.
@@ -54,6 +57,10 @@ pub(crate) enum Line {
     Is(Fact),
     /// From here on the components of a stripe are in these states.
     In(VolId, &'static [State]),
+    /// From here on the columns of a RAID-5 volume that is made are in these states.
+    Columns(VolId, &'static [State]),
+    /// From here on the only component of a stripe lies on the spare, and is in this state.
+    Lies(VolId, SliceName, State),
     /// From here on a region of the mirror is dirty.
     Dirty(VolId),
     /// From here on there is a soft partition on a volume.
@@ -90,6 +97,8 @@ fn is_so(alloc: Global, table: &mut Table, line: &Line) -> Result<bool, Fail> {
         ),
         Line::Is(fact) => Ok(holds(table, fact)),
         Line::In(stripe, states) => note_states(alloc, table, *stripe, states),
+        Line::Columns(raid, states) => note_columns(alloc, table, *raid, states),
+        Line::Lies(stripe, spare, state) => note_lying(alloc, table, *stripe, *spare, *state),
         Line::Dirty(mirror) => note_dirty(alloc, table, *mirror),
         Line::Soft(number, base) => add_soft(alloc, table, *number, *base),
         Line::InUse(spare) => note_spare(table, *spare, SpareState::InUse),
@@ -136,6 +145,8 @@ fn change_of(alloc: Global, step: &Step) -> Result<Change, Fail>
         Step::Detach(mirror, sub, force) => Change::Detach { mirror, sub, force },
         Step::Offline(mirror, sub) => Change::Offline { mirror, sub },
         Step::Online(mirror, sub) => Change::Online { mirror, sub },
+        Step::Enable(volume, part) => Change::EnablePart { volume, part },
+        Step::Replace(volume, old, new) => Change::ReplacePart { volume, old, new },
         Step::MakeSoft(number, base, blocks) => Change::MakeSoft {
             volume: volume(number),
             soft: SoftAsked { base, blocks },
@@ -295,6 +306,50 @@ fn note_states(
     table.status.volumes.replace(VolumeStatus {
         number: stripe,
         kind: KindStatus::Stripe(Listed::from_slice(alloc, parts.as_slice())?),
+    });
+    Ok(true)
+}
+
+fn note_columns(
+    alloc: Global,
+    table: &mut Table,
+    raid: VolId,
+    states: &[State],
+) -> Result<bool, Fail> {
+    let mut columns = Vec::new(alloc);
+    for state in states {
+        columns.push(PartStatus {
+            state: *state,
+            spare: None,
+        })?;
+    }
+    if columns.len() > MAX_COLUMNS {
+        return Ok(false);
+    }
+    table.status.volumes.replace(VolumeStatus {
+        number: raid,
+        kind: KindStatus::Raid(RaidStatus {
+            state: RaidState::Okay,
+            columns: Listed::from_slice(alloc, columns.as_slice())?,
+        }),
+    });
+    Ok(true)
+}
+
+fn note_lying(
+    alloc: Global,
+    table: &mut Table,
+    stripe: VolId,
+    slice: SliceName,
+    state: State,
+) -> Result<bool, Fail> {
+    let part = PartStatus {
+        state,
+        spare: Some(SpareUse { slice, start: 0 }),
+    };
+    table.status.volumes.replace(VolumeStatus {
+        number: stripe,
+        kind: KindStatus::Stripe(Listed::from_slice(alloc, &[part])?),
     });
     Ok(true)
 }

@@ -64,7 +64,8 @@ pub fn filled(
     })
 }
 
-fn components_in(alloc: Global, rows: &[Row]) -> Result<Vec<Component>, AllocError>
+/// The components of the stripes, one stripe after another.
+pub fn components_in(alloc: Global, rows: &[Row]) -> Result<Vec<Component>, AllocError>
     ensures { IfOk result (λ parts. parts.items ≡ flat_map parts_of rows.now) }
 {
     let mut parts = Vec::new(alloc);
@@ -84,8 +85,8 @@ pub(crate) fn is_full(alloc: Global, rows: &[Row], new: usize) -> Result<bool, A
     Ok(rows.len() >= MAX_COMPONENTS || had > MAX_COMPONENTS || MAX_COMPONENTS - had < new)
 }
 
-// Whether the volume or one of the components isn't there.
-pub(crate) fn lacks_one(plan: &Plan, volume: VolId, bases: &[Base]) -> bool
+/// Whether the volume or one of the components isn't there.
+pub fn lacks_one(plan: &Plan, volume: VolId, bases: &[Base]) -> bool
     ensures { result ≡ spec_lacks_one plan.now volume bases.now }
 {
     volume_of(plan, volume).is_none() || has_missing(plan, bases)
@@ -125,8 +126,8 @@ fn has_soft(bases: &[Base]) -> bool
     bases.iter().any(|base| is_soft(*base))
 }
 
-// Whether soft partitions lie on the volume, and one would be its component.
-pub(crate) fn is_nesting(plan: &Plan, volume: VolId, bases: &[Base]) -> bool
+/// Whether soft partitions lie on the volume, and one would be its component.
+pub fn is_nesting(plan: &Plan, volume: VolId, bases: &[Base]) -> bool
     ensures { result ≡ spec_is_nesting plan.now volume bases.now }
 {
     plan.has_parent(volume) && has_soft(bases)

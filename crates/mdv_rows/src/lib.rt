@@ -5,4 +5,4 @@ mod adding;
 mod asking;
 
 pub use adding::{added_states, refuse_add, volume_with_row};
-pub use asking::{filled, rows_of};
+pub use asking::{components_in, filled, is_nesting, lacks_one, rows_of};

@@ -34,8 +34,8 @@ fn is_kind_being_made(kind: &KindStatus) -> bool
     }
 }
 
-// Whether the base is a RAID-5 volume all of which is being written.
-pub(crate) fn is_initializing(status: &Status, base: Base) -> bool
+/// Whether the base is a RAID-5 volume all of which is being written.
+pub fn is_initializing(status: &Status, base: Base) -> bool
     ensures { result ≡ spec_is_initializing status.now base }
 {
     match base {

@@ -1,6 +1,6 @@
 use Rattle.std.proofs.Common.{◌≡◌, rules, sym, ◌∙◌, ap, subst, List, Option, None}
 use Rattle.std.specs.Option.{option_map}
-use Rattle.mdv_change.specs.Below.{OneVolume, RowAsked, Table, VolumeStatus, add_condition, added_states, first_of, noted, nothing, order, row_on, told, volume_of, with_row}
+use Rattle.mdv_change.specs.Below.{OneVolume, RowAsked, Table, VolumeStatus, add_condition, added_states, first_of, noted, nothing, order, told, volume_of, with_row}
 use Rattle.mdv_change.specs.Change.{row_added, with_changed, with_states}
 use Rattle.mdv_plan.specs.declared.volume.Row.{Row}
 use Rattle.mdv_change.proofs.making.add_row.Goals as goal

@@ -1,4 +1,4 @@
-use Rattle.std.proofs.Common.{◌≡◌, refl, sym, ◌∙◌, ap}
+use Rattle.std.proofs.Common.{refl, sym, ◌∙◌, ap}
 use Rattle.std.specs.Option.{option_map}
 use Rattle.mdv_softs.specs.declared.room.Room.{Room}
 use Rattle.mdv_change.specs.Below.{carried_of, first_of, order, soft_condition, told}
