@@ -16,7 +16,7 @@ plain_area slices drive block = list_any (λ line. not line.at.db && covers line
 abbrev pub host_area : Host → Area
 host_area host = joined (area_of (site_of host)) (plain_area host.drives.slices)
 
--- each block elsewhere is kept: it reads as it did, and no crash leaves there what it might not have left before
+-- each block elsewhere is kept: it reads as it did, no crash leaves there what it might not have left before, and no write took it
 abbrev pub StaysHome : Host → Tale → Tale → Type 0
 StaysHome host t m = KeptOutside (host_area host) t m
 

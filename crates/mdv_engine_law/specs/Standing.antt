@@ -50,7 +50,7 @@ pub record OnlyReplied (failed : Type 0) (answer : Answer) (reply : Reply) (t u 
   pub replied : Replied failed answer reply t u
   pub kept : KeptOutside nowhere t u
 
--- a line that was carried out and replied to, with so many calls, of which some on the drive and the giving of replies may have failed
+-- a line that was carried out and replied to, with so many calls, of which one on the drive and the giving of its reply may have failed
 pub record Executed (drive : Failures) (replies : Type 0) (made : Made) (host : Host) (line : Line) (old new : Memory) (reply : Reply) (t u : Tale) : Type 0 where
   pub answer : Answer
   pub carried : ComesTo drive host (kept_at old t) line answer (kept_at new u)

@@ -12,6 +12,8 @@ mod facts;
 #[cfg(test)]
 mod plan_tests;
 #[cfg(test)]
+mod print_tests;
+#[cfg(test)]
 mod replacing_tests;
 #[cfg(test)]
 mod steps;

@@ -10,7 +10,8 @@ use Rattle.mdv_engine_law.specs.declared.answer.Reply.TheVariants as reply
 use Rattle.mdv_run.specs.declared.session.Turn.{Turn}
 use Rattle.mdv_run.specs.declared.session.Turn.TheVariants.{On, Over}
 
--- a line that was carried out and replied to, with so many calls, of which some on the drive and the giving of replies may have failed
+-- a line that was carried out and replied to, with so many calls, of which one on the drive and the giving of its reply may have failed, and the blocks that it
+-- may write
 pub record LineAnswered (drive : Failures) (replies : Type 0) (made : Made) (host : Host) (text : List ℕ) (old new : Memory) (reply : Reply) (t u : Tale) : Type 0 where
   pub answer : Answer
   pub done : IsAnswered drive host (kept_at old t) text answer (kept_at new u)

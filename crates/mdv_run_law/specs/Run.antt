@@ -95,8 +95,8 @@ pub record Stops (known : Kept) (end : RunStatus) (told : List ℕ) (status : Ru
 abbrev pub status_of : Bool → RunStatus
 status_of refused = if refused then SomeRefused else Done
 
--- where a run is between two lines: the counts by then, the story by then and how many calls were made, what is kept, whether some reply was a refusal, and
--- the script that is left
+-- Where a run is between two lines: the counts by then, the story by then and how many calls are reckoned to the lines before, what is kept, whether some reply
+-- was a refusal, and the script that is left. The moments don't show the calls: what holds of them is that they add up, from line to line, to all that were made.
 pub record At : Type 0 where
   pub counts : Counts
   pub story : Option Story
@@ -288,7 +288,7 @@ pub record Runs (host : Host) (stretch : Stretch) (end : Counts) (now : At) (tol
 abbrev pub started : (ℕ → List ℕ) → Kept
 started content = record { memory = unbooted 0; content = content }
 
--- how far a bench is: its story, and how many calls it made
+-- how far a bench is: its story, and how many calls are reckoned to it so far
 pub record Progress : Type 0 where
   pub story : Option Story
   pub effort : Effort

@@ -1,0 +1,158 @@
+//! The lines of volumes in order.
+ghost use Rattle.std.specs.Prelude.{◌≡◌, ◌++◌, ℕ, List, reverse, IfOk, OnOk};
+ghost use Rattle.std.specs.List.{flat_map};
+ghost use Rattle.mdv_print.specs.Below.{VolId};
+ghost use Rattle.mdv_print.specs.Marks.{AreMarks, IsNext, unmarked_of};
+ghost use Rattle.std.specs.Option.{option_copied};
+ghost use Rattle.mdv_print.specs.Order.{base_below, component_below, row_below, kind_below, next_of, untold, uppermost as spec_uppermost};
+ghost use Rattle.mdv_print.specs.Text.{volumes_text};
+
+use crate::line::add_volume;
+use crate::marks::Marks;
+use mdv_base::{Name, VolId};
+use mdv_plan::{Base, Component, Plan, Row, Volume, VolumeKind};
+use std::alloc::{AllocError, Global};
+
+// Adds the volume that the base is.
+fn add_base(list: &mut Vec<VolId>, base: Base) -> Result<(), AllocError>
+    ensures { OnOk result (list.new.items ≡ list.old.items ++ base_below base) }
+{
+    if let Base::Volume(volume) = base {
+        list.push(volume)?;
+    }
+    Ok(())
+}
+
+fn add_components(list: &mut Vec<VolId>, components: &[Component]) -> Result<(), AllocError>
+    ensures { OnOk result (list.new.items ≡ list.old.items ++ flat_map component_below components.now) }
+{
+    for component in components {
+        add_base(list, component.on)?;
+    }
+    Ok(())
+}
+
+fn add_rows(list: &mut Vec<VolId>, rows: &[Row]) -> Result<(), AllocError>
+    ensures { OnOk result (list.new.items ≡ list.old.items ++ flat_map row_below rows.now) }
+{
+    for row in rows {
+        add_components(list, row.components.as_slice())?;
+    }
+    Ok(())
+}
+
+// The volumes that a volume of this kind names.
+fn below(alloc: Global, kind: &VolumeKind) -> Result<Vec<VolId>, AllocError>
+    ensures { IfOk result (λ list. list.items ≡ kind_below kind.now) }
+{
+    let mut list = Vec::new(alloc);
+    match kind {
+        VolumeKind::Stripe(stripe) => add_rows(&mut list, stripe.rows.as_slice())?,
+        VolumeKind::Mirror(mirror) => list.extend_from_slice(mirror.submirrors.as_slice())?,
+        VolumeKind::Raid(raid) => add_components(&mut list, raid.columns.as_slice())?,
+        VolumeKind::Soft(soft) => add_base(&mut list, soft.base)?,
+    }
+    Ok(list)
+}
+
+// Adds the volumes, the last first.
+fn add_reversed(list: &mut Vec<VolId>, mut volumes: Vec<VolId>) -> Result<(), AllocError>
+    ensures { OnOk result (list.new.items ≡ list.old.items ++ reverse volumes.items) }
+{
+    while let Some(volume) = volumes.pop() {
+        list.push(volume)?;
+    }
+    Ok(())
+}
+
+// The volume of this number, where it is there and isn't told yet.
+fn find_untold<'p>(plan: &'p Plan, told: &Marks, volume: VolId) -> Option<&'p Volume>
+    ensures { (vs : List VolId) → AreMarks told.now vs → option_copied result ≡ untold plan.now vs volume }
+{
+    let _keys = plan.volumes.as_slice();
+    let found = plan.volumes.find(u32::from(volume.0))?;
+    if told.has(volume) {
+        return None;
+    }
+    Some(found)
+}
+
+// Takes the volumes from the end of the list, up to the first that is there and isn't told yet.
+fn take_next<'p>(plan: &'p Plan, told: &Marks, left: &mut Vec<VolId>) -> Option<&'p Volume>
+    ensures { (vs : List VolId) → AreMarks told.now vs →
+        IsNext (next_of plan.now vs (reverse left.old.items)) (option_copied result) (reverse left.new.items) }
+{
+    while let Some(volume) = left.pop() {
+        if let Some(found) = find_untold(plan, told, volume) {
+            return Some(found);
+        }
+    }
+    None
+}
+
+// Appends the lines of these volumes, each with those of all volumes below it behind it.
+pub(crate) fn add_volumes(
+    text: &mut Vec<u8>,
+    set: &Option<Name>,
+    plan: &Plan,
+    volumes: &[VolId],
+) -> Result<(), AllocError>
+    ensures { OnOk result (text.new.items ≡ text.old.items ++ volumes_text set.now plan.now volumes.now) }
+{
+    let alloc = *text.allocator();
+    let mut told = Marks::new(alloc)?;
+    let mut left = Vec::new(alloc);
+    add_reversed(&mut left, Vec::from_slice(alloc, volumes)?)?;
+    let count = plan.volumes.as_slice().len();
+    for _ in 0..count {
+        let Some(volume) = take_next(plan, &told, &mut left) else {
+            return Ok(());
+        };
+        add_volume(text, set, volume)?;
+        told.add(volume.number);
+        add_reversed(&mut left, below(alloc, &volume.kind)?)?;
+    }
+    Ok(())
+}
+
+fn mark_all(marks: &mut Marks, volumes: &[VolId])
+    ensures { (vs : List VolId) → AreMarks marks.old vs → AreMarks marks.new (vs ++ volumes.now) }
+{
+    for volume in volumes {
+        marks.add(*volume);
+    }
+}
+
+// The volumes that volumes name.
+fn used(alloc: Global, volumes: &[Volume]) -> Result<Marks, AllocError>
+    ensures { IfOk result (λ marks. AreMarks marks (flat_map (λ w. kind_below w.kind) volumes.now)) }
+{
+    let mut marks = Marks::new(alloc)?;
+    for volume in volumes {
+        let below = below(alloc, &volume.kind)?;
+        mark_all(&mut marks, below.as_slice());
+    }
+    Ok(marks)
+}
+
+// The volumes that aren't marked.
+fn unmarked(alloc: Global, volumes: &[Volume], marks: &Marks) -> Result<Vec<VolId>, AllocError>
+    ensures { IfOk result (λ list. list.items ≡ unmarked_of marks.now volumes.now) }
+{
+    let mut list = Vec::new(alloc);
+    for volume in volumes {
+        if !marks.has(volume.number) {
+            list.push(volume.number)?;
+        }
+    }
+    Ok(list)
+}
+
+// The volumes that no volume uses.
+pub(crate) fn uppermost(alloc: Global, plan: &Plan) -> Result<Vec<VolId>, AllocError>
+    ensures { IfOk result (λ list. list.items ≡ spec_uppermost plan.now) }
+{
+    let volumes = plan.volumes.as_slice();
+    let used = used(alloc, volumes)?;
+    unmarked(alloc, volumes, &used)
+}
