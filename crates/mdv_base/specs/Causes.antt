@@ -15,7 +15,7 @@ pub record HasCause {T E : Type 0} (before now : ℕ) (result : Result T E) : Ty
   pub failed : OnErr result (RoseOnce before now)
   pub calm : OnOk result (now ≡ before)
 
--- how the calls on a part came out: one failed, and none behind it, or none did
+-- how the calls on a part came out: just one failed, or none did
 pub record Failures : Type 1 where
   pub some : Type 0
   pub none : Type 0

@@ -89,6 +89,15 @@ told_lost failed (Over end) active listed piece told = by end told.0 where
   by ended.Spent is = absurd (cc (is))
   by ended.Memory is = absurd (cc (is))
 
+-- what was replied ends no run
+pub not_lost : (given : Reply) → IsReplied given → IsLost given → ⊥
+not_lost reply.Ok on lost = lost
+not_lost (reply.Refused refusal) on lost = lost
+not_lost (reply.Panic active listed) on lost = on
+not_lost reply.Spent on lost = on
+not_lost reply.NoMemory on lost = on
+not_lost reply.Told on lost = on
+
 -- a telling makes one call at most
 pub telling_most : {S : Type 0} (shelf : Ghosts S) (old new : S) (given : Reply) → IsTellingCounted shelf old new given → TookAtMost shelf.calls shelf.written old new 1 0
 telling_most shelf old new given counted = by given counted.once counted.silent where

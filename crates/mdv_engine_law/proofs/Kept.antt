@@ -1,9 +1,11 @@
 -- What a stretch of no calls keeps, and that a giving of replies changes no other count.
-use Rattle.std.proofs.Common.{◌≡◌, ◌≢◌, ℕ, [], refl, arith}
+use Rattle.std.proofs.Common.{◌≡◌, ◌≢◌, ◌⊎◌, inl, ℕ, [], Some, refl, arith}
 use Rattle.mdv_shelf.specs.Calls.{Part, OnDrive, OnReplies}
-use Rattle.mdv_shelf.specs.Shelves.{Kept, KeptOn}
+use Rattle.mdv_shelf.specs.Made.{effort_of}
+use Rattle.mdv_shelf.specs.Shelves.{IsOneCall, Kept, KeptOn}
 use Rattle.mdv_shelf.specs.declared.shelf.Shelf.{Ghosts}
 use Rattle.mdv_shelf.proofs.InTime.{in_time_none}
+use Rattle.mdv_shelf.proofs.Stories.{each_none}
 
 pub kept_itself : {S : Type 0} (shelf : Ghosts S) (s : S) → Kept shelf s s
 kept_itself shelf s = record {
@@ -20,6 +22,10 @@ kept_on_itself shelf s part = record {
   others = λ other differs. refl;
   elsewhere = λ other differs count. in_time_none other count (shelf.story s) (shelf.story s) refl;
 }
+
+-- and one of one call at most
+pub one_call_itself : {S : Type 0} (shelf : Ghosts S) (s : S) → IsOneCall shelf s s
+one_call_itself shelf s = each_none (λ t m. (m.effort ≡ effort_of shelf s) ⊎ (Some m.tale ≡ shelf.tale s)) _ _ _ _ refl (λ part. omega arith) (λ x. inl refl) (λ x. inl refl)
 
 -- where no drive's count changed, none but the replies' did
 pub replies_alone : (before now : Part → ℕ) → ((drive : ℕ) → now (OnDrive drive) ≡ before (OnDrive drive)) → (other : Part) → other ≢ OnReplies → now other ≡ before other

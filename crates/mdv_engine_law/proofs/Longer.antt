@@ -26,6 +26,10 @@ outcome_some outcome.Ok plain = ok_reply
 outcome_some (outcome.Values text) plain = values_are_reply text plain
 outcome_some (outcome.Refused refusal) plain = refusal_reply refusal plain
 
+-- so it has some bytes
+pub outcome_more : (this : Outcome) → IsPlainOutcome this → 0 < length (outcome_text this)
+outcome_more this plain = reply_some (outcome_text this) (outcome_some this plain)
+
 pub never_ended : (end : Ended) → IsReplied (reply_at end) → ⊥
 never_ended (ended.Lost active listed) on = on
 never_ended ended.Spent on = on

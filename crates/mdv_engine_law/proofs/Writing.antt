@@ -1,5 +1,5 @@
 -- The blocks that a line may write, where more calls write none.
-use Rattle.std.proofs.Common.{◌⊎◌, inl, inr, refl}
+use Rattle.std.proofs.Common.{inl, inr, refl}
 use Rattle.mdv_shelf.proofs.Frame.{kept_outside_more}
 use Rattle.mdv_engine_law.specs.Below.{KeptOutside, nowhere, area_of, range, Changed, Created, Saw, Tale, Wrote}
 use Rattle.mdv_engine_law.specs.declared.host.Host.{Host}

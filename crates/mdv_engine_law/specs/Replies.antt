@@ -2,7 +2,7 @@
 use Rattle.std.specs.Prelude.{◌≡◌, ◌≢◌, ◌⊎◌, ℕ, Bool, true, ◌||◌, List, [], ◌∷◌, ◌++◌, length, take, codes, if◌then◌else◌}
 use Rattle.std.specs.Str.{bytes_eq}
 use Rattle.mdv_shelf.specs.Calls.{OnDrive}
-use Rattle.mdv_shelf.specs.Shelves.{MadeCalls}
+use Rattle.mdv_shelf.specs.Shelves.{IsOneCall, MadeCalls}
 use Rattle.mdv_shelf.specs.Story.{NoFewer}
 use Rattle.mdv_shelf.specs.declared.shelf.Shelf.{Ghosts}
 use Rattle.mdv_engine_law.specs.Below.{Failures, refusal_text, VolId, Refusal, IoFault, Deed, Saw, lacks, left_in, one_reply, refused, replies_in, said_in, unsaid, with_reply, values_reply}
@@ -236,6 +236,7 @@ HasAnswerCause drive (Over ended.Memory) = ⊥
 -- The calls of a telling: one, by which no drive's count rose, and none at all where the reply was told whole; and none where the run is over.
 pub record IsTellingCounted {S : Type 0} (shelf : Ghosts S) (old new : S) (given : Reply) : Type 0 where
   pub once : (IsLost given → ⊥) → MadeCalls shelf old new 1 0
+  pub one : IsOneCall shelf old new
   pub silent : IsLost given → new ≡ old
   pub calm : IsReplied given → NoFewer (shelf.faults new) (shelf.faults old)
   pub drives : (drive : ℕ) → shelf.faults new (OnDrive drive) ≡ shelf.faults old (OnDrive drive)

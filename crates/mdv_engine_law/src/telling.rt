@@ -1,10 +1,10 @@
-ghost use Rattle.std.specs.Prelude.{◌≡◌, ℕ, List};
+ghost use Rattle.std.specs.Prelude.{◌≡◌, ◌<◌, ℕ, List, length};
 ghost use Rattle.mdv_base.specs.Causes.{RoseOnce};
 ghost use Rattle.mdv_shelf.specs.Calls.{Gives, HasGivingCause, IsCounted, OnReplies};
 ghost use Rattle.mdv_shelf.specs.Moments.{Moments, Ends};
 ghost use Rattle.mdv_shelf.specs.Shelves.{Keeps, KeptOn};
 ghost use Rattle.mdv_shelf.specs.Story.{IsNoted};
-ghost use Rattle.mdv_engine_law.specs.Replies.{refusal_line, reply_at as spec_reply_at, reply_to as spec_reply_to, IsTold, IsTellingCounted, outcome_text, text_of};
+ghost use Rattle.mdv_engine_law.specs.Replies.{refusal_line, reply_at as spec_reply_at, reply_to as spec_reply_to, IsPlainAnswer, IsTold, IsTellingCounted, outcome_text, text_of};
 ghost use Rattle.mdv_engine_law.specs.Standing.{OnlyReplied, TellMoment};
 
 use crate::answer::{Answer, Ended, Outcome, Reply};
@@ -15,6 +15,7 @@ const OK: &[u8] = b"ok\n";
 
 /// Tells the reply of an answer, whole and at once; nothing of an answer that ends the run.
 pub fn tell<B: Bench>(bench: &mut B, answer: &Answer) -> Reply
+    requires { IsPlainAnswer answer.now }
     ensures told { Ends (OnlyReplied (RoseOnce (B.faults bench.old OnReplies) (B.faults bench.new OnReplies)) answer.now result) (B.tale bench.old) (B.tale bench.new) }
     ensures fronts { Moments (TellMoment (text_of answer.now)) (B.tale bench.old) (B.tale bench.new) }
     ensures answers { (piece : List ℕ) × IsTold (RoseOnce (B.faults bench.old OnReplies) (B.faults bench.new OnReplies)) answer.now result piece }
@@ -32,11 +33,12 @@ pub fn tell<B: Bench>(bench: &mut B, answer: &Answer) -> Reply
 
 // Gives what is told of it.
 fn give<B: Bench>(bench: &mut B, outcome: &Outcome) -> Result<(), Failed>
+    requires { 0 < length (outcome_text outcome.now) }
     ensures gives { Gives (B.tale bench.old) (outcome_text outcome.now) result (B.tale bench.new) }
     ensures cause { HasGivingCause (B.faults bench.old) (B.faults bench.new) result }
     ensures counted { IsCounted B.calls B.written bench.old bench.new 0 }
     ensures keeps { Keeps B.Shelf bench.old bench.new }
-    ensures noted { IsNoted B.story B.faults OnReplies bench.old bench.new }
+    ensures noted { IsNoted B.story B.faults B.calls B.written OnReplies bench.old bench.new }
 {
     match outcome {
         Outcome::Ok => bench.give(OK),

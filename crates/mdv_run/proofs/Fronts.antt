@@ -7,7 +7,8 @@ use Rattle.std.proofs.lemmas.List.{append-nil}
 use Rattle.mdv_run.specs.Below.{Answer, Boot, Counts, Host, IsAnswered, IsLine, IsRebooted, IsSame, IsTurnedDown, Kept, Knows, LineTooLong, Memory, OnDrive, Script, TellsFront, counts, drive_content, kept_at, line, told, too_long}
 use Rattle.mdv_run.specs.Promise.{point_of}
 use Rattle.mdv_run.specs.Turns.{Point, TurnFront, at}
-use Rattle.mdv_shelf.specs.Made.{Effort, effort_of}
+use Rattle.mdv_shelf.specs.Made.{effort_of}
+use Rattle.mdv_shelf.specs.Story.{Effort}
 use Rattle.mdv_shelf.specs.Calls.{Part}
 use Rattle.mdv_shelf.specs.Shelves.{AtEachMoment}
 use Rattle.mdv_shelf.specs.Story.{FailuresBy, Moment, NoFewer, Story}
@@ -107,6 +108,6 @@ pub still_front : {S : Type 0} (shelf : Ghosts S) (host : Host) (old : Memory) (
 still_front shelf host old source refused script s =
     each_none (ScriptFront host (point_of shelf source s) old refused script) _ _ _ _ refl (λ part. omega arith) (still host old source (shelf.story s) (effort_of shelf s) refused script) (still host old source (shelf.story s) (effort_of shelf s) refused script) where
       still : {faults : Part → ℕ} (host : Host) (old : Memory) (source : ℕ) (story : Option Story) (effort : Effort) (refused : Bool) (script : Script) (x : Story)
-          → ScriptFront host (record { counts = counts faults source; story = story; effort = effort }) old refused script (moment x faults) (moment x faults)
+          → ScriptFront host (record { counts = counts faults source; story = story; effort = effort }) old refused script (moment x (record { faults = faults; effort = effort })) (moment x (record { faults = faults; effort = effort }))
       still {faults} host old source story effort refused script x known =
-          no_front host old (record { counts = counts faults source; story = story; effort = effort }) refused (moment x faults) (moment x faults) refl (λ part. omega arith) script refl
+          no_front host old (record { counts = counts faults source; story = story; effort = effort }) refused (moment x (record { faults = faults; effort = effort })) (moment x (record { faults = faults; effort = effort })) refl (λ part. omega arith) script refl

@@ -1,7 +1,8 @@
 -- How one turn of a run goes on from the script that is before it.
 use Rattle.mdv_base.specs.Causes.{failures_of}
 use Rattle.mdv_base.proofs.Causes.{rose_of_once}
-use Rattle.mdv_shelf.specs.Made.{Effort, made_between}
+use Rattle.mdv_shelf.specs.Made.{made_between}
+use Rattle.mdv_shelf.specs.Story.{Effort}
 use Rattle.mdv_engine_law.specs.Efforts.{NoCalls, replied_to}
 use Rattle.mdv_shelf.specs.Area.{KeptOutside, nowhere}
 use Rattle.mdv_run.specs.Promise.{point_of}

@@ -8,3 +8,4 @@ pub mod Shown
 pub mod Fronts
 pub mod Fronting
 pub mod Asking
+pub mod Counting

@@ -6,7 +6,8 @@ use Rattle.mdv_run.specs.Promise.{between, point_of}
 use Rattle.mdv_run.specs.Turns.{at}
 use Rattle.mdv_shelf.specs.Calls.{Part}
 use Rattle.mdv_shelf.specs.Shelves.{AtEachTale, EndsTold, GoesOn, IsAtRest, RestsOnceTold}
-use Rattle.mdv_shelf.specs.Story.{NoFewer, OfTales, Story, tale_of}
+use Rattle.mdv_shelf.specs.Made.{effort_of, made_between}
+use Rattle.mdv_shelf.specs.Story.{Moment, NoFewer, OfTales, Story, tale_of}
 use Rattle.mdv_shelf.specs.declared.shelf.Shelf.{Ghosts}
 use Rattle.mdv_shelf.proofs.Moments.{some_is}
 use Rattle.mdv_shelf.proofs.Noted.{moment_both, moments_of_tales}
@@ -47,13 +48,24 @@ module _ {S : Type 0} (shelf : Ghosts S) (telling : (s : S) → shelf.tale s ≡
         before = λ short. absurd (omega (arith, short, le, start, turned, from));
         behind = λ long. rise_on now.counts _ m.faults (turn.behind (omega (arith, some, le, start, turned))) within.counts.0;
         reads = λ long short. absurd (omega (arith, short, le, start, turned, from));
+        calls = λ long short. absurd (omega (arith, short, le, start, turned, from));
       }) shown more
+
+  -- once a byte was told no part fails, the drives are at rest, and until all is told the last call alone is wanting
+  abbrev IsUnfailed : S → Moment → Moment → Type 0
+  IsUnfailed c y m = length (told y.tale) < length (told m.tale) → NoFewer (shelf.faults c) m.faults
+
+  abbrev Rests : S → Tale → Moment → Moment → Type 0
+  Rests c v y m = length (told y.tale) < length (told m.tale) → IsAtRest (shelf.faults c) v m
+
+  abbrev IsOneShort : S → Tale → Moment → Moment → Type 0
+  IsOneShort c v y m = length (told y.tale) < length (told m.tale) → length (told m.tale) < length (told v) → (made_between m.effort (effort_of shelf c)).exactly 1 0
 
   -- and so is where a run is at the end of a stretch by which a reply was told
   pub shown_now : EndsTold shelf b c → RestsOnceTold shelf b c → (bytes piece source : ℕ) (memory : Memory) (refused : Bool) (script : Script) (t u v : Tale) → shelf.tale a ≡ Some t → shelf.tale b ≡ Some u → shelf.tale c ≡ Some v
       → length (told t) + bytes ≡ length (told u) → length (told u) + piece ≡ length (told v) → IsShown (between shelf a c) bytes piece (at (point_of shelf source c) (kept_at memory v) refused script)
   shown_now ends rests bytes piece source memory refused script t u v is_t is_u is_v until same =
-      each_joined (λ _ _. Unit {0}) (λ y m. (length (told y.tale) < length (told m.tale) → NoFewer (shelf.faults c) m.faults) × (length (told y.tale) < length (told m.tale) → IsAtRest (shelf.faults c) v m))
+      each_joined (λ _ _. Unit {0}) (λ y m. IsUnfailed c y m × (Rests c v y m × IsOneShort c v y m))
       (AreShown bytes piece (at (point_of shelf source c) (kept_at memory v) refused script)) _ _ _ _ _ _
       (λ s x w first mid last turn there ahead m here within.
       let start = told_at a s t first is_t in
@@ -62,14 +74,16 @@ module _ {S : Type 0} (shelf : Ghosts S) (telling : (s : S) → shelf.tale s ≡
         before = λ short. rise m.faults (shelf.faults c) source (no_fewer_then m.faults _ (shelf.faults c) within.counts.1 ahead);
         behind = λ long. absurd (omega (arith, long, until, start, turned, whole));
         reads = λ long short. absurd (omega (arith, long, until, start, turned, whole));
+        calls = λ long short. absurd (omega (arith, long, until, start, turned, whole));
       })
       (λ s x w first mid last turn m here within ahead.
       let start = told_at a s t first is_t in
       let turned = told_at b x u mid is_u in record {
         before = λ short. rise m.faults (shelf.faults c) source within.counts.1;
         behind = λ long. rise (shelf.faults c) m.faults source (here.0 (omega (arith, long, until, start, turned)));
-        reads = λ long short block. (here.1 (omega (arith, long, until, start, turned))).reads 0 block;
-      }) on (moment_both shelf (λ y m. length (told y.tale) < length (told m.tale) → NoFewer (shelf.faults c) m.faults) (λ y m. length (told y.tale) < length (told m.tale) → IsAtRest (shelf.faults c) v m) b c ends.still (rests v is_v))
+        reads = λ long short block. (here.1.0 (omega (arith, long, until, start, turned))).reads 0 block;
+        calls = λ long short. here.1.1 (omega (arith, long, until, start, turned)) (omega (arith, short, until, same, start));
+      }) on (moment_both shelf (IsUnfailed c) (λ y m. Rests c v y m × IsOneShort c v y m) b c ends.still (moment_both shelf (Rests c v) (IsOneShort c v) b c (rests v is_v) (ends.once v is_v)))
 
   -- what a stretch shows is shown from an earlier point on, where nothing was told in between
   pub shown_earlier : AtEachTale shelf (λ t m. told m ≡ told t) a b → (bytes piece : ℕ) (now : At) → 0 < piece → IsShown (between shelf b c) bytes piece now → IsShown (between shelf a c) bytes piece now
@@ -80,12 +94,14 @@ module _ {S : Type 0} (shelf : Ghosts S) (telling : (s : S) → shelf.tale s ≡
         before = λ short. fall_on now.counts m.faults _ (there.before (omega (arith, some))) within.counts.1;
         behind = λ long. absurd (omega (arith, long, still));
         reads = λ long short. absurd (omega (arith, long, still));
+        calls = λ long short. absurd (omega (arith, long, still));
       })
       (λ s x v first mid last turn m here within ahead.
       let same : length (told (tale_of x)) ≡ length (told (tale_of s)) = ap length turn in record {
         before = λ short. here.before (omega (arith, short, same));
         behind = λ long. here.behind (omega (arith, long, same));
         reads = λ long short. here.reads (omega (arith, long, same)) (omega (arith, short, same));
+        calls = λ long short. here.calls (omega (arith, long, same)) (omega (arith, short, same));
       })
       (moments_of_tales shelf telling a b (λ t m. told m ≡ told t) on quiet) shown
 

@@ -2,7 +2,8 @@
 use Rattle.std.proofs.Common.{◌≡◌, ℕ, ◌+◌, ◌≤◌, ◌<◌, Bool, false, List, [], ◌++◌, length, Option, Some, refl, sym, ◌∙◌, ap, subst, append_assoc, arith}
 use Rattle.std.proofs.lemmas.List.{append-nil, length-append}
 use Rattle.mdv_run.specs.Below.{Reader, Script, asked_before, asked_of, Tale, told, Moments, Ends, Host, Memory, kept_at, Knows, RunStatus, Done, SomeRefused, Usage, NoQuorum, Panic, ReadFault, WriteFault, NoMemory, TwoDatabases, ScriptTooLong, NumbersSpent, At, Counts, Kept, RoseTo, LineTold, LinesTold, Stretch, IsLastShown, IsShown, drive_content, HasStatusCause, LinesMoment, RanTo}
-use Rattle.mdv_shelf.specs.Made.{Effort, made_between}
+use Rattle.mdv_shelf.specs.Made.{made_between}
+use Rattle.mdv_shelf.specs.Story.{Effort}
 use Rattle.mdv_engine_law.specs.Efforts.{replied_to}
 use Rattle.mdv_run_law.specs.Run.{AreInTime, EndsAt, NextCalls, Over as IsOver, broken, ended, no_line, one_more, unread}
 use Rattle.mdv_shelf.proofs.Moments.{moments_none, moments_after, ends_more, some_is}
@@ -155,11 +156,11 @@ module _ (host : Host) (first : Memory) (input : List ℕ) (start : Point) where
             lines_shown host stretch other (length went.so_far) (λ bytes piece c some le seen. shows.still t u is_t is_u bytes piece c some (omega (arith, until t u went, le)) seen) 0 _ _ went.so_far (omega arith) went.lines
 
 -- a point at which a stretch ends is one at which another does that ends there
-ends_with : (stretch other : Stretch) → EndsAt other stretch.new stretch.made_after → {story : Option Story} {effort : Effort} → EndsAt stretch story effort → EndsAt other story effort
+ends_with : (stretch other : Stretch) → EndsAt other stretch.new stretch.after.effort → {story : Option Story} {effort : Effort} → EndsAt stretch story effort → EndsAt other story effort
 ends_with stretch other ends still = record { quiet = ends.quiet ∙ still.quiet; uncalled = ends.uncalled ∙ still.uncalled }
 
 -- the same end of a run, by another stretch
-over_shown : (host : Host) (stretch other : Stretch) (bytes : ℕ) → EndsAt other stretch.new stretch.made_after → ((drive : ℕ) (content : ℕ → List ℕ) → IsLastShown stretch bytes drive content → IsLastShown other bytes drive content) → (end : Counts) (now : At) (told : List ℕ) (status : RunStatus) (last : Kept)
+over_shown : (host : Host) (stretch other : Stretch) (bytes : ℕ) → EndsAt other stretch.new stretch.after.effort → ((drive : ℕ) (content : ℕ → List ℕ) → IsLastShown stretch bytes drive content → IsLastShown other bytes drive content) → (end : Counts) (now : At) (told : List ℕ) (status : RunStatus) (last : Kept)
     → IsOver host stretch bytes end now told status last → IsOver host other bytes end now told status last
 over_shown host stretch other bytes ends shows end now told status last (unread so still stops) = unread so (ends_with stretch other ends still) stops
 over_shown host stretch other bytes ends shows end now told status last (ended how same still stops) = ended how same (ends_with stretch other ends still) stops
@@ -172,7 +173,7 @@ over_shown host stretch other bytes ends shows end now told status last (broken 
     }) with
 
 -- the same lines, by a stretch that begins earlier
-pub run_earlier : (host : Host) (stretch other : Stretch) → EndsAt other stretch.new stretch.made_after → ((bytes piece : ℕ) (shown : At) → 0 < piece → IsShown stretch bytes piece shown → IsShown other bytes piece shown)
+pub run_earlier : (host : Host) (stretch other : Stretch) → EndsAt other stretch.new stretch.after.effort → ((bytes piece : ℕ) (shown : At) → 0 < piece → IsShown stretch bytes piece shown → IsShown other bytes piece shown)
     → ((bytes drive : ℕ) (content : ℕ → List ℕ) → IsLastShown stretch bytes drive content → IsLastShown other bytes drive content) → (now : Point) (end : Counts) (memory : Memory) (script : Script) (status : RunStatus) (t u : Tale)
     → LinesRun host stretch now end memory false script status t u → LinesRun host other now end memory false script status t u
 run_earlier host stretch other ends shows last now end memory script status t u run = record {

@@ -9,7 +9,8 @@ use Rattle.mdv_shelf.proofs.Moments.{moments_end, some_is}
 use Rattle.mdv_engine_law.specs.Line.{IsSame}
 use Rattle.mdv_run.specs.Below.{counts}
 use Rattle.mdv_base.proofs.Causes.{rose_of_once}
-use Rattle.mdv_shelf.specs.Made.{Effort, made_between}
+use Rattle.mdv_shelf.specs.Made.{effort_of, made_between}
+use Rattle.mdv_shelf.specs.Story.{Effort}
 use Rattle.mdv_engine_law.specs.Efforts.{BootCalls}
 use Rattle.mdv_engine_law.specs.Home.{site_of}
 use Rattle.mdv_engine_law.specs.Standing.{BootMoment}
@@ -28,8 +29,8 @@ use Rattle.mdv_run.specs.Turns.{LinesRun}
 
 module _ (host : Host) (stretch : Stretch) (start : Counts) (t : Tale) (script : Script) (tale : Option Tale) where
   -- a run that is over with its boot
-  pub whole_over : (T : Type 0) (end : Counts) → RoseCalmly start end → (u : Tale) (memory : Memory) (r : Ended) → IsPoint stretch start.source end stretch.new (drive_content u) → tale ≡ Some u → told u ≡ told t → IsRebooted (drive_failures start end) host (kept_at (unbooted 0) t) (boot_answer {T = T} (Err r)) (kept_at memory u)
-      → BootCalls (made_between stretch.made_before stretch.made_after) host (boot_answer {T = T} (Err r)) memory (drive_content t) → FromTo (KeptOutside (area_of (site_of host))) stretch.old stretch.new → IsWholeRun host stretch start end t script tale (status_at r)
+  pub whole_over : (T : Type 0) (end : Counts) → RoseCalmly start end → (u : Tale) (memory : Memory) (r : Ended) → IsPoint stretch start.source end (record { story = stretch.new; effort = stretch.after.effort }) (drive_content u) → tale ≡ Some u → told u ≡ told t → IsRebooted (drive_failures start end) host (kept_at (unbooted 0) t) (boot_answer {T = T} (Err r)) (kept_at memory u)
+      → BootCalls (made_between stretch.before.effort stretch.after.effort) host (boot_answer {T = T} (Err r)) memory (drive_content t) → FromTo (KeptOutside (area_of (site_of host))) stretch.old stretch.new → IsWholeRun host stretch start end t script tale (status_at r)
   whole_over T end rose u memory r point is quiet rebooted calls writes = record {
     u = u;
     tells = is;
@@ -37,7 +38,7 @@ module _ (host : Host) (stretch : Stretch) (start : Counts) (t : Tale) (script :
     is_told = quiet ∙ sym (append-nil (told t));
     last = kept_at memory u;
     left = record { content = λ block. refl; opened = λ known. absurd (known (lost r)) };
-    runs = record { answer = boot_answer {T = T} (Err r); booted = end; rose = rose; kept = kept_at memory u; boots = rebooted; by = record { story = stretch.new; effort = stretch.made_after }; calls = calls; writes = writes; point = point; runs = (refl, record { quiet = refl; uncalled = refl }, record { silent = refl; ended = refl; keeps = refl }) };
+    runs = record { answer = boot_answer {T = T} (Err r); booted = end; rose = rose; kept = kept_at memory u; boots = rebooted; by = record { story = stretch.new; effort = stretch.after.effort }; calls = calls; writes = writes; point = point; runs = (refl, record { quiet = refl; uncalled = refl }, record { silent = refl; ended = refl; keeps = refl }) };
   } where
     lost : (r : Ended) → IsLostStatus (status_at r)
     lost (ended.Lost active listed) = tt
@@ -45,7 +46,7 @@ module _ (host : Host) (stretch : Stretch) (start : Counts) (t : Tale) (script :
     lost ended.Memory = tt
 
   -- a run that goes on to its lines
-  pub whole_lines : (mid end : Counts) → RoseCalmly start mid → (u v : Tale) (memory : Memory) (status : RunStatus) (story : Option Story) (effort : Effort) → IsPoint stretch start.source mid story (drive_content u) → tale ≡ Some v → told u ≡ told t → IsRebooted (drive_failures start mid) host (kept_at (unbooted 0) t) accepted (kept_at memory u) → BootCalls (made_between stretch.made_before effort) host accepted memory (drive_content t) → FromTo (KeptOutside (area_of (site_of host))) stretch.old story
+  pub whole_lines : (mid end : Counts) → RoseCalmly start mid → (u v : Tale) (memory : Memory) (status : RunStatus) (story : Option Story) (effort : Effort) → IsPoint stretch start.source mid (record { story = story; effort = effort }) (drive_content u) → tale ≡ Some v → told u ≡ told t → IsRebooted (drive_failures start mid) host (kept_at (unbooted 0) t) accepted (kept_at memory u) → BootCalls (made_between stretch.before.effort effort) host accepted memory (drive_content t) → FromTo (KeptOutside (area_of (site_of host))) stretch.old story
       → LinesRun host stretch (record { counts = mid; story = story; effort = effort }) end memory false script status u v → IsWholeRun host stretch start end t script tale status
   whole_lines mid end rose u v memory status story effort point is quiet rebooted calls writes lines = record {
     u = v;
@@ -74,7 +75,7 @@ module _ {S : Type 0} (shelf : Ghosts S) (telling : (s : S) → shelf.tale s ≡
   tale_there : (s : S) (x : Story) → shelf.story s ≡ Some x → shelf.tale s ≡ Some (tale_of x)
   tale_there s x at = telling s ∙ ap (λ (o : Option Story). option_map tale_of o) at
 
-  pub point_between : AtEachTale shelf (λ t m. told m ≡ told t) a b → GoesOn shelf b c → IsPoint (between shelf a c) source (counts (shelf.faults b) source) (shelf.story b) (drive_content u)
+  pub point_between : AtEachTale shelf (λ t m. told m ≡ told t) a b → GoesOn shelf b c → IsPoint (between shelf a c) source (counts (shelf.faults b) source) (record { story = shelf.story b; effort = effort_of shelf b }) (drive_content u)
   point_between quiet behind = record {
     faults = shelf.faults b;
     before = on.goes;

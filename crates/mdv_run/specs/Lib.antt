@@ -2,4 +2,5 @@ pub mod Below
 pub mod Lines
 pub use Rattle.mdv_base.specs.Causes
 pub mod Turns
+pub mod Calls
 pub mod Promise

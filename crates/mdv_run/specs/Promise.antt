@@ -2,8 +2,9 @@
 use Rattle.mdv_base.specs.Causes.{Failures}
 use Rattle.std.specs.Prelude.{◌≡◌, ◌≢◌, ◌⊎◌, ◌↔◌, ◌≤◌, ◌<◌, ◌+◌, ℕ, Bool, false, List, Option, Some}
 use Rattle.mdv_run.specs.Below.{Reader, Script, line, asked_before, asked_of, Tale, Reply, IsReplied, Host, Memory, Engine, Knows, IsWell, StaysHome, TellsFront, IsAnswered, IsToldBy, kept_at, RunStatus, NoMemory, Usage, Counts, Stretch, counts, HasStatusCause, IsWholeRun, RunMoment, LinesMoment, RanTo}
-use Rattle.mdv_shelf.specs.Shelves.{AtEachMoment, AtEachTale, AtEnd, DriveFailures, EndsTold, GivingFailed, GivingFailures, RestsOnceTold}
-use Rattle.mdv_shelf.specs.Made.{Made, effort_of, made_of}
+use Rattle.mdv_shelf.specs.Calls.{RoseByAtMost}
+use Rattle.mdv_shelf.specs.Shelves.{AtEachMoment, AtEachTale, AtEnd, DriveFailures, EndsTold, GivingFailed, GivingFailures, KeptInTime, RestsOnceTold}
+use Rattle.mdv_shelf.specs.Made.{Made, effort_of, made_of, tally_of}
 use Rattle.mdv_shelf.specs.Story.{OfTales}
 use Rattle.mdv_shelf.specs.declared.shelf.Shelf.{Ghosts as Shelf}
 use Rattle.mdv_port.specs.declared.source.Source.{Ghosts as Source}
@@ -13,6 +14,7 @@ use Rattle.mdv_name.specs.declared.geometry.Geometry.{Geometry}
 use Rattle.mdv_run.specs.declared.session.Turn.{Turn}
 use Rattle.mdv_engine_law.specs.Replies.{IsLost, HasReplyCause}
 use Rattle.mdv_engine_law.specs.declared.answer.Reply.TheVariants as reply
+use Rattle.mdv_run.specs.Calls.{ScriptCalls, TurnTook}
 use Rattle.mdv_run.specs.Turns.{LineAnswered, LinesFront, LinesRun, Point, TurnFront, Turns, at, HasTurnCause, IsOn, IsLostTurn}
 
 -- how often each part had failed by then
@@ -28,7 +30,7 @@ point_at shelf source bench script = point_of shelf (source.faults script) bench
 
 -- what the bench told and counted, from one point to another
 abbrev pub between : {B : Type 0} → Shelf B → B → B → Stretch
-between shelf old new = record { old = shelf.story old; before = shelf.faults old; made_before = effort_of shelf old; new = shelf.story new; after = shelf.faults new; made_after = effort_of shelf new }
+between shelf old new = record { old = shelf.story old; before = tally_of shelf old; new = shelf.story new; after = tally_of shelf new }
 
 -- bench and source are as they were: nothing was done, told or taken
 abbrev pub IsUntouched : {B I : Type 0} → B → I → B → I → Type 0
@@ -51,6 +53,7 @@ pub record IsUnbegun {B I : Type 0} (old : B) (from : I) (new : B) (to : I) (sta
 -- The run of a host. Where bench and source tell what they hold, memory was wanting for the table of drives and nothing was done, or the
 -- bytes told, the status and what is left are those that the script asks for; and at each moment the drive stands with its history so
 -- far, and what was told by then is what the script asks for; nothing happens outside the host's area. Whatever they tell, a status that tells of a failure comes only where one came.
+-- A boot and the lines of the script take no more calls than these do one by one.
 pub record HasRun {B I : Type 0} (shelf : Shelf B) (source : Source I) (host : Host) (old : B) (from : I) (new : B) (to : I) (status : RunStatus) : Type 0 where
   pub runs : (t : Tale) → shelf.tale old ≡ Some t → (input : List ℕ) → source.left from ≡ Some input
       → IsUnbegun old from new to status ⊎ IsWholeRun host (between shelf old new) (by shelf source old from) (by shelf source new to) t (asked_of input) (shelf.tale new) status
@@ -58,6 +61,7 @@ pub record HasRun {B I : Type 0} (shelf : Shelf B) (source : Source I) (host : H
   pub tells : (input : List ℕ) → source.left from ≡ Some input → AtEachMoment shelf (IsToldBy host (between shelf old new) (by shelf source old from) (asked_of input)) old new
   pub home : AtEachTale shelf (StaysHome host) old new
   pub causes : (status ≡ NoMemory) ⊎ HasStatusCause (by shelf source old from) (by shelf source new to) status
+  pub counted : (input : List ℕ) → source.left from ≡ Some input → (n : ℕ) → ScriptCalls (asked_of input) n → RoseByAtMost (13 + n) (shelf.calls old) (shelf.calls new)
 
 -- the lines of a run behind its boot, which left this memory
 pub record HaveRun {B I : Type 0} (shelf : Shelf B) (source : Source I) (host : Host) (memory : Memory) (old : B) (from : I) (new : B) (to : I) (status : RunStatus) : Type 0 where
@@ -68,6 +72,7 @@ pub record HaveRun {B I : Type 0} (shelf : Shelf B) (source : Source I) (host : 
       → AtEachMoment shelf (λ t m. Knows host memory t.tale → LinesFront host (between shelf old new) (at (point_at shelf source old from) (kept_at memory t.tale) false (asked_of input)) t m) old new
   pub home : AtEachTale shelf (StaysHome host) old new
   pub causes : HasStatusCause (by shelf source old from) (by shelf source new to) status
+  pub counted : (input : List ℕ) → source.left from ≡ Some input → (n : ℕ) → ScriptCalls (asked_of input) n → RoseByAtMost n (shelf.calls old) (shelf.calls new)
 
 -- one turn, in the end: what it told and led to, by the script before it, and what is known of the drive then
 pub record TurnEnd (host : Host) (now later : Point) (old new : Memory) (refused : Bool) (script : Script) (before : Option Script) (turn : Turn) (t u : Tale) : Type 0 where
@@ -82,17 +87,18 @@ TurnEnds shelf source engine then bench on from to before after refused turn =
     → AtEnd shelf (TurnEnd engine.host (point_at shelf source bench from) (point_at shelf source on to) engine.state then.state refused script (asked_before after (source.left to)) turn) bench on
 
 -- what a turn says whatever bench and source tell: its cause, and what the engine and the reader are then
-pub record TurnAnswer (now later : Counts) (host : Host) (engine : Engine) (before after : Reader) (left rest : Option (List ℕ)) (turn : Turn) : Type 0 where
+pub record TurnAnswer (now later : Counts) (host : Host) (engine : Engine) (before after : Reader) (left rest : Option (List ℕ)) (calls made : Option ℕ) (turn : Turn) : Type 0 where
   pub cause : HasTurnCause now later turn
   pub source : now.source ≤ later.source
   pub same : engine.host ≡ host
   pub well : IsWell host engine.state
   pub begun : engine.state.begun ≤ after.lines
   pub on : IsOn turn → (before.lines < after.lines) × (after.lines ≤ 1048576)
+  pub counted : (script : Script) → asked_before before left ≡ Some script → (n : ℕ) → ScriptCalls script n → TurnTook turn (asked_before after rest) calls made n
   pub goes_on : IsOn turn → (script : Script) → asked_before before left ≡ Some script → (more : Script) × (asked_before after rest ≡ Some more)
 
 abbrev pub TurnAnswers : {B I : Type 0} → Shelf B → Source I → Host → Engine → B → B → I → I → Reader → Reader → Turn → Type 0
-TurnAnswers shelf source host engine bench on from to before after turn = TurnAnswer (by shelf source bench from) (by shelf source on to) host engine before after (source.left from) (source.left to) turn
+TurnAnswers shelf source host engine bench on from to before after turn = TurnAnswer (by shelf source bench from) (by shelf source on to) host engine before after (source.left from) (source.left to) (shelf.calls bench) (shelf.calls on) turn
 
 -- each script before the turn gives the line of which a front is told
 abbrev pub TurnTells : {B I : Type 0} → Shelf B → Source I → Engine → B → B → I → Reader → Bool → Type 0
@@ -127,12 +133,18 @@ pub record LineEnd (drive : Failures) (replies : Type 0) (made : Made) (host : H
 abbrev pub LineEnds : {B : Type 0} → Shelf B → B → B → Host → List ℕ → Memory → Memory → Reply → Type 0
 LineEnds shelf bench on host text old new reply = AtEnd shelf (LineEnd (DriveFailures shelf bench on 0) (GivingFailed shelf bench on) (made_of shelf bench on) host text old new reply) bench on
 
--- what a reply says whatever the bench tells: its cause, and what the engine is then
-pub record LineReply (drive replies : Type 0) (host : Host) (old : Memory) (engine : Engine) (reply : Reply) : Type 0 where
+-- what a reply says whatever the bench tells: its cause, what the engine is then, and how many calls were made
+pub record LineReply (drive replies : Type 0) (host : Host) (old : Memory) (Took : ℕ → Type 0) (calls made : Option ℕ) (engine : Engine) (reply : Reply) : Type 0 where
+  pub counted : (n : ℕ) → Took n → RoseByAtMost n calls made
   pub cause : HasReplyCause drive replies reply
   pub same : engine.host ≡ host
   pub well : IsWell host engine.state
   pub begun : engine.state.begun ≤ old.begun + 1
 
-abbrev pub LineReplies : {B : Type 0} → Shelf B → Engine → B → B → Engine → Reply → Type 0
-LineReplies shelf old bench on new reply = LineReply (DriveFailures shelf bench on 0).some (GivingFailed shelf bench on) old.host old.state new reply
+abbrev pub LineReplies : {B : Type 0} → Shelf B → Engine → B → B → (ℕ → Type 0) → Engine → Reply → Type 0
+LineReplies shelf old bench on Took new reply = LineReply (DriveFailures shelf bench on 0).some (GivingFailed shelf bench on) old.host old.state Took (shelf.calls bench) (shelf.calls on) new reply
+
+-- the reply to a line that boots, which takes fourteen calls at most; and no call was made behind one on the same part that failed
+pub record BootReplies {B : Type 0} (shelf : Shelf B) (old : Engine) (bench on : B) (new : Engine) (reply : Reply) : Type 0 where
+  pub line : LineReplies shelf old bench on (λ n. n ≡ 14) new reply
+  pub kept : KeptInTime shelf bench on

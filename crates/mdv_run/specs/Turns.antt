@@ -3,7 +3,8 @@ use Rattle.mdv_base.specs.Causes.{Failures}
 use Rattle.std.specs.Prelude.{◌≡◌, ℕ, Bool, true, List, ◌++◌, Option, Some}
 use Rattle.mdv_run.specs.Below.{Script, Tale, told, Answer, Reply, Host, Kept, Memory, kept_at, Replied, RunStatus, Panic, WriteFault, NoMemory, NumbersSpent, At, Counts, IsNextFront, LinesToldBy, LineTold, Runs, Stretch, IsAnswered, IsLeft, HasStatusCause}
 use Rattle.mdv_shelf.specs.Story.{Moment, Story}
-use Rattle.mdv_shelf.specs.Made.{Effort, Made}
+use Rattle.mdv_shelf.specs.Made.{Made}
+use Rattle.mdv_shelf.specs.Story.{Effort}
 use Rattle.mdv_engine_law.specs.Efforts.{replied_to}
 use Rattle.mdv_run_law.specs.Run.{EndsAt, IsLastShown, IsLostStatus, TextCalls, TextWrites, Over as IsOver}
 use Rattle.mdv_engine_law.specs.declared.answer.Reply.TheVariants as reply

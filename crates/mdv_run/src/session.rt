@@ -1,4 +1,5 @@
 ghost use Rattle.std.specs.Prelude.{◌≡◌, Err, IfOk, ◌<◌, ◌≤◌, ◌+◌, ◌^◌, ◌↔◌, ℕ, List, [], ◌∷◌, map, string_bytes, Some, IsTrue};
+ghost use Rattle.mdv_shelf.specs.Made.{made_of};
 ghost use Rattle.mdv_shelf.specs.Shelves.{AtEachTale, Kept, KeptInTime};
 ghost use Rattle.mdv_port.specs.Script.{Script, line as line_of};
 ghost use Rattle.mdv_run.specs.Lines.{asked_before};
@@ -16,7 +17,8 @@ ghost use Rattle.mdv_run_law.specs.Lives.{host_of};
 ghost use Rattle.mdv_run_law.specs.Usage.{IsUsed};
 ghost use Rattle.mdv_run_law.specs.Run.{status_at, status_of};
 ghost use Rattle.mdv_run_law.specs.Standing.{LinesMoment};
-ghost use Rattle.mdv_run.specs.Promise.{HasRun, HaveRun, IsUncut, IsUntouched, IsUsageOf, LineEnds, LineReplies, LineStays, LineTells, OfEachUse, TurnAnswers, TurnEnds, TurnTells};
+ghost use Rattle.mdv_run.specs.Calls.{OpenedTook, TextCalls};
+ghost use Rattle.mdv_run.specs.Promise.{BootReplies, HasRun, HaveRun, IsUncut, IsUntouched, IsUsageOf, LineEnds, LineReplies, LineStays, LineTells, OfEachUse, TurnAnswers, TurnEnds, TurnTells};
 ghost use Rattle.mdv_run.specs.Turns.{IsOn, turn_of as spec_turn_of};
 
 use crate::lines::next_asked;
@@ -217,7 +219,7 @@ fn answer<B: Bench>(engine: &mut Engine, alloc: Global, bench: &mut B, line: &[u
     ensures moments { (more : Script) → AtEachTale B.Shelf (LinesMoment engine.old.host (line_of line.now more) engine.old.state) bench.old bench.new }
     ensures end { LineEnds B.Shelf bench.old bench.new engine.old.host line.now engine.old.state engine.new.state result }
     ensures stays { LineStays B.Shelf engine.old.host (IsReplied result) (IsUncut result) (LineTells B.Shelf engine.old line.now bench.old bench.new) bench.old bench.new }
-    ensures answer { LineReplies B.Shelf engine.old bench.old bench.new engine.new result }
+    ensures answer { LineReplies B.Shelf engine.old bench.old bench.new (TextCalls line.now) engine.new result }
     ensures kept { KeptInTime B.Shelf bench.old bench.new }
 {
     let Some(spelled) = read_line(line) else {
@@ -229,14 +231,15 @@ fn answer<B: Bench>(engine: &mut Engine, alloc: Global, bench: &mut B, line: &[u
     }
 }
 
+// Boots anew, and tells that it did.
 fn boot_anew<B: Bench>(engine: &mut Engine, alloc: Global, bench: &mut B) -> Reply
     requires ready { IsReady engine.old.host (B.sizes bench.old) }
     requires well { IsWell engine.old.host engine.old.state }
     ensures moments { AtEachTale B.Shelf (TurnMoment engine.old.host Nothing engine.old.state) bench.old bench.new }
     ensures end { (text : List ℕ) → IsLine text Boot → LineEnds B.Shelf bench.old bench.new engine.old.host text engine.old.state engine.new.state result }
     ensures stays { (text : List ℕ) → IsLine text Boot → LineStays B.Shelf engine.old.host (IsReplied result) (IsUncut result) (LineTells B.Shelf engine.old text bench.old bench.new) bench.old bench.new }
-    ensures answer { LineReplies B.Shelf engine.old bench.old bench.new engine.new result }
-    ensures kept { KeptInTime B.Shelf bench.old bench.new }
+    ensures answer { BootReplies B.Shelf engine.old bench.old bench.new engine.new result }
+    ensures opens { IsReplied result → OpenedTook (made_of B.Shelf bench.old bench.new) engine.new.state.opened engine.new.state.down }
 {
     match engine.reboot(bench, alloc) {
         Ok(()) => engine.accept(bench),

@@ -1,9 +1,9 @@
 -- The run of one host, told by what its script asks.
 use Rattle.std.specs.Prelude.{◌≡◌, ◌≢◌, ◌⊎◌, ◌≤◌, ◌<◌, ◌+◌, ℕ, Bool, true, false, List, [], ◌++◌, take, length, Option, Some, IfSome, Contains, if◌then◌else◌}
 use Rattle.mdv_base.specs.Causes.{RoseOnce, Failures, failures_of}
-use Rattle.mdv_shelf.specs.Made.{Effort, Made, made_between}
+use Rattle.mdv_shelf.specs.Made.{Made, made_between}
 use Rattle.mdv_run_law.specs.Below.{Rose, BadLine, LineTooLong, OutOfMemory, IsHome, Script, at_end, spent, too_long, line, Head, Part, OnDrive, OnReplies, Tale, told, replies_in, IsSound, Line, IsLine, IsFound, IsOpened, Answer, Host, site_of, Kept, IsSame, IsSameBeside, ComesTo, IsRebooted, IsTurnedDown, drive_content, unbooted}
-use Rattle.mdv_shelf.specs.Story.{Moment, Story, Mark, marked, AtEach, InTime, tale_of}
+use Rattle.mdv_shelf.specs.Story.{Effort, Tally, Moment, Story, Mark, marked, AtEach, InTime, tale_of}
 use Rattle.mdv_engine_law.specs.Replies.{outcome_text, refusal_line, text_of}
 use Rattle.mdv_engine_law.specs.declared.answer.Answer.TheVariants.{Said, Over as Ends}
 use Rattle.mdv_engine_law.specs.declared.answer.Ended.{Ended}
@@ -95,8 +95,8 @@ pub record Stops (known : Kept) (end : RunStatus) (told : List ℕ) (status : Ru
 abbrev pub status_of : Bool → RunStatus
 status_of refused = if refused then SomeRefused else Done
 
--- Where a run is between two lines: the counts by then, the story by then and how many calls are reckoned to the lines before, what is kept, whether some reply
--- was a refusal, and the script that is left. The moments don't show the calls: what holds of them is that they add up, from line to line, to all that were made.
+-- Where a run is between two lines: the counts by then, the story by then and how many calls were made until then, what is kept, whether some reply was a refusal,
+-- and the script that is left.
 pub record At : Type 0 where
   pub counts : Counts
   pub story : Option Story
@@ -181,11 +181,13 @@ pub record LineTold (host : Host) (now : At) (piece : List ℕ) (later : At) : T
 
 -- Where the run was behind a reply of so many bytes, with so many told before it. At no moment before the reply's last byte was told was the drive's
 -- or the replies' count greater, and at none from its first byte on is it less: the counts are those with which it was told. At each moment by which some of it was told,
--- and not all, the drive's blocks read as they are kept.
+-- and not all, the drive's blocks read as they are kept, and all calls were made but one, which tells it: so the calls of a line are those between two replies, and those of
+-- the first line, with the boot's, those until its reply.
 pub record AreShown (bytes piece : ℕ) (now : At) (t m : Moment) : Type 0 where
   pub before : length (told m.tale) < length (told t.tale) + (bytes + piece) → RoseTo (counts m.faults now.counts.source) now.counts
   pub behind : length (told t.tale) + bytes < length (told m.tale) → RoseTo now.counts (counts m.faults now.counts.source)
   pub reads : length (told t.tale) + bytes < length (told m.tale) → length (told m.tale) < length (told t.tale) + (bytes + piece) → IsSame now.kept.content (drive_content m.tale)
+  pub calls : length (told t.tale) + bytes < length (told m.tale) → length (told m.tale) < length (told t.tale) + (bytes + piece) → (made_between m.effort now.effort).exactly 1 0
 
 -- The line with which a run is over, with so many bytes told before its reply, by which the drive had failed so often and was left so. At no moment before the first
 -- byte of its reply was told had the drive failed more often; at none from there on less, and from there on its blocks read so.
@@ -194,37 +196,40 @@ pub record AreLast (bytes drive : ℕ) (content : ℕ → List ℕ) (t m : Momen
   pub behind : length (told t.tale) + bytes < length (told m.tale) → drive ≤ m.faults (OnDrive 0)
   pub reads : length (told t.tale) + bytes < length (told m.tale) → IsSame content (drive_content m.tale)
 
+-- how far a bench is: its story, and how many calls were made so far
+pub record Progress : Type 0 where
+  pub story : Option Story
+  pub effort : Effort
+
 -- what a bench told and counted, from one point to another
 pub record Stretch : Type 0 where
   pub old : Option Story
-  pub before : Part → ℕ
-  pub made_before : Effort
+  pub before : Tally
   pub new : Option Story
-  pub after : Part → ℕ
-  pub made_after : Effort
+  pub after : Tally
 
 -- it ends where a run is behind a line: nothing more was told, done or called
 pub record EndsAt (stretch : Stretch) (story : Option Story) (effort : Effort) : Type 0 where
   pub quiet : stretch.new ≡ story
-  pub uncalled : stretch.made_after ≡ effort
+  pub uncalled : stretch.after.effort ≡ effort
 
 -- It ends behind a line with which a run is over: no call that changed something was made behind one on the same part that failed, and the line took as many calls
 -- as it takes, its reply's among them, and wrote no block but those that it may write.
 pub record EndsBehind (stretch : Stretch) (host : Host) (now : At) (answer : Answer) (next : Kept) : Type 0 where
   pub in_time : AreInTime now.counts now.story stretch.new
-  pub calls : NextCalls (replied_to answer (made_between now.effort stretch.made_after)) host now.kept now.script answer next
+  pub calls : NextCalls (replied_to answer (made_between now.effort stretch.after.effort)) host now.kept now.script answer next
   pub writes : FromTo (NextWrites host now.kept.memory now.script) now.story stretch.new
 
 -- A point of what the bench told, by which the parts had failed so often, nothing was told, and the drive's blocks read so; no call until then that changed something was made
 -- behind one on the same part that failed.
-pub record IsPoint (stretch : Stretch) (source : ℕ) (now : Counts) (point : Option Story) (content : ℕ → List ℕ) : Type 0 where
+pub record IsPoint (stretch : Stretch) (source : ℕ) (now : Counts) (by : Progress) (content : ℕ → List ℕ) : Type 0 where
   pub faults : Part → ℕ
-  pub before : AtEach (λ _ _. Unit {0}) stretch.old stretch.before point faults
-  pub behind : AtEach (λ _ _. Unit {0}) point faults stretch.new stretch.after
+  pub before : AtEach (λ _ _. Unit {0}) stretch.old stretch.before by.story (record { faults = faults; effort = by.effort })
+  pub behind : AtEach (λ _ _. Unit {0}) by.story (record { faults = faults; effort = by.effort }) stretch.new stretch.after
   pub counts_are : now ≡ counts faults source
-  pub in_time : AreInTime (counts stretch.before source) stretch.old point
-  pub quiet : (s u : Story) → stretch.old ≡ Some s → point ≡ Some u → told (tale_of u) ≡ told (tale_of s)
-  pub reads : (s : Story) → point ≡ Some s → IsSame content (drive_content (tale_of s))
+  pub in_time : AreInTime (counts stretch.before.faults source) stretch.old by.story
+  pub quiet : (s u : Story) → stretch.old ≡ Some s → by.story ≡ Some u → told (tale_of u) ≡ told (tale_of s)
+  pub reads : (s : Story) → by.story ≡ Some s → IsSame content (drive_content (tale_of s))
 
 -- the moments between show it so
 abbrev pub IsShown : Stretch → ℕ → ℕ → At → Type 0
@@ -233,8 +238,8 @@ IsShown stretch bytes piece now = AtEach (AreShown bytes piece now) stretch.old 
 abbrev pub IsLastShown : Stretch → ℕ → ℕ → (ℕ → List ℕ) → Type 0
 IsLastShown stretch bytes drive content = AtEach (AreLast bytes drive content) stretch.old stretch.before stretch.new stretch.after
 
--- Such lines, one behind the other, and what was told of them behind so many bytes, of each at least one. The counts between two lines, and what the drive's blocks read as there, are
--- those that the moments show.
+-- Such lines, one behind the other, and what was told of them behind so many bytes, of each at least one. The counts and the calls between two lines, and what the drive's blocks read
+-- as there, are those that the moments show.
 pub data LinesTold (host : Host) (stretch : Stretch) : ℕ → At → List ℕ → At → Type 0 where
   no_line : (bytes : ℕ) (now : At) → LinesTold host stretch bytes now [] now
   one_more : (bytes : ℕ) (now mid later : At) (piece rest : List ℕ) → 0 < length piece → LineTold host now piece mid → IsShown stretch bytes (length piece) mid → LinesTold host stretch (bytes + length piece) mid rest later
@@ -288,11 +293,6 @@ pub record Runs (host : Host) (stretch : Stretch) (end : Counts) (now : At) (tol
 abbrev pub started : (ℕ → List ℕ) → Kept
 started content = record { memory = unbooted 0; content = content }
 
--- how far a bench is: its story, and how many calls are reckoned to it so far
-pub record Progress : Type 0 where
-  pub story : Option Story
-  pub effort : Effort
-
 -- where a run is behind its boot
 abbrev pub behind_boot : Counts → Progress → Kept → Script → At
 behind_boot booted by kept script = record { counts = booted; story = by.story; effort = by.effort; kept = kept; refused = false; script = script }
@@ -313,9 +313,9 @@ pub record IsRun (host : Host) (stretch : Stretch) (start end : Counts) (content
   pub kept : Kept
   pub boots : IsRebooted (drive_failures start booted) host (started content) answer kept
   pub by : Progress
-  pub calls : BootCalls (made_between stretch.made_before by.effort) host answer kept.memory content
+  pub calls : BootCalls (made_between stretch.before.effort by.effort) host answer kept.memory content
   pub writes : FromTo (KeptOutside (area_of (site_of host))) stretch.old by.story
-  pub point : IsPoint stretch start.source booted by.story kept.content
+  pub point : IsPoint stretch start.source booted by kept.content
   pub runs : RunsFrom host stretch end answer booted by kept script told status last
 
 -- Of the next line's reply nothing was told by that moment, or a front: of the reply to what it came to, where the drive had failed so often, and its blocks read as
@@ -355,9 +355,9 @@ pub record RunToldBy (host : Host) (stretch : Stretch) (start : Counts) (content
   pub kept : Kept
   pub boots : IsRebooted (drive_failures start booted) host (started content) accepted kept
   pub by : Progress
-  pub calls : BootCalls (made_between stretch.made_before by.effort) host accepted kept.memory content
+  pub calls : BootCalls (made_between stretch.before.effort by.effort) host accepted kept.memory content
   pub writes : FromTo (KeptOutside (area_of (site_of host))) stretch.old by.story
-  pub point : IsPoint stretch start.source booted by.story kept.content
+  pub point : IsPoint stretch start.source booted by kept.content
   pub lines : LinesToldBy host stretch (behind_boot booted by kept script) told m
 
 -- By a moment of a run that began at t nothing was told, or what the script asks for, as far as it had come: values that were told are those of

@@ -3,7 +3,8 @@ use Rattle.std.proofs.Common.{◌≡◌, ◌≢◌, ◌⊎◌, inl, inr, ℕ, Li
 use Rattle.std.proofs.lemmas.Bool.{cases_eq}
 use Rattle.mdv_shelf.specs.Tale.{Call}
 use Rattle.mdv_shelf.specs.Calls.{Part, OnDrive, OnReplies}
-use Rattle.mdv_shelf.specs.Story.{Story, Mark, marked, and_next, part_of, IsNoted, AreMadeAt, InTime}
+use Rattle.mdv_shelf.specs.Made.{tally_of}
+use Rattle.mdv_shelf.specs.Story.{Tally, Story, Mark, marked, and_next, part_of, IsNoted, AreMadeAt, InTime}
 use Rattle.mdv_shelf.specs.Shelves.{Keeps, Kept, KeptInTime, KeptOn}
 use Rattle.mdv_shelf.specs.declared.shelf.Shelf.{Ghosts}
 use Rattle.mdv_shelf.proofs.Stories.{marked_more}
@@ -18,8 +19,8 @@ pub in_time_none : (part : Part) (count : ℕ) (a b : Option Story) → b ≡ a 
 in_time_none part count a b same s is = ([], same ∙ is, tt)
 
 -- one call
-in_time_one : (part : Part) (count : ℕ) (a b : Option Story) (c : Call) (faults : Part → ℕ) → b ≡ and_next a c faults → (part_of c ≡ part → faults part ≡ count) → InTime part count a b
-in_time_one part count a b c faults next made s is = (record { call = c; faults = faults } ∷ [], next ∙ ap (λ (o : Option Story). and_next o c faults) is, (tt, made))
+in_time_one : (part : Part) (count : ℕ) (a b : Option Story) (c : Call) (tally : Tally) → b ≡ and_next a c tally → (part_of c ≡ part → tally.faults part ≡ count) → InTime part count a b
+in_time_one part count a b c tally next made s is = (record { call = c; tally = tally } ∷ [], next ∙ ap (λ (o : Option Story). and_next o c tally) is, (tt, made))
 
 pub in_time_more : (part : Part) (count : ℕ) (a b c : Option Story) → InTime part count a b → InTime part count b c → InTime part count a c
 in_time_more part count a b c first second s is =
@@ -28,16 +29,16 @@ in_time_more part count a b c first second s is =
     (two.0 ++ one.0, two.1 ∙ ap (λ (u : Story). Some u) (marked_more s one.0 two.0), made_more part count one.0 two.0 one.2 two.2)
 
 module _ {S : Type 0} (shelf : Ghosts S) where
-  in_time_call : (part : Part) (old new : S) → IsNoted shelf.story shelf.faults part old new → InTime part (shelf.faults old part) (shelf.story old) (shelf.story new)
+  in_time_call : (part : Part) (old new : S) → IsNoted shelf.story shelf.faults shelf.calls shelf.written part old new → InTime part (shelf.faults old part) (shelf.story old) (shelf.story new)
   in_time_call part old new (inl same) = in_time_none part (shelf.faults old part) (shelf.story old) (shelf.story new) same
-  in_time_call part old new (inr (c, on, next)) = in_time_one part (shelf.faults old part) (shelf.story old) (shelf.story new) c (shelf.faults old) next (λ e. refl)
+  in_time_call part old new (inr (c, on, next)) = in_time_one part (shelf.faults old part) (shelf.story old) (shelf.story new) c (tally_of shelf old) next (λ e. refl)
 
-  elsewhere_call : (part other : Part) (count : ℕ) (old new : S) → other ≢ part → IsNoted shelf.story shelf.faults part old new → InTime other count (shelf.story old) (shelf.story new)
+  elsewhere_call : (part other : Part) (count : ℕ) (old new : S) → other ≢ part → IsNoted shelf.story shelf.faults shelf.calls shelf.written part old new → InTime other count (shelf.story old) (shelf.story new)
   elsewhere_call part other count old new differs (inl same) = in_time_none other count (shelf.story old) (shelf.story new) same
-  elsewhere_call part other count old new differs (inr (c, on, next)) = in_time_one other count (shelf.story old) (shelf.story new) c (shelf.faults old) next (λ e. absurd (differs (sym e ∙ on)))
+  elsewhere_call part other count old new differs (inr (c, on, next)) = in_time_one other count (shelf.story old) (shelf.story new) c (tally_of shelf old) next (λ e. absurd (differs (sym e ∙ on)))
 
   -- one call on a part
-  pub kept_on_call : (part : Part) (old new : S) → IsNoted shelf.story shelf.faults part old new → Keeps shelf old new
+  pub kept_on_call : (part : Part) (old new : S) → IsNoted shelf.story shelf.faults shelf.calls shelf.written part old new → Keeps shelf old new
       → ((other : Part) → other ≢ part → shelf.faults new other ≡ shelf.faults old other) → KeptOn shelf old new part
   kept_on_call part old new noted keeps others = record {
     keeps = keeps;

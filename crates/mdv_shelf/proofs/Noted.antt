@@ -4,7 +4,8 @@ use Rattle.std.specs.Option.{option_map}
 use Rattle.mdv_shelf.specs.Tale.{Tale, Then, Call, Wrote, Tore, Synced, Gave}
 use Rattle.mdv_shelf.specs.Calls.{Part, Reads, Writes, Syncs, Gives, and_then}
 use Rattle.mdv_shelf.specs.Moments.{During, Moments}
-use Rattle.mdv_shelf.specs.Story.{Story, tale_of, and_next, part_of, IsNoted, Moment, NoFewer, OfTales}
+use Rattle.mdv_shelf.specs.Made.{tally_of}
+use Rattle.mdv_shelf.specs.Story.{Tally, Story, tale_of, moment_at, and_next, part_of, IsNoted, Moment, NoFewer, OfTales}
 use Rattle.mdv_shelf.specs.Shelves.{AtEachMoment, AtEachTale, GoesOn, Keeps, Kept}
 use Rattle.mdv_shelf.specs.declared.shelf.Shelf.{Ghosts}
 use Rattle.mdv_shelf.proofs.Moments.{grew_one, moments_none}
@@ -43,28 +44,28 @@ module _ (old new : Option Tale) where
       moments_then (AfterGiving piece) (Gave piece count) is (λ t. inl refl) (λ t k le. inr (k, omega (arith, le, few), refl))
 
 -- it has one call more at most
-one_call : (part : Part) (a b : Option Story) (faults : Part → ℕ) → (b ≡ a) ⊎ ((c : Call) × (part_of c ≡ part) × (b ≡ and_next a c faults)) → (b ≡ a) ⊎ ((c : Call) × (b ≡ and_next a c faults))
-one_call part a b faults (inl same) = inl same
-one_call part a b faults (inr (c, on, next)) = inr (c, next)
+pub one_call : (part : Part) (a b : Option Story) (tally : Tally) → (b ≡ a) ⊎ ((c : Call) × (part_of c ≡ part) × (b ≡ and_next a c tally)) → (b ≡ a) ⊎ ((c : Call) × (b ≡ and_next a c tally))
+one_call part a b tally (inl same) = inl same
+one_call part a b tally (inr (c, on, next)) = inr (c, next)
 
 -- stretches of calls on a shelf
 module _ {S : Type 0} (shelf : Ghosts S) where
   pub moment_weaker : (R Q : Moment → Moment → Type 0) (old new : S) → ((t m : Moment) → NoFewer t.faults m.faults → NoFewer m.faults (shelf.faults new) → R t m → Q t m)
       → AtEachMoment shelf R old new → AtEachMoment shelf Q old new
-  moment_weaker R Q old new weaker each = each_weaker R Q (shelf.story old) (shelf.faults old) (shelf.story new) (shelf.faults new) weaker each
+  moment_weaker R Q old new weaker each = each_weaker R Q (shelf.story old) (tally_of shelf old) (shelf.story new) (tally_of shelf new) weaker each
 
   pub moment_both : (R Q : Moment → Moment → Type 0) (old new : S) → AtEachMoment shelf R old new → AtEachMoment shelf Q old new → AtEachMoment shelf (λ t m. R t m × Q t m) old new
-  moment_both R Q old new one other = each_both R Q (shelf.story old) (shelf.faults old) (shelf.story new) (shelf.faults new) one other
+  moment_both R Q old new one other = each_both R Q (shelf.story old) (tally_of shelf old) (shelf.story new) (tally_of shelf new) one other
 
   -- one stretch after another: the second is told from where the first ended, and no count fell
   pub moment_more : (R T Q : Moment → Moment → Type 0) (a b c : S) → ((t m : Moment) → NoFewer t.faults m.faults → R t m → Q t m)
       → ((t u m : Moment) → NoFewer t.faults u.faults → NoFewer u.faults m.faults → R t u → T u m → Q t m)
       → AtEachMoment shelf R a b → AtEachMoment shelf T b c → AtEachMoment shelf Q a c
   moment_more R T Q a b c weaker join first second =
-      each_more R T Q (shelf.story a) (shelf.faults a) (shelf.story b) (shelf.faults b) (shelf.story c) (shelf.faults c) weaker join first second
+      each_more R T Q (shelf.story a) (tally_of shelf a) (shelf.story b) (tally_of shelf b) (shelf.story c) (tally_of shelf c) weaker join first second
 
-  pub goes_on_call : (part : Part) (old new : S) → IsNoted shelf.story shelf.faults part old new → Keeps shelf old new → GoesOn shelf old new
-  goes_on_call part old new noted keeps = each_noted (shelf.story old) (shelf.story new) (shelf.faults old) (shelf.faults new) (one_call part (shelf.story old) (shelf.story new) (shelf.faults old) noted) keeps.no_fewer_faults
+  pub goes_on_call : (part : Part) (old new : S) → IsNoted shelf.story shelf.faults shelf.calls shelf.written part old new → Keeps shelf old new → GoesOn shelf old new
+  goes_on_call part old new noted keeps = each_noted (shelf.story old) (shelf.story new) (tally_of shelf old) (tally_of shelf new) (one_call part (shelf.story old) (shelf.story new) (tally_of shelf old) noted) keeps.no_fewer_faults
 
   pub goes_on_more : (a b c : S) → GoesOn shelf a b → GoesOn shelf b c → GoesOn shelf a c
   goes_on_more a b c first second = moment_more (λ _ _. Unit {0}) (λ _ _. Unit {0}) (λ _ _. Unit {0}) a b c (λ t m up here. tt) (λ t u m up on here there. tt) first second
@@ -79,7 +80,7 @@ module _ {S : Type 0} (shelf : Ghosts S) where
     no_fewer_faults = λ part. (let one = first.no_fewer_faults part in let two = second.no_fewer_faults part in omega arith);
   }
 
-  pub kept_call : (part : Part) (old new : S) → IsNoted shelf.story shelf.faults part old new → Keeps shelf old new → Kept shelf old new
+  pub kept_call : (part : Part) (old new : S) → IsNoted shelf.story shelf.faults shelf.calls shelf.written part old new → Keeps shelf old new → Kept shelf old new
   kept_call part old new noted keeps = record { keeps = keeps; goes = goes_on_call shelf part old new noted keeps }
 
 -- one stretch after another
@@ -89,17 +90,17 @@ kept_more {S} {shelf} {a} {b} {c} first second = record { keeps = keeps_more she
 -- One call on a shelf. What a relation needs is said of each moment with the counts as the call was made,
 -- and of the end with those behind it.
 module _ {S : Type 0} (shelf : Ghosts S) (telling : (s : S) → shelf.tale s ≡ option_map tale_of (shelf.story s)) (part : Part) (old new : S)
-    (noted : IsNoted shelf.story shelf.faults part old new) (keeps : Keeps shelf old new) where
+    (noted : IsNoted shelf.story shelf.faults shelf.calls shelf.written part old new) (keeps : Keeps shelf old new) where
   module _ (R : Moment → Moment → Type 0) where
     abbrev HoldsDuring : (Tale → Tale → Type 0) → Type 0
-    HoldsDuring Q = (t m : Tale) → Q t m → R (record { tale = t; faults = shelf.faults old }) (record { tale = m; faults = shelf.faults old })
+    HoldsDuring Q = (t m : Tale) → Q t m → R (moment_at t (tally_of shelf old)) (moment_at m (tally_of shelf old))
 
     abbrev HoldsBehind : (Tale → Tale → Type 0) → Type 0
-    HoldsBehind Q = (t u : Tale) → Q t u → R (record { tale = t; faults = shelf.faults old }) (record { tale = u; faults = shelf.faults new })
+    HoldsBehind Q = (t u : Tale) → Q t u → R (moment_at t (tally_of shelf old)) (moment_at u (tally_of shelf new))
 
     pub each_call : (Q : Tale → Tale → Type 0) → HoldsDuring Q → HoldsBehind Q → Moments Q (shelf.tale old) (shelf.tale new) → AtEachMoment shelf R old new
     each_call Q during behind moments =
-        each_one (shelf.story old) (shelf.story new) (shelf.faults old) (shelf.faults new) (one_call part (shelf.story old) (shelf.story new) (shelf.faults old) noted) keeps.no_fewer_faults (shelf.tale old) (shelf.tale new) (telling old) (telling new) R Q
+        each_one (shelf.story old) (shelf.story new) (tally_of shelf old) (tally_of shelf new) (one_call part (shelf.story old) (shelf.story new) (tally_of shelf old) noted) keeps.no_fewer_faults (shelf.tale old) (shelf.tale new) (telling old) (telling new) R Q
         during behind moments
 
     pub each_read : {T E : Type 0} (drive at : ℕ) (result : Result T E) (blocks : List (List ℕ)) → Reads (shelf.tale old) drive at result blocks (shelf.tale new)
@@ -124,12 +125,12 @@ module _ {S : Type 0} (shelf : Ghosts S) (telling : (s : S) → shelf.tale s ≡
 module _ {S : Type 0} (shelf : Ghosts S) (telling : (s : S) → shelf.tale s ≡ option_map tale_of (shelf.story s)) (old new : S) where
   pub tales_of : (R : Tale → Tale → Type 0) → AtEachMoment shelf (OfTales R) old new → AtEachTale shelf R old new
   tales_of R each =
-      moments_of_each (shelf.story old) (shelf.story new) (shelf.faults old) (shelf.faults new) (shelf.tale old) (shelf.tale new) (telling old) (telling new) R each
+      moments_of_each (shelf.story old) (shelf.story new) (tally_of shelf old) (tally_of shelf new) (shelf.tale old) (shelf.tale new) (telling old) (telling new) R each
 
   pub moments_of_tales : (R : Tale → Tale → Type 0) → GoesOn shelf old new → AtEachTale shelf R old new → AtEachMoment shelf (OfTales R) old new
   moments_of_tales R passed moments =
-      each_of_tales (shelf.story old) (shelf.story new) (shelf.faults old) (shelf.faults new) (shelf.tale old) (shelf.tale new) (telling old) (telling new) R passed moments
+      each_of_tales (shelf.story old) (shelf.story new) (tally_of shelf old) (tally_of shelf new) (shelf.tale old) (shelf.tale new) (telling old) (telling new) R passed moments
 
   pub moment_with_tales : (R : Moment → Moment → Type 0) (Q : Tale → Tale → Type 0) → AtEachMoment shelf R old new → AtEachTale shelf Q old new → AtEachMoment shelf (λ t m. R t m × OfTales Q t m) old new
   moment_with_tales R Q each moments =
-      each_of_moments (shelf.story old) (shelf.story new) (shelf.faults old) (shelf.faults new) (shelf.tale old) (shelf.tale new) (telling old) (telling new) R Q each moments
+      each_of_moments (shelf.story old) (shelf.story new) (tally_of shelf old) (tally_of shelf new) (shelf.tale old) (shelf.tale new) (telling old) (telling new) R Q each moments

@@ -4,13 +4,13 @@ use Rattle.std.specs.Option.{option_map}
 use Rattle.mdv_shelf.specs.Tale.{Start, Tale, Begun, Then, Call, Wrote, Tore, Synced, Gave}
 use Rattle.mdv_shelf.specs.Calls.{Part}
 use Rattle.mdv_shelf.specs.Moments.{extended, During, Along, Grew, Moments}
-use Rattle.mdv_shelf.specs.Story.{Story, Opened, Next, tale_of, and_next, Mark, marked, Moment, AtMarks, NoFewer, NeverFall, FailedBy, Passed, AtEach, OfTales}
+use Rattle.mdv_shelf.specs.Story.{Tally, Story, Opened, Next, tale_of, and_next, Mark, marked, Moment, moment_at, AtMarks, NoFewer, NeverFall, FailedBy, Passed, AtEach, OfTales}
 use Rattle.mdv_shelf.proofs.Moments.{during_weaker, during_both, grew_starts, grew_ends, same_calls, some_is}
 
 -- a story whose tale begins anew begins anew
 pub opened_anew : (s : Story) (start : Start) → tale_of s ≡ Begun start → s ≡ Opened start
 opened_anew (Opened first) start is = cc
-opened_anew (Next s c faults) start is = absurd (cc (is))
+opened_anew (Next s c tally) start is = absurd (cc (is))
 
 abbrev calls_of : List Mark → List Call
 calls_of ms = map (λ (m : Mark). m.call) ms
@@ -21,15 +21,15 @@ tale_marked s (m ∷ ms) = ap (λ (t : Tale). Then t m.call) (tale_marked s ms)
 
 pub marked_more : (s : Story) (xs ys : List Mark) → marked (marked s xs) ys ≡ marked s (ys ++ xs)
 marked_more s xs [] = refl
-marked_more s xs (m ∷ ys) = ap (λ (u : Story). Next u m.call m.faults) (marked_more s xs ys)
+marked_more s xs (m ∷ ys) = ap (λ (u : Story). Next u m.call m.tally) (marked_more s xs ys)
 
-same_mark : (x y : Mark) → x.call ≡ y.call → x.faults ≡ y.faults → x ≡ y
-same_mark x y call faults = ap (λ (c : Call). record { call = c; faults = x.faults }) call ∙ ap (λ (f : Part → ℕ). record { call = y.call; faults = f }) faults
+same_mark : (x y : Mark) → x.call ≡ y.call → x.tally ≡ y.tally → x ≡ y
+same_mark x y call tally = ap (λ (c : Call). record { call = c; tally = x.tally }) call ∙ ap (λ (k : Tally). record { call = y.call; tally = k }) tally
 
 same_calls_of : (s : Story) (xs ys : List Mark) → marked s xs ≡ marked s ys → calls_of xs ≡ calls_of ys
 same_calls_of s xs ys is = same_calls (tale_of s) (calls_of xs) (calls_of ys) (sym (tale_marked s xs) ∙ ap tale_of is ∙ tale_marked s ys)
 
-same_next : (s u : Story) (c d : Call) (f g : Part → ℕ) → Next s c f ≡ Next u d g → (s ≡ u) × (c ≡ d) × (f ≡ g)
+same_next : (s u : Story) (c d : Call) (f g : Tally) → Next s c f ≡ Next u d g → (s ≡ u) × (c ≡ d) × (f ≡ g)
 same_next s u c d f g is = (cc (is), cc (is), cc (is))
 
 -- marks that lead from one story to another are the same marks
@@ -38,7 +38,7 @@ same_marks s [] [] is = refl
 same_marks s [] (y ∷ ys) is = absurd (let calls = same_calls_of s [] (y ∷ ys) is in cc (calls))
 same_marks s (x ∷ xs) [] is = absurd (let calls = same_calls_of s (x ∷ xs) [] is in cc (calls))
 same_marks s (x ∷ xs) (y ∷ ys) is =
-    let same = same_next (marked s xs) (marked s ys) x.call y.call x.faults y.faults is in
+    let same = same_next (marked s xs) (marked s ys) x.call y.call x.tally y.tally is in
     let behind = same_marks s xs ys same.0 in
     let first = same_mark x y same.1 same.2 in cc (first, behind)
 
@@ -51,15 +51,15 @@ no_fewer_more f g h first second part = omega (arith, first part, second part)
 
 pub never_fall_all : (f : Part → ℕ) (ms : List Mark) (g : Part → ℕ) → NeverFall f ms g → NoFewer f g
 never_fall_all f [] g rising = rising
-never_fall_all f (m ∷ ms) g rising = no_fewer_more f m.faults g (never_fall_all f ms m.faults rising.0) rising.1
+never_fall_all f (m ∷ ms) g rising = no_fewer_more f m.tally.faults g (never_fall_all f ms m.tally.faults rising.0) rising.1
 
 never_fall_later : (f : Part → ℕ) (ms : List Mark) (g h : Part → ℕ) → NeverFall f ms g → NoFewer g h → NeverFall f ms h
 never_fall_later f [] g h rising later = no_fewer_more f g h rising later
-never_fall_later f (m ∷ ms) g h rising later = (rising.0, no_fewer_more m.faults g h rising.1 later)
+never_fall_later f (m ∷ ms) g h rising later = (rising.0, no_fewer_more m.tally.faults g h rising.1 later)
 
 never_fall_more : (f : Part → ℕ) (xs : List Mark) (g : Part → ℕ) (ys : List Mark) (h : Part → ℕ) → NeverFall f xs g → NeverFall g ys h → NeverFall f (ys ++ xs) h
 never_fall_more f xs g [] h first second = never_fall_later f xs g h first second
-never_fall_more f xs g (m ∷ ys) h first second = (never_fall_more f xs g ys m.faults first second.0, second.1)
+never_fall_more f xs g (m ∷ ys) h first second = (never_fall_more f xs g ys m.tally.faults first second.0, second.1)
 
 -- what failed by a moment has failed by each later one, and since each earlier one
 pub failed_later : (t m u : Moment) (part : Part) → NoFewer m.faults u.faults → FailedBy t m part → FailedBy t u part
@@ -73,7 +73,7 @@ module _ (P Q : Moment → Type 0) where
   at_marks_weaker weaker s [] here = tt
   at_marks_weaker weaker s (m ∷ ms) here = (
     at_marks_weaker weaker s ms here.0,
-    during_weaker (λ t. P (record { tale = t; faults = m.faults })) (λ t. Q (record { tale = t; faults = m.faults })) (λ t. weaker (record { tale = t; faults = m.faults }))
+    during_weaker (λ t. P (moment_at t m.tally)) (λ t. Q (moment_at t m.tally)) (λ t. weaker (moment_at t m.tally))
         (tale_of (marked s ms)) m.call here.1,
   )
 
@@ -81,14 +81,14 @@ module _ (P Q : Moment → Type 0) where
   at_marks_both s [] one other = tt
   at_marks_both s (m ∷ ms) one other = (
     at_marks_both s ms one.0 other.0,
-    during_both (λ t. P (record { tale = t; faults = m.faults })) (λ t. Q (record { tale = t; faults = m.faults })) (tale_of (marked s ms)) m.call one.1 other.1,
+    during_both (λ t. P (moment_at t m.tally)) (λ t. Q (moment_at t m.tally)) (tale_of (marked s ms)) m.call one.1 other.1,
   )
 
 pub at_marks_more : (P : Moment → Type 0) (s : Story) (xs ys : List Mark) → AtMarks P s xs → AtMarks P (marked s xs) ys → AtMarks P s (ys ++ xs)
 at_marks_more P s xs [] first second = first
 at_marks_more P s xs (m ∷ ys) first second = (
   at_marks_more P s xs ys first second.0,
-  subst (λ (u : Story). During (λ t. P (record { tale = t; faults = m.faults })) (tale_of u) m.call) (marked_more s xs ys) second.1,
+  subst (λ (u : Story). During (λ t. P (moment_at t m.tally)) (tale_of u) m.call) (marked_more s xs ys) second.1,
 )
 
 -- each moment's counts lie between the first ones and the last ones
@@ -98,9 +98,9 @@ Between before after m = NoFewer before m.faults × NoFewer m.faults after
 at_marks_between : (before after top : Part → ℕ) (s : Story) (ms : List Mark) → NeverFall before ms after → NoFewer after top → AtMarks (Between before top) s ms
 at_marks_between before after top s [] rising le = tt
 at_marks_between before after top s (m ∷ ms) rising le =
-    let up = no_fewer_more m.faults after top rising.1 le in
-    let down = never_fall_all before ms m.faults rising.0 in
-    (at_marks_between before m.faults top s ms rising.0 up, always m.call (tale_of (marked s ms)) (down, up))
+    let up = no_fewer_more m.tally.faults after top rising.1 le in
+    let down = never_fall_all before ms m.tally.faults rising.0 in
+    (at_marks_between before m.tally.faults top s ms rising.0 up, always m.call (tale_of (marked s ms)) (down, up))
   where
     always : {X : Type 0} (c : Call) (t : Tale) → X → During (λ _. X) t c
     always (Wrote drive at blocks) t x = x
@@ -109,23 +109,23 @@ at_marks_between before after top s (m ∷ ms) rising le =
     always (Gave piece count) t x = λ k le. x
 
 -- no call, or none that changed something
-pub passed_none : (P : Moment → Type 0) (s : Story) (before after : Part → ℕ) → NoFewer before after → P (record { tale = tale_of s; faults = before })
-    → P (record { tale = tale_of s; faults = after }) → Passed P s before s after
+pub passed_none : (P : Moment → Type 0) (s : Story) (before after : Tally) → NoFewer before.faults after.faults → P (moment_at (tale_of s) before)
+    → P (moment_at (tale_of s) after) → Passed P s before s after
 passed_none P s before after rising first last = record { marks = []; led = refl; rising = rising; first = first; each = tt; last = last }
 
 -- one call
-pub passed_one : (P : Moment → Type 0) (s : Story) (before after : Part → ℕ) (c : Call) → NoFewer before after → P (record { tale = tale_of s; faults = before })
-    → During (λ t. P (record { tale = t; faults = before })) (tale_of s) c → P (record { tale = Then (tale_of s) c; faults = after }) → Passed P s before (Next s c before) after
+pub passed_one : (P : Moment → Type 0) (s : Story) (before after : Tally) (c : Call) → NoFewer before.faults after.faults → P (moment_at (tale_of s) before)
+    → During (λ t. P (moment_at t before)) (tale_of s) c → P (moment_at (Then (tale_of s) c) after) → Passed P s before (Next s c before) after
 passed_one P s before after c rising first each last = record {
-  marks = record { call = c; faults = before } ∷ [];
+  marks = record { call = c; tally = before } ∷ [];
   led = refl;
-  rising = (no_fewer_same before, rising);
+  rising = (no_fewer_same before.faults, rising);
   first = first;
   each = (tt, each);
   last = last;
 }
 
-module _ (P Q : Moment → Type 0) (s : Story) (before : Part → ℕ) (u : Story) (after : Part → ℕ) where
+module _ (P Q : Moment → Type 0) (s : Story) (before : Tally) (u : Story) (after : Tally) where
   pub passed_weaker : ((m : Moment) → P m → Q m) → Passed P s before u after → Passed Q s before u after
   passed_weaker weaker passed = record {
     marks = passed.marks;
@@ -150,50 +150,50 @@ module _ (P Q : Moment → Type 0) (s : Story) (before : Part → ℕ) (u : Stor
       }
 
 -- no count fell
-pub passed_between : (P : Moment → Type 0) (s : Story) (before : Part → ℕ) (u : Story) (after : Part → ℕ) → Passed P s before u after → Passed (Between before after) s before u after
+pub passed_between : (P : Moment → Type 0) (s : Story) (before : Tally) (u : Story) (after : Tally) → Passed P s before u after → Passed (Between before.faults after.faults) s before u after
 passed_between P s before u after passed =
-    let all = never_fall_all before passed.marks after passed.rising in
+    let all = never_fall_all before.faults passed.marks after.faults passed.rising in
     record {
       marks = passed.marks;
       led = passed.led;
       rising = passed.rising;
-      first = (no_fewer_same before, all);
-      each = at_marks_between before after after s passed.marks passed.rising (no_fewer_same after);
-      last = (all, no_fewer_same after);
+      first = (no_fewer_same before.faults, all);
+      each = at_marks_between before.faults after.faults after.faults s passed.marks passed.rising (no_fewer_same after.faults);
+      last = (all, no_fewer_same after.faults);
     }
 
-pub passed_more : (P : Moment → Type 0) (s : Story) (before : Part → ℕ) (u : Story) (mid : Part → ℕ) (v : Story) (after : Part → ℕ) → Passed P s before u mid → Passed P u mid v after → Passed P s before v after
+pub passed_more : (P : Moment → Type 0) (s : Story) (before : Tally) (u : Story) (mid : Tally) (v : Story) (after : Tally) → Passed P s before u mid → Passed P u mid v after → Passed P s before v after
 passed_more P s before u mid v after one two = record {
   marks = two.marks ++ one.marks;
   led = two.led ∙ ap (λ (w : Story). marked w two.marks) one.led ∙ marked_more s one.marks two.marks;
-  rising = never_fall_more before one.marks mid two.marks after one.rising two.rising;
+  rising = never_fall_more before.faults one.marks mid.faults two.marks after.faults one.rising two.rising;
   first = one.first;
   each = at_marks_more P s one.marks two.marks one.each (subst (λ (w : Story). AtMarks P w two.marks) one.led two.each);
   last = two.last;
 }
 
-abbrev pub moment : Story → (Part → ℕ) → Moment
-moment s faults = record { tale = tale_of s; faults = faults }
+abbrev pub moment : Story → Tally → Moment
+moment s tally = moment_at (tale_of s) tally
 
 some_story : (a : Option Story) (s u : Story) → a ≡ Some s → a ≡ Some u → s ≡ u
 some_story a s u p q = some_is a s u p q
 
 -- no call, or none that changed something
-pub each_none : (R : Moment → Moment → Type 0) (a : Option Story) (before : Part → ℕ) (b : Option Story) (after : Part → ℕ) → b ≡ a → NoFewer before after
+pub each_none : (R : Moment → Moment → Type 0) (a : Option Story) (before : Tally) (b : Option Story) (after : Tally) → b ≡ a → NoFewer before.faults after.faults
     → ((s : Story) → R (moment s before) (moment s before)) → ((s : Story) → R (moment s before) (moment s after)) → AtEach R a before b after
 each_none R a before b after same rising first last s is = (s, same ∙ is, passed_none (R (moment s before)) s before after rising (first s) (last s))
 
 -- what follows at each moment, whose counts lie between the first and the last ones
-pub each_weaker : (R Q : Moment → Moment → Type 0) (a : Option Story) (before : Part → ℕ) (b : Option Story) (after : Part → ℕ)
-    → ((t m : Moment) → NoFewer t.faults m.faults → NoFewer m.faults after → R t m → Q t m) → AtEach R a before b after → AtEach Q a before b after
+pub each_weaker : (R Q : Moment → Moment → Type 0) (a : Option Story) (before : Tally) (b : Option Story) (after : Tally)
+    → ((t m : Moment) → NoFewer t.faults m.faults → NoFewer m.faults after.faults → R t m → Q t m) → AtEach R a before b after → AtEach Q a before b after
 each_weaker R Q a before b after weaker each s is =
     let passed = each s is in
     let first = moment s before in
-    let both = passed_both (Between before after) (R first) s before passed.0 after (passed_between (R first) s before passed.0 after passed.2) passed.2 in
-    (passed.0, passed.1, passed_weaker (λ m. Between before after m × R first m) (Q first) s before passed.0 after (λ m here. weaker first m here.0.0 here.0.1 here.1) both)
+    let both = passed_both (Between before.faults after.faults) (R first) s before passed.0 after (passed_between (R first) s before passed.0 after passed.2) passed.2 in
+    (passed.0, passed.1, passed_weaker (λ m. Between before.faults after.faults m × R first m) (Q first) s before passed.0 after (λ m here. weaker first m here.0.0 here.0.1 here.1) both)
 
 -- what holds at each moment, and what else holds at each
-pub each_both : (R S : Moment → Moment → Type 0) (a : Option Story) (before : Part → ℕ) (b : Option Story) (after : Part → ℕ)
+pub each_both : (R S : Moment → Moment → Type 0) (a : Option Story) (before : Tally) (b : Option Story) (after : Tally)
     → AtEach R a before b after → AtEach S a before b after → AtEach (λ t m. R t m × S t m) a before b after
 each_both R S a before b after one other s is =
     let first = one s is in
@@ -203,11 +203,11 @@ each_both R S a before b after one other s is =
     (first.0, first.1, passed_both (R start) (S start) s before first.0 after first.2 (subst (λ (u : Story). Passed (S start) s before u after) same second.2))
 
 -- what holds at each moment, where no count is lower than at the start
-pub each_rising : (R : Moment → Moment → Type 0) (a : Option Story) (before : Part → ℕ) (b : Option Story) (after : Part → ℕ)
+pub each_rising : (R : Moment → Moment → Type 0) (a : Option Story) (before : Tally) (b : Option Story) (after : Tally)
     → AtEach R a before b after → AtEach (λ t m. R t m × NoFewer t.faults m.faults) a before b after
 each_rising R a before b after each = each_weaker R (λ t m. R t m × NoFewer t.faults m.faults) a before b after (λ t m up down here. (here, up)) each
 
-joined : (R S Q : Moment → Moment → Type 0) (a : Option Story) (before : Part → ℕ) (b : Option Story) (mid : Part → ℕ) (c : Option Story) (after : Part → ℕ)
+joined : (R S Q : Moment → Moment → Type 0) (a : Option Story) (before : Tally) (b : Option Story) (mid : Tally) (c : Option Story) (after : Tally)
     → ((t m : Moment) → R t m → Q t m) → ((t u m : Moment) → R t u → S u m → Q t m) → AtEach R a before b mid → AtEach S b mid c after → AtEach Q a before c after
 joined R S Q a before b mid c after weaker join one two s is =
     let first = one s is in
@@ -222,7 +222,7 @@ joined R S Q a before b mid c after weaker join one two s is =
     )
 
 -- One stretch after another: the second is told from where the first ended, and no count fell.
-pub each_more : (R S Q : Moment → Moment → Type 0) (a : Option Story) (before : Part → ℕ) (b : Option Story) (mid : Part → ℕ) (c : Option Story) (after : Part → ℕ)
+pub each_more : (R S Q : Moment → Moment → Type 0) (a : Option Story) (before : Tally) (b : Option Story) (mid : Tally) (c : Option Story) (after : Tally)
     → ((t m : Moment) → NoFewer t.faults m.faults → R t m → Q t m)
     → ((t u m : Moment) → NoFewer t.faults u.faults → NoFewer u.faults m.faults → R t u → S u m → Q t m)
     → AtEach R a before b mid → AtEach S b mid c after → AtEach Q a before c after
@@ -231,7 +231,7 @@ each_more R S Q a before b mid c after weaker join one two =
     (λ t m here. weaker t m here.1 here.0) (λ t u m here there. join t u m here.1 there.1 here.0 there.0) (each_rising R a before b mid one) (each_rising S b mid c after two)
 
 -- a shelf whose story and counts are those of another
-pub each_as : (R : Moment → Moment → Type 0) (a x : Option Story) (before f : Part → ℕ) (b y : Option Story) (after g : Part → ℕ)
+pub each_as : (R : Moment → Moment → Type 0) (a x : Option Story) (before f : Tally) (b y : Option Story) (after g : Tally)
     → x ≡ a → f ≡ before → y ≡ b → g ≡ after → AtEach R a before b after → AtEach R x f y g
 each_as R a x before f b y after g first counts last more each = rw (first, counts, last, more) each
 
@@ -244,14 +244,14 @@ marks_along : (P : Tale → Type 0) (s : Story) (ms : List Mark) → Along P (ta
 marks_along P s [] here = tt
 marks_along P s (m ∷ ms) here = (marks_along P s ms here.0, subst (λ (t : Tale). During P t m.call) (sym (tale_marked s ms)) here.1)
 
-grew_of_passed : (P : Tale → Type 0) (s : Story) (before : Part → ℕ) (u : Story) (after : Part → ℕ) → Passed (λ m. P m.tale) s before u after → Grew P (tale_of s) (tale_of u)
+grew_of_passed : (P : Tale → Type 0) (s : Story) (before : Tally) (u : Story) (after : Tally) → Passed (λ m. P m.tale) s before u after → Grew P (tale_of s) (tale_of u)
 grew_of_passed P s before u after passed = record {
   calls = calls_of passed.marks;
   led = ap tale_of passed.led ∙ tale_marked s passed.marks;
   each = along_marks P s passed.marks passed.first passed.each;
 }
 
-passed_of_grew : (R : Moment → Type 0) (P : Tale → Type 0) (s : Story) (before : Part → ℕ) (u : Story) (after : Part → ℕ) → Passed R s before u after → Grew P (tale_of s) (tale_of u)
+passed_of_grew : (R : Moment → Type 0) (P : Tale → Type 0) (s : Story) (before : Tally) (u : Story) (after : Tally) → Passed R s before u after → Grew P (tale_of s) (tale_of u)
     → Passed (λ m. P m.tale) s before u after
 passed_of_grew R P s before u after passed grew =
     let calls : grew.calls ≡ calls_of passed.marks = same_calls (tale_of s) grew.calls (calls_of passed.marks) (sym grew.led ∙ ap tale_of passed.led ∙ tale_marked s passed.marks) in
@@ -270,7 +270,7 @@ told_by None t is = absurd (cc (is))
 told_by (Some s) t is = (s, refl, cc (is))
 
 -- a shelf's story, and the tale that it tells of it
-module _ (a b : Option Story) (before after : Part → ℕ) (old new : Option Tale) (tells : old ≡ option_map tale_of a) (tells_then : new ≡ option_map tale_of b) where
+module _ (a b : Option Story) (before after : Tally) (old new : Option Tale) (tells : old ≡ option_map tale_of a) (tells_then : new ≡ option_map tale_of b) where
   -- what holds of each moment's tale
   pub moments_of_each : (R : Tale → Tale → Type 0) → AtEach (OfTales R) a before b after → Moments R old new
   moments_of_each R each t is =
@@ -298,24 +298,45 @@ module _ (a b : Option Story) (before after : Part → ℕ) (old new : Option Ta
       each_weaker (λ t m. Unit {0} × OfTales Q t m) (OfTales Q) a before b after (λ t m up down here. here.1) (each_of_moments (λ _ _. Unit {0}) Q each moments)
 
 -- A story that went on by one call at most.
-module _ (a b : Option Story) (before after : Part → ℕ) (noted : (b ≡ a) ⊎ ((c : Call) × (b ≡ and_next a c before))) (rising : NoFewer before after) where
-  always : (c : Call) (t : Tale) → During (λ _. Unit {0}) t c
-  always (Wrote drive at blocks) t = tt
-  always (Tore drive at blocks took) t = tt
-  always (Synced drive) t = tt
-  always (Gave piece count) t = λ k le. tt
+module _ (a b : Option Story) (before after : Tally) (noted : (b ≡ a) ⊎ ((c : Call) × (b ≡ and_next a c before))) (rising : NoFewer before.faults after.faults) where
+  always : {X : Type 0} (c : Call) (t : Tale) → X → During (λ _. X) t c
+  always (Wrote drive at blocks) t x = x
+  always (Tore drive at blocks took) t x = x
+  always (Synced drive) t x = x
+  always (Gave piece count) t x = λ k le. x
 
   pub each_noted : AtEach (λ _ _. Unit {0}) a before b after
   each_noted s is = elim noted [
     | inl same ↦ (s, same ∙ is, passed_none (λ _. Unit {0}) s before after rising tt tt)
-    | inr (c, next) ↦ (Next s c before, next ∙ ap (λ (o : Option Story). and_next o c before) is, passed_one (λ _. Unit {0}) s before after c rising tt (always c (tale_of s)) tt)
+    | inr (c, next) ↦ (Next s c before, next ∙ ap (λ (o : Option Story). and_next o c before) is, passed_one (λ _. Unit {0}) s before after c rising tt (always c (tale_of s) tt) tt)
   ]
+
+  -- by each moment of it the calls before it alone were made, or it is the end
+  abbrev IsBeforeOrEnd : Moment → Moment → Type 0
+  IsBeforeOrEnd t m = (m.effort ≡ before.effort) ⊎ (Some m.tale ≡ option_map tale_of b)
+
+  pub each_before : AtEach (λ t m. (m.effort ≡ before.effort) ⊎ (Some m.tale ≡ option_map tale_of b)) a before b after
+  each_before s is = elim noted [
+    | inl same ↦ (s, same ∙ is, passed_none (IsBeforeOrEnd (moment s before)) s before after rising (inl refl) (inr (ends s (same ∙ is))))
+    | inr (c, next) ↦
+        let goes_on : b ≡ Some (Next s c before) = next ∙ ap (λ (o : Option Story). and_next o c before) is in
+        (Next s c before, goes_on, passed_one (IsBeforeOrEnd (moment s before)) s before after c rising (inl refl) (during c (tale_of s)) (inr (ends (Next s c before) goes_on)))
+  ]
+    where
+      ends : (u : Story) → b ≡ Some u → Some (tale_of u) ≡ option_map tale_of b
+      ends u is = sym (ap (λ (o : Option Story). option_map tale_of o) is)
+
+      during : (c : Call) (t : Tale) → During (λ x. (before.effort ≡ before.effort) ⊎ (Some x ≡ option_map tale_of b)) t c
+      during (Wrote drive at blocks) t = inl refl
+      during (Tore drive at blocks took) t = inl refl
+      during (Synced drive) t = inl refl
+      during (Gave piece count) t = λ k le. inl refl
 
   -- What holds at each moment of the call's tale, holds with the counts as the call was made, and with
   -- those behind it at its end.
   module _ (old new : Option Tale) (tells : old ≡ option_map tale_of a) (tells_then : new ≡ option_map tale_of b) (R : Moment → Moment → Type 0) (Q : Tale → Tale → Type 0)
-      (during : (t m : Tale) → Q t m → R (record { tale = t; faults = before }) (record { tale = m; faults = before }))
-      (behind : (t u : Tale) → Q t u → R (record { tale = t; faults = before }) (record { tale = u; faults = after })) (moments : Moments Q old new) where
+      (during : (t m : Tale) → Q t m → R (moment_at t before) (moment_at m before))
+      (behind : (t u : Tale) → Q t u → R (moment_at t before) (moment_at u after)) (moments : Moments Q old new) where
     pub each_one : AtEach R a before b after
     each_one s is =
         let t = tale_of s in
@@ -331,7 +352,7 @@ module _ (a b : Option Story) (before after : Part → ℕ) (noted : (b ≡ a) �
                 Next s c before,
                 goes_on,
                 passed_one (R (moment s before)) s before after c rising (during t t start)
-                    (during_weaker (Q t) (λ x. R (moment s before) (record { tale = x; faults = before })) (during t) t c one.1)
+                    (during_weaker (Q t) (λ x. R (moment s before) (moment_at x before)) (during t) t c one.1)
                     (behind t (Then t c) (grew_ends (Q t) t (Then t c) grew)),
               )
         ]

@@ -74,12 +74,12 @@ pub record TookAtMost {S : Type 0} (calls written : S → Option ℕ) (old new :
   pub in_calls : RoseByAtMost count (calls old) (calls new)
   pub in_blocks : RoseByAtMost blocks (written old) (written new)
 
--- A call on a drive fails only where the drive's count rose, and one that is answered leaves it; no other count changes.
+-- A call on a drive fails only where the drive's count rose, by one, and one that is answered leaves it; no other count changes.
 pub record HasDriveCause {T E : Type 0} (before now : Part → ℕ) (drive : ℕ) (result : Result T E) : Type 0 where
   pub own : HasCause (before (OnDrive drive)) (now (OnDrive drive)) result
   pub others : (part : Part) → part ≢ OnDrive drive → now part ≡ before part
 
--- A giving fails only where the replies' count rose, and one that is answered leaves it; no drive's changes.
+-- A giving fails only where the replies' count rose, by one, and one that is answered leaves it; no drive's changes.
 pub record HasGivingCause {T E : Type 0} (before now : Part → ℕ) (result : Result T E) : Type 0 where
   pub own : HasCause (before OnReplies) (now OnReplies) result
   pub drives : (drive : ℕ) → now (OnDrive drive) ≡ before (OnDrive drive)

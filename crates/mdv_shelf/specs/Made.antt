@@ -2,6 +2,7 @@
 use Rattle.std.specs.Prelude.{ℕ, ◌+◌, Option}
 use Rattle.mdv_shelf.specs.Calls.{Took}
 use Rattle.mdv_shelf.specs.Between.{RoseByAtLeast, TookBetween}
+use Rattle.mdv_shelf.specs.Story.{Effort, Tally, tally_by}
 use Rattle.mdv_shelf.specs.declared.shelf.Shelf.{Ghosts}
 
 -- exactly so many calls, with so many blocks written; so many at least and at most, with no more blocks than these; and that it began to write
@@ -22,10 +23,9 @@ made_by calls written old new = record {
 abbrev pub made_of : {S : Type 0} → Ghosts S → S → S → Made
 made_of shelf old new = made_by shelf.calls shelf.written old new
 
--- how many calls were made by a point, and how many blocks written, where it is told
-pub record Effort : Type 0 where
-  pub calls : Option ℕ
-  pub written : Option ℕ
+-- what it had counted by then
+abbrev pub tally_of : {S : Type 0} → Ghosts S → S → Tally
+tally_of shelf now = tally_by shelf.faults shelf.calls shelf.written now
 
 abbrev pub effort_of : {S : Type 0} → Ghosts S → S → Effort
 effort_of shelf now = record { calls = shelf.calls now; written = shelf.written now }
@@ -34,7 +34,7 @@ effort_of shelf now = record { calls = shelf.calls now; written = shelf.written 
 abbrev pub made_between : Effort → Effort → Made
 made_between old new = made_by (λ (e : Effort). e.calls) (λ (e : Effort). e.written) old new
 
--- so many calls are among them, made behind all others, which write nothing
+-- with so many calls more, which write nothing
 abbrev pub and_more : ℕ → Made → Made
 and_more more made = record {
   exactly = λ count blocks. made.exactly (count + more) blocks;

@@ -4,10 +4,11 @@ use Rattle.std.specs.List.{list_any}
 use Rattle.std.specs.Option.{option_map_or}
 use Rattle.mdv_shelf.specs.Tale.{Tale}
 use Rattle.mdv_shelf.specs.Calls.{Part, OnDrive, OnReplies}
-use Rattle.mdv_shelf.specs.Story.{Story}
+use Rattle.mdv_shelf.specs.Story.{Story, Tally}
 use Rattle.mdv_shelf.specs.MemHistory.{tale_from, latest_blocks, lengths, blank}
 use Rattle.mdv_shelf.specs.MemStory.{with_counts}
 use Rattle.mdv_shelf.specs.declared.mem_shelf.counts.Counts.{Counts}
+use Rattle.mdv_shelf.specs.declared.mem_shelf.counts.Totals.{Totals}
 use Rattle.mdv_shelf.specs.declared.mem_shelf.history.History.{History}
 use Rattle.mdv_shelf.specs.declared.mem_shelf.plan.Plan.{Plan}
 use Rattle.mdv_shelf.specs.declared.mem_shelf.plan.Loss.{Loss}
@@ -48,9 +49,13 @@ abbrev pub faults_in : List Health → ℕ → Part → ℕ
 faults_in health replies (OnDrive drive) = slice_index (map (λ h. h.faults) health) drive
 faults_in health replies OnReplies = replies
 
+-- and with these totals, what was counted
+abbrev pub tally_in : List Health → Totals → Tally
+tally_in health totals = record { faults = faults_in health totals.reply_faults; effort = record { calls = Some totals.calls; written = Some totals.written } }
+
 -- the counts as a call was made
-abbrev pub counts_of : Counts → Part → ℕ
-counts_of counts = faults_in counts.drives.items counts.replies
+abbrev pub counts_of : Counts → Tally
+counts_of counts = tally_in counts.drives.items counts.totals
 
 abbrev pub history_story : History → Story
 history_story h = with_counts (history_tale h) (reverse (map counts_of h.counts.items))
@@ -60,6 +65,10 @@ shelf_story s = history_story s.history
 
 abbrev pub fault_count : MemShelf → Part → ℕ
 fault_count s part = faults_in s.health.items s.reply_faults part
+
+-- what was counted so far beside the drives' failures
+abbrev pub shelf_totals : MemShelf → Totals
+shelf_totals s = record { reply_faults = s.reply_faults; calls = s.plan.calls; written = s.written }
 
 abbrev pub is_short : MemShelf → Bool
 is_short s = s.short

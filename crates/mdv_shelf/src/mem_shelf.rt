@@ -8,6 +8,7 @@ mod history;
 mod plan;
 mod scan;
 
+use crate::mem_shelf::counts::Totals;
 use crate::mem_shelf::history::History;
 use crate::mem_shelf::plan::Plan;
 use crate::shelf::{Bench, Shelf};
@@ -49,7 +50,7 @@ impl MemShelf {
     ghost use Rattle.mdv_shelf.specs.Tale.{told, IsImage};
     ghost use Rattle.mdv_shelf.specs.Calls.{OnDrive, OnReplies};
     ghost use Rattle.mdv_shelf.specs.MemHistory.{crashed, brought_back, image_of};
-    ghost use Rattle.mdv_shelf.specs.MemShelf.{shelf_sizes, shelf_tale, told_bytes, call_count, is_short, failing_numbers, losses, stop_number, lost_drives, is_asked, earlier_stop, begun_losses, losses_without, KeepsCounts, IsUntouched, HasFailed, IsNew};
+    ghost use Rattle.mdv_shelf.specs.MemShelf.{shelf_sizes, shelf_tale, shelf_totals, told_bytes, call_count, is_short, failing_numbers, losses, stop_number, lost_drives, is_asked, earlier_stop, begun_losses, losses_without, KeepsCounts, IsUntouched, HasFailed, IsNew};
 
     /// Drives of zero blocks, so many each, and nothing asked to fail. More than 2^32 - 1 drives are
     /// refused like want of memory.
@@ -169,6 +170,17 @@ impl MemShelf {
         self.short
     }
 
+    // What was counted so far, but for the drives' failures.
+    fn totals(&self) -> Totals
+        ensures { result ≡ shelf_totals self.now }
+    {
+        Totals {
+            reply_faults: self.reply_faults,
+            calls: self.plan.calls,
+            written: self.written,
+        }
+    }
+
     fn is_asked_on(&self, drive: u32) -> bool
         requires { drive < length (shelf_sizes self.now) }
         ensures { result ≡ is_asked self.now (OnDrive drive) }
@@ -252,7 +264,7 @@ impl Shelf for MemShelf {
         ensures cause { HasDriveCause (fault_count self.old) (fault_count self.new) drive.0 result }
         ensures counted { IsCounted told_calls told_blocks self.old self.new 0 }
         ensures keeps { Keeps shelf_sizes fault_count nothing nothing self.old self.new }
-        ensures noted { IsNoted told_story fault_count (OnDrive drive.0) self.old self.new }
+        ensures noted { IsNoted told_story fault_count told_calls told_blocks (OnDrive drive.0) self.old self.new }
         ensures answers { AnswersAsAsked (OnDrive drive.0) result self.old self.new }
         ensures only_asked_or_spent { IsErr result → IsTrue (is_asked self.old (OnDrive drive.0)) ⊎ (2 ^ 62 ≤ call_count self.old) }
     {
@@ -271,21 +283,18 @@ impl Shelf for MemShelf {
         ensures cause { HasDriveCause (fault_count self.old) (fault_count self.new) drive.0 result }
         ensures counted { IsCounted told_calls told_blocks self.old self.new (length from.now) }
         ensures keeps { Keeps shelf_sizes fault_count nothing nothing self.old self.new }
-        ensures noted { IsNoted told_story fault_count (OnDrive drive.0) self.old self.new }
+        ensures noted { IsNoted told_story fault_count told_calls told_blocks (OnDrive drive.0) self.old self.new }
         ensures answers { AnswersAsAsked (OnDrive drive.0) result self.old self.new }
     {
         let blocks = from.len() as u64;
         if !self.may_call_on(drive.0) {
             return Err(self.fail_on(drive.0, blocks));
         }
-        match self.history.write(
-            self.alloc,
-            drive.0,
-            at,
-            from,
-            &self.health,
-            self.reply_faults,
-        ) {
+        let totals = self.totals();
+        match self
+            .history
+            .write(self.alloc, drive.0, at, from, &self.health, totals)
+        {
             Err(_) => Err(self.fail_on(drive.0, blocks)),
             Ok(()) => {
                 count(&mut self.plan.calls, 1);
@@ -301,16 +310,14 @@ impl Shelf for MemShelf {
         ensures cause { HasDriveCause (fault_count self.old) (fault_count self.new) drive.0 result }
         ensures counted { IsCounted told_calls told_blocks self.old self.new 0 }
         ensures keeps { Keeps shelf_sizes fault_count nothing nothing self.old self.new }
-        ensures noted { IsNoted told_story fault_count (OnDrive drive.0) self.old self.new }
+        ensures noted { IsNoted told_story fault_count told_calls told_blocks (OnDrive drive.0) self.old self.new }
         ensures answers { AnswersAsAsked (OnDrive drive.0) result self.old self.new }
     {
         if !self.may_call_on(drive.0) {
             return Err(self.fail_on(drive.0, 0));
         }
-        match self
-            .history
-            .sync(self.alloc, drive.0, &self.health, self.reply_faults)
-        {
+        let totals = self.totals();
+        match self.history.sync(self.alloc, drive.0, &self.health, totals) {
             Err(_) => Err(self.fail_on(drive.0, 0)),
             Ok(()) => {
                 count(&mut self.plan.calls, 1);
@@ -324,27 +331,26 @@ impl Shelf for MemShelf {
 }
 
 impl Bench for MemShelf {
-    ghost use Rattle.std.specs.Prelude.{◌++◌, OnOk};
+    ghost use Rattle.std.specs.Prelude.{◌<◌, ◌++◌, OnOk};
     ghost use Rattle.mdv_shelf.specs.Story.{IsNoted};
     ghost use Rattle.mdv_shelf.specs.Calls.{OnReplies, Gives, HasGivingCause, Keeps, IsCounted};
     ghost use Rattle.mdv_shelf.specs.MemShelf.{shelf_sizes, told_bytes, fault_count, AnswersAsAsked, told_tale, told_story, told_calls, told_blocks, nothing};
 
     fn give(&mut self, piece: &[u8]) -> Result<(), Failed>
+        requires { 0 < length piece.now }
         ensures gives { Gives (told_tale self.old) piece.now result (told_tale self.new) }
         ensures cause { HasGivingCause (fault_count self.old) (fault_count self.new) result }
         ensures counted { IsCounted told_calls told_blocks self.old self.new 0 }
         ensures keeps { Keeps shelf_sizes fault_count nothing nothing self.old self.new }
-        ensures noted { IsNoted told_story fault_count OnReplies self.old self.new }
+        ensures noted { IsNoted told_story fault_count told_calls told_blocks OnReplies self.old self.new }
         ensures answers { AnswersAsAsked OnReplies result self.old self.new }
         ensures told { OnOk result (told_bytes self.new ≡ told_bytes self.old ++ piece.now) }
     {
         if !self.may_give() {
             return Err(self.fail_giving());
         }
-        match self
-            .history
-            .give(self.alloc, piece, &self.health, self.reply_faults)
-        {
+        let totals = self.totals();
+        match self.history.give(self.alloc, piece, &self.health, totals) {
             Err(_) => Err(self.fail_giving()),
             Ok(()) => {
                 count(&mut self.plan.calls, 1);

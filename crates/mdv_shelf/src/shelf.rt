@@ -18,7 +18,7 @@ pub trait Shelf {
     /// What was done and told since a start, where the shelf tells it.
     ghost tale: { Self → Option Tale };
 
-    /// The tale, with the counts of failures as each of its calls was made.
+    /// The tale, with the counts of failures and of calls as each of its calls was made.
     ghost story: { Self → Option Story };
 
     /// How many calls were made, where the shelf tells it.
@@ -51,7 +51,7 @@ pub trait Shelf {
         ensures cause { HasDriveCause (faults self.old) (faults self.new) drive.0 result }
         ensures counted { IsCounted calls written self.old self.new 0 }
         ensures keeps { Keeps sizes faults rest held self.old self.new }
-        ensures noted { IsNoted story faults (OnDrive drive.0) self.old self.new };
+        ensures noted { IsNoted story faults calls written (OnDrive drive.0) self.old self.new };
 
     /// Writes the blocks from that one on. Until a sync a crash may leave any of them as it was.
     fn write(&mut self, drive: DriveNo, at: u64, from: &[Block]) -> Result<(), Failed>
@@ -60,7 +60,7 @@ pub trait Shelf {
         ensures cause { HasDriveCause (faults self.old) (faults self.new) drive.0 result }
         ensures counted { IsCounted calls written self.old self.new (length from.now) }
         ensures keeps { Keeps sizes faults rest held self.old self.new }
-        ensures noted { IsNoted story faults (OnDrive drive.0) self.old self.new };
+        ensures noted { IsNoted story faults calls written (OnDrive drive.0) self.old self.new };
 
     /// Puts all that the drive was given on the disk: a crash then leaves what a read gives.
     fn sync(&mut self, drive: DriveNo) -> Result<(), Failed>
@@ -69,7 +69,7 @@ pub trait Shelf {
         ensures cause { HasDriveCause (faults self.old) (faults self.new) drive.0 result }
         ensures counted { IsCounted calls written self.old self.new 0 }
         ensures keeps { Keeps sizes faults rest held self.old self.new }
-        ensures noted { IsNoted story faults (OnDrive drive.0) self.old self.new };
+        ensures noted { IsNoted story faults calls written (OnDrive drive.0) self.old self.new };
 
     // the tale is that of the story, and only a shelf that has one tells one
     ghost telling: { (s : Self) → tale s ≡ option_map tale_of (story s) };
@@ -77,11 +77,12 @@ pub trait Shelf {
 
 /// A shelf that also takes the bytes of replies.
 pub trait Bench: Shelf {
-    /// Tells the piece. After a failure a front of it may have been told.
+    /// Tells the piece, which isn't empty. After a failure a front of it may have been told.
     fn give(&mut self, piece: &[u8]) -> Result<(), Failed>
+        requires { 0 < length piece.now }
         ensures gives { Gives (Self.tale self.old) piece.now result (Self.tale self.new) }
         ensures cause { HasGivingCause (Self.faults self.old) (Self.faults self.new) result }
         ensures counted { IsCounted Self.calls Self.written self.old self.new 0 }
         ensures keeps { Keeps Self.sizes Self.faults Self.rest Self.held self.old self.new }
-        ensures noted { IsNoted Self.story Self.faults OnReplies self.old self.new };
+        ensures noted { IsNoted Self.story Self.faults Self.calls Self.written OnReplies self.old self.new };
 }

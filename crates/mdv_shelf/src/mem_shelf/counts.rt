@@ -1,15 +1,24 @@
-// The counts of failures as a call was made.
+// The counts as a call was made: of failures, of calls and of blocks written.
 ghost use Rattle.std.specs.Prelude.{◌≡◌, ◌<◌, IfOk, OnOk, vec_len, vec_capacity};
-ghost use Rattle.mdv_shelf.specs.MemShelf.{counts_of, faults_in};
+ghost use Rattle.mdv_shelf.specs.MemShelf.{counts_of, tally_in};
 
 use crate::mem_shelf::Health;
 use std::alloc::{AllocError, Global};
 
-/// How often each drive, and the giving of replies, had failed.
+/// What is counted beside each drive's failures.
+#[derive(Clone, Copy)]
+pub struct Totals {
+    pub reply_faults: u64,
+    pub calls: u64,
+    /// In blocks.
+    pub written: u64,
+}
+
+/// How often each drive had failed, and the totals.
 #[derive(Drop)]
 pub struct Counts {
     drives: Vec<Health>,
-    replies: u64,
+    totals: Totals,
 }
 
 impl Counts {
@@ -17,15 +26,15 @@ impl Counts {
     pub fn with_room(
         alloc: Global,
         drives: &[Health],
-        replies: u64,
+        totals: Totals,
         earlier: &mut Vec<Counts>,
     ) -> Result<Counts, AllocError>
-        ensures counts { IfOk result (λ counts. counts_of counts ≡ faults_in drives.now replies) }
+        ensures counts { IfOk result (λ counts. counts_of counts ≡ tally_in drives.now totals) }
         ensures room { OnOk result (vec_len earlier.new < vec_capacity earlier.new) }
         ensures same { earlier.new.items ≡ earlier.old.items }
     {
         let drives = Vec::from_slice(alloc, drives)?;
         earlier.reserve(1)?;
-        Ok(Counts { drives, replies })
+        Ok(Counts { drives, totals })
     }
 }

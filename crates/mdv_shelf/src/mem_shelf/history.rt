@@ -5,7 +5,7 @@ ghost use Rattle.mdv_shelf.specs.Calls.{InDrive, Shows};
 ghost use Rattle.mdv_shelf.specs.MemHistory.{tale_from, start_blocks, latest_blocks, zero_block, lengths, ShowsLast, KeepsWithin};
 
 use crate::mem_shelf::Health;
-use crate::mem_shelf::counts::Counts;
+use crate::mem_shelf::counts::{Counts, Totals};
 use crate::mem_shelf::crash::{crash_disks, settle_disks};
 use crate::mem_shelf::disk::{Disk, MemCall};
 use mdv_base::Block;
@@ -30,7 +30,7 @@ pub struct History {
 
 impl History {
     ghost use Rattle.mdv_shelf.specs.Story.{Next};
-    ghost use Rattle.mdv_shelf.specs.MemShelf.{history_tale, history_sizes, history_story, faults_in};
+    ghost use Rattle.mdv_shelf.specs.MemShelf.{history_tale, history_sizes, history_story, tally_in};
     ghost use Rattle.mdv_shelf.specs.MemHistory.{blank, crashed, brought_back};
 
     /// Drives of so many zero blocks each. More drives than 2^32 - 1 are refused like want of memory.
@@ -66,18 +66,18 @@ impl History {
         at: u64,
         from: &[Block],
         health: &[Health],
-        reply_faults: u64,
+        totals: Totals,
     ) -> Result<(), AllocError>
         requires { InDrive (history_sizes self.old) drive at (length from.now) }
         ensures ok { OnOk result (history_tale self.new ≡ Then (history_tale self.old) (Wrote drive at from.now)) }
         ensures err { OnErr result (history_tale self.new ≡ history_tale self.old) }
-        ensures noted { OnOk result (history_story self.new ≡ Next (history_story self.old) (Wrote drive at from.now) (faults_in health.now reply_faults)) }
+        ensures noted { OnOk result (history_story self.new ≡ Next (history_story self.old) (Wrote drive at from.now) (tally_in health.now totals)) }
         ensures not_noted { OnErr result (history_story self.new ≡ history_story self.old) }
         ensures sizes { history_sizes self.new ≡ history_sizes self.old }
         ensures told { self.new.told.items ≡ self.old.told.items }
     {
         let blocks = Vec::from_slice(alloc, from)?;
-        let counts = Counts::with_room(alloc, health, reply_faults, &mut self.counts)?;
+        let counts = Counts::with_room(alloc, health, totals, &mut self.counts)?;
         self.calls.reserve(1)?;
         self.calls
             .push_reserved(MemCall::Write { drive, at, blocks });
@@ -91,16 +91,16 @@ impl History {
         alloc: Global,
         drive: u32,
         health: &[Health],
-        reply_faults: u64,
+        totals: Totals,
     ) -> Result<(), AllocError>
         ensures ok { OnOk result (history_tale self.new ≡ Then (history_tale self.old) (Synced drive)) }
         ensures err { OnErr result (history_tale self.new ≡ history_tale self.old) }
-        ensures noted { OnOk result (history_story self.new ≡ Next (history_story self.old) (Synced drive) (faults_in health.now reply_faults)) }
+        ensures noted { OnOk result (history_story self.new ≡ Next (history_story self.old) (Synced drive) (tally_in health.now totals)) }
         ensures not_noted { OnErr result (history_story self.new ≡ history_story self.old) }
         ensures sizes { history_sizes self.new ≡ history_sizes self.old }
         ensures told { self.new.told.items ≡ self.old.told.items }
     {
-        let counts = Counts::with_room(alloc, health, reply_faults, &mut self.counts)?;
+        let counts = Counts::with_room(alloc, health, totals, &mut self.counts)?;
         self.calls.reserve(1)?;
         self.calls.push_reserved(MemCall::Sync { drive });
         self.counts.push_reserved(counts);
@@ -112,18 +112,18 @@ impl History {
         alloc: Global,
         piece: &[u8],
         health: &[Health],
-        reply_faults: u64,
+        totals: Totals,
     ) -> Result<(), AllocError>
         ensures ok { OnOk result (history_tale self.new ≡ Then (history_tale self.old) (Gave piece.now (length piece.now))) }
         ensures told { OnOk result (self.new.told.items ≡ self.old.told.items ++ piece.now) }
         ensures err { OnErr result (history_tale self.new ≡ history_tale self.old) }
         ensures not_told { OnErr result (self.new.told.items ≡ self.old.told.items) }
-        ensures noted { OnOk result (history_story self.new ≡ Next (history_story self.old) (Gave piece.now (length piece.now)) (faults_in health.now reply_faults)) }
+        ensures noted { OnOk result (history_story self.new ≡ Next (history_story self.old) (Gave piece.now (length piece.now)) (tally_in health.now totals)) }
         ensures not_noted { OnErr result (history_story self.new ≡ history_story self.old) }
         ensures sizes { history_sizes self.new ≡ history_sizes self.old }
     {
         let copy = Vec::from_slice(alloc, piece)?;
-        let counts = Counts::with_room(alloc, health, reply_faults, &mut self.counts)?;
+        let counts = Counts::with_room(alloc, health, totals, &mut self.counts)?;
         self.calls.reserve(1)?;
         self.told.extend_from_slice(piece)?;
         self.calls.push_reserved(MemCall::Give { piece: copy });

@@ -1,15 +1,16 @@
-use Rattle.std.proofs.Common.{inl, inr, sym, subst, refl, length, ap, []}
+use Rattle.std.proofs.Common.{inl, inr, sym, subst, refl, length, ap, [], arith}
 use Rattle.mdv_shelf.proofs.Counts.{took_one}
 use Rattle.mdv_shelf.proofs.InTime.{kept_on_call}
-use Rattle.mdv_shelf.proofs.Telling.{told_calm}
+use Rattle.mdv_shelf.proofs.Telling.{one_call_only, told_calm}
 use Rattle.mdv_base.specs.Causes.{RoseOnce}
 use Rattle.mdv_engine_law.specs.Below.{OnReplies}
-use Rattle.mdv_engine_law.specs.Replies.{IsLost, IsTold, outcome_text, reply_to, text_of}
+use Rattle.mdv_engine_law.specs.Replies.{IsLost, IsPlainAnswer, IsTold, outcome_text, reply_to, text_of}
 use Rattle.mdv_engine_law.specs.declared.answer.Answer.{Answer}
 use Rattle.mdv_engine_law.specs.declared.answer.Outcome.{Outcome}
 use Rattle.mdv_engine_law.specs.declared.answer.Outcome.TheVariants as outcome
 use Rattle.mdv_engine_law.specs.declared.answer.Reply.TheVariants as reply
-use Rattle.mdv_engine_law.proofs.Kept.{kept_on_itself, replies_alone}
+use Rattle.mdv_engine_law.proofs.Kept.{kept_on_itself, one_call_itself, replies_alone}
+use Rattle.mdv_engine_law.proofs.Longer.{ended_lost, outcome_more}
 use Rattle.mdv_engine_law.proofs.Giving.{told_whole, tells_some, telling_grew, telling_some}
 use Rattle.mdv_engine_law.proofs.telling.tell.Goals as goal
 
@@ -18,6 +19,10 @@ goes_on : (this : Outcome) → IsLost (reply_to this) → ⊥
 goes_on outcome.Ok lost = lost
 goes_on (outcome.Values text) lost = lost
 goes_on (outcome.Refused refusal) lost = lost
+
+-- some bytes are told
+pub give-requires : goal.give-requires
+give-requires g c = outcome_more c.in-Said.outcome (subst IsPlainAnswer c.in-Said.is c.requires)
 
 -- it was told whole
 pub returns-in-Ok-clause-told : goal.returns-in-Ok-clause-told
@@ -39,6 +44,7 @@ returns-in-Ok-clause-answers g c =
 pub returns-in-Ok-clause-counted : goal.returns-in-Ok-clause-counted
 returns-in-Ok-clause-counted g c = record {
   once = λ told. took_one g.B.Shelf.calls g.B.Shelf.written _ _ 0 c.give.ensures.counted;
+  one = one_call_only g.B.Shelf g.met.B.Shelf.telling OnReplies _ _ c.give.ensures.noted c.give.ensures.keeps;
   silent = λ lost. absurd (goes_on c.in-Said.outcome (subst IsLost c.reply_to.ensures lost));
   calm = λ told. told_calm (g.B.Shelf.faults c.args.bench.now) (g.B.Shelf.faults c.give.new.bench) c.in-Ok.ensures.cause;
   drives = c.in-Ok.ensures.cause.drives;
@@ -64,11 +70,26 @@ returns-in-Err-clause-answers g c =
     ([], subst (λ (a : Answer). IsTold failed a reply.Told []) (sym c.in-Said.is) (inr (record { cause = c.in-Err.ensures.cause.own.failed; given_is = refl; count = 0; front = refl })))
 
 pub returns-in-Err-clause-counted : goal.returns-in-Err-clause-counted
-returns-in-Err-clause-counted g c = record { once = λ told. took_one g.B.Shelf.calls g.B.Shelf.written _ _ 0 c.give.ensures.counted; silent = λ lost. absurd lost; calm = λ on. absurd on; drives = c.in-Err.ensures.cause.drives }
+returns-in-Err-clause-counted g c = record {
+  once = λ told. took_one g.B.Shelf.calls g.B.Shelf.written _ _ 0 c.give.ensures.counted;
+  one = one_call_only g.B.Shelf g.met.B.Shelf.telling OnReplies _ _ c.give.ensures.noted c.give.ensures.keeps;
+  silent = λ lost. absurd lost;
+  calm = λ on. absurd on;
+  drives = c.in-Err.ensures.cause.drives;
+}
 
 pub returns-in-Err-clause-kept : goal.returns-in-Err-clause-kept
 returns-in-Err-clause-kept g c = kept_on_call g.B.Shelf OnReplies _ _ c.give.ensures.noted c.give.ensures.keeps (replies_alone _ _ c.in-Err.ensures.cause.drives)
 
 -- nothing was told
+pub returns-in-Over-clause-counted : goal.returns-in-Over-clause-counted
+returns-in-Over-clause-counted g c = record {
+  once = λ on. absurd (on (subst IsLost (sym c.reply_at.ensures) (ended_lost c.in-Over.end)));
+  one = one_call_itself g.B.Shelf c.args.bench.now;
+  silent = λ lost. refl;
+  calm = λ on part. omega arith;
+  drives = λ drive. refl;
+}
+
 pub returns-in-Over-clause-kept : goal.returns-in-Over-clause-kept
 returns-in-Over-clause-kept g c = kept_on_itself g.B.Shelf c.args.bench.now OnReplies

@@ -1,7 +1,10 @@
+use Rattle.mdv_run.proofs.Counting.{refused_calls, spelled_calls}
+use Rattle.mdv_shelf.specs.Calls.{RoseByAtMost}
+use Rattle.mdv_shelf.proofs.Counts.{rose_at_most}
 use Rattle.mdv_shelf.specs.Made.{made_of}
 use Rattle.mdv_shelf.proofs.Between.{between_of}
 use Rattle.mdv_engine_law.specs.declared.answer.Outcome.TheVariants as outcome
-use Rattle.std.proofs.Common.{◌≤◌, ◌+◌, refl, inl, inr, ap, subst, sym, arith}
+use Rattle.std.proofs.Common.{ℕ, ◌≤◌, ◌+◌, refl, inl, inr, ap, subst, sym, arith}
 use Rattle.mdv_engine_law.specs.Line.{Nothing}
 use Rattle.mdv_run.specs.Below.{line, Ends, IsWell, Boot, IsCommand, IsLine, asked_by, IsAnswered, Knows, TellsFront, TurnMoment, Engine, LinesMoment}
 use Rattle.mdv_words.specs.declared.command.Line.TheVariants as words
@@ -123,6 +126,9 @@ returns-in-Command-clause-answer g c = record {
   same = c.exec.ensures.answer.host;
   well = c.exec.ensures.answer.well;
   begun = c.exec.ensures.answer.begun;
+  counted = λ n calls.
+      let is : IsLine c.args.line.now (words.Command c.in-Command.command) = subst (IsLine c.args.line.now) c.in-Command.is c.in-Some.ensures.value in
+      subst (λ (k : ℕ). RoseByAtMost k (g.B.Shelf.calls c.args.bench.now) (g.B.Shelf.calls c.exec.new.bench)) (sym (spelled_calls c.args.line.now (words.Command c.in-Command.command) is n calls)) c.exec.ensures.counted.most.in_calls;
 }
 
 pub returns-in_default-clause-answer : goal.returns-in_default-clause-answer
@@ -131,13 +137,20 @@ returns-in_default-clause-answer g c = record {
   same = ap (λ (e : Engine). e.host) c.refuse.ensures.answer.same;
   well = subst (λ (e : Engine). IsWell c.args.engine.now.host e.state) (sym c.refuse.ensures.answer.same) c.requires.well;
   begun = subst (λ (e : Engine). e.state.begun ≤ c.args.engine.now.state.begun + 1) (sym c.refuse.ensures.answer.same) (omega arith);
+  counted = λ n calls.
+      subst (λ (k : ℕ). RoseByAtMost k (g.B.Shelf.calls c.args.bench.now) (g.B.Shelf.calls c.refuse.new.bench)) (sym (refused_calls c.args.line.now c.in_default.ensures.none n calls))
+      (rose_at_most 1 1 (g.B.Shelf.calls c.args.bench.now) (g.B.Shelf.calls c.refuse.new.bench) (omega arith) c.refuse.ensures.counted.once.in_calls);
 }
 
 pub returns-in-Boot-clause-answer : goal.returns-in-Boot-clause-answer
 returns-in-Boot-clause-answer g c =
-    let up = c.boot_anew.ensures.answer in record {
+    let up = c.boot_anew.ensures.answer.line in record {
       cause = up.cause;
       same = up.same;
       well = up.well;
       begun = up.begun;
+      counted = λ n calls. up.counted n (spelled_calls c.args.line.now Boot (subst (IsLine c.args.line.now) c.in-Boot.is c.in-Some.ensures.value) n calls);
     }
+
+pub returns-in-Boot-clause-kept : goal.returns-in-Boot-clause-kept
+returns-in-Boot-clause-kept g c = c.boot_anew.ensures.answer.kept

@@ -1,3 +1,5 @@
+use Rattle.mdv_run.proofs.Counting.{boot_calls, opened_took, over_calls}
+use Rattle.mdv_run.specs.Calls.{OpenedTook}
 use Rattle.mdv_engine_law.specs.declared.answer.Outcome.TheVariants as outcome
 use Rattle.std.proofs.Common.{◌≡◌, ◌≤◌, ◌+◌, [], inl, inr, Option, refl, sym, ◌∙◌, ap, subst, arith}
 use Rattle.mdv_engine_law.specs.Line.{Nothing}
@@ -132,23 +134,33 @@ returns-in-Err-clause-stays g c = λ text boots. record {
 
 pub returns-in-Err-clause-answer : goal.returns-in-Err-clause-answer
 returns-in-Err-clause-answer g c = record {
-  cause = subst (HasReplyCause (DriveFailures g.B.Shelf c.args.bench.now c.reboot.new.shelf 0).some _) (sym c.reply_at.ensures) (ended_reply (DriveFailures g.B.Shelf c.args.bench.now c.reboot.new.shelf 0) _ c.in-Err.end c.in-Err.ensures.answer.cause);
-  same = c.in-Err.ensures.answer.host;
-  well = c.in-Err.ensures.answer.well;
-  begun = (let same = c.in-Err.ensures.answer.begun in omega arith);
+  line = record {
+    counted = λ n calls. over_calls g.B.Shelf _ _ c.in-Err.end c.reboot.new.self.state c.in-Err.ensures.counted n calls;
+    cause = subst (HasReplyCause (DriveFailures g.B.Shelf c.args.bench.now c.reboot.new.shelf 0).some _) (sym c.reply_at.ensures) (ended_reply (DriveFailures g.B.Shelf c.args.bench.now c.reboot.new.shelf 0) _ c.in-Err.end c.in-Err.ensures.answer.cause);
+    same = c.in-Err.ensures.answer.host;
+    well = c.in-Err.ensures.answer.well;
+    begun = (let same = c.in-Err.ensures.answer.begun in omega arith);
+  };
+  kept = in_time_of_on g.B.Shelf _ _ (OnDrive 0) c.reboot.ensures.kept;
 }
 
 pub returns-in-Ok-clause-answer : goal.returns-in-Ok-clause-answer
 returns-in-Ok-clause-answer g c = record {
-  cause = told_reply (DriveFailures g.B.Shelf c.args.bench.now c.accept.new.bench 0).some (GivingFailed g.B.Shelf c.args.bench.now c.accept.new.bench) outcome.Ok c.accept.result
-      (reply_more _ _ (calm_before _ _ _ (c.reboot.ensures.kept.others OnReplies replies_apart)).some outcome.Ok c.accept.result c.accept.ensures.answer.cause);
-  same = ap (λ (e : Engine). e.host) c.accept.ensures.answer.same ∙ c.in-Ok.ensures.answer.host;
-  well = subst (λ (e : Engine). IsWell c.args.engine.now.host e.state) (sym c.accept.ensures.answer.same) c.in-Ok.ensures.answer.well;
-  begun = subst (λ (e : Engine). e.state.begun ≤ c.args.engine.now.state.begun + 1) (sym c.accept.ensures.answer.same) (let same = c.in-Ok.ensures.answer.begun in omega arith);
+  line = record {
+    counted = λ n calls. boot_calls g.B.Shelf _ _ _ c.reboot.new.self.state c.in-Ok.ensures.counted c.accept.ensures.counted.once n calls;
+    cause = told_reply (DriveFailures g.B.Shelf c.args.bench.now c.accept.new.bench 0).some (GivingFailed g.B.Shelf c.args.bench.now c.accept.new.bench) outcome.Ok c.accept.result
+        (reply_more _ _ (calm_before _ _ _ (c.reboot.ensures.kept.others OnReplies replies_apart)).some outcome.Ok c.accept.result c.accept.ensures.answer.cause);
+    same = ap (λ (e : Engine). e.host) c.accept.ensures.answer.same ∙ c.in-Ok.ensures.answer.host;
+    well = subst (λ (e : Engine). IsWell c.args.engine.now.host e.state) (sym c.accept.ensures.answer.same) c.in-Ok.ensures.answer.well;
+    begun = subst (λ (e : Engine). e.state.begun ≤ c.args.engine.now.state.begun + 1) (sym c.accept.ensures.answer.same) (let same = c.in-Ok.ensures.answer.begun in omega arith);
+  };
+  kept = in_time_both drive_apart c.reboot.ensures.kept c.accept.ensures.kept;
 }
 
-pub returns-in-Ok-clause-kept : goal.returns-in-Ok-clause-kept
-returns-in-Ok-clause-kept g c = in_time_both drive_apart c.reboot.ensures.kept c.accept.ensures.kept
+-- the database that the boot opened is the one that is open, as its calls tell
+pub returns-in-Ok-clause-opens : goal.returns-in-Ok-clause-opens
+returns-in-Ok-clause-opens g c = λ on. subst (λ (e : Engine). OpenedTook (made_of g.B.Shelf c.args.bench.now c.accept.new.bench) e.state.opened e.state.down) (sym c.accept.ensures.answer.same)
+    (opened_took g.B.Shelf _ _ _ _ _ c.in-Ok.ensures.counted c.accept.ensures.counted.once)
 
-pub returns-in-Err-clause-kept : goal.returns-in-Err-clause-kept
-returns-in-Err-clause-kept g c = in_time_of_on g.B.Shelf _ _ (OnDrive 0) c.reboot.ensures.kept
+pub returns-in-Err-clause-opens : goal.returns-in-Err-clause-opens
+returns-in-Err-clause-opens g c = λ on. absurd (never_ended c.in-Err.end (subst IsReplied c.reply_at.ensures on))

@@ -1,4 +1,5 @@
-use Rattle.std.proofs.Common.{◌≡◌, refl, ap, subst, inl, Err}
+use Rattle.mdv_run.proofs.Counting.{none_took}
+use Rattle.std.proofs.Common.{◌+◌, ◌≡◌, refl, ap, subst, inl, Err}
 use Rattle.mdv_run.specs.Below.{counts, asked_of, told, Host, RunMoment, host_of}
 use Rattle.mdv_run.specs.Promise.{HasRun, between}
 use Rattle.mdv_run.proofs.Fronting.{fronts_quiet}
@@ -37,5 +38,6 @@ returns-in-Err-Memory-clause-used g c = λ drives home used.
           (moments_none (RunMoment host (asked_of input)) _ _ refl (λ t. nothing_run host (asked_of input) t));
       tells = λ input left. fronts_quiet g.B.Shelf g.met.B.Shelf.telling host (counts (g.B.Shelf.faults c.args.bench.now) (g.I.Source.faults c.args.script.now)) (asked_of input) (between g.B.Shelf c.args.bench.now c.args.bench.now) _ _ (kept_itself g.B.Shelf c.args.bench.now).goes (moments_none (λ t m. told m ≡ told t) _ _ refl (λ t. refl));
       home = nothing_stays host _ _ refl;
+      counted = λ input left n calls. none_took _ (13 + n);
       causes = inl refl;
     }

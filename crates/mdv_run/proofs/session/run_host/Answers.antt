@@ -1,3 +1,4 @@
+use Rattle.mdv_run.proofs.Counting.{booted_calls, ended_calls, only_boot, run_calls}
 use Rattle.mdv_engine_law.proofs.Kept.{kept_itself}
 use Rattle.mdv_shelf.specs.Made.{effort_of}
 use Rattle.mdv_shelf.proofs.Made.{by_efforts}
@@ -56,6 +57,7 @@ returns-in-Ok-clause-has_run g c = record {
   home = let host = c.args.host in
       both_stay host _ _ _ (boot_stays host _ _ c.boot.ensures.moments)
       (subst (λ (h : Host). Moments (StaysHome h) (g.B.Shelf.tale c.boot.new.shelf) (g.B.Shelf.tale c.run_lines.new.bench)) c.in-Ok.ensures.answer.engine.0 c.run_lines.ensures.lines.home);
+  counted = λ input left n calls. run_calls _ _ _ n (booted_calls g.B.Shelf _ _ c.in-Ok.engine.state c.in-Ok.ensures.counted) (c.run_lines.ensures.lines.counted input left n calls);
   causes = inr (cause_within (counts (g.B.Shelf.faults c.args.bench.now) (g.I.Source.faults c.args.script.now)) (counts (g.B.Shelf.faults c.boot.new.shelf) (g.I.Source.faults c.args.script.now))
       (counts (g.B.Shelf.faults c.run_lines.new.bench) (g.I.Source.faults c.run_lines.new.script)) (counts (g.B.Shelf.faults c.run_lines.new.bench) (g.I.Source.faults c.run_lines.new.script)) c.run_lines.result
       (record { drive = c.boot.ensures.kept.keeps.no_fewer_faults (OnDrive 0); source = omega arith; replies = c.boot.ensures.kept.keeps.no_fewer_faults OnReplies }) (record { drive = omega arith; source = omega arith; replies = omega arith }) c.run_lines.ensures.lines.causes);
@@ -79,6 +81,7 @@ returns-in-Err-clause-has_run g c = record {
       (moments_weaker (BootMoment host) (RunMoment host (asked_of input)) _ _ (λ t m moment. boot_run host (asked_of input) t m moment) c.boot.ensures.moments);
   tells = λ input left. fronts_quiet g.B.Shelf g.met.B.Shelf.telling c.args.host (counts (g.B.Shelf.faults c.args.bench.now) (g.I.Source.faults c.args.script.now)) (asked_of input) (between g.B.Shelf c.args.bench.now c.boot.new.shelf) _ _ c.boot.ensures.kept.goes (moments_weaker (BootMoment c.args.host) (λ t m. told m ≡ told t) _ _ (λ t m moment. moment.quiet) c.boot.ensures.moments);
   home = boot_stays c.args.host _ _ c.boot.ensures.moments;
+  counted = λ input left n calls. only_boot _ _ n (ended_calls g.B.Shelf _ _ c.in-Err.end (unbooted 0) c.in-Err.ensures.counted);
   causes = inr (subst (λ (s : RunStatus). HasStatusCause (counts (g.B.Shelf.faults c.args.bench.now) (g.I.Source.faults c.args.script.now)) (counts (g.B.Shelf.faults c.boot.new.shelf) (g.I.Source.faults c.args.script.now)) s) (sym c.over.ensures)
       (over_cause Engine _ _ c.in-Err.end false c.in-Err.ensures.answer.cause));
 }

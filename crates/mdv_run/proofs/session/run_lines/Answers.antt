@@ -1,3 +1,4 @@
+use Rattle.mdv_run.proofs.Counting.{all_left, took_on, took_over}
 use Rattle.std.proofs.Common.{◌≤◌, false, refl, sym, ◌∙◌, subst, arith}
 use Rattle.mdv_run.specs.Below.{Reader, asked_of, asked_before, OnDrive, OnReplies, Moments, Ends, Host, IsReady, Knows, IsWell, counts, LinesMoment, StaysHome}
 use Rattle.mdv_run.specs.Promise.{between, point_at}
@@ -21,6 +22,7 @@ loop-refused-init g c = record {
   limit = subst (λ (r : Reader). r.lines ≤ 1048576) (sym c.new-reader.ensures) (omega arith);
   kept = kept_itself g.B.Shelf c.args.bench.now;
   source = omega arith;
+  calls = λ input left n calls. all_left (g.B.Shelf.calls c.args.bench.now) _ (asked_of input) n (script_at_start _ _ _ c.new-reader.ensures left) calls;
   home = nothing_stays c.args.engine.now.host _ _ refl;
   fronts = λ input left. fronts_start c.args.engine.now.host (point_at g.B.Shelf g.I.Source c.args.bench.now c.args.script.now) c.args.engine.now.state (asked_of input) g.B.Shelf g.met.B.Shelf.telling c.args.bench.now refl;
   so_far = λ input left. so_far_start c.args.engine.now.host c.args.engine.now.state input _ (between g.B.Shelf c.args.bench.now c.args.bench.now) _ _ (script_at_start _ _ _ c.new-reader.ensures left);
@@ -38,6 +40,7 @@ loop-refused-preserved g c =
       limit = (answer.on tt).1;
       kept = kept_more before.kept (kept_of_time c.in-On.ensures.kept);
       source = let first = before.source in let more = answer.source in omega arith;
+      calls = λ input left n calls. took_on _ _ _ n _ _ (before.calls input left n calls) answer.counted;
       home = both_stay c.args.engine.now.host _ _ _ before.home
           (subst (λ (h : Host). Moments (StaysHome h) (g.B.Shelf.tale c.loop-refused.bench) (g.B.Shelf.tale c.take_turn.new.bench)) before.host c.in-On.ensures.stays.home);
       fronts = λ input left. subst (λ (h : Host). AtEachMoment g.B.Shelf (RunFront h (between g.B.Shelf c.args.bench.now c.take_turn.new.bench) (point_at g.B.Shelf g.I.Source c.args.bench.now c.args.script.now) c.args.engine.now.state (asked_of input)) c.args.bench.now c.take_turn.new.bench) (sym answer.same)
@@ -78,6 +81,7 @@ returns-in-Over-clause-lines g c =
           c.in-Over.ensures.moments);
       home = both_stay c.args.engine.now.host _ _ _ before.home
           (subst (λ (h : Host). Moments (StaysHome h) (g.B.Shelf.tale c.loop-refused.bench) (g.B.Shelf.tale c.take_turn.new.bench)) before.host c.in-Over.ensures.stays.home);
+      counted = λ input left n calls. took_over _ _ _ n _ (before.calls input left n calls) c.in-Over.ensures.answer.counted;
       causes = cause_within (counts (g.B.Shelf.faults c.args.bench.now) (g.I.Source.faults c.args.script.now)) (counts (g.B.Shelf.faults c.loop-refused.bench) (g.I.Source.faults c.loop-refused.script)) (counts (g.B.Shelf.faults c.take_turn.new.bench) (g.I.Source.faults c.take_turn.new.script)) (counts (g.B.Shelf.faults c.take_turn.new.bench) (g.I.Source.faults c.take_turn.new.script)) c.in-Over.status
           (record { drive = before.kept.keeps.no_fewer_faults (OnDrive 0); source = before.source; replies = before.kept.keeps.no_fewer_faults OnReplies })
           (record { drive = omega arith; source = omega arith; replies = omega arith }) c.in-Over.ensures.answer.cause;

@@ -1,3 +1,6 @@
+use Rattle.mdv_run.proofs.Counting.{line_took, long_took}
+use Rattle.mdv_run.specs.Calls.{TurnTook}
+use Rattle.mdv_shelf.proofs.Counts.{rose_at_most}
 use Rattle.mdv_shelf.specs.Made.{made_between}
 use Rattle.mdv_shelf.proofs.Between.{between_of}
 use Rattle.mdv_shelf.proofs.Made.{by_efforts}
@@ -68,6 +71,11 @@ returns-in-Ok-Line-clause-answer g c = record {
   well = c.answer.ensures.answer.well;
   begun = let up = (rw c.in-Ok-Line.field-0-is at c.in-Ok-Line.ensures.passed).lines in let more = c.answer.ensures.answer.begun in let before = c.requires.begun in omega arith;
   on = λ on. (let up = (rw c.in-Ok-Line.field-0-is at c.in-Ok-Line.ensures.passed).lines in omega arith, (rw c.in-Ok-Line.field-0-is at c.in-Ok-Line.ensures.passed).limit);
+  counted = λ lines before n calls.
+      let reads : IsAskedTurn lines Line c.next_asked.new.reader (g.I.Source.left c.next_asked.new.source) = rw c.in-Ok-Line.field-0-is at (c.in-Ok-Line.ensures.reads lines before) in
+      let script = line_is lines c.line.result.now c.next_asked.new.reader (g.I.Source.left c.next_asked.new.source) c.line.ensures.value reads in
+      subst (λ (turn : Turn). TurnTook turn (asked_before c.next_asked.new.reader (g.I.Source.left c.next_asked.new.source)) (g.B.Shelf.calls c.args.bench.now) (g.B.Shelf.calls c.answer.new.bench) n) (sym c.turn_of.ensures)
+      (line_took _ _ lines _ c.line.result.now script.0 script.1 script.2 c.answer.ensures.answer.counted n calls c.answer.result c.args.any_refused);
   goes_on = λ on lines before.
       let reads : IsAskedTurn lines Line c.next_asked.new.reader (g.I.Source.left c.next_asked.new.source) = rw c.in-Ok-Line.field-0-is at (c.in-Ok-Line.ensures.reads lines before) in
       let script = line_is lines c.line.result.now c.next_asked.new.reader (g.I.Source.left c.next_asked.new.source) c.line.ensures.value reads in
@@ -131,6 +139,11 @@ returns-in-Ok-TooLong-clause-answer g c = record {
   well = subst (λ (e : Engine). IsWell c.args.engine.now.host e.state) (sym c.refuse.ensures.answer.same) c.requires.well;
   begun = subst (λ (e : Engine). e.state.begun ≤ c.next_asked.new.reader.lines) (sym c.refuse.ensures.answer.same) (let up = (rw c.in-Ok-TooLong.field-0-is at c.in-Ok-TooLong.ensures.passed).lines in let before = c.requires.begun in omega arith);
   on = λ on. (let up = (rw c.in-Ok-TooLong.field-0-is at c.in-Ok-TooLong.ensures.passed).lines in omega arith, (rw c.in-Ok-TooLong.field-0-is at c.in-Ok-TooLong.ensures.passed).limit);
+  counted = λ lines before n calls.
+      let reads : IsAskedTurn lines TooLong c.next_asked.new.reader (g.I.Source.left c.next_asked.new.source) = rw c.in-Ok-TooLong.field-0-is at (c.in-Ok-TooLong.ensures.reads lines before) in
+      let script = long_is lines c.next_asked.new.reader (g.I.Source.left c.next_asked.new.source) reads in
+      subst (λ (turn : Turn). TurnTook turn (asked_before c.next_asked.new.reader (g.I.Source.left c.next_asked.new.source)) (g.B.Shelf.calls c.args.bench.now) (g.B.Shelf.calls c.refuse.new.bench) n) (sym c.turn_of-in-Ok-TooLong.ensures)
+      (long_took _ _ lines _ script.0 script.1 script.2 (rose_at_most 1 1 _ _ (omega arith) c.refuse.ensures.counted.once.in_calls) n calls c.refuse.result c.args.any_refused);
   goes_on = λ on lines before.
       let reads : IsAskedTurn lines TooLong c.next_asked.new.reader (g.I.Source.left c.next_asked.new.source) = rw c.in-Ok-TooLong.field-0-is at (c.in-Ok-TooLong.ensures.reads lines before) in
       let script = long_is lines c.next_asked.new.reader (g.I.Source.left c.next_asked.new.source) reads in

@@ -27,7 +27,7 @@ returns-clause-answer g c = record { cause = reply_cause _ c.tell.ensures.answer
 pub returns-clause-counted : goal.returns-clause-counted
 returns-clause-counted g c = record {
   once = c.tell.ensures.counted.once (only_told _ outcome.Ok c.tell.result _ c.tell.ensures.answers.1);
-  told = λ on. told_once g.B.Shelf _ _ c.tell.ensures.kept.goes (replied_more _ accepted tt c.tell.result on _ _ c.tell.ensures.told) (c.tell.ensures.counted.calm on);
+  told = λ on. told_once g.B.Shelf _ _ c.tell.ensures.kept.goes c.tell.ensures.counted.one (c.tell.ensures.counted.once (only_told _ outcome.Ok c.tell.result _ c.tell.ensures.answers.1)) (replied_more _ accepted tt c.tell.result on _ _ c.tell.ensures.told) (c.tell.ensures.counted.calm on);
   given = λ on. calm_given g.B.Shelf.faults _ _ _ refl (c.tell.ensures.kept.keeps.no_fewer_faults OnReplies) (c.tell.ensures.counted.calm on OnReplies);
 }
 

@@ -14,7 +14,7 @@ use Rattle.mdv_engine.specs.Ends.{CarriesOut, LeavesMade}
 use Rattle.mdv_engine_law.specs.Efforts.{LossCalls, blocks_of, calls_of, wanting_calls}
 use Rattle.mdv_shelf.specs.Made.{made_of}
 use Rattle.mdv_engine_law.specs.Replies.{IsLost}
-use Rattle.mdv_engine.proofs.Counting.{calm_given, command_calls, command_most, done_told, replied_calls, telling_most, done_then, fault_then, fault_told, lost_told, none_at_most, quiet_told, spent_told, told_lost, unlooked_told, unwritten_told, wanting_told, whole_or_lost}
+use Rattle.mdv_engine.proofs.Counting.{calm_given, command_calls, command_most, done_told, replied_calls, telling_most, done_then, fault_then, fault_told, lost_told, none_at_most, not_lost, quiet_told, spent_told, told_lost, unlooked_told, unwritten_told, wanting_told, whole_or_lost}
 use Rattle.mdv_engine.proofs.engine.Engine.exec.Goals as goal
 
 pub returns-clause-moments : goal.returns-clause-moments
@@ -116,7 +116,7 @@ returns-clause-counted g c =
           (same ∙ spent_told g.B.Shelf.tale g.B.Shelf.calls g.B.Shelf.written _ _ c.args.command.now opened _ c.carry_out-answer.result c.tell.ensures.answers.0 (rw is at answers) by);
       told = λ on. told_behind g.B.Shelf g.met.B.Shelf.telling _ _ _ c.carry_out-answer.ensures.kept.goes
           (moments_weaker (CarryMoment c.args.self.now.host (asked_by c.args.command.now) c.args.self.now.state) (λ t m. told m ≡ told t) _ _ (λ t m moment. moment.quiet) c.carry_out-answer.ensures.moments)
-          (told_once g.B.Shelf _ _ c.tell.ensures.kept.goes (replied_more _ _ c.carry_out-answer.ensures.answer.plain c.tell.result on _ _ c.tell.ensures.told) (c.tell.ensures.counted.calm on));
+          (told_once g.B.Shelf _ _ c.tell.ensures.kept.goes c.tell.ensures.counted.one (c.tell.ensures.counted.once (not_lost c.tell.result on)) (replied_more _ _ c.carry_out-answer.ensures.answer.plain c.tell.result on _ _ c.tell.ensures.told) (c.tell.ensures.counted.calm on));
       given = λ uncut. elim (whole_or_lost c.tell.result uncut) [
         | inl on ↦ calm_given g.B.Shelf.faults _ _ _ (c.carry_out-answer.ensures.kept.others OnReplies (λ is. absurd (cc (is)))) (c.tell.ensures.kept.keeps.no_fewer_faults OnReplies) (c.tell.ensures.counted.calm on OnReplies)
         | inr lost ↦ ap (λ (x : g.row.B.Denot). g.B.Shelf.faults x OnReplies) (c.tell.ensures.counted.silent lost) ∙ c.carry_out-answer.ensures.kept.others OnReplies (λ is. absurd (cc (is)))

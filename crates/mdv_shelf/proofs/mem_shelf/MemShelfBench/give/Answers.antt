@@ -24,4 +24,4 @@ pub returns-in-Err-clause-keeps : goal.returns-in-Err-clause-keeps
 returns-in-Err-clause-keeps c = failed_keeps c.args.self.now _ c.fail_giving-in-Err.new.self OnReplies 0 c.fail_giving-in-Err.ensures (λ p. refl) c.give.ensures.sizes
 
 pub returns-in-Ok-clause-noted : goal.returns-in-Ok-clause-noted
-returns-in-Ok-clause-noted c = inr (noted_call c.args.self.now c.give.new.self (Gave c.args.piece.now (length c.args.piece.now)) c.deref.result.now c.deref.ensures.value c.in-Ok.ensures.noted)
+returns-in-Ok-clause-noted c = inr (noted_call c.args.self.now c.give.new.self (Gave c.args.piece.now (length c.args.piece.now)) c.deref.result.now c.totals-totals.result c.deref.ensures.value c.totals-totals.ensures c.in-Ok.ensures.noted)

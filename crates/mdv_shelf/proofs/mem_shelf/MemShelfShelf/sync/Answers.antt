@@ -18,4 +18,4 @@ pub returns-in-Err-clause-keeps : goal.returns-in-Err-clause-keeps
 returns-in-Err-clause-keeps c = failed_keeps c.args.self.now _ c.fail_on-in-Err.new.self (OnDrive c.args.drive.0) 0 c.fail_on-in-Err.ensures (λ p. refl) c.sync.ensures.sizes
 
 pub returns-in-Ok-clause-noted : goal.returns-in-Ok-clause-noted
-returns-in-Ok-clause-noted c = inr (noted_call c.args.self.now c.sync.new.self (Synced c.args.drive.0) c.deref.result.now c.deref.ensures.value c.in-Ok.ensures.noted)
+returns-in-Ok-clause-noted c = inr (noted_call c.args.self.now c.sync.new.self (Synced c.args.drive.0) c.deref.result.now c.totals-totals.result c.deref.ensures.value c.totals-totals.ensures c.in-Ok.ensures.noted)

@@ -18,4 +18,4 @@ pub returns-in-Err-clause-keeps : goal.returns-in-Err-clause-keeps
 returns-in-Err-clause-keeps c = failed_keeps c.args.self.now _ c.fail_on-in-Err.new.self (OnDrive c.args.drive.0) (length c.args.from.now) c.fail_on-in-Err.ensures (λ p. refl) c.write.ensures.sizes
 
 pub returns-in-Ok-clause-noted : goal.returns-in-Ok-clause-noted
-returns-in-Ok-clause-noted c = inr (noted_call c.args.self.now c.write.new.self (Wrote c.args.drive.0 c.args.at c.args.from.now) c.deref.result.now c.deref.ensures.value c.in-Ok.ensures.noted)
+returns-in-Ok-clause-noted c = inr (noted_call c.args.self.now c.write.new.self (Wrote c.args.drive.0 c.args.at c.args.from.now) c.deref.result.now c.totals-totals.result c.deref.ensures.value c.totals-totals.ensures c.in-Ok.ensures.noted)
