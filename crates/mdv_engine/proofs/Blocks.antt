@@ -29,7 +29,7 @@ module _ (host : Host) (ask : Ask) (memory : Memory) (a b : Option Tale) (same :
 
 -- all is as it was
 still : (memory : Memory) (t : Tale) → Stays (kept_at memory t) (kept_at memory t)
-still memory t = record { memory = refl; content = λ block. refl }
+still memory t = record { memory = refl; content = λ drive block. refl }
 
 module _ (host : Host) (memory : Memory) (volume : VolId) (at count : ℕ) where
   -- a read that isn't told

@@ -4,7 +4,7 @@ use Rattle.mdv_database.specs.Boot.{BootedBy}
 use Rattle.mdv_shelf.specs.Made.{Made}
 use Rattle.mdv_database.specs.declared.database.BootEnd.{BootEnd}
 use Rattle.mdv_store_law.specs.Adoptable.{IsAdoptable, IsHeaded}
-use Rattle.mdv_engine_law.specs.Line.{IsSameBeside, drive_content}
+use Rattle.mdv_engine_law.specs.Line.{IsSameBeside, contents}
 use Rattle.mdv_engine.specs.Below.{Failures, place_of, PlaceAt, with_blocks, other_slot, KeptOutside, nowhere, Moments, Ends, IsSynced, Tale, last, is_firm, Site, Newest, IsFound, IsTableAt, GoesOn, GoesOnTo, IsNewestIn, IsOpened, ShowsNothing, IsAdopted, IsDrawn, IsQuiet, IsSpent, Host, IsReady, site_of, Memory, IsRebooted, IsUsedUp, adopted, empty, down, kept_at, unbooted, BootMoment, BootedTo}
 use Rattle.mdv_shelf.proofs.Moments.{moments_both, moments_weaker, moments_end, ends_both}
 use Rattle.mdv_engine_law.specs.Answers.{accepted}
@@ -70,7 +70,7 @@ module _ (host : Host) (sizes : List ℕ) (ready : IsReady host sizes) (at : Pla
     down_booted quiet kept = ends_both (KeptOutside nowhere) (IsQuiet at) (BootedTo host (unread begun)) a b (λ t u k q. booted_down host t u begun k q.quiet) kept (moments_end (IsQuiet at) a b quiet)
 
   -- one whose next number would reach the limit
-  pub spent_here : (t : Tale) → IsSpent site (last t at.drive.0) → IsUsedUp (site_of host) (last t 0)
+  pub spent_here : (t : Tale) → IsSpent site (last t at.drive.0) → IsUsedUp (site_of host) (last t)
   spent_here t spent =
       let of = to_host (λ s. IsSpent s (last t s.at.drive.0)) spent in
       record { head = of.head; replica = of.replica; shown = of.shown; spent = of.spent }
@@ -84,11 +84,11 @@ module _ (host : Host) (sizes : List ℕ) (ready : IsReady host sizes) (at : Pla
   headed_here t headed = to_host (λ s. IsHeaded s (last t s.at.drive.0)) headed
 
   -- the calls of a boot, by what the drive held
-  pub by_here : (made : Made) (end : BootEnd) (t : Tale) → BootedBy made site (last t at.drive.0) end → BootedBy made (site_of host) (drive_content t) end
+  pub by_here : (made : Made) (end : BootEnd) (t : Tale) → BootedBy made site (last t at.drive.0) end → BootedBy made (site_of host) (contents t 0) end
   by_here made end t by = to_host (λ s. BootedBy made s (last t s.at.drive.0) end) by
 
   -- no block outside the replica's changed
-  pub beside_here : (t u : Tale) → IsQuiet at t u → IsSameBeside (site_of host) (drive_content t) (drive_content u)
+  pub beside_here : (t u : Tale) → IsQuiet at t u → IsSameBeside (site_of host) (contents t) (contents u)
   beside_here t u quiet = same_beside host t u (quiet_here host sizes ready at at_is t u quiet)
 
 -- an adopted database is in order

@@ -100,8 +100,8 @@ may_want host memory newest opened table same change free = inr ((newest, opened
 -- a change that is refused before anything is done
 module _ (host : Host) (memory : Memory) (volume : VolId) (slice : SliceName) where
   pub refused_line : (failures : Failures) → failures.none → (t : Tale) (r : Refusal) → HasChangeCause host memory (MakeStripe volume slice) r → CameTo failures host (kept_at memory t) (command.MakeStripe volume slice) (refusing r) (kept_at memory t)
-  refused_line failures calm t r (inl is) = came.refused calm r is (refl, record { memory = refl; content = λ block. refl })
-  refused_line failures calm t r (inr (some, want)) = came.wanting calm (ap refusing want) (some, record { memory = refl; content = λ block. refl })
+  refused_line failures calm t r (inl is) = came.refused calm r is (refl, record { memory = refl; content = λ drive block. refl })
+  refused_line failures calm t r (inr (some, want)) = came.wanting calm (ap refusing want) (some, record { memory = refl; content = λ drive block. refl })
 
   pub refused_plain : (r : Refusal) → HasChangeCause host memory (MakeStripe volume slice) r → IsPlain r
   refused_plain r (inl is) = refusal_plain (record { host = host; memory = memory }) (command.MakeStripe volume slice) r is
@@ -223,7 +223,7 @@ module _ (host : Host) (sizes : List ℕ) (ready : IsReady host sizes) (at : Pla
     long_answer failures calm bytes room long bytes_are room_is t start =
         let behind : record_room newest < bytes_after host newest stripe = (let is = length_is in omega arith) in
         let told : change_refusal host (Some newest) stripe ≡ Some (ReplicaFull bytes room) = change_long host newest stripe changed_is.allowed behind ∙ ap (λ (r : Refusal). Some r) (full_is bytes room bytes_are room_is) in
-        (t, same ∙ start, λ known. came.refused calm (ReplicaFull bytes room) (of_open host memory.opened newest stripe (Some (ReplicaFull bytes room)) opened told) (refl, record { memory = refl; content = λ block. refl }))
+        (t, same ∙ start, λ known. came.refused calm (ReplicaFull bytes room) (of_open host memory.opened newest stripe (Some (ReplicaFull bytes room)) opened told) (refl, record { memory = refl; content = λ drive block. refl }))
 
     pub spent_answer : (failures : Failures) → failures.none → length (record_text next) ≤ record_room newest → 2 ^ 63 ≤ newest.mark.count + 1 → Ends (Comes failures (Over ended.Spent) memory) a b
-    spent_answer failures calm fits spent t start = (t, same ∙ start, λ known. came.over ended.Spent (free fits) refl (calm, newest, opened, spent, record { memory = refl; content = λ block. refl }))
+    spent_answer failures calm fits spent t start = (t, same ∙ start, λ known. came.over ended.Spent (free fits) refl (calm, newest, opened, spent, record { memory = refl; content = λ drive block. refl }))

@@ -101,7 +101,7 @@ module _ (host : Host) (sizes : List ℕ) (ready : IsReady host sizes) (at : Pla
 -- memory was wanting
 module _ (host : Host) (memory : Memory) (a b : Option Tale) (same : b ≡ a) where
   pub unbegun_creation : (slice : SliceName) (force : Bool) → IsAllowed (record { host = host; memory = memory }) (Create slice force) → (failures : Failures) → failures.none → Ends (λ t u. Knows host memory t → CameTo failures host (kept_at memory t) (Create slice force) (refusing OutOfMemory) (kept_at (begun memory) u)) a b
-  unbegun_creation slice force free failures calm t start = (t, same ∙ start, λ known. came.wanting calm refl (free, record { memory = refl; content = λ block. refl }))
+  unbegun_creation slice force free failures calm t start = (t, same ∙ start, λ known. came.wanting calm refl (free, record { memory = refl; content = λ drive block. refl }))
 
   pub unbegun_carried : Ends (CarriedTo host (ToDo Created) memory (refusing OutOfMemory) (begun memory)) a b
   unbegun_carried t start = (t, same ∙ start, refused_still host (ToDo Created) memory (begun memory) t refl refl OutOfMemory)

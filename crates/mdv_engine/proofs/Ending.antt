@@ -4,7 +4,7 @@ use Rattle.std.proofs.Common.{◌≡◌, ◌≤◌, ◌+◌, ℕ, zero, suc, [],
 use Rattle.mdv_shelf.proofs.Moments.{ends_both}
 use Rattle.mdv_words.specs.declared.command.Command.{Command}
 use Rattle.mdv_shelf.specs.Made.{Made}
-use Rattle.mdv_engine_law.specs.Line.{drive_content}
+use Rattle.mdv_engine_law.specs.Line.{contents}
 use Rattle.mdv_engine.specs.Below.{Failures, Refusal, Ends, Tale, Deed, Created, Answer, Ended, Host, Memory, kept_at, unbooted, asked_by, CameTo, IsRebooted, adopted, empty, down, lost, spent, wanting, IsPlain, BootedTo, CarriedTo, CarryEnd, Knows}
 use Rattle.mdv_engine_law.specs.Answers.{accepted, refusing}
 use Rattle.mdv_engine_law.specs.Replies.{HasAnswerCause}
@@ -53,11 +53,11 @@ no_creation deed other (suc n, less, is) = absurd (omega (arith, less))
 
 -- a boot that was answered
 pub answered_ends : (failures : Failures) (calls : Made) (host : Host) (old new memory : Memory) (a b : Option Tale) → new ≡ memory
-    → Ends (λ t u. IsRebooted failures host (kept_at old t) accepted (kept_at new u)) a b → Ends (BootedTo host memory) a b → ((t : Tale) → a ≡ Some t → BootCalls calls host accepted memory (drive_content t)) → Ends (IsBootEnd failures calls host old accepted new) a b
+    → Ends (λ t u. IsRebooted failures host (kept_at old t) accepted (kept_at new u)) a b → Ends (BootedTo host memory) a b → ((t : Tale) → a ≡ Some t → BootCalls calls host accepted memory (contents t)) → Ends (IsBootEnd failures calls host old accepted new) a b
 answered_ends failures calls host old new memory a b is rebooted booted by t start =
     let both = ends_both (λ t u. IsRebooted failures host (kept_at old t) accepted (kept_at new u)) (BootedTo host memory) (λ t u. IsRebooted failures host (kept_at old t) accepted (kept_at new u) × BootedTo host memory t u) a b
     (λ t u one two. (one, two)) rebooted booted t start in
-    (both.0, both.1, record { rebooted = both.2.0; booted = λ ok. subst (λ (m : Memory). BootedTo host m t both.0) (sym is) both.2.1; calls = subst (λ (m : Memory). BootCalls calls host accepted m (drive_content t)) (sym is) (by t start) })
+    (both.0, both.1, record { rebooted = both.2.0; booted = λ ok. subst (λ (m : Memory). BootedTo host m t both.0) (sym is) both.2.1; calls = subst (λ (m : Memory). BootCalls calls host accepted m (contents t)) (sym is) (by t start) })
 
 -- what is in memory before a boot is forgotten, but for how many creations were begun
 pub from_state : (failures : Failures) (calls : Made) (host : Host) (old next new : Memory) (answer : Answer) (t u : Tale) → next ≡ new → IsBootEnd failures calls host (unbooted old.begun) answer new t u → IsBootEnd failures calls host old answer next t u
@@ -77,6 +77,6 @@ closed_well host memory unread begun is = subst (λ (m : Memory). IsWell host m 
 
 -- one that wasn't
 pub unanswered_ends : (failures : Failures) (calls : Made) (host : Host) (old new : Memory) (end : Ended) (a b : Option Tale)
-    → Ends (λ t u. IsRebooted failures host (kept_at old t) (Over end) (kept_at new u)) a b → ((t : Tale) → a ≡ Some t → BootCalls calls host (Over end) new (drive_content t)) → Ends (IsBootEnd failures calls host old (Over end) new) a b
+    → Ends (λ t u. IsRebooted failures host (kept_at old t) (Over end) (kept_at new u)) a b → ((t : Tale) → a ≡ Some t → BootCalls calls host (Over end) new (contents t)) → Ends (IsBootEnd failures calls host old (Over end) new) a b
 unanswered_ends failures calls host old new end a b rebooted by t start =
     (let done = rebooted t start in (done.0, done.1, record { rebooted = done.2; booted = λ ok. absurd (cc (ok)); calls = by t start }))

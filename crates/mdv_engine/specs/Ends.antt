@@ -12,7 +12,7 @@ use Rattle.mdv_store_law.specs.Standing.{ShowsReplica}
 use Rattle.mdv_shelf.specs.Made.{Made, and_more, made_of}
 use Rattle.mdv_engine_law.specs.declared.answer.Answer.TheVariants.{Over}
 use Rattle.mdv_engine_law.specs.declared.answer.Ended.TheVariants as ended
-use Rattle.mdv_engine_law.specs.Line.{drive_content}
+use Rattle.mdv_engine_law.specs.Line.{contents}
 use Rattle.mdv_engine_law.specs.Answers.{accepted}
 use Rattle.mdv_engine_law.specs.Commands.{IsAllowed}
 use Rattle.mdv_engine_law.specs.Refusals.{blocks_refusal}
@@ -139,7 +139,7 @@ left_by (Err end) = unbooted 0
 pub record IsBootEnd (failures : Failures) (made : Made) (host : Host) (old : Memory) (answer : Answer) (new : Memory) (t u : Tale) : Type 0 where
   pub rebooted : IsRebooted failures host (kept_at old t) answer (kept_at new u)
   pub booted : answer ≡ accepted → BootedTo host new t u
-  pub calls : BootCalls made host answer new (drive_content t)
+  pub calls : BootCalls made host answer new (contents t)
 
 abbrev pub BootEndsAs : {S : Type 0} → Ghosts S → S → S → Host → Memory → Answer → Memory → Type 0
 BootEndsAs shelf from to host old answer new = AtEnd shelf (IsBootEnd (DriveFailures shelf from to 0) (made_of shelf from to) host old answer new) from to

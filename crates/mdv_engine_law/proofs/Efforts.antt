@@ -1,9 +1,9 @@
 -- The calls of a line, told of another stretch.
-use Rattle.std.proofs.Common.{ℕ, Bool, true, false, List, Option, Some, None}
+use Rattle.std.proofs.Common.{Bool, true, false, Option, Some, None}
 use Rattle.mdv_base.specs.declared.refusal.Refusal.TheVariants as refusal
 use Rattle.mdv_shelf.specs.Made.{Made}
 use Rattle.mdv_shelf.proofs.Made.{IsToo, more_too}
-use Rattle.mdv_engine_law.specs.Below.{Refusal, Command, Create, Read, Write, Line, Newest}
+use Rattle.mdv_engine_law.specs.Below.{Image, Refusal, Command, Create, Read, Write, Line, Newest}
 use Rattle.mdv_words.specs.declared.command.Command.TheVariants.{MakeStripe}
 use Rattle.mdv_words.specs.declared.command.Line.TheVariants as words
 use Rattle.mdv_engine_law.specs.declared.answer.Answer.{Answer}
@@ -46,7 +46,7 @@ module _ (one other : Made) (too : IsToo one other) where
   command_too command (Over ended.Spent) opened calls = none_too calls
   command_too command (Over ended.Memory) opened calls = none_too calls
 
-  opened_too : (host : Host) (content : ℕ → List ℕ) (opened : Option Newest) (unread : Bool) → OpenedBy one host content opened unread → OpenedBy other host content opened unread
+  opened_too : (host : Host) (content : Image) (opened : Option Newest) (unread : Bool) → OpenedBy one host content opened unread → OpenedBy other host content opened unread
   opened_too host content (Some newest) unread by = record { head = by.head; replica = by.replica; shown = by.shown; calls = too.exactly _ _ by.calls }
   opened_too host content None false by = record {
     beyond = λ past. too.exactly _ _ (by.beyond past);
@@ -55,7 +55,7 @@ module _ (one other : Made) (too : IsToo one other) where
   }
   opened_too host content None true by = too.within _ _ _ by
 
-  pub boot_too : (host : Host) (answer : Answer) (memory : Memory) (content : ℕ → List ℕ) → BootCalls one host answer memory content → BootCalls other host answer memory content
+  pub boot_too : (host : Host) (answer : Answer) (memory : Memory) (content : Image) → BootCalls one host answer memory content → BootCalls other host answer memory content
   boot_too host (Said this) memory content by = opened_too host content memory.opened memory.down by
   boot_too host (Over (ended.Lost active listed)) memory content by = record { head = by.head; replica = by.replica; shown = by.shown; calls = too.within _ _ _ by.calls; wrote = too.wrote by.wrote }
   boot_too host (Over ended.Spent) memory content by = record { head = by.head; replica = by.replica; shown = by.shown; spent = by.spent; calls = too.exactly _ _ by.calls }

@@ -2,7 +2,7 @@
 use Rattle.std.proofs.Common.{◌≡◌, inl, inr, ℕ, List, ◌++◌, sym, refl, ◌∙◌, ap, subst, rules}
 use Rattle.mdv_base.proofs.Causes.{IsWithin}
 use Rattle.mdv_base.specs.declared.refusal.Refusal.TheVariants as refusal
-use Rattle.mdv_engine_law.specs.Below.{Failures, Refusal, KeptOutside, nowhere, Tale, told, Command, Create, Read, Write, Line}
+use Rattle.mdv_engine_law.specs.Below.{Image, Failures, Refusal, KeptOutside, nowhere, Tale, told, Command, Create, Read, Write, Line}
 use Rattle.mdv_words.specs.declared.command.Command.TheVariants.{MakeStripe}
 use Rattle.mdv_words.specs.declared.command.Line.TheVariants as words
 use Rattle.mdv_engine_law.specs.declared.answer.Answer.{Answer}
@@ -16,17 +16,17 @@ use Rattle.mdv_engine_law.specs.declared.answer.Reply.TheVariants as reply
 use Rattle.mdv_engine_law.specs.declared.host.Host.{Host}
 use Rattle.mdv_engine_law.specs.Commands as came
 use Rattle.mdv_engine_law.specs.Commands.{CameTo, ComesTo, GivesUp}
-use Rattle.mdv_engine_law.specs.Line.{Memory, Kept, kept_at, drive_content, IsRebooted, adopted, empty, down, lost, spent, wanting}
+use Rattle.mdv_engine_law.specs.Line.{Memory, Kept, kept_at, contents, IsRebooted, adopted, empty, down, lost, spent, wanting}
 use Rattle.mdv_engine_law.specs.Replies.{IsTold, HasAnswerCause, HasCommandCause, IsReplyTo, reply_at, reply_to}
 use Rattle.mdv_engine_law.specs.Efforts.{LineCalls, replied_to}
 use Rattle.mdv_shelf.specs.Made.{Made}
 use Rattle.mdv_engine_law.specs.Standing.{OnlyReplied, Executed}
 
 -- a read of the drive gives what it gave
-pub content_kept : (u v : Tale) → KeptOutside nowhere u v → drive_content u ≡ drive_content v
+pub content_kept : (u v : Tale) → KeptOutside nowhere u v → contents u ≡ contents v
 content_kept u v kept = sym same where
-  same : drive_content v ≡ drive_content u
-  same = λ i block. (kept 0 block refl).last i
+  same : contents v ≡ contents u
+  same = λ i drive block. (kept drive block refl).last i
 
 -- what came of the calls of a stretch came of those of the longer one
 module _ (failed more : Failures) (cause : IsWithin failed more) (host : Host) (kept next : Kept) (answer : Answer) where
@@ -98,7 +98,7 @@ pub executed : (drive failed : Failures) (replies more : Type 0) (made : Made) (
     → Executed failed more made host line old new r t v
 executed drive failed replies more made host line old new answer r t u v one other quiet carried given calls = record {
   answer = answer;
-  carried = subst (λ (content : ℕ → List ℕ). ComesTo failed host (kept_at old t) line answer (record { memory = new; content = content })) (content_kept u v given.kept)
+  carried = subst (λ (content : Image). ComesTo failed host (kept_at old t) line answer (record { memory = new; content = content })) (content_kept u v given.kept)
       (comes_more drive failed one host (kept_at old t) (kept_at new u) answer line carried);
   calls = calls;
   replied = record {

@@ -9,7 +9,7 @@ use Rattle.mdv_shelf.proofs.Noted.{moments_of_tales}
 use Rattle.mdv_shelf.proofs.Moments.{moments_weaker, some_is}
 use Rattle.mdv_shelf.proofs.Telling.{each_joined, each_within, rests_alone}
 use Rattle.mdv_engine_law.specs.Below.{Failures, Tale, last, told}
-use Rattle.mdv_engine_law.specs.Line.{IsSame, Kept, Memory, drive_content, kept_at}
+use Rattle.mdv_engine_law.specs.Line.{IsSame, Kept, Memory, contents, kept_at}
 use Rattle.mdv_engine_law.specs.Replies.{text_of}
 use Rattle.mdv_engine_law.specs.Standing.{Knows, TellMoment, TellsFront}
 use Rattle.mdv_engine_law.specs.declared.answer.Answer.{Answer}
@@ -36,7 +36,7 @@ module _ {S : Type 0} (shelf : Ghosts S) (telling : (s : S) → shelf.tale s ≡
         came = widen (DriveFailures shelf a b 0) _ (within_calm _ _ _ (between _ _ _ still (within.counts.0 (OnDrive 0)) (within.counts.1 (OnDrive 0)))) (kept_at old (tale_of s)) (kept_at new end.0) (end.2 knows);
         count = here.count;
         is_told = here.is_told ∙ ap (λ (l : List ℕ). l ++ take here.count (text_of answer)) turn;
-        shows = subst (λ (x : Tale). IsSame (drive_content x) (drive_content m.tale)) (some_is (shelf.tale b) (tale_of u) end.0 (telling b ∙ ap (λ (o : Option Story). option_map tale_of o) mid) end.1) (λ block. (here.kept 0 block refl).last);
+        shows = subst (λ (x : Tale). IsSame (contents x) (contents m.tale)) (some_is (shelf.tale b) (tale_of u) end.0 (telling b ∙ ap (λ (o : Option Story). option_map tale_of o) mid) end.1) (λ drive block. (here.kept drive block refl).last);
       })) (moments_of_tales shelf telling a b (λ t m. told m ≡ told t) on quiet) (moments_of_tales shelf telling b c (TellMoment (text_of answer)) more tells)
 
   -- the telling of an answer alone
@@ -50,7 +50,7 @@ module _ {S : Type 0} (shelf : Ghosts S) (telling : (s : S) → shelf.tale s ≡
         came = (between _ _ _ still (within.counts.0 (OnDrive 0)) (within.counts.1 (OnDrive 0)), refl, refl);
         count = here.count;
         is_told = here.is_told;
-        shows = λ block. (here.kept 0 block refl).last;
+        shows = λ drive block. (here.kept drive block refl).last;
       }))
       (moments_of_tales shelf telling a b (TellMoment (text_of answer)) on tells)
 

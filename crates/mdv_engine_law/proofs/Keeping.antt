@@ -7,10 +7,10 @@ use Rattle.mdv_home.proofs.Places.{whole_place}
 use Rattle.mdv_shelf.proofs.Everywhere.{last_image}
 use Rattle.mdv_engine_law.specs.declared.host.Host.{Host}
 use Rattle.mdv_engine_law.specs.Home.{site_of, identity_of}
-use Rattle.mdv_engine_law.specs.Line.{Memory, IsSame, IsSameBeside, Stays, IsCreated, IsUncreated, IsCommitted, IsRewritten, ArePut, MayBePut, blocks_of, drive_content, kept_at}
+use Rattle.mdv_engine_law.specs.Line.{Memory, IsSame, IsSameBeside, Stays, IsCreated, IsUncreated, IsCommitted, IsRewritten, ArePut, MayBePut, blocks_of, contents, kept_at, on_site}
 
 -- these blocks are what a read gives
-pub blocks_shown : (t : Tale) (block : ℕ) (blocks : List (List ℕ)) → Shows t 0 block blocks → blocks_of (drive_content t) block (length blocks) ≡ blocks
+pub blocks_shown : (t : Tale) (block : ℕ) (blocks : List (List ℕ)) → Shows t 0 block blocks → blocks_of (contents t 0) block (length blocks) ≡ blocks
 blocks_shown t block [] shows = refl
 blocks_shown t block (x ∷ blocks) shows =
     let first : last t 0 block ≡ x = ap (λ (b : ℕ). last t 0 b) (omega arith) ∙ sym (shows 0 (omega arith)) in
@@ -19,25 +19,25 @@ blocks_shown t block (x ∷ blocks) shows =
 
 module _ (t u : Tale) where
   -- no block changed
-  pub same_content : KeptOutside nowhere t u → IsSame (drive_content t) (drive_content u)
-  same_content kept block = (kept 0 block refl).last
+  pub same_content : KeptOutside nowhere t u → IsSame (contents t) (contents u)
+  same_content kept drive block = (kept drive block refl).last
 
   -- blocks were written
   module _ (block : ℕ) (blocks : List (List ℕ)) (settling : Settling 0 block blocks t u) where
-    pub are_put : IsSettled 0 block blocks u → ArePut block blocks (drive_content t) (drive_content u)
-    are_put settled = record { here = λ k lt. sym (settled.shows k lt); elsewhere = λ b out. (settling.outside 0 b out).last }
+    pub are_put : IsSettled 0 block blocks u → ArePut block blocks (contents t) (contents u)
+    are_put settled = record { here = λ k lt. sym (settled.shows k lt); elsewhere = λ drive b out. (settling.outside drive b out).last }
 
-    pub may_be_put : MayBePut block blocks (drive_content t) (drive_content u)
+    pub may_be_put : MayBePut block blocks (contents t) (contents u)
     may_be_put = record {
       here = λ k lt.
           let same : (block + k) - block ≡ k = omega arith in
           ⊎_elim (λ old. inl old) (λ new. inr (new ∙ ap (λ (i : ℕ). slice_index_or blocks i []) same)) (settling.inside (block + k) (covered 0 block (length blocks) k lt)).last;
-      elsewhere = λ b out. (settling.outside 0 b out).last;
+      elsewhere = λ drive b out. (settling.outside drive b out).last;
     }
 
 -- no block outside a replica's changed
-pub same_beside : (host : Host) (t u : Tale) → KeptOutside (area_of (site_of host)) t u → IsSameBeside (site_of host) (drive_content t) (drive_content u)
-same_beside host t u kept block out = (kept 0 block out).last
+pub same_beside : (host : Host) (t u : Tale) → KeptOutside (area_of (site_of host)) t u → IsSameBeside (site_of host) (contents t) (contents u)
+same_beside host t u kept drive block out = (kept drive block out).last
 
 module _ (host : Host) (memory next : Memory) (t u : Tale) where
   pub stays : next ≡ memory → KeptOutside nowhere t u → Stays (kept_at memory t) (kept_at next u)
@@ -62,8 +62,8 @@ module _ (host : Host) (memory next : Memory) (t u : Tale) where
   committed newest table kept is opened = record { memory = is; head = opened.head; content = opened.each (last u) (last_image u); beside = same_beside host t u kept }
 
   -- a boot adopted the one replica that was there, and its next number is one
-  pub rewritten_newest : (newest : Newest) (head : Head) (slot : Slot) (table : Table) → KeptOutside (area_of (site_of host)) t u → (newest.slot ≡ Second → IsSpareSlot head First → ⊥) → IsTheReplica (site_of host) (drive_content t) head slot table → greatest head + 1 < 2 ^ 63 → IsAdopted (site_of host) (drive_content t) newest u
-      → IsRewritten (site_of host) (drive_content t) (drive_content u) newest
+  pub rewritten_newest : (newest : Newest) (head : Head) (slot : Slot) (table : Table) → KeptOutside (area_of (site_of host)) t u → (newest.slot ≡ Second → IsSpareSlot head First → ⊥) → IsTheReplica (site_of host) (on_site (site_of host) (contents t)) head slot table → greatest head + 1 < 2 ^ 63 → IsAdopted (site_of host) (on_site (site_of host) (contents t)) newest u
+      → IsRewritten (site_of host) (contents t) (contents u) newest
   rewritten_newest newest head slot table kept tie the fits is = record {
     head = is.head;
     replica = is.replica;
@@ -79,5 +79,5 @@ module _ (host : Host) (memory next : Memory) (t u : Tale) where
   }
 
 -- a read told what is there
-pub read_values : (t : Tale) (at block : ℕ) (blocks : List (List ℕ)) (text : List ℕ) → Shows t 0 block blocks → text ≡ values_reply at blocks → text ≡ values_reply at (blocks_of (drive_content t) block (length blocks))
+pub read_values : (t : Tale) (at block : ℕ) (blocks : List (List ℕ)) (text : List ℕ) → Shows t 0 block blocks → text ≡ values_reply at blocks → text ≡ values_reply at (blocks_of (contents t 0) block (length blocks))
 read_values t at block blocks text shows is = is ∙ ap (λ (bs : List (List ℕ)). values_reply at bs) (sym (blocks_shown t block blocks shows))

@@ -14,7 +14,7 @@ use Rattle.mdv_engine_law.specs.declared.answer.Answer.TheVariants.{Said}
 use Rattle.mdv_engine_law.specs.declared.answer.Outcome.TheVariants as outcome
 use Rattle.mdv_engine_law.specs.declared.host.Host.{Host}
 use Rattle.mdv_engine_law.specs.Home.{IsReady, StaysHome, site_of}
-use Rattle.mdv_engine_law.specs.Line.{Memory, ToDo, ToSee, AreBlocksAt, blocks_of, drive_content}
+use Rattle.mdv_engine_law.specs.Line.{Memory, ToDo, ToSee, AreBlocksAt, blocks_of, contents}
 use Rattle.mdv_engine_law.specs.Standing.{StandsAt, Goes, Reached, Knows, IsKnown, IsKnownAfter, CarryMoment, CarriedTo}
 use Rattle.mdv_engine_law.proofs.Beside.{IsPlain, of_home, on_plain, replica_within, opened_beside, table_opened}
 use Rattle.mdv_engine_law.proofs.Going.{goes_none}
@@ -76,12 +76,12 @@ module _ (host : Host) (sizes : List ℕ) (ready : IsReady host sizes) (memory :
       }
 
   -- what the drive has there is among the values that they may have
-  seen_allowed : (h : History) (t : Tale) → IsKnown host memory h t → AreAllowed h.allowed block (blocks_of (drive_content t) block count)
+  seen_allowed : (h : History) (t : Tale) → IsKnown host memory h t → AreAllowed h.allowed block (blocks_of (contents t 0) block count)
   seen_allowed h t known k less =
-      let within : k < count = subst (λ (n : ℕ). k < n) (length-map-range_with_len (drive_content t) block count) less in
+      let within : k < count = subst (λ (n : ℕ). k < n) (length-map-range_with_len (contents t 0) block count) less in
       let apart = (has_extent h t known).is_extent.apart in
       let out : area_of (site_of host) 0 (block + k) ≡ false = not_true (area_of (site_of host) 0 (block + k)) (apart 0 (block + k) (covered 0 block count k within)) in
-      subst (λ (x : List ℕ). Among (h.allowed (block + k)) x) (sym (get_or-map-range_with_len (drive_content t) block count k (block + k) [] within refl))
+      subst (λ (x : List ℕ). Among (h.allowed (block + k)) x) (sym (get_or-map-range_with_len (contents t 0) block count k (block + k) [] within refl))
       (known.stands.stands.values (last t) (last_image t) (block + k) out)
     where
       not_true : (x : Bool) → (x ≡ true → ⊥) → x ≡ false
@@ -89,10 +89,10 @@ module _ (host : Host) (sizes : List ℕ) (ready : IsReady host sizes) (memory :
       not_true false never = refl
 
   -- they were read
-  pub saw : (t : Tale) (text : List ℕ) → text ≡ values_reply at (blocks_of (drive_content t) block count) → CarriedTo host (ToSee volume at count) memory (Said (outcome.Values text)) memory t t
+  pub saw : (t : Tale) (text : List ℕ) → text ≡ values_reply at (blocks_of (contents t 0) block count) → CarriedTo host (ToSee volume at count) memory (Said (outcome.Values text)) memory t t
   saw t text is =
-      let blocks = blocks_of (drive_content t) block count in
-      let counted : length blocks ≡ count = length-map-range_with_len (drive_content t) block count in
+      let blocks = blocks_of (contents t 0) block count in
+      let counted : length blocks ≡ count = length-map-range_with_len (contents t 0) block count in
       record {
         done = Saw volume at blocks ∷ [];
         acks = inr (record { blocks = blocks; counted = counted; told = is; seen = refl });

@@ -12,7 +12,7 @@ use Rattle.mdv_engine_law.specs.declared.answer.Ended.TheVariants as ended
 use Rattle.mdv_engine_law.specs.declared.host.Host.{Host}
 use Rattle.mdv_engine_law.specs.Answers.{accepted, refusing, telling}
 use Rattle.mdv_engine_law.specs.Home.{site_of, identity_of}
-use Rattle.mdv_engine_law.specs.Line.{Kept, IsSameBeside, Stays, IsCreated, IsUncreated, IsUnbegun, IsCommitted, AreBlocksAt, ArePut, MayBePut, IsRebooted, IsTurnedDown, blocks_of}
+use Rattle.mdv_engine_law.specs.Line.{Kept, IsSameBeside, Stays, IsCreated, IsUncreated, IsUnbegun, IsCommitted, AreBlocksAt, ArePut, MayBePut, IsRebooted, IsTurnedDown, blocks_of, on_site}
 use Rattle.mdv_engine_law.specs.Refusals.{Case, IsUnopposed, refusal_of}
 
 -- by what a command is judged that is carried out where this is kept
@@ -30,7 +30,7 @@ Effect host kept (Create slice force) answer next = (answer ≡ accepted) × IsC
 Effect host kept (command.MakeStripe volume slice) answer next =
     (answer ≡ accepted) × (newest : Newest) × (kept.memory.opened ≡ Some newest) × (newest.mark.count + 1 < 2 ^ 63) × IsCommitted host newest (table_after host.drives (MakeStripe volume slice) newest.table) kept next
 Effect host kept (Read volume at count) answer next =
-    (block : ℕ) × AreBlocksAt host kept.memory volume at count block × (answer ≡ telling (values_reply at (blocks_of kept.content block count))) × Stays kept next
+    (block : ℕ) × AreBlocksAt host kept.memory volume at count block × (answer ≡ telling (values_reply at (blocks_of (kept.content 0) block count))) × Stays kept next
 Effect host kept (Write volume at block) answer next =
     (place : ℕ) × AreBlocksAt host kept.memory volume at 1 place × (answer ≡ accepted) × (next.memory ≡ kept.memory) × ArePut place (block ∷ []) kept.content next.content
 
@@ -51,7 +51,7 @@ Wanting host kept (Write volume at block) next = ⊥
 -- Why the run is over with a command: the one place is lost, whose new replica is there where a creation's format was answered, and each block that no
 -- replica may have reads as it did; or the count would reach its limit, and nothing was done.
 abbrev pub GivesUp : Failures → Host → Kept → Command → Ended → Kept → Type 0
-GivesUp failures host kept (Create slice force) (ended.Lost active listed) next = failures.some × (active ≡ 0) × (listed ≡ 1) × IsReplicaMade (site_of host) (identity_of host kept.memory.begun) next.content × IsSameBeside (site_of host) kept.content next.content
+GivesUp failures host kept (Create slice force) (ended.Lost active listed) next = failures.some × (active ≡ 0) × (listed ≡ 1) × IsReplicaMade (site_of host) (identity_of host kept.memory.begun) (on_site (site_of host) next.content) × IsSameBeside (site_of host) kept.content next.content
 GivesUp failures host kept (command.MakeStripe volume slice) (ended.Lost active listed) next = failures.some × (active ≡ 0) × (listed ≡ 1) × IsSameBeside (site_of host) kept.content next.content
 GivesUp failures host kept (command.MakeStripe volume slice) ended.Spent next = failures.none × (newest : Newest) × (kept.memory.opened ≡ Some newest) × (2 ^ 63 ≤ newest.mark.count + 1) × Stays kept next
 GivesUp failures host kept command end next = ⊥

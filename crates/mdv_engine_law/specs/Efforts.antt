@@ -1,5 +1,6 @@
 -- How many calls on the drive a line makes, and how many blocks it writes.
-use Rattle.std.specs.Prelude.{ℕ, ◌+◌, ◌≤◌, Bool, true, false, List, length, Option, Some, None}
+use Rattle.std.specs.Prelude.{ℕ, ◌+◌, ◌≤◌, Bool, true, false, length, Option, Some, None}
+use Rattle.mdv_shelf.specs.Everywhere.{Image}
 use Rattle.mdv_shelf.specs.Made.{Made, and_more}
 use Rattle.mdv_store_law.specs.Effort.{AdoptedBy, EmptyBy, LostBy, SpentBy, WantingBy, blocks_for}
 use Rattle.mdv_engine_law.specs.Below.{IoFault, OutOfMemory, record_text, Command, Create, Read, Write, Line, Newest}
@@ -11,7 +12,7 @@ use Rattle.mdv_engine_law.specs.declared.answer.Ended.TheVariants as ended
 use Rattle.mdv_engine_law.specs.declared.answer.Outcome.TheVariants as outcome
 use Rattle.mdv_engine_law.specs.declared.host.Host.{Host}
 use Rattle.mdv_engine_law.specs.Home.{site_of}
-use Rattle.mdv_engine_law.specs.Line.{Kept, Memory}
+use Rattle.mdv_engine_law.specs.Line.{Kept, Memory, on_site}
 
 -- the calls on the drive that a command makes: a creation formats a replica and writes its table, a change writes a table
 abbrev pub calls_of : Command → ℕ
@@ -79,17 +80,17 @@ CommandCalls made command (Over ended.Spent) opened = NoCalls made
 CommandCalls made command (Over ended.Memory) opened = NoCalls made
 
 -- the calls of a boot that opened this, or none, and read the drive or not
-abbrev pub OpenedBy : Made → Host → (ℕ → List ℕ) → Option Newest → Bool → Type 0
-OpenedBy made host content (Some newest) unread = AdoptedBy made (site_of host) content newest
-OpenedBy made host content None false = EmptyBy made (site_of host) content
+abbrev pub OpenedBy : Made → Host → Image → Option Newest → Bool → Type 0
+OpenedBy made host content (Some newest) unread = AdoptedBy made (site_of host) (on_site (site_of host) content) newest
+OpenedBy made host content None false = EmptyBy made (site_of host) (on_site (site_of host) content)
 OpenedBy made host content None true = made.within 1 5 0
 
 -- and of a boot by its answer
-abbrev pub BootCalls : Made → Host → Answer → Memory → (ℕ → List ℕ) → Type 0
+abbrev pub BootCalls : Made → Host → Answer → Memory → Image → Type 0
 BootCalls made host (Said this) memory content = OpenedBy made host content memory.opened memory.down
-BootCalls made host (Over (ended.Lost active listed)) memory content = LostBy made (site_of host) content
-BootCalls made host (Over ended.Spent) memory content = SpentBy made (site_of host) content
-BootCalls made host (Over ended.Memory) memory content = WantingBy made (site_of host) content
+BootCalls made host (Over (ended.Lost active listed)) memory content = LostBy made (site_of host) (on_site (site_of host) content)
+BootCalls made host (Over ended.Spent) memory content = SpentBy made (site_of host) (on_site (site_of host) content)
+BootCalls made host (Over ended.Memory) memory content = WantingBy made (site_of host) (on_site (site_of host) content)
 
 -- and of a line that is in the grammar
 abbrev pub LineCalls : Made → Host → Kept → Line → Answer → Kept → Type 0

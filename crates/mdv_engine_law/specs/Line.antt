@@ -1,6 +1,7 @@
 -- What is kept from line to line, what a boot comes to, and what lines ask.
 use Rattle.std.specs.Prelude.{◌≡◌, ◌⊎◌, ◌+◌, ◌<◌, ◌≤◌, ◌^◌, ℕ, Bool, true, false, List, [], ◌∷◌, length, map, Option, Some, None, slice_index_or}
 use Rattle.std.specs.List.{range_with_len}
+use Rattle.mdv_shelf.specs.Everywhere.{Image}
 use Rattle.mdv_engine_law.specs.Below.{Failures, Mark, VolId, Refusal, record_text, Head, First, Second, IsSpareSlot, greatest, other_slot, room_of, shows, Tale, covers, last, MakeStripe, One, Table, Command, Create, Read, Write, Line, Site, Newest, IsReplica, IsFound, HasTable, IsNewestOf, area_of, adopted_newest, next_newest, rewritten, Deed, Created, Changed, Wrote, LiesOn}
 use Rattle.mdv_store_law.specs.Adoptable.{IsAdoptable, IsHeaded}
 use Rattle.mdv_words.specs.declared.command.Command.TheVariants as command
@@ -19,29 +20,33 @@ pub record Memory : Type 0 where
   pub down : Bool
   pub begun : ℕ
 
--- what a read gives of the one drive's blocks
-abbrev pub drive_content : Tale → ℕ → List ℕ
-drive_content t = last t 0
+-- what a read gives of the drives' blocks
+abbrev pub contents : Tale → Image
+contents t = last t
 
--- what is kept from line to line: in memory, and on the drive
+-- and of those of the drive on which a database has its place
+abbrev pub on_site : Site → Image → ℕ → List ℕ
+on_site site content = content site.at.drive.0
+
+-- what is kept from line to line: in memory, and on the drives
 pub record Kept : Type 0 where
   pub memory : Memory
-  pub content : ℕ → List ℕ
+  pub content : Image
 
 abbrev pub kept_at : Memory → Tale → Kept
-kept_at memory t = record { memory = memory; content = drive_content t }
+kept_at memory t = record { memory = memory; content = contents t }
 
 -- before a boot there is nothing in memory but how many creations were begun
 abbrev pub unbooted : ℕ → Memory
 unbooted begun = record { opened = None; down = false; begun = begun }
 
 -- each block is as it was
-abbrev pub IsSame : (ℕ → List ℕ) → (ℕ → List ℕ) → Type 0
-IsSame old new = (block : ℕ) → new block ≡ old block
+abbrev pub IsSame : Image → Image → Type 0
+IsSame old new = (drive block : ℕ) → new drive block ≡ old drive block
 
 -- each block that no replica may have is as it was
-abbrev pub IsSameBeside : Site → (ℕ → List ℕ) → (ℕ → List ℕ) → Type 0
-IsSameBeside site old new = (block : ℕ) → area_of site site.at.drive.0 block ≡ false → new block ≡ old block
+abbrev pub IsSameBeside : Site → Image → Image → Type 0
+IsSameBeside site old new = (drive block : ℕ) → area_of site drive block ≡ false → new drive block ≡ old drive block
 
 -- all is as it was
 pub record Stays (kept next : Kept) : Type 0 where
@@ -63,13 +68,13 @@ pub record IsCreated (host : Host) (kept next : Kept) : Type 0 where
   pub memory : next.memory ≡ record { opened = Some newest; down = false; begun = kept.memory.begun + 1 }
   pub head : Head
   pub identity : head.master.identity ≡ identity_of host kept.memory.begun
-  pub content : IsNewestOf (site_of host) next.content head newest
+  pub content : IsNewestOf (site_of host) (on_site (site_of host) next.content) head newest
   pub beside : IsSameBeside (site_of host) kept.content next.content
 
 -- its format failed: the drive has no replica that shows a table
 pub record IsUncreated (host : Host) (kept next : Kept) : Type 0 where
   pub memory : next.memory ≡ record kept.memory { begun = kept.memory.begun + 1 }
-  pub content : IsFound (site_of host) next.content None
+  pub content : IsFound (site_of host) (on_site (site_of host) next.content) None
   pub beside : IsSameBeside (site_of host) kept.content next.content
 
 -- Memory was wanting, before anything was done on the drive. A creation is counted as begun nevertheless.
@@ -85,7 +90,7 @@ record_room newest = room_of newest.blocks
 pub record IsCommitted (host : Host) (newest : Newest) (next_table : Table) (kept next : Kept) : Type 0 where
   pub memory : next.memory ≡ record kept.memory { opened = Some (next_newest newest next_table) }
   pub head : Head
-  pub content : IsNewestOf (site_of host) next.content head (next_newest newest next_table)
+  pub content : IsNewestOf (site_of host) (on_site (site_of host) next.content) head (next_newest newest next_table)
   pub beside : IsSameBeside (site_of host) kept.content next.content
 
 -- so many blocks of the drive, from the first on
@@ -104,34 +109,34 @@ pub record AreBlocksAt (host : Host) (memory : Memory) (volume : VolId) (at coun
   pub within : at + count ≤ blocks
   pub block_is : block ≡ first + at
 
--- the blocks there are these, and the others as they were
-pub record ArePut (block : ℕ) (blocks : List (List ℕ)) (old new : ℕ → List ℕ) : Type 0 where
-  pub here : (k : ℕ) → k < length blocks → new (block + k) ≡ slice_index_or blocks k []
-  pub elsewhere : (b : ℕ) → covers 0 block (length blocks) 0 b ≡ false → new b ≡ old b
+-- the blocks there, on the first drive, are these, and all others as they were
+pub record ArePut (block : ℕ) (blocks : List (List ℕ)) (old new : Image) : Type 0 where
+  pub here : (k : ℕ) → k < length blocks → new 0 (block + k) ≡ slice_index_or blocks k []
+  pub elsewhere : (drive b : ℕ) → covers 0 block (length blocks) drive b ≡ false → new drive b ≡ old drive b
 
--- each block there is as it was, or as it was to be, and the others are as they were
-pub record MayBePut (block : ℕ) (blocks : List (List ℕ)) (old new : ℕ → List ℕ) : Type 0 where
-  pub here : (k : ℕ) → k < length blocks → (new (block + k) ≡ old (block + k)) ⊎ (new (block + k) ≡ slice_index_or blocks k [])
-  pub elsewhere : (b : ℕ) → covers 0 block (length blocks) 0 b ≡ false → new b ≡ old b
+-- each block there, on the first drive, is as it was, or as it was to be, and all others are as they were
+pub record MayBePut (block : ℕ) (blocks : List (List ℕ)) (old new : Image) : Type 0 where
+  pub here : (k : ℕ) → k < length blocks → (new 0 (block + k) ≡ old 0 (block + k)) ⊎ (new 0 (block + k) ≡ slice_index_or blocks k [])
+  pub elsewhere : (drive b : ℕ) → covers 0 block (length blocks) drive b ≡ false → new drive b ≡ old drive b
 
 -- A replica that a boot found, and wrote anew under one more than the greatest number there; it wrote the first slot, where either might be.
-pub record IsRewritten (site : Site) (old new : ℕ → List ℕ) (newest : Newest) : Type 0 where
+pub record IsRewritten (site : Site) (old new : Image) (newest : Newest) : Type 0 where
   pub head : Head
-  pub replica : IsReplica site old head
+  pub replica : IsReplica site (on_site site old) head
   pub shown : shows head ≡ true
   pub spare : IsSpareSlot head newest.slot
   pub tie : newest.slot ≡ Second → IsSpareSlot head First → ⊥
   pub mark : Mark
-  pub has : HasTable site old head (other_slot newest.slot) mark newest.table
+  pub has : HasTable site (on_site site old) head (other_slot newest.slot) mark newest.table
   pub is : newest ≡ adopted_newest head newest.slot newest.table
   pub fits : greatest head + 1 < 2 ^ 63
-  pub written : IsNewestOf site new (rewritten head newest.slot (greatest head + 1) (length (record_text newest.table))) newest
+  pub written : IsNewestOf site (on_site site new) (rewritten head newest.slot (greatest head + 1) (length (record_text newest.table))) newest
   pub beside : IsSameBeside site old new
 
 -- a readable replica with a table, whose next number would reach the limit
-pub record IsUsedUp (site : Site) (content : ℕ → List ℕ) : Type 0 where
+pub record IsUsedUp (site : Site) (content : Image) : Type 0 where
   pub head : Head
-  pub replica : IsReplica site content head
+  pub replica : IsReplica site (on_site site content) head
   pub shown : shows head ≡ true
   pub spent : 2 ^ 63 ≤ greatest head + 1
 
@@ -141,12 +146,12 @@ pub record IsUsedUp (site : Site) (content : ℕ → List ℕ) : Type 0 where
 pub data IsRebooted (failures : Failures) (host : Host) (kept : Kept) (answer : Answer) (next : Kept) : Type 0 where
   adopted : failures.none → (newest : Newest) → answer ≡ accepted → next.memory ≡ record { opened = Some newest; down = false; begun = kept.memory.begun } → IsRewritten (site_of host) kept.content next.content newest
       → IsRebooted failures host kept answer next
-  empty : failures.none → answer ≡ accepted → next.memory ≡ record { opened = None; down = false; begun = kept.memory.begun } → IsFound (site_of host) kept.content None → IsSame kept.content next.content
+  empty : failures.none → answer ≡ accepted → next.memory ≡ record { opened = None; down = false; begun = kept.memory.begun } → IsFound (site_of host) (on_site (site_of host) kept.content) None → IsSame kept.content next.content
       → IsRebooted failures host kept answer next
   down : failures.some → answer ≡ accepted → next.memory ≡ record { opened = None; down = true; begun = kept.memory.begun } → IsSame kept.content next.content → IsRebooted failures host kept answer next
-  lost : failures.some → IsAdoptable (site_of host) kept.content → answer ≡ Over (ended.Lost 0 1) → IsSameBeside (site_of host) kept.content next.content → IsRebooted failures host kept answer next
+  lost : failures.some → IsAdoptable (site_of host) (on_site (site_of host) kept.content) → answer ≡ Over (ended.Lost 0 1) → IsSameBeside (site_of host) kept.content next.content → IsRebooted failures host kept answer next
   spent : failures.none → answer ≡ Over ended.Spent → IsUsedUp (site_of host) kept.content → IsSame kept.content next.content → IsRebooted failures host kept answer next
-  wanting : failures.none → IsHeaded (site_of host) kept.content → answer ≡ Over ended.Memory → IsSame kept.content next.content → IsRebooted failures host kept answer next
+  wanting : failures.none → IsHeaded (site_of host) (on_site (site_of host) kept.content) → answer ≡ Over ended.Memory → IsSame kept.content next.content → IsRebooted failures host kept answer next
 
 -- the first of the causes for which it is refused
 abbrev pub IsTurnedDown : Refusal → Kept → Answer → Kept → Type 0

@@ -14,7 +14,7 @@ use Rattle.mdv_engine_law.specs.declared.host.Host.{Host}
 use Rattle.mdv_engine_law.specs.Home.{StaysHome, site_of}
 use Rattle.mdv_engine_law.specs.Commands.{ComesTo}
 use Rattle.mdv_engine_law.specs.Efforts.{LineCalls, replied_to}
-use Rattle.mdv_engine_law.specs.Line.{Ask, AreBlocksAt, Kept, Nothing, ToDo, ToSee, Memory, IsSame, deeds, drive_content, kept_at}
+use Rattle.mdv_engine_law.specs.Line.{Ask, AreBlocksAt, Kept, Nothing, ToDo, ToSee, Memory, IsSame, deeds, contents, kept_at}
 use Rattle.mdv_engine_law.specs.Replies.{Acks, AcksAnswer, AcksBy, IsReply, IsFront, IsTold, issuable, issuable_of, issued_by, text_of}
 
 -- the drive stands with the history, in which a database was made only where there is room for it
@@ -145,7 +145,7 @@ pub record FrontTold (Comes : Failures → Kept → Answer → Kept → Type 0) 
   pub came : Comes (FailuresBy t m (OnDrive 0)) (kept_at old t.tale) answer next
   pub count : ℕ
   pub is_told : told m.tale ≡ told t.tale ++ take count (text_of answer)
-  pub shows : IsSame next.content (drive_content m.tale)
+  pub shows : IsSame next.content (contents m.tale)
 
 -- nothing of a reply, or a front of the one to what the line came to
 abbrev pub TellsFront : (Failures → Kept → Answer → Kept → Type 0) → Memory → Moment → Moment → Type 0

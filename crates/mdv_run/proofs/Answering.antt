@@ -96,7 +96,7 @@ module _ (host : Host) (memory : Memory) (r : Refusal) (plain : IsPlain r) (repl
   refused_turned ask on = turned host ask memory memory replies t t u refl (refusing r) plain (λ on some. absurd on) (λ on has. absurd on) (refused_none host ask memory r t) reply on given
 
   pub refused_down : IsTurnedDown r (kept_at memory t) (refusing r) (kept_at memory u)
-  refused_down = (refl, record { memory = refl; content = λ block. (given.kept 0 block refl).last })
+  refused_down = (refl, record { memory = refl; content = λ drive block. (given.kept drive block refl).last })
 
   pub refused_knows : Knows host memory t → Knows host memory u
   refused_knows = knows_kept host t u given.kept memory

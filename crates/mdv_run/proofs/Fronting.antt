@@ -17,7 +17,7 @@ use Rattle.mdv_engine_law.specs.Home.{site_of}
 use Rattle.mdv_shelf.specs.Area.{KeptOutside}
 use Rattle.mdv_store_law.specs.Site.{area_of}
 use Rattle.mdv_run_law.specs.Run.{FromTo}
-use Rattle.mdv_engine_law.specs.Line.{drive_content}
+use Rattle.mdv_engine_law.specs.Line.{contents}
 use Rattle.mdv_engine_law.proofs.Efforts.{boot_too}
 use Rattle.mdv_run_law.specs.Run.{RoseCalmly, StoryGoesOn, drive_failures, no_line}
 use Rattle.mdv_shelf.specs.Calls.{OnDrive}
@@ -112,7 +112,7 @@ module _ {S : Type 0} (shelf : Ghosts S) (telling : (s : S) → shelf.tale s ≡
   fronts_quiet stretch a b on quiet = moment_weaker shelf (OfTales (λ t m. told m ≡ told t)) (IsToldBy host stretch start script) a b (λ t m up below here. quiet_front stretch t m here) (moments_of_tales shelf telling a b (λ t m. told m ≡ told t) on quiet)
 
   pub fronts_whole : (a b c : S) (memory : Memory) → KeptOn shelf a b (OnDrive 0) → let mid = counts (shelf.faults b) start.source in RoseCalmly start mid → GoesOn shelf b c → AtEachTale shelf (λ t m. told m ≡ told t) a b
-      → Ends (λ t u. IsRebooted (drive_failures start mid) host (kept_at (unbooted 0) t) accepted (kept_at memory u) × Knows host memory u × BootCalls (made_of shelf a b) host accepted memory (drive_content t)) (shelf.tale a) (shelf.tale b) → FromTo (KeptOutside (area_of (site_of host))) (shelf.story a) (shelf.story b)
+      → Ends (λ t u. IsRebooted (drive_failures start mid) host (kept_at (unbooted 0) t) accepted (kept_at memory u) × Knows host memory u × BootCalls (made_of shelf a b) host accepted memory (contents t)) (shelf.tale a) (shelf.tale b) → FromTo (KeptOutside (area_of (site_of host))) (shelf.story a) (shelf.story b)
       → AtEachMoment shelf (RunFront host (between shelf b c) (point_of shelf start.source b) memory script) b c → AtEachMoment shelf (IsToldBy host (between shelf a c) start script) a c
   fronts_whole a b c memory on rose more quiet boots writes lines =
       each_joined (OfTales (λ t m. told m ≡ told t)) (RunFront host (between shelf b c) (point_of shelf start.source b) memory script) (IsToldBy host (between shelf a c) start script) _ _ _ _ _ _
@@ -121,7 +121,7 @@ module _ {S : Type 0} (shelf : Ghosts S) (telling : (s : S) → shelf.tale s ≡
       let mid = counts (shelf.faults b) start.source in
       let up = boots (tale_of s) (telling a ∙ ap (λ (o : Option Story). option_map tale_of o) is_s) in
       let same : up.0 ≡ tale_of u = some_is (shelf.tale b) up.0 (tale_of u) up.1 (telling b ∙ ap (λ (o : Option Story). option_map tale_of o) is_u) in
-      let booted = subst (λ (x : Tale). IsRebooted (drive_failures start mid) host (kept_at (unbooted 0) (tale_of s)) accepted (kept_at memory x) × Knows host memory x × BootCalls (made_of shelf a b) host accepted memory (drive_content (tale_of s))) same up.2 in
+      let booted = subst (λ (x : Tale). IsRebooted (drive_failures start mid) host (kept_at (unbooted 0) (tale_of s)) accepted (kept_at memory x) × Knows host memory x × BootCalls (made_of shelf a b) host accepted memory (contents (tale_of s))) same up.2 in
       let one = front booted.1 in record {
         bytes = one.bytes;
         is_told = one.is_told ∙ ap (λ (l : List ℕ). l ++ one.bytes) turn;
@@ -131,7 +131,7 @@ module _ {S : Type 0} (shelf : Ghosts S) (telling : (s : S) → shelf.tale s ≡
           kept = kept_at memory (tale_of u);
           boots = booted.0;
           by = record { story = shelf.story b; effort = effort_of shelf b };
-          calls = boot_too _ _ (by_efforts shelf a b) host accepted memory (drive_content (tale_of s)) booted.2;
+          calls = boot_too _ _ (by_efforts shelf a b) host accepted memory (contents (tale_of s)) booted.2;
           writes = λ x y is_x is_y. writes x y is_x is_y;
           point = point_between shelf telling a b c start.source (tale_of u) (telling b ∙ ap (λ (o : Option Story). option_map tale_of o) is_u) on quiet more;
           lines = record {

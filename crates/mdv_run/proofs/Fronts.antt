@@ -4,7 +4,7 @@ use Rattle.mdv_base.proofs.Causes.{within_calm}
 use Rattle.mdv_run_law.specs.Run.{RoseCalmly}
 use Rattle.std.proofs.Common.{◌≡◌, inl, inr, ℕ, Bool, List, [], ◌++◌, take, Option, refl, sym, ◌∙◌, ap, subst, arith}
 use Rattle.std.proofs.lemmas.List.{append-nil}
-use Rattle.mdv_run.specs.Below.{Answer, Boot, Counts, Host, IsAnswered, IsLine, IsRebooted, IsSame, IsTurnedDown, Kept, Knows, LineTooLong, Memory, OnDrive, Script, TellsFront, counts, drive_content, kept_at, line, told, too_long}
+use Rattle.mdv_run.specs.Below.{Answer, Boot, Counts, Host, IsAnswered, IsLine, IsRebooted, IsSame, IsTurnedDown, Kept, Knows, LineTooLong, Memory, OnDrive, Script, TellsFront, counts, contents, kept_at, line, told, too_long}
 use Rattle.mdv_run.specs.Promise.{point_of}
 use Rattle.mdv_run.specs.Turns.{Point, TurnFront, at}
 use Rattle.mdv_shelf.specs.Made.{effort_of}
@@ -37,7 +37,7 @@ front_of Comes More old t m more (inl same) = inl same
 front_of Comes More old t m more (inr front) = inr (record { answer = front.answer; next = front.next; came = more _ _ _ _ front.came; count = front.count; is_told = front.is_told; shows = front.shows })
 
 pub only_refused : (refusal : Refusal) (failures : Failures) (kept : Kept) (answer : Answer) (next : Kept) → OnlyAnswers (refusing refusal) failures kept answer next → IsTurnedDown refusal kept answer next
-only_refused refusal failures kept answer next is = (is.1, subst (λ (k : Kept). Stays kept k) (sym is.2) (record { memory = refl; content = λ block. refl }))
+only_refused refusal failures kept answer next is = (is.1, subst (λ (k : Kept). Stays kept k) (sym is.2) (record { memory = refl; content = λ drive block. refl }))
 
 -- an `ok` that was told behind a boot
 pub boot_front : (host : Host) (old new : Memory) (text : List ℕ) → IsLine text Boot → (t u m : Moment) → told u.tale ≡ told t.tale
@@ -50,7 +50,7 @@ boot_front host old new text boots t u m quiet rebooted (inr front) = inr (recor
   came = inr (Boot, boots, rebooted_more (FailuresBy t u (OnDrive 0)) (FailuresBy t m (OnDrive 0)) (within_calm _ _ _ front.came.0) host (kept_at old t.tale) (kept_at new u.tale) accepted rebooted);
   count = front.count;
   is_told = front.is_told ∙ ap (λ (a : Answer). told u.tale ++ take front.count (text_of a)) front.came.1 ∙ ap (λ (l : List ℕ). l ++ take front.count (text_of accepted)) quiet;
-  shows = subst (λ (k : Kept). IsSame k.content (drive_content m.tale)) front.came.2 front.shows;
+  shows = subst (λ (k : Kept). IsSame k.content (contents m.tale)) front.came.2 front.shows;
 })
 
 -- the counts by a moment in the middle of a turn

@@ -7,7 +7,7 @@ use Rattle.mdv_engine_law.specs.Efforts.{NoCalls, replied_to}
 use Rattle.mdv_shelf.specs.Area.{KeptOutside, nowhere}
 use Rattle.mdv_run.specs.Promise.{point_of}
 use Rattle.std.proofs.Common.{◌≡◌, ◌≤◌, inl, inr, ℕ, Bool, true, List, [], ◌++◌, Option, Some, refl, sym, ◌∙◌, ap, subst}
-use Rattle.mdv_run.specs.Below.{LineTooLong, Reader, Script, at_end, spent, too_long, line, asked_before, IsAskedTurn, Line, TooLong, End, Spent, Tale, told, Answer, Reply, Host, Memory, IsTold, IsReplied, Kept, IsTurnedDown, kept_at, Replied, RunStatus, Panic, ReadFault, WriteFault, NoMemory, NumbersSpent, At, Counts, NextLine, OnDrive, OnReplies, Stretch, IsAnswered, IsSame, drive_content}
+use Rattle.mdv_run.specs.Below.{LineTooLong, Reader, Script, at_end, spent, too_long, line, asked_before, IsAskedTurn, Line, TooLong, End, Spent, Tale, told, Answer, Reply, Host, Memory, IsTold, IsReplied, Kept, IsTurnedDown, kept_at, Replied, RunStatus, Panic, ReadFault, WriteFault, NoMemory, NumbersSpent, At, Counts, NextLine, OnDrive, OnReplies, Stretch, IsAnswered, IsSame, contents}
 use Rattle.mdv_run_law.specs.Run.{AreInTime, EndsAt, FromTo, IsPassage, NextCalls, NextWrites, giving_failed, OnlyReplying, OnlyUngiven, OnlyUnread, RoseCalmly, drive_failures, Over as IsOver, broken, ended as script_ended, unread, EndsAs, EndsWith, IsSaid, refused_by}
 use Rattle.mdv_engine_law.specs.Answers.{refusing}
 use Rattle.mdv_engine_law.specs.Replies.{HasReplyCause, IsLost, outcome_text, reply_at, reply_to, text_of}
@@ -107,7 +107,7 @@ passage_of : (now then : Point) (t u : Tale) → Passes now then t u → (old ne
 passage_of now then t u passes old new any script more piece is_told = record {
   in_time = passes.in_time;
   told = λ s v is_s is_v. ap told (passes.last v is_v) ∙ is_told ∙ ap (λ (x : Tale). told x ++ piece) (sym (passes.first s is_s));
-  reads = λ v is_v. subst (λ (x : Tale). IsSame (drive_content u) (drive_content x)) (sym (passes.last v is_v)) (λ block. refl);
+  reads = λ v is_v. subst (λ (x : Tale). IsSame (contents u) (contents x)) (sym (passes.last v is_v)) (λ drive block. refl);
 }
 
 -- a run that is over with an answer tells no reply that could be cut short

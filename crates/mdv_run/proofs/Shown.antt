@@ -1,10 +1,11 @@
 -- What the moments of a run show of where it is stays shown as it goes on.
-use Rattle.std.proofs.Common.{◌≡◌, ℕ, Bool, List, ◌+◌, ◌≤◌, ◌<◌, length, Option, Some, ◌∙◌, ap, subst, arith}
+use Rattle.std.proofs.Common.{◌≡◌, ℕ, Bool, ◌+◌, ◌≤◌, ◌<◌, length, Option, Some, ◌∙◌, ap, subst, arith}
 use Rattle.std.specs.Option.{option_map}
-use Rattle.mdv_run.specs.Below.{AreLast, AreShown, At, Counts, Ends, IsLastShown, IsShown, Memory, OnDrive, OnReplies, RoseTo, Script, Tale, counts, drive_content, kept_at, told}
+use Rattle.mdv_run.specs.Below.{AreLast, AreShown, At, Counts, Ends, IsLastShown, IsShown, Memory, OnDrive, OnReplies, RoseTo, Script, Tale, counts, contents, kept_at, told}
 use Rattle.mdv_run.specs.Promise.{between, point_of}
 use Rattle.mdv_run.specs.Turns.{at}
 use Rattle.mdv_shelf.specs.Calls.{Part}
+use Rattle.mdv_shelf.specs.Everywhere.{Image}
 use Rattle.mdv_shelf.specs.Shelves.{AtEachTale, EndsTold, GoesOn, IsAtRest, RestsOnceTold}
 use Rattle.mdv_shelf.specs.Made.{effort_of, made_between}
 use Rattle.mdv_shelf.specs.Story.{Moment, NoFewer, OfTales, Story, tale_of}
@@ -81,7 +82,7 @@ module _ {S : Type 0} (shelf : Ghosts S) (telling : (s : S) → shelf.tale s ≡
       let turned = told_at b x u mid is_u in record {
         before = λ short. rise m.faults (shelf.faults c) source within.counts.1;
         behind = λ long. rise (shelf.faults c) m.faults source (here.0 (omega (arith, long, until, start, turned)));
-        reads = λ long short block. (here.1.0 (omega (arith, long, until, start, turned))).reads 0 block;
+        reads = λ long short drive block. (here.1.0 (omega (arith, long, until, start, turned))).reads drive block;
         calls = λ long short. here.1.1 (omega (arith, long, until, start, turned)) (omega (arith, short, until, same, start));
       }) on (moment_both shelf (IsUnfailed c) (λ y m. Rests c v y m × IsOneShort c v y m) b c ends.still (moment_both shelf (Rests c v) (IsOneShort c v) b c (rests v is_v) (ends.once v is_v)))
 
@@ -107,9 +108,9 @@ module _ {S : Type 0} (shelf : Ghosts S) (telling : (s : S) → shelf.tale s ≡
 
   -- the line with which the run is over is shown
   pub last_now : RestsOnceTold shelf b c → (bytes : ℕ) (t u v : Tale) → shelf.tale a ≡ Some t → shelf.tale b ≡ Some u → shelf.tale c ≡ Some v → length (told t) + bytes ≡ length (told u)
-      → IsLastShown (between shelf a c) bytes (shelf.faults c (OnDrive 0)) (drive_content v)
+      → IsLastShown (between shelf a c) bytes (shelf.faults c (OnDrive 0)) (contents v)
   last_now rests bytes t u v is_t is_u is_v until =
-      each_joined (λ _ _. Unit {0}) (λ y m. length (told y.tale) < length (told m.tale) → IsAtRest (shelf.faults c) v m) (AreLast bytes (shelf.faults c (OnDrive 0)) (drive_content v)) _ _ _ _ _ _
+      each_joined (λ _ _. Unit {0}) (λ y m. length (told y.tale) < length (told m.tale) → IsAtRest (shelf.faults c) v m) (AreLast bytes (shelf.faults c (OnDrive 0)) (contents v)) _ _ _ _ _ _
       (λ s x w first mid last turn there ahead m here within.
       let start = told_at a s t first is_t in
       let turned = told_at b x u mid is_u in
@@ -123,10 +124,10 @@ module _ {S : Type 0} (shelf : Ghosts S) (telling : (s : S) → shelf.tale s ≡
       let turned = told_at b x u mid is_u in record {
         before = λ short. within.counts.1 (OnDrive 0);
         behind = λ long. (here (omega (arith, long, until, start, turned))).drives 0;
-        reads = λ long block. (here (omega (arith, long, until, start, turned))).reads 0 block;
+        reads = λ long drive block. (here (omega (arith, long, until, start, turned))).reads drive block;
       }) on (rests v is_v)
 
-  pub last_earlier : AtEachTale shelf (λ t m. told m ≡ told t) a b → (bytes drive : ℕ) (content : ℕ → List ℕ) → IsLastShown (between shelf b c) bytes drive content → IsLastShown (between shelf a c) bytes drive content
+  pub last_earlier : AtEachTale shelf (λ t m. told m ≡ told t) a b → (bytes drive : ℕ) (content : Image) → IsLastShown (between shelf b c) bytes drive content → IsLastShown (between shelf a c) bytes drive content
   last_earlier quiet bytes drive content shown =
       each_joined (OfTales (λ t m. told m ≡ told t)) (AreLast bytes drive content) (AreLast bytes drive content) _ _ _ _ _ _
       (λ s x v first mid last turn there ahead m here within.

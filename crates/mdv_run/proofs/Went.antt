@@ -1,7 +1,8 @@
 -- How the turns of a run add up.
 use Rattle.std.proofs.Common.{◌≡◌, ℕ, ◌+◌, ◌≤◌, ◌<◌, Bool, false, List, [], ◌++◌, length, Option, Some, refl, sym, ◌∙◌, ap, subst, append_assoc, arith}
 use Rattle.std.proofs.lemmas.List.{append-nil, length-append}
-use Rattle.mdv_run.specs.Below.{Reader, Script, asked_before, asked_of, Tale, told, Moments, Ends, Host, Memory, kept_at, Knows, RunStatus, Done, SomeRefused, Usage, NoQuorum, Panic, ReadFault, WriteFault, NoMemory, TwoDatabases, ScriptTooLong, NumbersSpent, At, Counts, Kept, RoseTo, LineTold, LinesTold, Stretch, IsLastShown, IsShown, drive_content, HasStatusCause, LinesMoment, RanTo}
+use Rattle.mdv_run.specs.Below.{Reader, Script, asked_before, asked_of, Tale, told, Moments, Ends, Host, Memory, kept_at, Knows, RunStatus, Done, SomeRefused, Usage, NoQuorum, Panic, ReadFault, WriteFault, NoMemory, TwoDatabases, ScriptTooLong, NumbersSpent, At, Counts, Kept, RoseTo, LineTold, LinesTold, Stretch, IsLastShown, IsShown, contents, HasStatusCause, LinesMoment, RanTo}
+use Rattle.mdv_shelf.specs.Everywhere.{Image}
 use Rattle.mdv_shelf.specs.Made.{made_between}
 use Rattle.mdv_shelf.specs.Story.{Effort}
 use Rattle.mdv_engine_law.specs.Efforts.{replied_to}
@@ -81,7 +82,7 @@ module _ (host : Host) (first : Memory) (input : List ℕ) (start : Point) where
     pub record ShowsOver (other : Stretch) : Type 0 where
       pub still : ShowsStill other
       pub ends : EndsAt other end.story end.effort
-      pub last : (t u v : Tale) → a ≡ Some t → b ≡ Some u → c ≡ Some v → (bytes : ℕ) → length (told t) + bytes ≡ length (told u) → IsLastShown other bytes end.counts.drive (drive_content v)
+      pub last : (t u v : Tale) → a ≡ Some t → b ≡ Some u → c ≡ Some v → (bytes : ℕ) → length (told t) + bytes ≡ length (told u) → IsLastShown other bytes end.counts.drive (contents v)
 
     went_more : (other : Stretch) → Shows other → (r : Bool) (left : Script) (t u v : Tale) → a ≡ Some t → b ≡ Some u → c ≡ Some v → then ≡ Some left → Went host stretch start here first now any (asked_of input) so_far.left t u
         → Turns host here end now new any so_far.left then (On r) u v → Went host other start end first new r (asked_of input) left t v
@@ -143,7 +144,7 @@ module _ (host : Host) (first : Memory) (input : List ℕ) (start : Point) where
                 more = went.so_far ++ turn.piece;
                 is_told = turn.is_told ∙ ap (λ (l : List ℕ). l ++ turn.piece) went.is_told ∙ append_assoc (told t) went.so_far turn.piece;
                 last = kept_at new two.0;
-                left = record { content = λ block. refl; opened = λ not_lost. (two.2.knows not_lost (knows_so first_known)).opened };
+                left = record { content = λ drive block. refl; opened = λ not_lost. (two.2.knows not_lost (knows_so first_known)).opened };
                 runs = record { so_far = went.so_far; rest = turn.piece; parts = refl; at = at here (kept_at now one.0) any so_far.left; lines = still t one.0 is one.1 went; over = turn.leads other (length went.so_far) shows.ends (shows.last t one.0 two.0 is one.1 two.1 (length went.so_far) (until t one.0 went)) };
               },
         )
@@ -160,7 +161,7 @@ ends_with : (stretch other : Stretch) → EndsAt other stretch.new stretch.after
 ends_with stretch other ends still = record { quiet = ends.quiet ∙ still.quiet; uncalled = ends.uncalled ∙ still.uncalled }
 
 -- the same end of a run, by another stretch
-over_shown : (host : Host) (stretch other : Stretch) (bytes : ℕ) → EndsAt other stretch.new stretch.after.effort → ((drive : ℕ) (content : ℕ → List ℕ) → IsLastShown stretch bytes drive content → IsLastShown other bytes drive content) → (end : Counts) (now : At) (told : List ℕ) (status : RunStatus) (last : Kept)
+over_shown : (host : Host) (stretch other : Stretch) (bytes : ℕ) → EndsAt other stretch.new stretch.after.effort → ((drive : ℕ) (content : Image) → IsLastShown stretch bytes drive content → IsLastShown other bytes drive content) → (end : Counts) (now : At) (told : List ℕ) (status : RunStatus) (last : Kept)
     → IsOver host stretch bytes end now told status last → IsOver host other bytes end now told status last
 over_shown host stretch other bytes ends shows end now told status last (unread so still stops) = unread so (ends_with stretch other ends still) stops
 over_shown host stretch other bytes ends shows end now told status last (ended how same still stops) = ended how same (ends_with stretch other ends still) stops
@@ -174,7 +175,7 @@ over_shown host stretch other bytes ends shows end now told status last (broken 
 
 -- the same lines, by a stretch that begins earlier
 pub run_earlier : (host : Host) (stretch other : Stretch) → EndsAt other stretch.new stretch.after.effort → ((bytes piece : ℕ) (shown : At) → 0 < piece → IsShown stretch bytes piece shown → IsShown other bytes piece shown)
-    → ((bytes drive : ℕ) (content : ℕ → List ℕ) → IsLastShown stretch bytes drive content → IsLastShown other bytes drive content) → (now : Point) (end : Counts) (memory : Memory) (script : Script) (status : RunStatus) (t u : Tale)
+    → ((bytes drive : ℕ) (content : Image) → IsLastShown stretch bytes drive content → IsLastShown other bytes drive content) → (now : Point) (end : Counts) (memory : Memory) (script : Script) (status : RunStatus) (t u : Tale)
     → LinesRun host stretch now end memory false script status t u → LinesRun host other now end memory false script status t u
 run_earlier host stretch other ends shows last now end memory script status t u run = record {
   more = run.more;

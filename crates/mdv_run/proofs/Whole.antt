@@ -21,7 +21,7 @@ use Rattle.mdv_run.specs.Promise.{between}
 use Rattle.std.proofs.Common.{◌≡◌, ℕ, Bool, List, [], ◌++◌, Option, Some, Err, refl, sym, subst, ◌∙◌, ap, false}
 use Rattle.std.proofs.lemmas.List.{append-nil}
 use Rattle.mdv_run.specs.Below.{Script, Tale, told, Ended, Host, Memory, IsRebooted, kept_at, unbooted, HasBootCause, boot_answer, RunStatus, Counts, Stretch, IsWholeRun, HasStatusCause}
-use Rattle.mdv_engine_law.specs.Line.{drive_content}
+use Rattle.mdv_engine_law.specs.Line.{contents}
 use Rattle.mdv_run_law.specs.Run.{IsLostStatus, IsPoint, RoseCalmly, drive_failures, status_at}
 use Rattle.mdv_engine_law.specs.Answers.{accepted}
 use Rattle.mdv_engine_law.specs.declared.answer.Ended.TheVariants as ended
@@ -29,15 +29,15 @@ use Rattle.mdv_run.specs.Turns.{LinesRun}
 
 module _ (host : Host) (stretch : Stretch) (start : Counts) (t : Tale) (script : Script) (tale : Option Tale) where
   -- a run that is over with its boot
-  pub whole_over : (T : Type 0) (end : Counts) → RoseCalmly start end → (u : Tale) (memory : Memory) (r : Ended) → IsPoint stretch start.source end (record { story = stretch.new; effort = stretch.after.effort }) (drive_content u) → tale ≡ Some u → told u ≡ told t → IsRebooted (drive_failures start end) host (kept_at (unbooted 0) t) (boot_answer {T = T} (Err r)) (kept_at memory u)
-      → BootCalls (made_between stretch.before.effort stretch.after.effort) host (boot_answer {T = T} (Err r)) memory (drive_content t) → FromTo (KeptOutside (area_of (site_of host))) stretch.old stretch.new → IsWholeRun host stretch start end t script tale (status_at r)
+  pub whole_over : (T : Type 0) (end : Counts) → RoseCalmly start end → (u : Tale) (memory : Memory) (r : Ended) → IsPoint stretch start.source end (record { story = stretch.new; effort = stretch.after.effort }) (contents u) → tale ≡ Some u → told u ≡ told t → IsRebooted (drive_failures start end) host (kept_at (unbooted 0) t) (boot_answer {T = T} (Err r)) (kept_at memory u)
+      → BootCalls (made_between stretch.before.effort stretch.after.effort) host (boot_answer {T = T} (Err r)) memory (contents t) → FromTo (KeptOutside (area_of (site_of host))) stretch.old stretch.new → IsWholeRun host stretch start end t script tale (status_at r)
   whole_over T end rose u memory r point is quiet rebooted calls writes = record {
     u = u;
     tells = is;
     more = [];
     is_told = quiet ∙ sym (append-nil (told t));
     last = kept_at memory u;
-    left = record { content = λ block. refl; opened = λ known. absurd (known (lost r)) };
+    left = record { content = λ drive block. refl; opened = λ known. absurd (known (lost r)) };
     runs = record { answer = boot_answer {T = T} (Err r); booted = end; rose = rose; kept = kept_at memory u; boots = rebooted; by = record { story = stretch.new; effort = stretch.after.effort }; calls = calls; writes = writes; point = point; runs = (refl, record { quiet = refl; uncalled = refl }, record { silent = refl; ended = refl; keeps = refl }) };
   } where
     lost : (r : Ended) → IsLostStatus (status_at r)
@@ -46,7 +46,7 @@ module _ (host : Host) (stretch : Stretch) (start : Counts) (t : Tale) (script :
     lost ended.Memory = tt
 
   -- a run that goes on to its lines
-  pub whole_lines : (mid end : Counts) → RoseCalmly start mid → (u v : Tale) (memory : Memory) (status : RunStatus) (story : Option Story) (effort : Effort) → IsPoint stretch start.source mid (record { story = story; effort = effort }) (drive_content u) → tale ≡ Some v → told u ≡ told t → IsRebooted (drive_failures start mid) host (kept_at (unbooted 0) t) accepted (kept_at memory u) → BootCalls (made_between stretch.before.effort effort) host accepted memory (drive_content t) → FromTo (KeptOutside (area_of (site_of host))) stretch.old story
+  pub whole_lines : (mid end : Counts) → RoseCalmly start mid → (u v : Tale) (memory : Memory) (status : RunStatus) (story : Option Story) (effort : Effort) → IsPoint stretch start.source mid (record { story = story; effort = effort }) (contents u) → tale ≡ Some v → told u ≡ told t → IsRebooted (drive_failures start mid) host (kept_at (unbooted 0) t) accepted (kept_at memory u) → BootCalls (made_between stretch.before.effort effort) host accepted memory (contents t) → FromTo (KeptOutside (area_of (site_of host))) stretch.old story
       → LinesRun host stretch (record { counts = mid; story = story; effort = effort }) end memory false script status u v → IsWholeRun host stretch start end t script tale status
   whole_lines mid end rose u v memory status story effort point is quiet rebooted calls writes lines = record {
     u = v;
@@ -75,7 +75,7 @@ module _ {S : Type 0} (shelf : Ghosts S) (telling : (s : S) → shelf.tale s ≡
   tale_there : (s : S) (x : Story) → shelf.story s ≡ Some x → shelf.tale s ≡ Some (tale_of x)
   tale_there s x at = telling s ∙ ap (λ (o : Option Story). option_map tale_of o) at
 
-  pub point_between : AtEachTale shelf (λ t m. told m ≡ told t) a b → GoesOn shelf b c → IsPoint (between shelf a c) source (counts (shelf.faults b) source) (record { story = shelf.story b; effort = effort_of shelf b }) (drive_content u)
+  pub point_between : AtEachTale shelf (λ t m. told m ≡ told t) a b → GoesOn shelf b c → IsPoint (between shelf a c) source (counts (shelf.faults b) source) (record { story = shelf.story b; effort = effort_of shelf b }) (contents u)
   point_between quiet behind = record {
     faults = shelf.faults b;
     before = on.goes;
@@ -85,5 +85,5 @@ module _ {S : Type 0} (shelf : Ghosts S) (telling : (s : S) → shelf.tale s ≡
     quiet = λ s x at there.
         let end = moments_end (λ t m. told m ≡ told t) (shelf.tale a) (shelf.tale b) quiet (tale_of s) (tale_there a s at) in
         ap told (some_is (shelf.tale b) (tale_of x) end.0 (tale_there b x there) end.1) ∙ end.2;
-    reads = λ s at. subst (λ (t : Tale). IsSame (drive_content u) (drive_content t)) (some_is (shelf.tale b) u (tale_of s) is (tale_there b s at)) (λ block. refl);
+    reads = λ s at. subst (λ (t : Tale). IsSame (contents u) (contents t)) (some_is (shelf.tale b) u (tale_of s) is (tale_there b s at)) (λ drive block. refl);
   }

@@ -4,7 +4,7 @@ pub use Rattle.mdv_base.specs.declared.refusal.Refusal.TheVariants.{LineTooLong}
 pub use Rattle.mdv_engine.specs.Engine.{HasBootCause, IsWell, boot_answer}
 pub use Rattle.mdv_engine.specs.declared.engine.Engine.{Engine}
 pub use Rattle.mdv_engine_law.specs.Home.{IsReady, StaysHome}
-pub use Rattle.mdv_engine_law.specs.Line.{IsExecuted, IsRebooted, IsSame, IsTurnedDown, Kept, Memory, asked_by, drive_content, kept_at, unbooted}
+pub use Rattle.mdv_engine_law.specs.Line.{IsExecuted, IsRebooted, IsSame, IsTurnedDown, Kept, Memory, asked_by, contents, kept_at, unbooted}
 pub use Rattle.mdv_engine_law.specs.Replies.{IsReplied, IsTold}
 pub use Rattle.mdv_engine_law.specs.Standing.{TellsFront, BootMoment, BootedTo, Executed, IsAwake, Knows, Replied, TurnMoment, Turned}
 pub use Rattle.mdv_engine_law.specs.declared.answer.Answer.{Answer}

@@ -1,7 +1,7 @@
 -- What a boot makes of a replica that it finds.
 use Rattle.std.proofs.Common.{◌≡◌, inl, inr, ℕ, ◌+◌, ◌≤◌, true, List, None, refl, sym, ◌∙◌, ap, subst, arith}
 use Rattle.std.proofs.lemmas.Bool.{cases_lt}
-use Rattle.mdv_run_law.specs.Below.{Mark, record_text, Gate, Closed, Open, Head, Slot, First, Second, IsNewest, IsNewestGate, IsSpareSlot, boot_of, gate_of, greatest, other_slot, shows, text_of, Table, IsSound, Site, sized, HasTable, IsFound, IsReplica, Newest, IsNewestOf, adopted_newest, IsRewritten}
+use Rattle.mdv_run_law.specs.Below.{Image, on_site, Mark, record_text, Gate, Closed, Open, Head, Slot, First, Second, IsNewest, IsNewestGate, IsSpareSlot, boot_of, gate_of, greatest, other_slot, shows, text_of, Table, IsSound, Site, sized, HasTable, IsFound, IsReplica, Newest, IsNewestOf, adopted_newest, IsRewritten}
 use Rattle.mdv_record.proofs.Codes.{one_table}
 use Rattle.mdv_store_law.proofs.Replicas.{one_replica}
 use Rattle.mdv_store_law.proofs.Shown.{shown_slot}
@@ -51,9 +51,9 @@ module _ (site : Site) (sound : IsSound site.drives) where
     has : HasTable site content head (other_slot newest.slot) mark newest.table
     is : newest ≡ adopted_newest head newest.slot newest.table
 
-  draws : (old new : ℕ → List ℕ) (newest : Newest) (head : Head) → IsReplica site old head → IsRewritten site old new newest → Draws old head newest
+  draws : (old new : Image) (newest : Newest) (head : Head) → IsReplica site (on_site site old) head → IsRewritten site old new newest → Draws (on_site site old) head newest
   draws old new newest head replica is =
-      subst (λ (h : Head). Draws old h newest) (one_replica site old is.head head is.replica replica) (record { spare = is.spare; tie = is.tie; mark = is.mark; has = is.has; is = is.is })
+      subst (λ (h : Head). Draws (on_site site old) h newest) (one_replica site (on_site site old) is.head head is.replica replica) (record { spare = is.spare; tie = is.tie; mark = is.mark; has = is.has; is = is.is })
 
   -- a slot of a replica has one table
   same_table : (content : ℕ → List ℕ) (head : Head) (slot : Slot) (a b : Mark) (t u : Table) → HasTable site content head slot a t → HasTable site content head slot b u → t ≡ u
@@ -73,64 +73,64 @@ module _ (site : Site) (sound : IsSound site.drives) where
       same_draw head n m one.is other.is slots (same_table content head (other_slot m.slot) one.mark other.mark n.table m.table has other.has)
 
   -- two boots of the same blocks make the same of them
-  pub one_rewritten : (old new next : ℕ → List ℕ) (n m : Newest) → IsRewritten site old new n → IsRewritten site old next m → n ≡ m
-  one_rewritten old new next n m one other = one_draw old one.head n m (draws old new n one.head one.replica one) (draws old next m one.head one.replica other)
+  pub one_rewritten : (old new next : Image) (n m : Newest) → IsRewritten site old new n → IsRewritten site old next m → n ≡ m
+  one_rewritten old new next n m one other = one_draw (on_site site old) one.head n m (draws old new n one.head one.replica one) (draws old next m one.head one.replica other)
 
   -- what a boot makes of the replica of an open database
-  module _ (content : ℕ → List ℕ) (head : Head) (newest : Newest) (is : IsNewestOf site content head newest) where
+  module _ (content : Image) (head : Head) (newest : Newest) (is : IsNewestOf site (on_site site content) head newest) where
     pub its_greatest : greatest head ≡ newest.mark.boot
     its_greatest = greatest_is head newest.slot newest.mark is.has.bytes is.has.gate is.last is.claim
 
     pub its_shown : shows head ≡ true
     its_shown = shown_slot head newest.slot newest.mark is.has.bytes is.has.gate
 
-    again_drawn : (n : Newest) → Draws content head n → n ≡ again newest
+    again_drawn : (n : Newest) → Draws (on_site site content) head n → n ≡ again newest
     again_drawn n one =
         let slots = other_one head n.slot newest.slot one.spare is.only in
-        let has = subst (λ (s : Slot). HasTable site content head s one.mark n.table) (ap other_slot slots ∙ other_other newest.slot) one.has in
-        let tables = same_table content head newest.slot one.mark newest.mark n.table newest.table has is.has in
+        let has = subst (λ (s : Slot). HasTable site (on_site site content) head s one.mark n.table) (ap other_slot slots ∙ other_other newest.slot) one.has in
+        let tables = same_table (on_site site content) head newest.slot one.mark newest.mark n.table newest.table has is.has in
         let number = its_greatest in
         let blocks : head.master.blocks ≡ newest.blocks = sym is.blocks in
         one.is ∙ (λ i. record { blocks = blocks i; slot = slots i; mark = record { boot = number i + 1; count = 0 }; table = tables i })
 
-    pub again_rewritten : (new : ℕ → List ℕ) (n : Newest) → IsRewritten site content new n → n ≡ again newest
+    pub again_rewritten : (new : Image) (n : Newest) → IsRewritten site content new n → n ≡ again newest
     again_rewritten new n rewrites = again_drawn n (draws content new n head is.replica rewrites)
 
   -- Contents of which a boot makes the same: they have nothing, or a replica each, with the same greatest number.
-  pub data Alike (c d : ℕ → List ℕ) : Type 0 where
-    neither : IsFound site c None → IsFound site d None → Alike c d
-    both : (x y : Head) → IsReplica site c x → shows x ≡ true → IsReplica site d y → shows y ≡ true → greatest x ≡ greatest y
-        → ((new next : ℕ → List ℕ) (n m : Newest) → IsRewritten site c new n → IsRewritten site d next m → n ≡ m) → Alike c d
+  pub data Alike (c d : Image) : Type 0 where
+    neither : IsFound site (on_site site c) None → IsFound site (on_site site d) None → Alike c d
+    both : (x y : Head) → IsReplica site (on_site site c) x → shows x ≡ true → IsReplica site (on_site site d) y → shows y ≡ true → greatest x ≡ greatest y
+        → ((new next : Image) (n m : Newest) → IsRewritten site c new n → IsRewritten site d next m → n ≡ m) → Alike c d
 
   -- the same blocks are
-  pub alike_itself : (c : ℕ → List ℕ) (head : Head) → IsReplica site c head → shows head ≡ true → Alike c c
+  pub alike_itself : (c : Image) (head : Head) → IsReplica site (on_site site c) head → shows head ≡ true → Alike c c
   alike_itself c head replica shown = both head head replica shown replica shown refl (λ new next n m one other. one_rewritten c new next n m one other)
 
   -- so are those of one open database
-  pub alike_opened : (c d : ℕ → List ℕ) (x y : Head) (newest : Newest) → IsNewestOf site c x newest → IsNewestOf site d y newest → Alike c d
+  pub alike_opened : (c d : Image) (x y : Head) (newest : Newest) → IsNewestOf site (on_site site c) x newest → IsNewestOf site (on_site site d) y newest → Alike c d
   alike_opened c d x y newest one other = both x y one.replica (its_shown c x newest one) other.replica (its_shown d y newest other) (its_greatest c x newest one ∙ sym (its_greatest d y newest other))
       (λ new next n m first second. again_rewritten c x newest one new n first ∙ sym (again_rewritten d y newest other next m second))
 
-  module _ (c d : ℕ → List ℕ) (alike : Alike c d) where
-    pub never_found : (head : Head) → IsReplica site c head → shows head ≡ true → IsFound site d None → ⊥
+  module _ (c d : Image) (alike : Alike c d) where
+    pub never_found : (head : Head) → IsReplica site (on_site site c) head → shows head ≡ true → IsFound site (on_site site d) None → ⊥
     never_found head replica shown none = elim alike [
       | neither one other ↦ one head replica shown
       | both x y has_x shows_x has_y shows_y number same ↦ none y has_y shows_y
     ]
 
-    pub never_lost : (head : Head) → IsReplica site d head → shows head ≡ true → IsFound site c None → ⊥
+    pub never_lost : (head : Head) → IsReplica site (on_site site d) head → shows head ≡ true → IsFound site (on_site site c) None → ⊥
     never_lost head replica shown none = elim alike [
       | neither one other ↦ other head replica shown
       | both x y has_x shows_x has_y shows_y number same ↦ none x has_x shows_x
     ]
 
-    pub same_number : (x y : Head) → IsReplica site c x → shows x ≡ true → IsReplica site d y → shows y ≡ true → greatest x ≡ greatest y
+    pub same_number : (x y : Head) → IsReplica site (on_site site c) x → shows x ≡ true → IsReplica site (on_site site d) y → shows y ≡ true → greatest x ≡ greatest y
     same_number x y has_x shows_x has_y shows_y = elim alike [
       | neither one other ↦ absurd (one x has_x shows_x)
-      | both v w has_v shows_v has_w shows_w number same ↦ ap greatest (one_replica site c x v has_x has_v) ∙ number ∙ ap greatest (one_replica site d w y has_w has_y)
+      | both v w has_v shows_v has_w shows_w number same ↦ ap greatest (one_replica site (on_site site c) x v has_x has_v) ∙ number ∙ ap greatest (one_replica site (on_site site d) w y has_w has_y)
     ]
 
-    pub same_adopted : (new next : ℕ → List ℕ) (n m : Newest) → IsRewritten site c new n → IsRewritten site d next m → n ≡ m
+    pub same_adopted : (new next : Image) (n m : Newest) → IsRewritten site c new n → IsRewritten site d next m → n ≡ m
     same_adopted new next n m first second = elim alike [
       | neither one other ↦ absurd (one first.head first.replica first.shown)
       | both v w has_v shows_v has_w shows_w number same ↦ same new next n m first second

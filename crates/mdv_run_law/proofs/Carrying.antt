@@ -1,7 +1,7 @@
 -- Where nothing failed and memory wasn't wanting, a line comes to one answer.
 use Rattle.std.proofs.Common.{◌≡◌, inl, inr, ℕ, zero, suc, ◌+◌, ◌≤◌, ◌<◌, false, List, [], ◌∷◌, Option, Some, refl, sym, ◌∙◌, ap, subst, arith}
 use Rattle.mdv_base.specs.Causes.{Failures}
-use Rattle.mdv_run_law.specs.Below.{VolId, Refusal, IsHome, values_reply, IsSound, Change, Command, Create, Read, Write, Line, Newest, area_of, next_newest, Answer, Host, site_of, Memory, Kept, IsTurnedDown, CameTo, ComesTo, IsCreated, IsNew, IsCommitted, AreBlocksAt, ArePut, blocks_of}
+use Rattle.mdv_run_law.specs.Below.{Image, VolId, Refusal, IsHome, values_reply, IsSound, Change, Command, Create, Read, Write, Line, Newest, area_of, next_newest, Answer, Host, site_of, Memory, Kept, IsTurnedDown, CameTo, ComesTo, IsCreated, IsNew, IsCommitted, AreBlocksAt, ArePut, blocks_of}
 use Rattle.mdv_words.specs.declared.command.Command.TheVariants as command
 use Rattle.mdv_words.specs.declared.command.Line.TheVariants as words
 use Rattle.mdv_words.proofs.Lines.{one_line}
@@ -38,7 +38,7 @@ one_new host n m one other =
     λ i. record { blocks = blocks i; slot = slot i; mark = mark i; table = record { plan = record { lists = lists i; volumes = volumes i }; status = n.table.status } }
 
 module _ (failures : Failures) (calm : failures.some → ⊥) (host : Host) (sound : IsSound host.drives) (home : IsHome host.drives host.home) where
-  module _ (memory : Memory) (c d : ℕ → List ℕ) (n m : Kept) (a b : Answer) where
+  module _ (memory : Memory) (c d : Image) (n m : Kept) (a b : Answer) where
     abbrev k : Kept
     k = record { memory = memory; content = c }
 
@@ -55,7 +55,7 @@ module _ (failures : Failures) (calm : failures.some → ⊥) (host : Host) (sou
           let newests = one_new host one.newest other.newest one.new other.new in
           record {
             memory = one.memory ∙ ap (λ (x : Newest). let after : Memory = record { opened = Some x; down = false; begun = memory.begun + 1 } in after) newests ∙ sym other.memory;
-            beside = λ block out. one.beside block out ∙ same.beside block out ∙ sym (other.beside block out);
+            beside = λ drive block out. one.beside drive block out ∙ same.beside drive block out ∙ sym (other.beside drive block out);
             one = held one.newest (ap (λ (x : Memory). x.opened) one.memory) room one.head one.content;
             other = held other.newest (ap (λ (x : Memory). x.opened) other.memory) room other.head other.content;
           }
@@ -63,7 +63,7 @@ module _ (failures : Failures) (calm : failures.some → ⊥) (host : Host) (sou
       committed : (change : Change) (newest other : Newest) → newest ≡ other → 8208 ≤ host.home.blocks → IsCommitted host newest (table_after host.drives change newest.table) k n → IsCommitted host other (table_after host.drives change other.table) j m → Same host n m
       committed change newest other is room one two = record {
         memory = one.memory ∙ (λ i. record { opened = Some (next_newest (is i) (table_after host.drives change (is i).table)); down = memory.down; begun = memory.begun }) ∙ sym two.memory;
-        beside = λ block out. one.beside block out ∙ same.beside block out ∙ sym (two.beside block out);
+        beside = λ drive block out. one.beside drive block out ∙ same.beside drive block out ∙ sym (two.beside drive block out);
         one = held (next_newest newest (table_after host.drives change newest.table)) (ap (λ (x : Memory). x.opened) one.memory) room one.head one.content;
         other = held (next_newest other (table_after host.drives change other.table)) (ap (λ (x : Memory). x.opened) two.memory) room two.head two.content;
       }
@@ -87,7 +87,7 @@ module _ (failures : Failures) (calm : failures.some → ⊥) (host : Host) (sou
           (ok ∙ sym ok_too, λ said. committed (MakeStripe volume slice) newest other (opened_twice memory.opened other newest also opened) (room_of_opening newest opened (opening_of host k same.one)) one two)
       effects (Read volume at count) free (block, there, text, stays) (other, also, text_too, stays_too) =
           let both = there_once volume at count there.lies.0 there.lies.1 (opening_of host k same.one) block other there also in
-          let blocks = ap (λ (x : ℕ). blocks_of c x count) both.0 ∙ same_blocks c d other count (λ i less. same.beside (other + i) (both.1 i less)) in
+          let blocks = ap (λ (x : ℕ). blocks_of (c 0) x count) both.0 ∙ same_blocks (c 0) (d 0) other count (λ i less. same.beside 0 (other + i) (both.1 i less)) in
           (text ∙ ap (λ (bs : List (List ℕ)). telling (values_reply at bs)) blocks ∙ sym text_too, λ said. stays_same host k j n m same stays stays_too)
       effects (Write volume at block) free (place, there, ok, kept, put) (other, also, ok_too, kept_too, put_too) =
           let both = there_once volume at 1 there.lies.0 there.lies.1 (opening_of host k same.one) place other there also in

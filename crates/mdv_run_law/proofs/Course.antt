@@ -3,7 +3,7 @@ use Rattle.std.proofs.Common.{◌≡◌, inl, inr, ℕ, Bool, List, [], ◌∷�
 use Rattle.std.proofs.lemmas.List.Elements.{Contains-append_right}
 use Rattle.mdv_base.specs.Causes.{Failures}
 use Rattle.mdv_base.proofs.Causes.{IsWithin, rose_of_once, rose_within}
-use Rattle.mdv_run_law.specs.Below.{Refusal, BadLine, OutOfMemory, Script, at_end, spent, too_long, line, replies_in, Command, Create, MakeStripe, Read, Write, Boot, Line, Answer, Host, site_of, Kept, CameTo, ComesTo, IsRebooted, adopted, empty, down, lost, wanting, IsPlain, IsPlainAnswer, IsReply, refusal_line}
+use Rattle.mdv_run_law.specs.Below.{Image, Refusal, BadLine, OutOfMemory, Script, at_end, spent, too_long, line, replies_in, Command, Create, MakeStripe, Read, Write, Boot, Line, Answer, Host, site_of, Kept, CameTo, ComesTo, IsRebooted, adopted, empty, down, lost, wanting, IsPlain, IsPlainAnswer, IsReply, refusal_line}
 use Rattle.mdv_words.specs.declared.command.Line.TheVariants as words
 use Rattle.mdv_engine_law.specs.declared.answer.Answer.TheVariants.{Said, Over as Ends}
 use Rattle.mdv_engine_law.specs.declared.answer.Ended.{Ended}
@@ -179,7 +179,7 @@ end_satisfied failed calm answer next told status last with sated = record {
 }
 
 -- two runs in which nothing failed
-module _ (host : Host) (content : ℕ → List ℕ) (has : HasHome host content) where
+module _ (host : Host) (content : Image) (has : HasHome host content) where
   -- what the next line of both comes to
   record Next (answer other : Answer) (next also : Kept) (rest left : Script) : Type 0 where
     same : other ≡ answer
@@ -280,7 +280,7 @@ module _ (host : Host) (content : ℕ → List ℕ) (has : HasHome host content)
   beside_back n m is = record {
     script = sym is.script;
     refused = sym is.refused;
-    kept = record { memory = sym is.kept.memory; beside = λ block out. sym (is.kept.beside block out); one = is.kept.other; other = is.kept.one };
+    kept = record { memory = sym is.kept.memory; beside = λ drive block out. sym (is.kept.beside drive block out); one = is.kept.other; other = is.kept.one };
   }
 
   sated_apart : (piece rest x : List ℕ) (status : RunStatus) → IsSated ((piece ++ rest) ++ x) status → IsSated (piece ++ (rest ++ x)) status
@@ -350,7 +350,7 @@ module _ (host : Host) (content : ℕ → List ℕ) (has : HasHome host content)
 
   one_start : (n m : Kept) (a b : Answer) → IsSatisfied a → IsSatisfied b → IsRebooted unfailing host (started content) a n → IsRebooted unfailing host (started content) b m → One host n m a b
   one_start n m a b enough enough_too first second =
-      one_boot host has.sound unfailing (λ never. never) (started content) (started content) n m a b (alike_start (started content) n a enough first) refl (λ block out. refl)
+      one_boot host has.sound unfailing (λ never. never) (started content) (started content) n m a b (alike_start (started content) n a enough first) refl (λ drive block out. refl)
       (λ head replica shown. has.room head (replica, shown)) enough enough_too first second
 
 pub one_course : OneCourse

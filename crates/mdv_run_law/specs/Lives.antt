@@ -1,6 +1,6 @@
 -- Lives: any number of runs on the same drives, each but the first begun on what the one before left, or a crash in it.
 use Rattle.std.specs.Prelude.{◌≡◌, ◌⊎◌, ℕ, List, [], ◌∷◌, ◌++◌, reverse, None, Contains}
-use Rattle.mdv_run_law.specs.Below.{IsHome, Home, Geometry, Script, Head, Slot, IsNewest, Mark, Image, Tale, HaveValues, last, IsImage, Change, Table, Version, IsSound, restarted, AreMade, HasTable, IsFound, IsReplica, Deed, Created, Changed, changes_in, Event, history_after_all, IsCourse, new_history, Host, site_of, drive_content, StandsAt, left_in, replies_in}
+use Rattle.mdv_run_law.specs.Below.{IsHome, Home, Geometry, Script, Head, Slot, IsNewest, Mark, Image, Tale, HaveValues, last, IsImage, Change, Table, Version, IsSound, restarted, AreMade, HasTable, IsFound, IsReplica, Deed, Created, Changed, changes_in, Event, history_after_all, IsCourse, new_history, Host, site_of, contents, StandsAt, left_in, replies_in}
 use Rattle.mdv_run_law.specs.Run.{HasHome}
 use Rattle.mdv_store_law.specs.Part.{IsPart}
 use Rattle.mdv_run_law.specs.Standing.{RunMoment, AreBegun, AreOfRun, AreTold, IsTold}
@@ -71,7 +71,7 @@ LivesStand = (drives : Geometry) (home : Home) (made : Image) (ran : List Ran) (
 
 -- over every life each run has one course, where nothing fails: a database is found only where the home has room for one
 abbrev pub RunsHaveHome : Type 0
-RunsHaveHome = (drives : Geometry) (home : Home) (made : Image) (ran : List Ran) (t : Tale) (fresh : ℕ) → IsHome drives home → IsLife drives made ran t → HasHome (host_of drives home fresh) (drive_content t)
+RunsHaveHome = (drives : Geometry) (home : Home) (made : Image) (ran : List Ran) (t : Tale) (fresh : ℕ) → IsHome drives home → IsLife drives made ran t → HasHome (host_of drives home fresh) (contents t)
 
 -- A table of volumes that is one of a history of these runs, made by the changes that the history has for it, the newest first. Lines of these runs asked them,
 -- in their order and each once, and what was told of each of these lines is `ok`, or that a call failed, or a front of one of these, as nothing told is; and

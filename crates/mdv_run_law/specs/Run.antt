@@ -2,7 +2,7 @@
 use Rattle.std.specs.Prelude.{◌≡◌, ◌≢◌, ◌⊎◌, ◌≤◌, ◌<◌, ◌+◌, ℕ, Bool, true, false, List, [], ◌++◌, take, length, Option, Some, IfSome, Contains, if◌then◌else◌}
 use Rattle.mdv_base.specs.Causes.{RoseOnce, Failures, failures_of}
 use Rattle.mdv_shelf.specs.Made.{Made, made_between}
-use Rattle.mdv_run_law.specs.Below.{Rose, BadLine, LineTooLong, OutOfMemory, IsHome, Script, at_end, spent, too_long, line, Head, Part, OnDrive, OnReplies, Tale, told, replies_in, IsSound, Line, IsLine, IsFound, IsOpened, Answer, Host, site_of, Kept, IsSame, IsSameBeside, ComesTo, IsRebooted, IsTurnedDown, drive_content, unbooted}
+use Rattle.mdv_run_law.specs.Below.{Image, on_site, Rose, BadLine, LineTooLong, OutOfMemory, IsHome, Script, at_end, spent, too_long, line, Head, Part, OnDrive, OnReplies, Tale, told, replies_in, IsSound, Line, IsLine, IsFound, IsOpened, Answer, Host, site_of, Kept, IsSame, IsSameBeside, ComesTo, IsRebooted, IsTurnedDown, contents, unbooted}
 use Rattle.mdv_shelf.specs.Story.{Effort, Tally, Moment, Story, Mark, marked, AtEach, InTime, tale_of}
 use Rattle.mdv_engine_law.specs.Replies.{outcome_text, refusal_line, text_of}
 use Rattle.mdv_engine_law.specs.declared.answer.Answer.TheVariants.{Said, Over as Ends}
@@ -166,7 +166,7 @@ pub record AreInTime (now : Counts) (old new : Option Story) : Type 0 where
 pub record IsPassage (now : At) (piece : List ℕ) (later : At) : Type 0 where
   pub in_time : AreInTime now.counts now.story later.story
   pub told : (s u : Story) → now.story ≡ Some s → later.story ≡ Some u → told (tale_of u) ≡ told (tale_of s) ++ piece
-  pub reads : (u : Story) → later.story ≡ Some u → IsSame later.kept.content (drive_content (tale_of u))
+  pub reads : (u : Story) → later.story ≡ Some u → IsSame later.kept.content (contents (tale_of u))
 
 -- a line that was answered, and whose reply was told whole: by as many calls as it takes, and one, by which no block was written but those that it may write
 pub record LineTold (host : Host) (now : At) (piece : List ℕ) (later : At) : Type 0 where
@@ -186,15 +186,15 @@ pub record LineTold (host : Host) (now : At) (piece : List ℕ) (later : At) : T
 pub record AreShown (bytes piece : ℕ) (now : At) (t m : Moment) : Type 0 where
   pub before : length (told m.tale) < length (told t.tale) + (bytes + piece) → RoseTo (counts m.faults now.counts.source) now.counts
   pub behind : length (told t.tale) + bytes < length (told m.tale) → RoseTo now.counts (counts m.faults now.counts.source)
-  pub reads : length (told t.tale) + bytes < length (told m.tale) → length (told m.tale) < length (told t.tale) + (bytes + piece) → IsSame now.kept.content (drive_content m.tale)
+  pub reads : length (told t.tale) + bytes < length (told m.tale) → length (told m.tale) < length (told t.tale) + (bytes + piece) → IsSame now.kept.content (contents m.tale)
   pub calls : length (told t.tale) + bytes < length (told m.tale) → length (told m.tale) < length (told t.tale) + (bytes + piece) → (made_between m.effort now.effort).exactly 1 0
 
 -- The line with which a run is over, with so many bytes told before its reply, by which the drive had failed so often and was left so. At no moment before the first
 -- byte of its reply was told had the drive failed more often; at none from there on less, and from there on its blocks read so.
-pub record AreLast (bytes drive : ℕ) (content : ℕ → List ℕ) (t m : Moment) : Type 0 where
+pub record AreLast (bytes drive : ℕ) (content : Image) (t m : Moment) : Type 0 where
   pub before : length (told m.tale) ≤ length (told t.tale) + bytes → m.faults (OnDrive 0) ≤ drive
   pub behind : length (told t.tale) + bytes < length (told m.tale) → drive ≤ m.faults (OnDrive 0)
-  pub reads : length (told t.tale) + bytes < length (told m.tale) → IsSame content (drive_content m.tale)
+  pub reads : length (told t.tale) + bytes < length (told m.tale) → IsSame content (contents m.tale)
 
 -- how far a bench is: its story, and how many calls were made so far
 pub record Progress : Type 0 where
@@ -222,20 +222,20 @@ pub record EndsBehind (stretch : Stretch) (host : Host) (now : At) (answer : Ans
 
 -- A point of what the bench told, by which the parts had failed so often, nothing was told, and the drive's blocks read so; no call until then that changed something was made
 -- behind one on the same part that failed.
-pub record IsPoint (stretch : Stretch) (source : ℕ) (now : Counts) (by : Progress) (content : ℕ → List ℕ) : Type 0 where
+pub record IsPoint (stretch : Stretch) (source : ℕ) (now : Counts) (by : Progress) (content : Image) : Type 0 where
   pub faults : Part → ℕ
   pub before : AtEach (λ _ _. Unit {0}) stretch.old stretch.before by.story (record { faults = faults; effort = by.effort })
   pub behind : AtEach (λ _ _. Unit {0}) by.story (record { faults = faults; effort = by.effort }) stretch.new stretch.after
   pub counts_are : now ≡ counts faults source
   pub in_time : AreInTime (counts stretch.before.faults source) stretch.old by.story
   pub quiet : (s u : Story) → stretch.old ≡ Some s → by.story ≡ Some u → told (tale_of u) ≡ told (tale_of s)
-  pub reads : (s : Story) → by.story ≡ Some s → IsSame content (drive_content (tale_of s))
+  pub reads : (s : Story) → by.story ≡ Some s → IsSame content (contents (tale_of s))
 
 -- the moments between show it so
 abbrev pub IsShown : Stretch → ℕ → ℕ → At → Type 0
 IsShown stretch bytes piece now = AtEach (AreShown bytes piece now) stretch.old stretch.before stretch.new stretch.after
 
-abbrev pub IsLastShown : Stretch → ℕ → ℕ → (ℕ → List ℕ) → Type 0
+abbrev pub IsLastShown : Stretch → ℕ → ℕ → Image → Type 0
 IsLastShown stretch bytes drive content = AtEach (AreLast bytes drive content) stretch.old stretch.before stretch.new stretch.after
 
 -- Such lines, one behind the other, and what was told of them behind so many bytes, of each at least one. The counts and the calls between two lines, and what the drive's blocks read
@@ -290,7 +290,7 @@ pub record Runs (host : Host) (stretch : Stretch) (end : Counts) (now : At) (tol
   pub over : Over host stretch (length so_far) end at rest status last
 
 -- what is there as a run begins
-abbrev pub started : (ℕ → List ℕ) → Kept
+abbrev pub started : Image → Kept
 started content = record { memory = unbooted 0; content = content }
 
 -- where a run is behind its boot
@@ -306,7 +306,7 @@ RunsFrom host stretch end (Ends over) later by kept script told status last = (e
 -- A whole run, from these counts to those: the boot answers from what the drive's blocks held, by as many calls as that takes, excused by the one that failed until the counts `booted`, and
 -- the script is run from there. They are those of a point of the run, by which the drive's blocks read as the boot left them: the first of the points between two lines, each of which is
 -- behind the one before.
-pub record IsRun (host : Host) (stretch : Stretch) (start end : Counts) (content : ℕ → List ℕ) (script : Script) (told : List ℕ) (status : RunStatus) (last : Kept) : Type 0 where
+pub record IsRun (host : Host) (stretch : Stretch) (start end : Counts) (content : Image) (script : Script) (told : List ℕ) (status : RunStatus) (last : Kept) : Type 0 where
   pub answer : Answer
   pub booted : Counts
   pub rose : RoseCalmly start booted
@@ -327,7 +327,7 @@ pub record NextFront (host : Host) (now : At) (told : List ℕ) (m : Moment) : T
   pub more : Script
   pub comes : NextLine host now.counts now.kept now.script answer later next more
   pub by_then : later.drive ≡ m.faults (OnDrive 0)
-  pub shows : IsSame next.content (drive_content m.tale)
+  pub shows : IsSame next.content (contents m.tale)
   pub count : ℕ
   pub front : told ≡ take count (text_of answer)
 
@@ -349,7 +349,7 @@ pub record LinesToldBy (host : Host) (stretch : Stretch) (first : At) (told : Li
   pub front : IsNextFront host at rest m
 
 -- and of a run whose boot was answered
-pub record RunToldBy (host : Host) (stretch : Stretch) (start : Counts) (content : ℕ → List ℕ) (script : Script) (told : List ℕ) (m : Moment) : Type 0 where
+pub record RunToldBy (host : Host) (stretch : Stretch) (start : Counts) (content : Image) (script : Script) (told : List ℕ) (m : Moment) : Type 0 where
   pub booted : Counts
   pub rose : RoseCalmly start booted
   pub kept : Kept
@@ -365,12 +365,12 @@ pub record RunToldBy (host : Host) (stretch : Stretch) (start : Counts) (content
 pub record IsToldBy (host : Host) (stretch : Stretch) (start : Counts) (script : Script) (t m : Moment) : Type 0 where
   pub bytes : List ℕ
   pub is_told : told m.tale ≡ told t.tale ++ bytes
-  pub tells : (bytes ≡ []) ⊎ RunToldBy host stretch start (drive_content t.tale) script bytes m
+  pub tells : (bytes ≡ []) ⊎ RunToldBy host stretch start (contents t.tale) script bytes m
 
 -- Each block reads as it was kept. Where a database is open, and the run isn't over for want of places, numbers or memory, whatever a
 -- crash leaves has one replica of it, with the newest table that is in memory.
 pub record IsLeft (host : Host) (status : RunStatus) (u : Tale) (kept : Kept) : Type 0 where
-  pub content : IsSame kept.content (drive_content u)
+  pub content : IsSame kept.content (contents u)
   pub opened : (IsLostStatus status → ⊥) → IfSome kept.memory.opened (λ newest. IsOpened (site_of host) newest u)
 
 -- The whole of a run that began at t: what it told and its status are what the script asks for, and every crash at
@@ -382,7 +382,7 @@ pub record IsWholeRun (host : Host) (stretch : Stretch) (start end : Counts) (t 
   pub is_told : told u ≡ told t ++ more
   pub last : Kept
   pub left : IsLeft host status u last
-  pub runs : IsRun host stretch start end (drive_content t) script more status last
+  pub runs : IsRun host stretch start end (contents t) script more status last
 
 -- a status that comes only where something failed, and those that this run never has
 abbrev pub HasStatusCause : Counts → Counts → RunStatus → Type 0
@@ -414,14 +414,14 @@ abbrev pub IsSameEnd : Host → Kept → Kept → Type 0
 IsSameEnd host a b = (a.memory ≡ b.memory) × IsSameBeside (site_of host) b.content a.content
 
 -- the table of drives is sound, and the home is its; and a database is found there only where the home has room for one
-pub record HasHome (host : Host) (content : ℕ → List ℕ) : Type 0 where
+pub record HasHome (host : Host) (content : Image) : Type 0 where
   pub sound : IsSound host.drives
   pub home : IsHome host.drives host.home
-  pub room : (head : Head) → IsFound (site_of host) content (Some head) → 8208 ≤ host.home.blocks
+  pub room : (head : Head) → IsFound (site_of host) (on_site (site_of host) content) (Some head) → 8208 ≤ host.home.blocks
 
 -- where nothing failed and memory was never wanting, the drive's blocks and the script settle what is told, the status, and, where the run isn't
 -- over for want of places or numbers, what is in memory and on the drive at the end
 abbrev pub OneCourse : Type 0
 OneCourse =
-    (host : Host) (content : ℕ → List ℕ) → HasHome host content → (script : Script) (first second : Stretch) (start end from to : Counts) → IsUndisturbed start end → IsUndisturbed from to
+    (host : Host) (content : Image) → HasHome host content → (script : Script) (first second : Stretch) (start end from to : Counts) → IsUndisturbed start end → IsUndisturbed from to
     → (a b : List ℕ) (s r : RunStatus) (k j : Kept) → IsSated a s → IsSated b r → IsRun host first start end content script a s k → IsRun host second from to content script b r j → (a ≡ b) × (s ≡ r) × ((IsLostStatus s → ⊥) → IsSameEnd host k j)

@@ -24,7 +24,7 @@ use Rattle.mdv_engine_law.proofs.Executing.{executed}
 use Rattle.mdv_base.proofs.Causes.{calm_before, within_calm}
 use Rattle.mdv_shelf.specs.Made.{and_more, made_of}
 use Rattle.mdv_shelf.proofs.Made.{with_more}
-use Rattle.mdv_engine_law.specs.Line.{drive_content}
+use Rattle.mdv_engine_law.specs.Line.{contents}
 use Rattle.mdv_engine_law.specs.Home.{site_of}
 use Rattle.mdv_shelf.specs.Area.{KeptOutside}
 use Rattle.mdv_store_law.specs.Site.{area_of}
@@ -66,7 +66,7 @@ returns-in-Ok-clause-end g c = λ text boots.
             (within_calm _ _ _ c.accept.ensures.answer.calm)
             (calm_before _ _ _ (c.reboot.ensures.kept.others OnReplies replies_apart)).some
             (ap told (some_is _ up.0 quiet.0 up.1 quiet.1) ∙ quiet.2.quiet) up.2.rebooted end.2
-            (boot_too (made_of g.B.Shelf c.args.bench.now c.reboot.new.shelf) (and_more 1 made) (with_more g.B.Shelf.calls g.B.Shelf.written _ _ _ 1 c.accept.ensures.counted.once) host accepted new (drive_content t) up.2.calls))
+            (boot_too (made_of g.B.Shelf c.args.bench.now c.reboot.new.shelf) (and_more 1 made) (with_more g.B.Shelf.calls g.B.Shelf.written _ _ _ 1 c.accept.ensures.counted.once) host accepted new (contents t) up.2.calls))
             (turn_writes host Nothing old _ _ (returns-in-Ok-clause-moments g c) t end.0 is end.1);
         ran = λ on more. booted_ran host old new t up.0 (up.2.booted refl) text more boots end.0 (accepted_turned host new _ c.accept.result up.0 end.0 end.2 on);
         knows = λ kept known. knows_kept host up.0 end.0 end.2.kept new (up.2.booted refl).knows;

@@ -3,7 +3,7 @@ use Rattle.mdv_engine_law.proofs.Kept.{kept_itself}
 use Rattle.mdv_shelf.specs.Made.{effort_of}
 use Rattle.mdv_shelf.proofs.Made.{by_efforts}
 use Rattle.mdv_engine_law.specs.Answers.{accepted}
-use Rattle.mdv_engine_law.specs.Line.{drive_content}
+use Rattle.mdv_engine_law.specs.Line.{contents}
 use Rattle.mdv_engine_law.proofs.Efforts.{boot_too}
 use Rattle.std.proofs.Common.{◌≡◌, Err, inr, false, refl, sym, ◌∙◌, ap, subst, arith}
 use Rattle.mdv_run.specs.Below.{asked_of, told, OnDrive, OnReplies, Moments, Host, boot_answer, unbooted, BootMoment, BootedTo, Knows, RunStatus, counts, HasStatusCause, IsWholeRun, RunMoment, LinesMoment, Engine, StaysHome}
@@ -36,7 +36,7 @@ returns-in-Ok-clause-has_run g c = record {
       let end = counts (g.B.Shelf.faults c.run_lines.new.bench) (g.I.Source.faults c.run_lines.new.script) in
       let silent = moments_weaker (BootMoment host) (λ t m. told m ≡ told t) _ _ (λ t m moment. moment.quiet) c.boot.ensures.moments in
       inr (whole_lines host (between g.B.Shelf c.args.bench.now c.run_lines.new.bench) start t (asked_of input) _ mid end (record { drive = c.boot.ensures.kept.keeps.no_fewer_faults (OnDrive 0); source = refl; replies = c.boot.ensures.kept.others OnReplies replies_apart })
-      done.0 lines.0 c.in-Ok.engine.state c.run_lines.result (g.B.Shelf.story c.boot.new.shelf) (effort_of g.B.Shelf c.boot.new.shelf) (point_between g.B.Shelf g.met.B.Shelf.telling _ c.boot.new.shelf _ (g.I.Source.faults c.args.script.now) done.0 done.1 c.boot.ensures.kept silent c.run_lines.ensures.kept.goes) lines.1 (ap told (some_is _ done.0 quiet.0 done.1 quiet.1) ∙ quiet.2.quiet) done.2.rebooted (boot_too _ _ (by_efforts g.B.Shelf c.args.bench.now c.boot.new.shelf) host accepted c.in-Ok.engine.state (drive_content t) done.2.calls) (boot_writes g.B.Shelf g.met.B.Shelf.telling host _ _ c.boot.ensures.moments)
+      done.0 lines.0 c.in-Ok.engine.state c.run_lines.result (g.B.Shelf.story c.boot.new.shelf) (effort_of g.B.Shelf c.boot.new.shelf) (point_between g.B.Shelf g.met.B.Shelf.telling _ c.boot.new.shelf _ (g.I.Source.faults c.args.script.now) done.0 done.1 c.boot.ensures.kept silent c.run_lines.ensures.kept.goes) lines.1 (ap told (some_is _ done.0 quiet.0 done.1 quiet.1) ∙ quiet.2.quiet) done.2.rebooted (boot_too _ _ (by_efforts g.B.Shelf c.args.bench.now c.boot.new.shelf) host accepted c.in-Ok.engine.state (contents t) done.2.calls) (boot_writes g.B.Shelf g.met.B.Shelf.telling host _ _ c.boot.ensures.moments)
       (run_earlier host (between g.B.Shelf c.boot.new.shelf c.run_lines.new.bench) (between g.B.Shelf c.args.bench.now c.run_lines.new.bench) (record { quiet = refl; uncalled = refl })
       (λ bytes piece shown some seen. shown_earlier g.B.Shelf g.met.B.Shelf.telling _ _ _ c.boot.ensures.kept.goes silent bytes piece shown some seen)
       (λ bytes drive content seen. last_earlier g.B.Shelf g.met.B.Shelf.telling _ _ _ c.boot.ensures.kept.goes silent bytes drive content seen)
@@ -74,7 +74,7 @@ returns-in-Err-clause-has_run g c = record {
       inr (subst (λ (s : RunStatus). IsWholeRun host (between g.B.Shelf c.args.bench.now c.boot.new.shelf) start end t (asked_of input) (g.B.Shelf.tale c.boot.new.shelf) s) (sym c.over.ensures)
       (whole_over host (between g.B.Shelf c.args.bench.now c.boot.new.shelf) start t (asked_of input) _ Engine end (record { drive = c.boot.ensures.kept.keeps.no_fewer_faults (OnDrive 0); source = refl; replies = c.boot.ensures.kept.others OnReplies replies_apart })
       done.0 (unbooted 0) c.in-Err.end (point_between g.B.Shelf g.met.B.Shelf.telling _ c.boot.new.shelf _ (g.I.Source.faults c.args.script.now) done.0 done.1 c.boot.ensures.kept (moments_weaker (BootMoment host) (λ t m. told m ≡ told t) _ _ (λ t m moment. moment.quiet) c.boot.ensures.moments) (kept_itself g.B.Shelf c.boot.new.shelf).goes) done.1 (ap told (some_is _ done.0 quiet.0 done.1 quiet.1) ∙ quiet.2.quiet) done.2.rebooted
-      (boot_too _ _ (by_efforts g.B.Shelf c.args.bench.now c.boot.new.shelf) host (boot_answer {T = Engine} (Err c.in-Err.end)) (unbooted 0) (drive_content t) done.2.calls) (boot_writes g.B.Shelf g.met.B.Shelf.telling host _ _ c.boot.ensures.moments)));
+      (boot_too _ _ (by_efforts g.B.Shelf c.args.bench.now c.boot.new.shelf) host (boot_answer {T = Engine} (Err c.in-Err.end)) (unbooted 0) (contents t) done.2.calls) (boot_writes g.B.Shelf g.met.B.Shelf.telling host _ _ c.boot.ensures.moments)));
   stands = λ input left.
       let host = c.args.host in
       moments_of_tales g.B.Shelf g.met.B.Shelf.telling _ _ (RunMoment host (asked_of input)) c.boot.ensures.kept.goes

@@ -26,7 +26,7 @@ make_database-requires-clause-up g c = allowed_up (case_at c.args.self.now) c.ar
 pub returns-in-Some-clause-end : goal.returns-in-Some-clause-end
 returns-in-Some-clause-end g c =
     command_ends _ c.args.self.now (Create c.args.slice c.args.force) (outcome.Refused c.in-Some.refusal) c.args.self.now _ _
-    (λ t start. (t, start, λ known. came.refused refl c.in-Some.refusal (sym c.creation_refusal.ensures ∙ c.in-Some.is) (refl, record { memory = refl; content = λ block. refl })))
+    (λ t start. (t, start, λ known. came.refused refl c.in-Some.refusal (sym c.creation_refusal.ensures ∙ c.in-Some.is) (refl, record { memory = refl; content = λ drive block. refl })))
     (refused_carried c.args.self.now.host (ToDo Created) c.args.self.now.state _ _ refl c.in-Some.refusal)
 
 pub returns-in-Some-clause-answer : goal.returns-in-Some-clause-answer

@@ -20,7 +20,7 @@ returns-in-Ok-clause-end g c =
     let read = c.in-Ok.ensures.ok in
     let least = c.requires.count.least in
     command_ends _ c.args.self.now (command.Read c.args.volume c.args.at c.args.count) (outcome.Values c.in-Ok.text) c.args.self.now _ _
-    (λ t start. (t, c.values.ensures.same ∙ start, λ known. came.done read.calm read.allowed (read.block, read.there, ap telling (read.as_told ∙ ap (values_reply c.args.at) (read.as_there t start)), record { memory = refl; content = λ block. refl })))
+    (λ t start. (t, c.values.ensures.same ∙ start, λ known. came.done read.calm read.allowed (read.block, read.there, ap telling (read.as_told ∙ ap (values_reply c.args.at) (read.as_there t start)), record { memory = refl; content = λ drive block. refl })))
     (λ t start. (t, c.values.ensures.same ∙ start, saw c.args.self.now.host (g.S.Shelf.sizes c.args.shelf.now) c.requires.ready c.args.self.now.state c.args.volume c.args.at c.args.count read.block (omega arith) read.there t c.in-Ok.text (read.as_told ∙ ap (values_reply c.args.at) (read.as_there t start))))
 
 pub returns-in-Ok-clause-answer : goal.returns-in-Ok-clause-answer
