@@ -1,4 +1,4 @@
-//! Tests of the script, the drive in memory, a replica on it, the reply to a read, and a database's table and its text.
+//! Tests of the script, the drive in memory, a replica on it, the reply to a read, a database's table and its text, and stripes.
 #![tactic(auto)]
 
 #[cfg(test)]
@@ -13,5 +13,7 @@ mod replica_tests;
 mod shelf_tests;
 #[cfg(test)]
 mod status_tests;
+#[cfg(test)]
+mod stripe_tests;
 #[cfg(test)]
 mod table_tests;

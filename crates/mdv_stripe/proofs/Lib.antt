@@ -1,0 +1,4 @@
+pub mod Leasts
+pub mod Legs
+pub mod Units
+pub mod Causes

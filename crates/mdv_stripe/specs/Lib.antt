@@ -1,0 +1,4 @@
+pub mod Below
+pub mod Stripes
+pub mod OneCopy
+pub mod Laws
