@@ -19,6 +19,7 @@ pub use Rattle.mdv_copies.specs.States.{detach_states, online_states, online_wor
 pub use Rattle.mdv_keys.specs.Keys.{kept}
 pub use Rattle.mdv_name.specs.Code.{slice_code}
 pub use Rattle.mdv_name.specs.declared.geometry.Geometry.{Geometry}
+pub use Rattle.mdv_plan.specs.Named.{kind_below}
 pub use Rattle.mdv_plan.specs.Parents.{names_pool, names_volume}
 pub use Rattle.mdv_plan.specs.Sorted.{changed, with_item, with_put, without}
 pub use Rattle.mdv_plan.specs.Uses.{same_slice}

@@ -1,27 +1,8 @@
 -- The volumes that lie below others, level by level.
-use Rattle.std.specs.Prelude.{Bool, not, ◌&&◌, is_some, List, [], ◌∷◌, ◌++◌, filter, Option, None, Some}
+use Rattle.std.specs.Prelude.{Bool, not, ◌&&◌, is_some, List, [], ◌++◌, filter, Option, None, Some}
 use Rattle.std.specs.List.{flat_map, list_any}
-use Rattle.mdv_change.specs.Below.{VolId, Plan, OneVolume, VolumeKind, Base, Component, Row, volume_of, names_volume}
+use Rattle.mdv_change.specs.Below.{VolId, Plan, OneVolume, kind_below, volume_of, names_volume}
 use Rattle.mdv_change.specs.Clear.{is_named}
-use Rattle.mdv_plan.specs.declared.volume.Base.TheVariants.{Slice, Volume}
-use Rattle.mdv_plan.specs.declared.volume.VolumeKind.TheVariants.{Stripe, Mirror, Raid, Soft}
-
-abbrev pub base_below : Base → List VolId
-base_below (Slice s) = []
-base_below (Volume v) = v ∷ []
-
-abbrev pub component_below : Component → List VolId
-component_below c = base_below c.on
-
-abbrev pub row_below : Row → List VolId
-row_below row = flat_map component_below row.components
-
--- the volumes that it names
-abbrev pub kind_below : VolumeKind → List VolId
-kind_below (Stripe s) = flat_map row_below s.rows
-kind_below (Mirror m) = m.submirrors
-kind_below (Raid r) = flat_map component_below r.columns
-kind_below (Soft s) = base_below s.base
 
 abbrev pub below_at : Option OneVolume → List VolId
 below_at None = []

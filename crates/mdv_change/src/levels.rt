@@ -1,63 +1,20 @@
 //! The volumes that lie below others, level by level.
 ghost use Rattle.std.specs.Prelude.{◌≡◌, ◌++◌, filter, IfOk, OnOk};
 ghost use Rattle.std.specs.List.{flat_map};
-ghost use Rattle.mdv_change.specs.Levels.{base_below, component_below, row_below, kind_below, below_of, uses_beside as spec_uses_beside, is_used_beside as spec_is_used_beside};
+ghost use Rattle.mdv_change.specs.Levels.{below_of, uses_beside as spec_uses_beside, is_used_beside as spec_is_used_beside};
 ghost use Rattle.mdv_change.specs.Levels.{falls as spec_falls, with_level as spec_with_level, with_levels as spec_with_levels};
 
 use crate::clearing::is_named;
 use mdv_base::VolId;
 use mdv_components::volume_of;
-use mdv_plan::{Base, Component, Plan, Row, Volume, VolumeKind, names_volume};
+use mdv_plan::{Plan, Volume, add_named, names_volume};
 use std::alloc::{AllocError, Global};
-
-// Adds the volume that the base is.
-fn add_base(list: &mut Vec<VolId>, base: Base) -> Result<(), AllocError>
-    ensures { OnOk result (list.new.items ≡ list.old.items ++ base_below base) }
-{
-    if let Base::Volume(volume) = base {
-        list.push(volume)?;
-    }
-    Ok(())
-}
-
-fn add_components(list: &mut Vec<VolId>, components: &[Component]) -> Result<(), AllocError>
-    ensures { OnOk result (list.new.items ≡ list.old.items ++ flat_map component_below components.now) }
-{
-    for component in components {
-        add_base(list, component.on)?;
-    }
-    Ok(())
-}
-
-fn add_rows(list: &mut Vec<VolId>, rows: &[Row]) -> Result<(), AllocError>
-    ensures { OnOk result (list.new.items ≡ list.old.items ++ flat_map row_below rows.now) }
-{
-    for row in rows {
-        add_components(list, row.components.as_slice())?;
-    }
-    Ok(())
-}
-
-// Adds the volumes that a volume of this kind names.
-fn add_kind(list: &mut Vec<VolId>, kind: &VolumeKind) -> Result<(), AllocError>
-    ensures { OnOk result (list.new.items ≡ list.old.items ++ kind_below kind.now) }
-{
-    match kind {
-        VolumeKind::Stripe(stripe) => add_rows(list, stripe.rows.as_slice()),
-        VolumeKind::Mirror(mirror) => {
-            list.extend_from_slice(mirror.submirrors.as_slice())?;
-            Ok(())
-        }
-        VolumeKind::Raid(raid) => add_components(list, raid.columns.as_slice()),
-        VolumeKind::Soft(soft) => add_base(list, soft.base),
-    }
-}
 
 fn add_below(list: &mut Vec<VolId>, plan: &Plan, volume: VolId) -> Result<(), AllocError>
     ensures { OnOk result (list.new.items ≡ list.old.items ++ below_of plan.now volume) }
 {
     match volume_of(plan, volume) {
-        Some(volume) => add_kind(list, &volume.kind),
+        Some(volume) => add_named(list, &volume.kind),
         None => Ok(()),
     }
 }

@@ -7,6 +7,7 @@ pub use Rattle.mdv_components.specs.Causes.{first_of, order, told}
 pub use Rattle.mdv_components.specs.declared.cause.Carried.{Carried}
 pub use Rattle.mdv_components.specs.declared.cause.Cause.{Cause}
 pub use Rattle.mdv_components.specs.declared.cause.Cause.TheVariants.{NoSuchVolume, WrongKind, WrongState, LastCopy}
+pub use Rattle.mdv_plan.specs.Resumed.{has_dirty, part_resumed}
 pub use Rattle.mdv_plan.specs.Uses.{same_base}
 pub use Rattle.mdv_plan.specs.declared.plan.Plan.{Plan}
 pub use Rattle.mdv_plan.specs.declared.status.KindStatus.{KindStatus}

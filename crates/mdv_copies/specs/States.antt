@@ -2,7 +2,7 @@
 use Rattle.std.specs.Prelude.{ℕ, Bool, false, not, ◌==◌, ◌&&◌, List, [], ◌∷◌, ◌++◌, map, Option, None, Some, if◌then◌else◌}
 use Rattle.std.specs.List.{list_all, list_any}
 use Rattle.mdv_base.specs.declared.state_word.StateWord.TheVariants as word
-use Rattle.mdv_copies.specs.Below.{VolId, Status, Table, VolumeStatus, KindStatus, StripeKind, MirrorKind, PartStatus, State, StateWord, Okay, Resyncing, Maintenance, LastErred, Regions, Whole, parts_at, status_at}
+use Rattle.mdv_copies.specs.Below.{VolId, Status, Table, VolumeStatus, KindStatus, StripeKind, MirrorKind, PartStatus, State, StateWord, Okay, Resyncing, Maintenance, LastErred, has_dirty, part_resumed, parts_at, status_at}
 use Rattle.mdv_copies.specs.Legs.{flags_less, flags_with, is_in, is_offline, legs_of}
 
 -- 0 of Okay, and more of what is worse
@@ -60,11 +60,8 @@ detach_states t m v = flagged_at (flags_less (legs_of t m) v) (status_at t.statu
 abbrev pub switched : Table → VolId → VolId → Bool → List VolumeStatus
 switched t m v is = flagged_at (flags_with (legs_of t m) v is) (status_at t.status m)
 
-abbrev pub is_marked : ℕ → Bool
-is_marked byte = not (byte == 0)
-
 abbrev pub kind_dirty : KindStatus → Bool
-kind_dirty (MirrorKind s) = list_any is_marked s.dirty
+kind_dirty (MirrorKind s) = has_dirty s.dirty
 kind_dirty _ = false
 
 abbrev pub dirty_at : Option VolumeStatus → Bool
@@ -74,19 +71,6 @@ dirty_at (Some s) = kind_dirty s.kind
 -- whether a region of the mirror is dirty
 abbrev pub is_dirty : Status → VolId → Bool
 is_dirty s m = dirty_at (status_at s m)
-
-abbrev pub okay_resumed : Bool → State
-okay_resumed dirty = if dirty then Resyncing Regions else Okay
-
--- dirty regions are copied to what is Okay, and what is Resyncing is copied whole
-abbrev pub resumed : Bool → State → State
-resumed dirty Okay = okay_resumed dirty
-resumed dirty (Resyncing r) = Resyncing Whole
-resumed dirty state = state
-
--- a spare that the component lies on stays
-abbrev pub part_resumed : Bool → PartStatus → PartStatus
-part_resumed dirty part = record part { state = resumed dirty part.state }
 
 abbrev pub kind_resumed : Bool → KindStatus → KindStatus
 kind_resumed dirty (StripeKind parts) = StripeKind (map (part_resumed dirty) parts)

@@ -5,16 +5,16 @@ ghost use Rattle.std.specs.List.{list_all, list_any};
 ghost use Rattle.mdv_copies.specs.States.{badness as spec_badness, is_as_bad as spec_is_as_bad, has_one as spec_has_one, worst as spec_worst, parts_of as spec_parts_of};
 ghost use Rattle.mdv_copies.specs.States.{is_okay as spec_is_okay, is_all_okay as spec_is_all_okay, sub_word as spec_sub_word, online_word as spec_online_word};
 ghost use Rattle.mdv_copies.specs.States.{kind_flagged as spec_kind_flagged, flagged as spec_flagged, flagged_at, detach_states as spec_detach_states, switched as spec_switched};
-ghost use Rattle.mdv_copies.specs.States.{is_marked as spec_is_marked, kind_dirty as spec_kind_dirty, is_dirty as spec_is_dirty, okay_resumed as spec_okay_resumed, resumed as spec_resumed, part_resumed as spec_part_resumed};
+ghost use Rattle.mdv_copies.specs.States.{kind_dirty as spec_kind_dirty, is_dirty as spec_is_dirty};
 ghost use Rattle.mdv_copies.specs.States.{kind_resumed as spec_kind_resumed, resumed_at, online_states as spec_online_states};
-ghost use Rattle.mdv_copies.specs.Below.{kind_parts as spec_kind_parts, status_at as spec_status_at};
+ghost use Rattle.mdv_copies.specs.Below.{kind_parts as spec_kind_parts, part_resumed as spec_part_resumed, status_at as spec_status_at};
 ghost use Rattle.mdv_copies.specs.Legs.{legs_of as spec_legs_of};
 
 use crate::legs::{Flags, Leg, flags_less, flags_with, is_in, is_offline, legs_of};
 use mdv_base::{StateWord, VolId};
 use mdv_plan::{
-    Copied, KindStatus, Listed, MAX_COMPONENTS, MirrorStatus, PartStatus, Resync, State, Status,
-    Table, VolumeStatus,
+    Copied, KindStatus, Listed, MAX_COMPONENTS, MirrorStatus, PartStatus, State, Status, Table,
+    VolumeStatus, has_dirty, part_resumed,
 };
 use mdv_submirrors::status_at;
 use std::alloc::{AllocError, Global};
@@ -205,23 +205,11 @@ pub fn offline_states(
     switched(alloc, table, mirror, sub, true)
 }
 
-fn is_marked(byte: u8) -> bool
-    ensures { result ≡ spec_is_marked byte }
-{
-    byte != 0
-}
-
-fn has_marked(bytes: &[u8]) -> bool
-    ensures { result ≡ list_any spec_is_marked bytes.now }
-{
-    bytes.iter().any(|byte| is_marked(*byte))
-}
-
 fn kind_dirty(kind: &KindStatus) -> bool
     ensures { result ≡ spec_kind_dirty kind.now }
 {
     match kind {
-        KindStatus::Mirror(mirror) => has_marked(mirror.dirty.as_slice()),
+        KindStatus::Mirror(mirror) => has_dirty(mirror.dirty.as_slice()),
         _ => false,
     }
 }
@@ -232,35 +220,6 @@ fn is_dirty(status: &Status, mirror: VolId) -> bool
     match status_at(status, mirror) {
         Some(status) => kind_dirty(&status.kind),
         None => false,
-    }
-}
-
-fn okay_resumed(dirty: bool) -> State
-    ensures { result ≡ spec_okay_resumed dirty }
-{
-    if dirty {
-        State::Resyncing(Resync::Regions)
-    } else {
-        State::Okay
-    }
-}
-
-fn resumed(dirty: bool, state: State) -> State
-    ensures { result ≡ spec_resumed dirty state }
-{
-    match state {
-        State::Okay => okay_resumed(dirty),
-        State::Resyncing(_) => State::Resyncing(Resync::Whole),
-        _ => state,
-    }
-}
-
-fn part_resumed(dirty: bool, part: PartStatus) -> PartStatus
-    ensures { result ≡ spec_part_resumed dirty part }
-{
-    PartStatus {
-        state: resumed(dirty, part.state),
-        ..part
     }
 }
 

@@ -1,4 +1,7 @@
 pub mod Below
+pub mod Lent
+pub mod Named
+pub mod Resumed
 pub mod Parents
 pub mod Slices
 pub mod Sorted

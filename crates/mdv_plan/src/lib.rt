@@ -5,9 +5,11 @@
 mod clash;
 mod listed;
 mod lists;
+mod named;
 mod parents;
 mod plan;
 mod pool;
+mod resumed;
 mod set;
 mod sorted;
 mod status;
@@ -19,9 +21,11 @@ pub use clash::{Asked, meets_db, overlap, slice_at};
 pub use listed::{Copied, Listed};
 pub use lists::Lists;
 pub use mdv_name::read_geometries_are_sound;
+pub use named::add_named;
 pub use parents::{names_pool, names_volume};
 pub use plan::Plan;
 pub use pool::{MAX_POOLS, MAX_SPARES, Pool, Spare};
+pub use resumed::{has_dirty, part_resumed};
 pub use set::{MAX_HOSTS, MAX_MEDIATORS, MAX_PENDING, MAX_SET_DRIVES, Mediator, Pending, SetData};
 pub use sorted::{Keyed, Sorted};
 pub use status::{

@@ -1,4 +1,6 @@
 ghost use Rattle.std.specs.Prelude.{◌≡◌, ◌≤◌, ◌<◌, ◌↔◌, [], ◌∷◌, ◌++◌, length, IsTrue, IfOk, OnOk, OnErr};
+ghost use Rattle.std.specs.Borrow.{sem};
+ghost use Rattle.mdv_plan.specs.Lent.{lends_items};
 
 use std::alloc::{AllocError, Global};
 use std::marker::Model;
@@ -39,6 +41,14 @@ impl<T: Drop, const MOST: usize> Listed<T, MOST> {
         ensures few { length self.now ≤ MOST }
     {
         self.items.as_slice()
+    }
+
+    /// The values, to be changed in place. There stay as many.
+    pub fn as_mut_slice(&mut self) -> &mut [T]
+        ensures* lends { sem 𝓛 (lends_items T.row MOST.row self.entry result) }
+        ensures value { result.now ≡ self.old }
+    {
+        self.items.as_mut_slice()
     }
 
     pub fn is_full(&self) -> bool

@@ -6,6 +6,7 @@ ghost use Rattle.mdv_plan.specs.Sorted.{IsAscending, IsAt, IsGapFor, with_item, 
 use crate::listed::{Copied, copy_all};
 use std::alloc::{AllocError, Global};
 use std::marker::Model;
+use std::mem;
 
 /// What is found by a number.
 pub trait Keyed {
@@ -109,6 +110,17 @@ impl<T: Keyed + Drop, const LIMIT: usize> Sorted<T, LIMIT> {
     {
         if let Ok(place) = self.search(item.key()) {
             self.items[place] = item;
+        }
+    }
+
+    /// Puts the value in for the one of its key and gives that one back, where there is one.
+    pub fn exchange(&mut self, item: T) -> Option<T>
+        ensures value { result ≡ find (λ x. T.key x == T.key item) self.old }
+        ensures list { self.new ≡ changed T.key item self.old }
+    {
+        match self.search(item.key()) {
+            Ok(place) => Some(mem::replace(&mut self.items[place], item)),
+            Err(_) => None,
         }
     }
 

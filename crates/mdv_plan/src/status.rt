@@ -1,4 +1,6 @@
 ghost use Rattle.std.specs.Prelude.{◌≡◌, length, replicate, IfOk};
+ghost use Rattle.std.specs.Borrow.{sem};
+ghost use Rattle.mdv_plan.specs.Lent.{lends_bytes};
 ghost use Rattle.mdv_name.specs.Code.{slice_code as spec_slice_code};
 
 use crate::listed::{Copied, Listed};
@@ -78,6 +80,15 @@ impl Regions {
     {
         let bytes = Vec::from_slice(alloc, bytes)?;
         Ok(Regions { bytes })
+    }
+
+    /// The bytes, to be changed in place. There stay as many.
+    pub fn as_mut_slice(&mut self) -> &mut [u8]
+        ensures* lends { sem 𝓛 (lends_bytes self.entry result) }
+        ensures value { result.now ≡ self.old }
+        ensures size { length self.old ≡ 128 }
+    {
+        self.bytes.as_mut_slice()
     }
 
     pub fn as_slice(&self) -> &[u8]

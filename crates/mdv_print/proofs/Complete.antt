@@ -11,7 +11,8 @@ use Rattle.mdv_plan.specs.Sorted.{IsAscending}
 use Rattle.mdv_plan.specs.declared.plan.Plan.{Plan}
 use Rattle.mdv_plan.specs.declared.volume.Volume.{Volume as OneVolume}
 use Rattle.mdv_print.specs.Layers.{AreAllVolumes, IsLayered}
-use Rattle.mdv_print.specs.Order.{first_or, go_on, is_among, kind_below, next_of, untold, uppermost, volume_of, walk, with_below}
+use Rattle.mdv_plan.specs.Named.{kind_below}
+use Rattle.mdv_print.specs.Order.{first_or, go_on, is_among, next_of, untold, uppermost, volume_of, walk, with_below}
 use Rattle.mdv_print.proofs.Marking.{among_more}
 use Rattle.mdv_print.proofs.Printed.{walk_holds}
 use Rattle.mdv_print.proofs.Walking.{found_holds, found_number, has_number, kind_among}

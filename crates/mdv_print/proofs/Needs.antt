@@ -21,7 +21,8 @@ use Rattle.mdv_tab.specs.Order.{IsNext, IsOrderOfNeed, Needs, Remains, Waits, ma
 use Rattle.mdv_tab.specs.declared.entry.Entry.{Entry}
 use Rattle.mdv_print.specs.Entries.{base_named, component_named, entries_of, entry_of_pool, entry_of_volume, kind_entry, row_entry}
 use Rattle.mdv_print.specs.Layers.{IsLayered}
-use Rattle.mdv_print.specs.Order.{base_below, component_below, is_among, kind_below, row_below, uppermost, with_below}
+use Rattle.mdv_plan.specs.Named.{base_below, component_below, kind_below, row_below}
+use Rattle.mdv_print.specs.Order.{is_among, uppermost, with_below}
 use Rattle.mdv_print.proofs.Complete.{IsOwn, or_left, or_right, own_at, same_number}
 use Rattle.mdv_print.proofs.Printed.{walk_holds}
 use Rattle.mdv_print.proofs.Walking.{kind_among}

@@ -29,7 +29,8 @@ use Rattle.mdv_tab.specs.Form.{entry_of}
 use Rattle.mdv_tab.specs.Text.{IsTab, ReadsGroups, groups}
 use Rattle.mdv_tab.specs.declared.entry.Entry.{Entry}
 use Rattle.mdv_print.specs.Entries.{HasRange, IsInRange, IsPoolInRange, IsWholeKind, IsWholePlan, IsWholePool, IsWholeRow, IsWholeRun, IsWholeVolume, entries_of, entry_of_pool, entry_of_volume}
-use Rattle.mdv_print.specs.Order.{first_or, go_on, is_among, kind_below, next_of, untold, uppermost, volume_of, walk, with_below}
+use Rattle.mdv_plan.specs.Named.{kind_below}
+use Rattle.mdv_print.specs.Order.{first_or, go_on, is_among, next_of, untold, uppermost, volume_of, walk, with_below}
 use Rattle.mdv_print.specs.Parts.{base_part, component_part, extent_parts, interlace_parts, kind_parts, pool_parts, read_parts, row_parts, spare_part, spares_parts, submirror_part, write_parts}
 use Rattle.mdv_print.specs.Text.{pool_line, tab_text, volume_line}
 use Rattle.mdv_print.specs.Words.{line_of, next_word, next_words, part_word}

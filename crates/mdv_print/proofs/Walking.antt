@@ -17,7 +17,8 @@ use Rattle.mdv_plan.specs.declared.volume.Volume.{Volume as OneVolume}
 use Rattle.mdv_plan.specs.declared.volume.VolumeKind.{VolumeKind}
 use Rattle.mdv_plan.specs.declared.volume.VolumeKind.TheVariants.{Stripe, Mirror, Raid, Soft}
 use Rattle.mdv_print.specs.Marks.{AreMarks, unmarked_of}
-use Rattle.mdv_print.specs.Order.{base_below, component_below, go_on, row_below, kind_below, is_among, next_of, untold, uppermost, volume_of, walk}
+use Rattle.mdv_plan.specs.Named.{base_below, component_below, row_below, kind_below}
+use Rattle.mdv_print.specs.Order.{go_on, is_among, next_of, untold, uppermost, volume_of, walk}
 use Rattle.mdv_print.specs.Text.{volume_line, volumes_text}
 use Rattle.mdv_print.proofs.Marking.{marks_more, marks_none}
 

@@ -1,26 +1,8 @@
 -- In which order volumes are told.
 use Rattle.std.specs.Prelude.{ℕ, zero, suc, Bool, not, ◌==◌, if◌then◌else◌, Option, None, Some, List, [], ◌∷◌, ◌++◌, length, filter, map}
-use Rattle.std.specs.List.{find, flat_map, list_any}
-use Rattle.mdv_print.specs.Below.{Base, Component, OneVolume, Plan, Row, VolId, VolumeKind, has_parent}
-use Rattle.mdv_plan.specs.declared.volume.Base.TheVariants.{Slice, Volume}
-use Rattle.mdv_plan.specs.declared.volume.VolumeKind.TheVariants.{Stripe, Mirror, Raid, Soft}
-
-abbrev pub base_below : Base → List VolId
-base_below (Slice s) = []
-base_below (Volume v) = v ∷ []
-
-abbrev pub component_below : Component → List VolId
-component_below c = base_below c.on
-
-abbrev pub row_below : Row → List VolId
-row_below row = flat_map component_below row.components
-
--- the volumes right below it, in the order in which it names them
-abbrev pub kind_below : VolumeKind → List VolId
-kind_below (Stripe s) = flat_map row_below s.rows
-kind_below (Mirror m) = m.submirrors
-kind_below (Raid r) = flat_map component_below r.columns
-kind_below (Soft s) = base_below s.base
+use Rattle.std.specs.List.{find, list_any}
+use Rattle.mdv_print.specs.Below.{OneVolume, Plan, VolId, has_parent}
+use Rattle.mdv_plan.specs.Named.{kind_below}
 
 abbrev pub is_among : List VolId → VolId → Bool
 is_among vs v = list_any (λ w. w.0 == v.0) vs

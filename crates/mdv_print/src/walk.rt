@@ -4,54 +4,22 @@ ghost use Rattle.std.specs.List.{flat_map};
 ghost use Rattle.mdv_print.specs.Below.{VolId};
 ghost use Rattle.mdv_print.specs.Marks.{AreMarks, IsNext, unmarked_of};
 ghost use Rattle.std.specs.Option.{option_copied};
-ghost use Rattle.mdv_print.specs.Order.{base_below, component_below, row_below, kind_below, next_of, untold, uppermost as spec_uppermost};
+ghost use Rattle.mdv_plan.specs.Named.{kind_below};
+ghost use Rattle.mdv_print.specs.Order.{next_of, untold, uppermost as spec_uppermost};
 ghost use Rattle.mdv_print.specs.Text.{volumes_text};
 
 use crate::line::add_volume;
 use crate::marks::Marks;
 use mdv_base::{Name, VolId};
-use mdv_plan::{Base, Component, Plan, Row, Volume, VolumeKind};
+use mdv_plan::{Plan, Volume, VolumeKind, add_named};
 use std::alloc::{AllocError, Global};
-
-// Adds the volume that the base is.
-fn add_base(list: &mut Vec<VolId>, base: Base) -> Result<(), AllocError>
-    ensures { OnOk result (list.new.items ≡ list.old.items ++ base_below base) }
-{
-    if let Base::Volume(volume) = base {
-        list.push(volume)?;
-    }
-    Ok(())
-}
-
-fn add_components(list: &mut Vec<VolId>, components: &[Component]) -> Result<(), AllocError>
-    ensures { OnOk result (list.new.items ≡ list.old.items ++ flat_map component_below components.now) }
-{
-    for component in components {
-        add_base(list, component.on)?;
-    }
-    Ok(())
-}
-
-fn add_rows(list: &mut Vec<VolId>, rows: &[Row]) -> Result<(), AllocError>
-    ensures { OnOk result (list.new.items ≡ list.old.items ++ flat_map row_below rows.now) }
-{
-    for row in rows {
-        add_components(list, row.components.as_slice())?;
-    }
-    Ok(())
-}
 
 // The volumes that a volume of this kind names.
 fn below(alloc: Global, kind: &VolumeKind) -> Result<Vec<VolId>, AllocError>
     ensures { IfOk result (λ list. list.items ≡ kind_below kind.now) }
 {
     let mut list = Vec::new(alloc);
-    match kind {
-        VolumeKind::Stripe(stripe) => add_rows(&mut list, stripe.rows.as_slice())?,
-        VolumeKind::Mirror(mirror) => list.extend_from_slice(mirror.submirrors.as_slice())?,
-        VolumeKind::Raid(raid) => add_components(&mut list, raid.columns.as_slice())?,
-        VolumeKind::Soft(soft) => add_base(&mut list, soft.base)?,
-    }
+    add_named(&mut list, kind)?;
     Ok(list)
 }
 

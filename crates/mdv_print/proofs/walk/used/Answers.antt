@@ -1,7 +1,7 @@
 use Rattle.std.proofs.Common.{◌∙◌, ◌≡◌, [], sym, subst, ap, get_or, take}
 use Rattle.std.specs.List.{flat_map}
 use Rattle.mdv_print.specs.Marks.{AreMarks}
-use Rattle.mdv_print.specs.Order.{kind_below}
+use Rattle.mdv_plan.specs.Named.{kind_below}
 use Rattle.mdv_plan.specs.declared.volume.Volume.{Volume as OneVolume}
 use Rattle.mdv_print.proofs.Marking.{marks_none}
 use Rattle.mdv_print.proofs.Walking.{below_it, below_more}

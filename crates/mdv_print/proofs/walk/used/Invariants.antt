@@ -1,7 +1,7 @@
 use Rattle.std.proofs.Common.{take}
 use Rattle.std.specs.List.{flat_map}
 use Rattle.mdv_print.specs.Marks.{AreMarks}
-use Rattle.mdv_print.specs.Order.{kind_below}
+use Rattle.mdv_plan.specs.Named.{kind_below}
 use Rattle.mdv_print.proofs.walk.used.Given as goal
 
 abbrev pub invariant-loop-volume : goal.invariant-loop-volume
