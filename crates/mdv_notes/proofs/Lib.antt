@@ -1,0 +1,16 @@
+pub mod Alike
+pub mod Bits
+pub mod Exchanging
+pub mod Finding
+pub mod Leaving
+pub mod Lists
+pub mod Making
+pub mod Places
+pub mod Planning
+pub mod Records
+pub mod Saying
+pub mod SpareStates
+pub mod Staying
+pub mod Telling
+pub mod Texts
+pub mod Walks

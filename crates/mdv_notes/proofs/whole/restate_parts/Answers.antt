@@ -1,0 +1,12 @@
+use Rattle.std.proofs.Common.{◌∙◌, sym}
+use Rattle.mdv_notes.specs.Noted.{with_parts}
+use Rattle.mdv_notes.specs.Parts.{part_resumed}
+use Rattle.mdv_notes.proofs.Exchanging.{none_exchanged, put_back}
+use Rattle.mdv_notes.proofs.whole.restate_parts.Goals as goal
+
+pub returns-in-Some : goal.returns-in-Some
+returns-in-Some c =
+    put_back c.args.volume (with_parts (part_resumed c.args.dirty)) c.in-Some.old c.with_parts_resumed.result c.args.volumes.now c.exchange.new.self c.replace.new.self c.as_slice-ascending.ensures.ascending c.in-Some.ensures.value c.exchange.ensures.list c.with_parts_resumed.ensures c.replace.ensures
+
+pub returns-in_default : goal.returns-in_default
+returns-in_default c = c.exchange.ensures.list ∙ none_exchanged c.args.volume (with_parts (part_resumed c.args.dirty)) c.args.volumes.now (sym c.in_default.ensures.value)

@@ -1,0 +1,10 @@
+pub mod Below
+pub mod Flags
+pub mod Kept
+pub mod Named
+pub mod Noted
+pub mod Parts
+pub mod Planned
+pub mod Regions
+pub mod Spares
+pub mod Told
