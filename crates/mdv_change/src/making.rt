@@ -1,11 +1,11 @@
 //! A change of a table.
-ghost use Rattle.std.specs.Prelude.{◌≡◌, ◌<◌, ◌==◌, List, None, OnOk, OnErr};
+ghost use Rattle.std.specs.Prelude.{◌≡◌, ◌<◌, ◌==◌, List, None, Some, IfSome, OnOk, OnErr};
 ghost use Rattle.std.specs.List.{find};
 ghost use Rattle.mdv_plan.specs.Slices.{IsSound};
 ghost use Rattle.mdv_change.specs.declared.making.ApplyFault.TheVariants.{Memory};
 ghost use Rattle.mdv_change.specs.Apply.{IsApplied, IsNumbered, attach_change, below_change, clear_change, grow_change, mirror_change, raid_change, row_change, soft_change, spares_change, stripe_change};
 ghost use Rattle.mdv_change.specs.Below.{DriveNo, Geometry};
-ghost use Rattle.mdv_change.specs.Change.{with_changed, with_volume};
+ghost use Rattle.mdv_change.specs.Change.{refusal_of, with_changed, with_volume};
 
 use crate::change::Change;
 use crate::clearing::{clear, clear_all, refuse_clear};
@@ -15,8 +15,8 @@ use crate::pooling::{add_spares_to_all, delete_spares, enable_spares, replace_sp
 use crate::replacing::{enable_part, replace_part};
 use mdv_base::{DriveNo, PoolId, Refusal, SliceName, VolId};
 use mdv_components::{
-    Carried, RaidAsked, RowAsked, raid_on, raid_status, refuse_raid, refuse_stripe, row_on,
-    stripe_on, stripe_status,
+    Carried, RaidAsked, RowAsked, is_foreign, is_missing, raid_on, raid_status, refuse_raid,
+    refuse_stripe, row_on, stripe_on, stripe_status, volume_of,
 };
 use mdv_name::Geometry;
 use mdv_plan::{Table, Volume, VolumeStatus};
@@ -199,6 +199,9 @@ fn make_soft(
     requires number { volume.0 < 8192 }
     ensures { IsApplied geometry.now drives.now (soft_change volume soft) table.old table.new result }
 {
+    if let Some(refusal) = refuse_soft_name(geometry, drives, table, volume, soft) {
+        return Err(ApplyFault::Refused(refusal));
+    }
     let room = soft_room(alloc, geometry, &table.plan, soft)?;
     if let Some(refusal) = refuse_soft(alloc, geometry, drives, table, volume, soft, &room)? {
         return Err(ApplyFault::Refused(refusal));
@@ -206,6 +209,29 @@ fn make_soft(
     let made = soft_on(alloc, geometry, &table.plan, volume, soft.base, room);
     add_volume(table, made, soft_status(volume))?;
     Ok(())
+}
+
+// The refusal that the names give by themselves: it needs no look at what uses the table's slices.
+fn refuse_soft_name(
+    geometry: &Geometry,
+    drives: &[DriveNo],
+    table: &Table,
+    volume: VolId,
+    soft: SoftAsked,
+) -> Option<Refusal>
+    requires { IsSound geometry.now }
+    ensures { IfSome result (λ refusal. refusal_of geometry.now drives.now table.now (soft_change volume soft) ≡ Some refusal) }
+{
+    if is_missing(&table.plan, soft.base) {
+        return Some(Refusal::NoSuchVolume);
+    }
+    if is_foreign(geometry, drives, soft.base) {
+        return Some(Refusal::NoSuchSlice);
+    }
+    if volume_of(&table.plan, volume).is_some() {
+        return Some(Refusal::NameTaken);
+    }
+    None
 }
 
 fn add_row(
