@@ -1,7 +1,7 @@
 //! One stripe more: what refuses it, and what changes.
 ghost use Rattle.std.specs.Prelude.{◌≡◌, ◌≤◌, ◌<◌, IfOk, length};
 ghost use Rattle.std.specs.Option.{option_map};
-ghost use Rattle.mdv_components.specs.Causes.{first_of, order};
+ghost use Rattle.mdv_components.specs.Causes.{first_of, name_causes, order};
 ghost use Rattle.mdv_plan.specs.Slices.{IsSound};
 ghost use Rattle.mdv_plan.specs.Uses.{uses_of};
 ghost use Rattle.mdv_rows.specs.Below.{volume_of};
@@ -36,11 +36,39 @@ pub fn refuse_add(
     requires { IsSound geometry.now }
     ensures { IfOk result (λ cause. cause ≡ first_of (add_condition geometry.now drives.now plan.now volume row.now) order) }
 {
-    let uses = plan.uses(alloc)?;
     let bases = row.components.as_slice();
+    let named = name_cause(geometry, drives, plan, volume, row);
+    if named.is_some() {
+        return Ok(named);
+    }
+    let uses = plan.uses(alloc)?;
     let in_use = are_slices_in_use(geometry, &uses, bases);
     let full = is_full(alloc, rows_of(plan, volume), bases.len())?;
     Ok(cause_of(geometry, drives, plan, volume, row, in_use, full))
+}
+
+// The first cause that the names give, which needs no look at what uses the table's slices.
+fn name_cause(
+    geometry: &Geometry,
+    drives: &[DriveNo],
+    plan: &Plan,
+    volume: VolId,
+    row: &RowAsked,
+) -> Option<Cause>
+    requires { IsSound geometry.now }
+    ensures { result ≡ first_of (add_condition geometry.now drives.now plan.now volume row.now) name_causes }
+{
+    let bases = row.components.as_slice();
+    if lacks_one(plan, volume, bases) {
+        return Some(Cause::NoSuchVolume);
+    }
+    if has_foreign(geometry, drives, bases) {
+        return Some(Cause::NoSuchSlice);
+    }
+    if is_wrong_kind(plan, volume, bases) {
+        return Some(Cause::WrongKind);
+    }
+    None
 }
 
 fn cause_of(
