@@ -1,4 +1,4 @@
-ghost use Rattle.std.specs.Prelude.{◌≡◌, false, ◌+◌, ◌<◌, ◌^◌, ◌∷◌, [], ◌++◌, length, decimal, flat_map, IfOk, OnOk};
+ghost use Rattle.std.specs.Prelude.{◌≡◌, ◌↔◌, false, ◌+◌, ◌<◌, ◌^◌, ◌∷◌, [], ◌++◌, length, decimal, flat_map, IsTrue, IfOk, OnOk};
 ghost use Rattle.std.specs.Fmt.{digit_glyph};
 ghost use Rattle.mdv_status.specs.Values.{hex_byte, significant as spec_significant, block_text, value_line, values_text, values_reply};
 
@@ -8,6 +8,9 @@ use std::alloc::{AllocError, Global};
 use std::marker::Model;
 
 const OK: &[u8] = b"ok\n";
+
+// So many bytes at the end of a block are looked at together.
+const CHUNK: usize = 64;
 
 /// The whole reply to a read, as it is told at once.
 #[derive(Drop)]
@@ -80,7 +83,7 @@ fn push_block(text: &mut Vec<u8>, block: &[u8]) -> Result<(), AllocError>
 fn significant(block: &[u8]) -> &[u8]
     ensures { result.now ≡ spec_significant block.now }
 {
-    let mut bytes = block;
+    let mut bytes = without_blank(block);
     while let [front @ .., last] = bytes {
         if *last != 0 {
             break;
@@ -88,6 +91,31 @@ fn significant(block: &[u8]) -> &[u8]
         bytes = front;
     }
     bytes
+}
+
+// The bytes without the chunks of zeros behind the last other one.
+fn without_blank(block: &[u8]) -> &[u8]
+    ensures { spec_significant result.now ≡ spec_significant block.now }
+{
+    let mut bytes = block;
+    while let Some((front, last)) = bytes.split_last_chunk::<CHUNK>() {
+        if !is_blank(last) {
+            break;
+        }
+        bytes = front;
+    }
+    bytes
+}
+
+// Whether all are zeros. No byte ends the loop, so that a machine takes many of them at once.
+fn is_blank(bytes: &[u8; CHUNK]) -> bool
+    ensures { IsTrue result ↔ (spec_significant bytes.now ≡ []) }
+{
+    let mut bits = 0;
+    for byte in bytes {
+        bits |= *byte;
+    }
+    bits == 0
 }
 
 fn push_digits(text: &mut Vec<u8>, bytes: &[u8]) -> Result<(), AllocError>
