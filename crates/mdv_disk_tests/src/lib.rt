@@ -1,4 +1,4 @@
-//! Tests of the script, the drive in memory, a replica on it, the reply to a read, a database's table and its text, and stripes.
+//! Tests of the script, the drive in memory, a replica on it, the reply to a read, a database's table and its text, stripes, and soft partitions.
 #![tactic(auto)]
 
 #[cfg(test)]
@@ -11,6 +11,8 @@ mod record_tests;
 mod replica_tests;
 #[cfg(test)]
 mod shelf_tests;
+#[cfg(test)]
+mod soft_tests;
 #[cfg(test)]
 mod status_tests;
 #[cfg(test)]

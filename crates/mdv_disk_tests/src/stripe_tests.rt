@@ -38,7 +38,14 @@ fn piece_of<D: Placed>(device: &D, at: u64, count: u64) -> Option<Piece>
     Some(device.piece(at, count))
 }
 
-fn is_piece<D: Placed>(device: &D, at: u64, count: u64, drive: u32, block: u64, long: u64) -> bool
+pub(crate) fn is_piece<D: Placed>(
+    device: &D,
+    at: u64,
+    count: u64,
+    drive: u32,
+    block: u64,
+    long: u64,
+) -> bool
     requires { D.IsWell device.now }
 {
     match piece_of(device, at, count) {
@@ -86,7 +93,7 @@ struct Case {
 }
 
 // Three drives, of whose slices the shortest one has four units of 16 blocks.
-const THREE: &[DriveRun] = &[
+pub(crate) const THREE: &[DriveRun] = &[
     DriveRun {
         drive: DriveNo(0),
         first: 100,

@@ -1,0 +1,5 @@
+pub mod Meeting
+pub mod Spots
+pub mod Pieces
+pub mod Extents
+pub mod Causes

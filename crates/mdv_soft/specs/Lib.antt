@@ -1,0 +1,4 @@
+pub mod Below
+pub mod Softs
+pub mod OneCopy
+pub mod Laws
