@@ -1,5 +1,6 @@
 pub mod Counting
 pub mod Lying
+pub mod Together
 pub mod Chaining
 pub mod Turning
 pub mod Slicing

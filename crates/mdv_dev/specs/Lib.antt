@@ -1,4 +1,5 @@
 pub mod Below
 pub mod Pieces
+pub mod Together
 pub mod OneCopy
 pub mod Works

@@ -9,7 +9,7 @@ mod run;
 mod work;
 
 pub use chain::Chain;
-pub use piece::Piece;
+pub use piece::{Piece, is_behind};
 pub use placed::Placed;
 pub use request::{read_blocks, write_blocks};
 pub use run::DriveRun;

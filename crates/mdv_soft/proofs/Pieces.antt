@@ -1,6 +1,6 @@
 -- Pieces of a soft partition.
 use Rattle.std.proofs.Common.{ℕ, ◌+◌, ◌<◌, ◌≤◌, List, subst, arith}
-use Rattle.mdv_stripe.specs.OneCopy.{lies_where}
+use Rattle.mdv_dev.specs.Together.{lies_where}
 use Rattle.mdv_soft.specs.Below.{IsPiece, LieApart, LieTogether, LiesAs, Map, Piece, Run}
 use Rattle.mdv_soft.specs.Softs.{left_in, picked, soft_on, total}
 use Rattle.mdv_soft.specs.OneCopy.{lies_as}

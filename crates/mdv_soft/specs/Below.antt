@@ -5,4 +5,4 @@ pub use Rattle.mdv_dev.specs.declared.piece.Piece.{Piece}
 pub use Rattle.mdv_extent.specs.declared.run.Run.{Run}
 pub use Rattle.mdv_extent.specs.Runs.{covers, end_of, has, takes, with_header}
 pub use Rattle.mdv_extent.specs.Extents.{IsApart, IsExtent, IsExtents, LieApart}
-pub use Rattle.mdv_stripe.specs.Stripes.{LieTogether, LiesAs}
+pub use Rattle.mdv_dev.specs.Together.{LieTogether, LiesAs, lies_where}

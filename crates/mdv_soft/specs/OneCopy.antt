@@ -7,7 +7,7 @@ use Rattle.std.proofs.lemmas.Bool.Decides.{nat_tests}
 use Rattle.std.proofs.lemmas.List.Elements.{All-tail}
 use Rattle.std.proofs.lemmas.List.Sums.{sum_by-cons}
 use Rattle.mdv_dev.specs.Pieces.{count_to}
-use Rattle.mdv_stripe.specs.OneCopy.{lies_where}
+use Rattle.mdv_dev.specs.Together.{lies_where}
 use Rattle.mdv_soft.specs.Below.{IsApart, IsExtent, IsOneCopy, LieApart, LiesAs, Map, Run, end_of, has, takes, with_header}
 use Rattle.mdv_soft.specs.Softs.{IsSoft, picked, soft_on, total}
 

@@ -1,13 +1,13 @@
 ghost use Rattle.std.specs.Prelude.{◌≡◌, ◌+◌, ◌<◌, ◌≤◌, ◌^◌, ◌&&◌, ◌==◌, IfOk, IfErr};
 ghost use Rattle.mdv_dev.specs.Pieces.{IsPiece};
-ghost use Rattle.mdv_stripe.specs.Stripes.{LieTogether, LiesAs};
+ghost use Rattle.mdv_dev.specs.Together.{LieTogether, LiesAs};
 ghost use Rattle.mdv_soft.specs.OneCopy.{soft_bounded, soft_one};
 ghost use Rattle.mdv_soft.specs.Softs.{IsNoSoft, IsSoft, picked, soft_on, total};
 
 use crate::NoSoft;
 use crate::judge::judge;
 use crate::spot::spot_in;
-use mdv_dev::{Piece, Placed};
+use mdv_dev::{Piece, Placed, is_behind};
 use mdv_extent::Run;
 
 /// A soft partition, as `metainit d20 -p c0t0d0s1 -o 1 -b 100 -o 200 -b 50` of `metainit(1M)` makes it: the blocks of its extents follow one
@@ -61,14 +61,6 @@ fn total_blocks(extents: &[Run]) -> u64
     ensures { result ≡ total extents.now }
 {
     extents.iter().map(|run| run.blocks).sum()
-}
-
-// Whether the second one lies right behind the first, on the same drive.
-fn is_behind(first: Piece, second: Piece) -> bool
-    requires { first.block + first.count < 2 ^ 64 }
-    ensures { result ≡ (second.drive.0 == first.drive.0 && second.block == first.block + first.count) }
-{
-    second.drive == first.drive && second.block == first.block + first.count
 }
 
 impl<'a, D: Placed> Placed for Soft<'a, D> {

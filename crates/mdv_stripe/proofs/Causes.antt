@@ -1,5 +1,5 @@
 -- The causes for which columns make no stripe exclude each other.
-use Rattle.std.proofs.Common.{◌≡◌, ◌⊎◌, inl, inr, ℕ, ◌<◌, ◌≤◌, List, refl, arith}
+use Rattle.std.proofs.Common.{◌≡◌, ◌⊎◌, inl, inr, ℕ, ◌<◌, List, refl, arith}
 use Rattle.mdv_stripe.specs.Below.{Map}
 use Rattle.mdv_stripe.specs.declared.no_stripe.NoStripe.{NoStripe}
 use Rattle.mdv_stripe.specs.declared.no_stripe.NoStripe.TheVariants.{TooFew, TooMany, BadInterlace, TooSmall, TooLong}

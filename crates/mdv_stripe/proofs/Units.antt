@@ -1,14 +1,13 @@
 -- Pieces of a stripe.
-use Rattle.std.proofs.Common.{◌≡◌, inl, inr, ℕ, ◌+◌, ◌-◌, ◌*◌, ◌/◌, ◌%◌, ◌<◌, ◌≤◌, true, false, ◌&&◌, ◌==◌, nat_lt, List, [], ◌∷◌, length, refl, sym, ◌∙◌, ap, subst, arith}
+use Rattle.std.proofs.Common.{◌≡◌, ℕ, ◌+◌, ◌-◌, ◌*◌, ◌/◌, ◌%◌, ◌<◌, ◌≤◌, List, [], ◌∷◌, length, refl, sym, ◌∙◌, ap, subst, arith}
 use Rattle.std.specs.List.{slice_index_or}
 use Rattle.std.proofs.lemmas.Nat.{div-mul-add, mod-mul-add, div-add-mod'}
-use Rattle.mdv_shelf.proofs.Blocks.{both_ways}
-use Rattle.mdv_map.proofs.Copies.{le_of_test, lt_of_test, same_block, same_drive}
-use Rattle.mdv_dev.proofs.Lying.{goes_where}
-use Rattle.mdv_stripe.specs.Below.{IsPiece, LiesAt, Map, Piece, column_at, column_of, offset_of}
+use Rattle.mdv_stripe.specs.Below.{IsPiece, Map, Piece, column_at, column_of, offset_of}
 use Rattle.mdv_stripe.specs.declared.leg.Leg.{Leg}
-use Rattle.mdv_stripe.specs.Stripes.{IsLeg, LieTogether, LiesAs, depth, least, maps_of, striped, units_of}
-use Rattle.mdv_stripe.specs.OneCopy.{as_many, column_is, lies_as, lies_where}
+use Rattle.mdv_dev.specs.Together.{LieTogether, LiesAs}
+use Rattle.mdv_stripe.specs.Stripes.{IsLeg, depth, least, maps_of, striped, units_of}
+use Rattle.mdv_dev.specs.Together.{lies_where}
+use Rattle.mdv_stripe.specs.OneCopy.{as_many, column_is, lies_as}
 use Rattle.mdv_stripe.proofs.Legs.{legs_match}
 
 -- blocks of one unit lie in one column, one behind another
@@ -70,62 +69,6 @@ unit_together v w at block count most interlace piece few inside lies is =
       lies = λ k lt. lies_where v w (at + k) (block + k) piece.drive.0 (piece.block + k) (lies k (omega arith) (omega arith)) (is.lies k lt);
       fits = is.fits;
     }
-
--- blocks behind them on the same drive
-module _ (v : Map) (at count : ℕ) (p q : Piece) (one : LieTogether v at count p) (two : LieTogether v (at + p.count) (count - p.count) q) where
-  pub join_units : (q.drive.0 == p.drive.0 && q.block == p.block + p.count) ≡ true → LieTogether v at count (record p { count = p.count + q.count })
-  join_units is =
-      let on = same_drive q.drive.0 p.drive.0 q.block (p.block + p.count) is in
-      let behind = same_block q.drive.0 p.drive.0 q.block (p.block + p.count) is in
-      let first = one.some in
-      let few = one.within in
-      let more = two.within in
-      let fits = two.fits in
-      record {
-        some = omega arith;
-        within = omega arith;
-        lies = λ k lt. elim (both_ways (nat_lt k p.count)) [
-          | inl does ↦ one.lies k (lt_of_test k p.count does)
-          | inr not ↦
-              let above = le_of_test k p.count not in
-              let there = two.lies (k - p.count) (omega arith) in
-              let here : at + p.count + (k - p.count) ≡ at + k = omega arith in
-              let block : q.block + (k - p.count) ≡ p.block + k = omega arith in
-              let moved = subst (λ (b : ℕ). LiesAt v (at + p.count + (k - p.count)) q.drive.0 b) block there in
-              let placed = subst (λ (i : ℕ). LiesAt v i q.drive.0 (p.block + k)) here moved in
-              subst (λ (d : ℕ). LiesAt v (at + k) d (p.block + k)) on placed
-        ];
-        fits = omega arith;
-      }
-
-  pub ends_here : (q.drive.0 == p.drive.0 && q.block == p.block + p.count) ≡ false → IsPiece v at count p
-  ends_here not =
-      let some = two.some in
-      record {
-        some = one.some;
-        within = one.within;
-        lies = one.lies;
-        longest = λ k last below.
-            let next : at + p.count + 0 ≡ at + k + 1 = omega arith in
-            let here = one.lies k (omega arith) in
-            let there = subst (λ (i : ℕ). LiesAt v i q.drive.0 (q.block + 0)) next (two.lies 0 some) in
-            goes_where v (at + k) p.drive.0 (p.block + k) (q.block + 0) q.drive.0 here there ∙ not_behind k last;
-        fits = one.fits;
-      }
-    where
-      not_behind : (k : ℕ) → k + 1 ≡ p.count → (q.drive.0 == p.drive.0 && q.block + 0 == p.block + k + 1) ≡ false
-      not_behind k last =
-          let first : q.block + 0 ≡ q.block = omega arith in
-          let second : p.block + k + 1 ≡ p.block + p.count = omega arith in rw (first, second) not
-
-pub whole_piece : (v : Map) (at count : ℕ) (p : Piece) → LieTogether v at count p → count ≤ p.count → IsPiece v at count p
-whole_piece v at count p one all = record {
-  some = one.some;
-  within = one.within;
-  lies = one.lies;
-  longest = λ k last below. absurd (omega arith);
-  fits = one.fits;
-}
 
 -- a stripe of one component, and how many blocks of each a wider one takes
 pub lone_map : {D : Type 0} (map_of : D → Map) (devices : List D) (interlace : ℕ) (d : D) → length devices ≡ 1 → d ≡ slice_index_or devices 0 d → striped interlace (maps_of map_of devices) ≡ map_of d

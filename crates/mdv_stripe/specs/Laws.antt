@@ -2,7 +2,8 @@
 use Rattle.std.specs.Prelude.{◌≡◌, ℕ, ◌*◌, ◌<◌, ◌≤◌, List, length}
 use Rattle.mdv_stripe.specs.Below.{AreDisjoint, IsDisjoint, IsOn, Map, column_at, column_of, offset_of}
 use Rattle.mdv_stripe.specs.declared.no_stripe.NoStripe.{NoStripe}
-use Rattle.mdv_stripe.specs.Stripes.{IsNoStripe, IsStripe, LiesAs, depth, striped}
+use Rattle.mdv_dev.specs.Together.{LiesAs}
+use Rattle.mdv_stripe.specs.Stripes.{IsNoStripe, IsStripe, depth, striped}
 
 -- this block of the stripe is that block of that column, and no other one is
 pub record IsOnlyBlock (interlace : ℕ) (columns : List Map) (column offset b : ℕ) : Type 0 where

@@ -8,7 +8,8 @@ use Rattle.std.proofs.lemmas.Nat.{div-add-mod'}
 use Rattle.std.proofs.Math.Nat.{div-mul-le_self, div-one}
 use Rattle.mdv_map.proofs.Striping.{stripes_lie}
 use Rattle.mdv_stripe.specs.Below.{IsOneCopy, LiesAt, Map, column_at, column_of, no_map, offset_of}
-use Rattle.mdv_stripe.specs.Stripes.{IsStripe, LiesAs, depth, least, maps_of, striped, units_of}
+use Rattle.mdv_dev.specs.Together.{LiesAs, lies_where}
+use Rattle.mdv_stripe.specs.Stripes.{IsStripe, depth, least, maps_of, striped, units_of}
 
 -- no column is shorter than the shortest one
 pub least_below : (columns : List Map) (i : ℕ) → i < length columns → least columns ≤ (column_at columns i).blocks
@@ -58,10 +59,6 @@ lies_as interlace (v ∷ w ∷ vs) b some lt =
     let dealt = at_offset interlace (v ∷ w ∷ vs) b some lt in
     let there = room interlace (v ∷ w ∷ vs) (column_of interlace (length (v ∷ w ∷ vs)) b) listed in
     record { below = omega arith; copies = refl; places = refl }
-
--- where a block lies that lies as another one does
-pub lies_where : (v w : Map) (b a drive block : ℕ) → LiesAs v b w a → LiesAt w a drive block → LiesAt v b drive block
-lies_where v w b a drive block same there = record { copies = same.copies ∙ there.copies; places = same.places ∙ there.places }
 
 -- the map of a component is its column
 module _ {D : Type 0} (map_of : D → Map) where

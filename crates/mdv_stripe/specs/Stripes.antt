@@ -1,6 +1,6 @@
 -- Stripes: which of their columns' blocks are theirs, and what is no stripe.
-use Rattle.std.specs.Prelude.{◌≡◌, ◌⊎◌, ℕ, ◌+◌, ◌*◌, ◌/◌, ◌^◌, ◌<◌, ◌≤◌, List, [], ◌∷◌, length, map, min}
-use Rattle.mdv_stripe.specs.Below.{LiesAt, Map, Piece, column_of, no_map, offset_of, stripe_map}
+use Rattle.std.specs.Prelude.{◌≡◌, ◌⊎◌, ℕ, ◌*◌, ◌/◌, ◌^◌, ◌<◌, ◌≤◌, List, [], ◌∷◌, length, map, min}
+use Rattle.mdv_stripe.specs.Below.{Map, column_of, no_map, offset_of, stripe_map}
 use Rattle.mdv_stripe.specs.declared.leg.Leg.{Leg}
 use Rattle.mdv_stripe.specs.declared.no_stripe.NoStripe.{NoStripe}
 use Rattle.mdv_stripe.specs.declared.no_stripe.NoStripe.TheVariants.{TooFew, TooMany, BadInterlace, TooSmall, TooLong}
@@ -61,16 +61,3 @@ IsNoStripe interlace columns TooLong = IsWidth (length columns) × IsInterlace i
 pub record IsLeg (interlace width b : ℕ) (leg : Leg) : Type 0 where
   pub component : leg.component ≡ column_of interlace width b
   pub block : leg.block ≡ offset_of interlace width b
-
--- a block of one map lies where that block of another one does
-pub record LiesAs (v : Map) (b : ℕ) (w : Map) (a : ℕ) : Type 0 where
-  pub below : a < w.blocks
-  pub copies : v.copies b ≡ w.copies a
-  pub places : v.places b ≡ w.places a
-
--- some of these blocks, the first ones, one behind another on a drive: a piece, but for its length
-pub record LieTogether (v : Map) (at count : ℕ) (piece : Piece) : Type 0 where
-  pub some : 0 < piece.count
-  pub within : piece.count ≤ count
-  pub lies : (k : ℕ) → k < piece.count → LiesAt v (at + k) piece.drive.0 (piece.block + k)
-  pub fits : piece.block + piece.count < 2 ^ 64

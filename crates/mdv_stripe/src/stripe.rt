@@ -3,11 +3,12 @@ ghost use Rattle.std.specs.List.{All};
 ghost use Rattle.mdv_dev.specs.Pieces.{IsPiece};
 ghost use Rattle.mdv_map.specs.Maps.{column_at};
 ghost use Rattle.mdv_stripe.specs.OneCopy.{stripe_one};
-ghost use Rattle.mdv_stripe.specs.Stripes.{IsLeg, IsNoStripe, IsStripe, IsWidth, LieTogether, LiesAs, maps_of, striped, units_of};
+ghost use Rattle.mdv_dev.specs.Together.{LieTogether, LiesAs};
+ghost use Rattle.mdv_stripe.specs.Stripes.{IsLeg, IsNoStripe, IsStripe, IsWidth, maps_of, striped, units_of};
 
 use crate::least::least_blocks;
 use crate::{Leg, NoStripe};
-use mdv_dev::{Piece, Placed};
+use mdv_dev::{Piece, Placed, is_behind};
 
 const MOST_COMPONENTS: usize = 100;
 
@@ -119,14 +120,6 @@ impl<'a, D: Placed> Stripe<'a, D> {
         }
         piece
     }
-}
-
-// Whether the second one lies right behind the first, on the same drive.
-fn is_behind(first: Piece, second: Piece) -> bool
-    requires { first.block + first.count < 2 ^ 64 }
-    ensures { result ≡ (second.drive.0 == first.drive.0 && second.block == first.block + first.count) }
-{
-    second.drive == first.drive && second.block == first.block + first.count
 }
 
 impl<'a, D: Placed> Placed for Stripe<'a, D> {

@@ -1,5 +1,5 @@
 use Rattle.std.proofs.Common.{◌+◌, ◌&&◌, ◌==◌, sym, ◌∙◌, arith}
-use Rattle.mdv_stripe.proofs.Units.{ends_here, join_units, whole_piece}
+use Rattle.mdv_dev.proofs.Together.{ends_here, join_pieces, whole_piece}
 use Rattle.mdv_soft.specs.Softs.{soft_on}
 use Rattle.mdv_soft.specs.OneCopy.{soft_bounded}
 use Rattle.mdv_soft.proofs.soft.SoftPlaced.piece.Goals as goal
@@ -17,7 +17,7 @@ loop-piece-preserved g c =
     let v = soft_on (g.D.Placed.map c.args.self.now.base.now) c.args.self.now.extents.now in
     let p = c.loop-piece.piece in
     let q = c.extent_piece-next.result in
-    join_units v c.args.at c.args.count p q c.loop-piece.invariant c.extent_piece-next.ensures
+    join_pieces v c.args.at c.args.count p q c.loop-piece.invariant c.extent_piece-next.ensures
     (sym {b = q.drive.0 == p.drive.0 && q.block == p.block + p.count} c.is_behind.ensures ∙ c.if-not-is_behind.false)
 
 pub returns : goal.returns

@@ -1,6 +1,6 @@
 use Rattle.std.proofs.Common.{sym, ◌∙◌}
 use Rattle.mdv_stripe.specs.Stripes.{maps_of, striped}
-use Rattle.mdv_stripe.proofs.Units.{ends_here, join_units}
+use Rattle.mdv_dev.proofs.Together.{ends_here, join_pieces}
 use Rattle.mdv_stripe.proofs.stripe.Stripe.joined_units.Goals as goal
 
 pub returns-then-not-is_behind : goal.returns-then-not-is_behind
@@ -11,4 +11,4 @@ returns-then-not-is_behind g c =
 pub loop-piece-preserved : goal.loop-piece-preserved
 loop-piece-preserved g c =
     let v = striped c.args.self.now.interlace (maps_of g.D.Placed.map c.args.self.now.components.now) in
-    join_units v c.args.at c.args.count c.loop-piece.piece c.unit_piece-next.result c.loop-piece.invariant c.unit_piece-next.ensures (sym c.is_behind.ensures ∙ c.if-not-is_behind.false)
+    join_pieces v c.args.at c.args.count c.loop-piece.piece c.unit_piece-next.result c.loop-piece.invariant c.unit_piece-next.ensures (sym c.is_behind.ensures ∙ c.if-not-is_behind.false)

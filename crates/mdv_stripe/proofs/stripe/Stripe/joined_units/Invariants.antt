@@ -1,5 +1,6 @@
 use Rattle.std.proofs.Common.{◌-◌}
-use Rattle.mdv_stripe.specs.Stripes.{LieTogether, maps_of, striped}
+use Rattle.mdv_dev.specs.Together.{LieTogether}
+use Rattle.mdv_stripe.specs.Stripes.{maps_of, striped}
 use Rattle.mdv_stripe.proofs.stripe.Stripe.joined_units.Given as goal
 
 abbrev pub invariant-loop-piece : goal.invariant-loop-piece

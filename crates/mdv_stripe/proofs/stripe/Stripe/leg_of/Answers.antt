@@ -1,6 +1,7 @@
 use Rattle.std.proofs.Common.{ℕ, ◌<◌, subst, arith}
 use Rattle.mdv_stripe.specs.Below.{column_at, column_of, offset_of}
-use Rattle.mdv_stripe.specs.Stripes.{LiesAs, maps_of, striped}
+use Rattle.mdv_dev.specs.Together.{LiesAs}
+use Rattle.mdv_stripe.specs.Stripes.{maps_of, striped}
 use Rattle.mdv_stripe.specs.OneCopy.{as_many, lies_as}
 use Rattle.mdv_stripe.proofs.stripe.Stripe.leg_of.Goals as goal
 
