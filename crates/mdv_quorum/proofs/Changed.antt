@@ -5,13 +5,13 @@ use Rattle.std.proofs.lemmas.List.Elements.{Contains-append_left}
 use Rattle.std.specs.Prelude.{Contains, nat_lt, ◌==◌}
 use Rattle.mdv_quorum.specs.Below.{Mark, Spot, SpotLists, Version, last_list, same_spots, table_at, mark_below}
 use Rattle.mdv_votes.proofs.SameSpots.{spots_same}
-use Rattle.mdv_votes.proofs.Quorums.{lists_at, IsCommon}
+use Rattle.mdv_votes.proofs.Quorums.{lists_at, IsCommon, last_in}
 use Rattle.mdv_quorum.specs.declared.machine.Core.{Core}
 use Rattle.mdv_quorum.specs.declared.machine.Stage.{Stage}
 use Rattle.mdv_quorum.specs.declared.machine.Stage.TheVariants.{Reading, Creating, Claiming, Writing, Ready}
 use Rattle.mdv_quorum.specs.World.{created, changed, lists_at as lists_next, last_table}
 use Rattle.mdv_quorum.specs.May.{may_list, is_lists, is_new, may_follow}
-use Rattle.mdv_quorum.proofs.Written.{some_same, itself_common, last_in, prefix_itself}
+use Rattle.mdv_quorum.proofs.Written.{some_same, itself_common, prefix_itself}
 use Rattle.mdv_quorum.proofs.Follow.{lists_ok, seats_follow, has_follow}
 use Rattle.mdv_quorum.proofs.Invariant.{plan_at, IsLive, Base, Inv, StageOk, Fits, ListsOk, IsPrefix}
 
@@ -104,8 +104,8 @@ change_fits w lists next b ok new may =
     let only : (i : ℕ) → i < length w.family → IsLive w.firm i → m ≡ i = λ i h live. (let up = live m ok.settled in omega (arith, up, h)) in
     let seats = seats_follow w.set old lists (b.tables.lists m hm) new may in
     let has = has_follow old lists may in
-    let before : IsCommon w.family w.firm old lists = record { list = last_list old; in_a = last_in old; in_b = has; seats = seats.0; last = inr (m, ok.settled, refl) } in
-    let behind : IsCommon w.family w.firm lists old = record { list = last_list old; in_a = has; in_b = last_in old; seats = seats.1; last = inl refl } in
+    let before : IsCommon w.family w.firm old lists = record { shared = record { list = last_list old; in_a = last_in old; in_b = has; seats = seats.0 }; last = inr (m, ok.settled, refl) } in
+    let behind : IsCommon w.family w.firm lists old = record { shared = record { list = last_list old; in_a = has; in_b = last_in old; seats = seats.1 }; last = inl refl } in
     let more : IsPrefix (last_table w).plan ((last_table w).plan ++ w.changes ∷ []) = (w.changes ∷ [], refl) in
     record {
       mark = λ i h. mark_next (table_at w.family i).mark (last_table w).mark (elim (cases_eq i m) [

@@ -6,9 +6,9 @@ use Rattle.std.specs.Prelude.{nat_le}
 use Rattle.mdv_quorum.specs.Below.{Spot, SpotLists, is_in, is_majority, is_none, last_list, last_or, same_spot, same_spots}
 use Rattle.mdv_votes.proofs.Meeting.{same_is, meet_counted, step_counted}
 use Rattle.mdv_votes.proofs.SameSpots.{spots_same}
-use Rattle.mdv_votes.proofs.Quorums.{HasList, SeatsMeet}
+use Rattle.mdv_votes.specs.Laws.{HasList, SeatsMeet}
+use Rattle.mdv_votes.proofs.Quorums.{last_in, seats_itself}
 use Rattle.mdv_quorum.specs.May.{is_distinct, is_one_more, may_follow, moves_on, same_second, is_lists, is_place, all_second}
-use Rattle.mdv_quorum.proofs.Written.{last_in, seats_itself}
 use Rattle.mdv_quorum.proofs.Invariant.{ListsOk}
 
 second_same : (a b : Option (List Spot)) → same_second a b ≡ true → a ≡ b

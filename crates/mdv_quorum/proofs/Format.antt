@@ -5,11 +5,11 @@ use Rattle.std.specs.List.{list_all}
 use Rattle.mdv_quorum.specs.Below.{DriveNo, Spot, SpotLists, Version, SpotState, Since, Never, Listed, Dropped, is_in, is_named, last_list, last_or, in_second, same_spot, place_at, boot_of, put_at, formatted, blank_place}
 use Rattle.mdv_votes.proofs.Meeting.{same_is, same_self}
 use Rattle.mdv_votes.proofs.PlacesAt.{put_cases, put_used, spot_at, Apart}
-use Rattle.mdv_votes.proofs.Quorums.{lists_at}
+use Rattle.mdv_votes.proofs.Quorums.{lists_at, last_in}
 use Rattle.mdv_quorum.specs.World.{raised}
 use Rattle.mdv_quorum.specs.May.{is_up, is_clean_at, is_clean, is_clean_but, shows_below}
 use Rattle.mdv_quorum.proofs.More.{none_some}
-use Rattle.mdv_quorum.proofs.Written.{some_same, last_in}
+use Rattle.mdv_quorum.proofs.Written.{some_same}
 use Rattle.mdv_quorum.proofs.Invariant.{newest, holds, since, boot_at, Above, Late, PlacesOk, TablesOk}
 
 -- what holds of each place that is known holds of the one that is looked up, or nothing is known of it

@@ -2,7 +2,8 @@
 use Rattle.std.proofs.Common.{◌≡◌, ◌<◌, ◌≤◌, ◌-◌, ℕ, Bool, true, false, List, [], ◌++◌, length, ◌⊎◌, Option, None, Some}
 use Rattle.std.specs.Prelude.{Contains, option_to_list}
 use Rattle.mdv_quorum.specs.Below.{DriveNo, Spot, SpotLists, Version, SpotState, Since, Never, Listed, Dropped, is_in, is_named, last_list, is_read, is_written, table_at, place_at, boot_of, mark_below}
-use Rattle.mdv_votes.proofs.Quorums.{lists_at, HasList, IsCommon}
+use Rattle.mdv_votes.specs.Laws.{HasList}
+use Rattle.mdv_votes.proofs.Quorums.{lists_at, IsCommon}
 use Rattle.mdv_quorum.specs.declared.machine.Core.{Core}
 use Rattle.mdv_quorum.specs.declared.machine.Stage.{Stage}
 use Rattle.mdv_quorum.specs.declared.machine.Stage.TheVariants.{Reading, Creating, Claiming, Writing, Ready}

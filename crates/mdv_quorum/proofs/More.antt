@@ -49,10 +49,7 @@ module _ (set : Bool) (family : List Version) (next : Version) where
 
   pub common_more : (firm : Option ℕ) (a b : SpotLists) → ((f : ℕ) → firm ≡ Some f → f < length family) → IsCommon family firm a b → IsCommon (family ++ next ∷ []) firm a b
   common_more firm a b firm_in c = record {
-    list = c.list;
-    in_a = c.in_a;
-    in_b = c.in_b;
-    seats = c.seats;
+    shared = c.shared;
     last = elim c.last [
       | inl last ↦ inl last
       | inr f ↦ inr (f.0, f.1, f.2 ∙ ap (λ (t : Version). last_list t.lists) (sym (old_table f.0 (firm_in f.0 f.1))))

@@ -5,7 +5,7 @@ use Rattle.std.proofs.lemmas.List.Elements.{Contains-append_right, Contains-appe
 use Rattle.std.specs.Prelude.{option_to_list, Contains}
 use Rattle.mdv_quorum.specs.Below.{Spot, Version, SpotState, is_in, is_named, last_list, is_read, is_written, is_claimed, table_at, put_at, with_newest}
 use Rattle.mdv_votes.proofs.Meeting.{same_self, in_more}
-use Rattle.mdv_votes.proofs.Quorums.{claimed_meets, lists_at}
+use Rattle.mdv_votes.proofs.Quorums.{claims_meet_reads, lists_at}
 use Rattle.mdv_votes.proofs.PlacesAt.{put_cases}
 use Rattle.mdv_quorum.specs.declared.event.SlotEnd.{SlotEnd}
 use Rattle.mdv_quorum.specs.declared.event.SlotEnd.TheVariants.{Closed, Holds}
@@ -145,7 +145,7 @@ slot_claiming w p end i next claimed b ok may =
           omega (arith, high, ap (λ (t : Version). t.mark.boot) (old_table w.set w.family next u old), ap (λ (t : Version). t.mark.boot) is),
     )
     (λ j read knows hj lj reads.
-    let f = claimed_meets w.family w.firm w.set (table_at w.family j) next (is_in claimed) read knows (ok.fits.before j hj lj) (b.tables.lists j hj).alone m.0 reads in
+    let f = claims_meet_reads w.set (table_at w.family j) next (is_in claimed) read knows (ok.fits.before j hj lj).shared (b.tables.lists j hj).alone m.0 reads in
     inr (f.0, f.2, inl (ok.claims f.0 f.1)))
     m.1
 

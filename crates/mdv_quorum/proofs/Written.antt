@@ -1,9 +1,8 @@
 -- A place takes the last table, and that table becomes firm.
 use Rattle.std.proofs.Common.{◌≡◌, ◌<◌, ◌≤◌, ◌-◌, ℕ, Bool, true, false, refl, ap, sym, ◌∙◌, subst, List, [], length, inl, inr, ◌⊎◌, Option, None, Some, arith, map, append-nil}
 use Rattle.std.proofs.lemmas.Bool.{false≢true, cases_lt}
-use Rattle.mdv_quorum.specs.Below.{DriveNo, Spot, SpotLists, Version, SpotState, Since, Never, Listed, Dropped, is_in, last_list, last_or, is_written, table_at, boot_of, put_at, with_newest, with_since, since_after}
-use Rattle.mdv_votes.proofs.Quorums.{written_meets, lists_at, HasList, IsCommon, SeatsMeet}
-use Rattle.mdv_votes.proofs.Meeting.{meet, half_of_majority}
+use Rattle.mdv_quorum.specs.Below.{DriveNo, Spot, SpotLists, Version, SpotState, Since, Never, Listed, Dropped, is_in, last_list, is_written, table_at, boot_of, put_at, with_newest, with_since, since_after}
+use Rattle.mdv_votes.proofs.Quorums.{writes_meet_reads, lists_at, IsCommon, last_in, seats_itself}
 use Rattle.mdv_votes.proofs.PlacesAt.{put_cases, put_used, map_at, map_used, spot_at}
 use Rattle.mdv_quorum.proofs.More.{boots_rise, none_some}
 use Rattle.mdv_quorum.proofs.Invariant.{newest, claim, holds, since, boot_at, plan_at, Above, Late, IsCovered, PlacesOk, IsLive, TablesOk, AllCommon, PlansOk, IsPrefix, HasTaken, IsAlone}
@@ -118,13 +117,6 @@ dropped_cases m k false Listed e = inl (same (sym e))
     same x = cc
 dropped_cases m k false (Dropped j) e = inr e
 
-pub last_in : (lists : SpotLists) → HasList lists (last_list lists)
-last_in lists = at lists.first lists.second
-  where
-    at : (first : List Spot) (second : Option (List Spot)) → (first ≡ last_or first second) ⊎ (second ≡ Some (last_or first second))
-    at first None = inl refl
-    at first (Some list) = inr refl
-
 -- the last table is firm now
 pub settle_places : (family : List Version) (firm : Option ℕ) (places : List SpotState) (floor : ℕ) (lost : List DriveNo) (deleted : Option Spot) (took : Spot → Bool) (set : Bool)
     → TablesOk set family → AllCommon family firm → PlacesOk family firm places floor lost deleted → 0 < length family → deleted ≡ None
@@ -153,10 +145,10 @@ settle_places family firm places floor lost deleted took set tables common ok so
           elim (live_or_below firm i) [
             | inl live ↦ inr (λ read knows r.
                 let c = common i m hi hm live live_m in
-                let found = written_meets family firm (table_at family i) (table_at family m) took read knows c (λ half nobody. alone half nobody i hi live) written r in
+                let found = writes_meet_reads (table_at family i) (table_at family m) took read knows c.shared (λ half nobody. alone half nobody i hi live) written r in
                 let q = found.0 in
                 let t = taken q found.1 in
-                let late : is_in c.list q ≡ true → Late (since new q) i =
+                let late : is_in c.shared.list q ≡ true → Late (since new q) i =
                 λ on. elim (stands q) [
                   | inl s ↦ subst (λ (z : Since). Late z i) (sym s) (elim c.last [
                     | inl last ↦ subst (λ (b : Bool). Late (since_after m b (since places q)) i) (sym (subst (λ (l : List Spot). is_in l q ≡ true) last on)) tt
@@ -170,7 +162,7 @@ settle_places family firm places floor lost deleted took set tables common ok so
                   place = q;
                   was_read = found.2;
                   late = elim found.3 [
-                    | inl on ↦ inl ((tables.lists i hi).places c.list q c.in_a on, late on)
+                    | inl on ↦ inl ((tables.lists i hi).places c.shared.list q c.shared.in_a on, late on)
                     | inr seat ↦ inr ((tables.lists i hi).seats q seat.0, seat.1)
                   ];
                   above = subst (λ (o : Option ℕ). Above o i) (sym (shows q ∙ t.shows)) him;
@@ -231,12 +223,11 @@ settle_taken family places q list t =
       | inr b ↦ absurd (false≢true (sym (ap (λ (x : SpotState). x.holds) b.1) ∙ t.held))
     ]
 
--- a list meets itself
-pub seats_itself : (list : List Spot) → SeatsMeet list list
-seats_itself list took read most asked = meet took read list (half_of_majority took list most) asked
-
 pub itself_common : (family : List Version) (firm : Option ℕ) (lists : SpotLists) → IsCommon family firm lists lists
-itself_common family firm lists = record { list = last_list lists; in_a = last_in lists; in_b = last_in lists; seats = seats_itself lists.mediators; last = inl refl }
+itself_common family firm lists = record {
+  shared = record { list = last_list lists; in_a = last_in lists; in_b = last_in lists; seats = seats_itself lists.mediators };
+  last = inl refl;
+}
 
 -- below the last table none is live any more
 only_last : (family : List Version) (i : ℕ) → 0 < length family → i < length family → IsLive (Some (length family - 1)) i → i ≡ length family - 1

@@ -5,6 +5,7 @@ use Rattle.std.proofs.lemmas.List.Sums.{sum_by-cons}
 use Rattle.std.specs.Prelude.{count_by, ◌==◌}
 use Rattle.mdv_votes.specs.declared.spot.Spot.{Spot}
 use Rattle.mdv_votes.specs.Spots.{same_kind, same_spot, is_in, is_majority, is_half}
+use Rattle.mdv_votes.specs.Laws.{HalvesMeet}
 
 kind_same : (a b : Bool) → same_kind a b ≡ true → a ≡ b
 kind_same true true h = refl
@@ -95,8 +96,7 @@ meet_counted s r list h =
     (found.0, parts.0, parts.1, found.2)
 
 -- the meeting lemma, over any two sets of places
-pub meet : (took read : Spot → Bool) (list : List Spot) → is_half took list ≡ true → is_majority read list ≡ true
-    → (p : Spot) × (took p ≡ true) × (read p ≡ true) × (is_in list p ≡ true)
+pub meet : HalvesMeet
 meet took read list half most =
     meet_counted took read list (omega (arith, leb-true (length list) (2 * count_by took list) half, ltb-true (length list) (2 * count_by read list) most))
 

@@ -1,33 +1,37 @@
 -- What is written or claimed meets what is read, on a list that the tables have in common or in a mediator.
-use Rattle.std.proofs.Common.{◌≡◌, ℕ, Bool, true, false, refl, sym, ◌∙◌, subst, List, [], ◌∷◌, ◌&&◌, ◌||◌, cond, not, inl, inr, ◌⊎◌, Option, Some}
+use Rattle.std.proofs.Common.{◌≡◌, ℕ, Bool, true, false, refl, sym, ◌∙◌, subst, List, [], ◌∷◌, ◌&&◌, ◌||◌, cond, not, inl, inr, ◌⊎◌, Option, None, Some}
 use Rattle.std.proofs.lemmas.Bool.{and_parts, or_cases, cases_Bool, false≢true, not-true, and_from, or_parts, false_from_ne_true, cond-true, cond-false}
 use Rattle.std.specs.List.{list_any}
 use Rattle.mdv_votes.specs.declared.spot.Spot.{Spot}
 use Rattle.mdv_votes.specs.declared.spot.SpotLists.{SpotLists}
 use Rattle.mdv_votes.specs.declared.version.Version.{Version}
-use Rattle.mdv_votes.specs.Spots.{is_in, is_majority, is_half, is_none, covers, covers_second, last_list, same_spot}
-use Rattle.mdv_votes.specs.Quorum.{is_read, is_written, is_claimed, is_read_list, is_written_list, is_claimed_list}
+use Rattle.mdv_votes.specs.Spots.{is_in, is_majority, is_half, is_none, covers, covers_second, last_list, last_or, same_spot}
+use Rattle.mdv_votes.specs.Quorum.{is_read_list, is_written_list, is_claimed_list}
 use Rattle.mdv_votes.specs.Family.{table_at}
+use Rattle.mdv_votes.specs.Laws.{HasList, SeatsMeet, Shares, ListsAreShared, WritesMeetReads, ClaimsMeetReads, ReadsHaveOne}
 use Rattle.mdv_votes.proofs.Meeting.{half_of_majority, meet, same_is}
 
 abbrev pub lists_at : List Version → ℕ → SpotLists
 lists_at family i = (table_at family i).lists
 
-abbrev pub HasList : SpotLists → List Spot → Type 0
-HasList lists list = (lists.first ≡ list) ⊎ (lists.second ≡ Some list)
-
--- more than half of the one's mediators and more than half of the other's have one of the first in common
-abbrev pub SeatsMeet : List Spot → List Spot → Type 0
-SeatsMeet a b =
-    (took read : Spot → Bool) → is_majority took b ≡ true → is_majority read a ≡ true → (m : Spot) × (took m ≡ true) × (read m ≡ true) × (is_in a m ≡ true)
-
--- two tables have a list in common: the second one's last, or the firm one's last; and their mediators meet
+-- two tables share a list: the second one's last, or the firm one's last
 pub record IsCommon (family : List Version) (firm : Option ℕ) (a b : SpotLists) : Type 0 where
-  pub list : List Spot
-  pub in_a : HasList a list
-  pub in_b : HasList b list
-  pub seats : SeatsMeet a.mediators b.mediators
-  pub last : (list ≡ last_list b) ⊎ ((f : ℕ) × (firm ≡ Some f) × (list ≡ last_list (lists_at family f)))
+  pub shared : Shares a b
+  pub last : (shared.list ≡ last_list b) ⊎ ((f : ℕ) × (firm ≡ Some f) × (shared.list ≡ last_list (lists_at family f)))
+
+pub last_in : (lists : SpotLists) → HasList lists (last_list lists)
+last_in lists = at lists.first lists.second
+  where
+    at : (first : List Spot) (second : Option (List Spot)) → (first ≡ last_or first second) ⊎ (second ≡ Some (last_or first second))
+    at first None = inl refl
+    at first (Some list) = inr refl
+
+-- a list meets itself
+pub seats_itself : (list : List Spot) → SeatsMeet list list
+seats_itself list took read most asked = meet took read list (half_of_majority took list most) asked
+
+pub lists_are_shared : ListsAreShared
+lists_are_shared lists = record { list = last_list lists; in_a = last_in lists; in_b = last_in lists; seats = seats_itself lists.mediators }
 
 pub covers_at : (test : List Spot → Bool) (lists : SpotLists) (list : List Spot) → covers test lists ≡ true → HasList lists list → test list ≡ true
 covers_at test lists list all has =
@@ -116,23 +120,34 @@ claimed_backed set mediators took list h =
           }
     ]
 
-pub written_meets : (family : List Version) (firm : Option ℕ) (a b : Version) (took read knows : Spot → Bool) (common : IsCommon family firm a.lists b.lists)
-    → (b.by_majority ≡ false → b.lists.mediators ≡ [] → a.lists.mediators ≡ []) → is_written b took ≡ true → is_read a read knows ≡ true
-    → (p : Spot) × (took p ≡ true) × (read p ≡ true) × ((is_in common.list p ≡ true) ⊎ ((is_in a.lists.mediators p ≡ true) × (knows p ≡ false)))
-written_meets family firm a b took read knows common alone written reads =
-    backed_meets common.list a.lists.mediators b.lists.mediators took read knows (b.by_majority ≡ false)
-    (written_backed b.by_majority b.lists.mediators took common.list
-    (covers_at (is_written_list b.by_majority b.lists.mediators took) b.lists common.list written common.in_b))
-    alone common.seats
-    (covers_at (is_read_list a.lists.mediators read knows) a.lists common.list reads common.in_a)
+pub writes_meet_reads : WritesMeetReads
+writes_meet_reads a b took read knows shared alone written reads =
+    backed_meets shared.list a.lists.mediators b.lists.mediators took read knows (b.by_majority ≡ false)
+    (written_backed b.by_majority b.lists.mediators took shared.list
+    (covers_at (is_written_list b.by_majority b.lists.mediators took) b.lists shared.list written shared.in_b))
+    alone shared.seats
+    (covers_at (is_read_list a.lists.mediators read knows) a.lists shared.list reads shared.in_a)
 
-pub claimed_meets : (family : List Version) (firm : Option ℕ) (set : Bool) (a b : Version) (claimed read knows : Spot → Bool) (common : IsCommon family firm a.lists b.lists)
-    → (set ≡ false → a.lists.mediators ≡ []) → is_claimed set b claimed ≡ true → is_read a read knows ≡ true
-    → (p : Spot) × (claimed p ≡ true) × (read p ≡ true)
-claimed_meets family firm set a b claimed read knows common alone written reads =
-    let found = backed_meets common.list a.lists.mediators b.lists.mediators claimed read knows (set ≡ false)
-    (claimed_backed set b.lists.mediators claimed common.list
-    (covers_at (is_claimed_list set b.lists.mediators claimed) b.lists common.list written common.in_b))
-    (λ e none. alone e) common.seats
-    (covers_at (is_read_list a.lists.mediators read knows) a.lists common.list reads common.in_a) in
+pub claims_meet_reads : ClaimsMeetReads
+claims_meet_reads set a b claimed read knows shared alone written reads =
+    let found = backed_meets shared.list a.lists.mediators b.lists.mediators claimed read knows (set ≡ false)
+    (claimed_backed set b.lists.mediators claimed shared.list
+    (covers_at (is_claimed_list set b.lists.mediators claimed) b.lists shared.list written shared.in_b))
+    (λ e none. alone e) shared.seats
+    (covers_at (is_read_list a.lists.mediators read knows) a.lists shared.list reads shared.in_a) in
     (found.0, found.1, found.2)
+
+-- more than half of a list is never nobody
+one_of : (read : Spot → Bool) (list : List Spot) → is_majority read list ≡ true → (p : Spot) × (read p ≡ true)
+one_of read list most = let found = meet read read list (half_of_majority read list most) most in (found.0, found.1)
+
+pub reads_have_one : ReadsHaveOne
+reads_have_one t read knows reads =
+    let seats = t.lists.mediators in
+    let list = t.lists.first in
+    let first = covers_at (is_read_list seats read knows) t.lists list reads (inl refl) in
+    let denied = list_any (λ m. read m && knows m) seats in
+    elim (parted (not (is_none seats) && is_half read list) (is_majority read list) (is_majority read seats && not denied) first) [
+      | inl most ↦ one_of read list most
+      | inr rest ↦ one_of read seats (and_parts (is_majority read seats) (not denied) rest.1).0
+    ]

@@ -1,3 +1,4 @@
 pub mod Spots
 pub mod Quorum
 pub mod Family
+pub mod Laws

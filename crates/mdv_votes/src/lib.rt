@@ -3,6 +3,7 @@
 #![tactic(auto)]
 
 mod family;
+mod law;
 mod places;
 mod quorum;
 mod row;
@@ -11,6 +12,7 @@ mod spots;
 mod version;
 
 pub use family::{greatest_of, last_list, mark_at, newest_of, no_table, table_at};
+pub use law::{halves_meet, newest_is_greatest, quorums_grow, quorums_meet};
 pub use places::{format_spot, note_list, place_at, set_claim, set_newest, wipe_spot};
 pub use quorum::{is_claimed, is_read, is_written};
 pub use row::Row;
