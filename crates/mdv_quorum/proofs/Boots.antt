@@ -132,6 +132,7 @@ choose_ok w p places i b ok e may =
       stage = record {
         there = chosen_there w places i b ok known live m.0;
         known = known;
+        live = live;
         chosen = record { plan = refl; same = refl; issued = b.plans.issued i known live; holds_told = b.plans.holds_told i known live };
         fits = record {
           mark = λ u hu. or_left (nat_lt (boot_at w.family u) next.mark.boot) ((boot_at w.family u == next.mark.boot) && nat_lt (table_at w.family u).mark.count 0)
@@ -168,6 +169,7 @@ claim_more w p i next places b ok = record {
   stage = record {
     there = ok.there;
     known = ok.known;
+    live = ok.live;
     chosen = ok.chosen;
     fits = ok.fits;
     higher = ok.higher;

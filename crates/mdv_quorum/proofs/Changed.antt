@@ -153,16 +153,14 @@ change_ok w lists next b ok lists_may may =
 
 pub lists_event_ok : (w : Core) (lists : SpotLists) (s : Stage) → Base w → StageOk w s → may_list w lists s ≡ true → Inv (lists_next w lists s)
 lists_event_ok w lists (Reading places) b ok may =
-    let m = and_parts (is_lists w.set lists) (is_new w && nat_lt w.changes (2 ^ 63)) may in
-    let n = and_parts (is_new w) (nat_lt w.changes (2 ^ 63)) m.1 in
-    create_ok w lists b m.0 n.0 (none_there w b (b.places.unused (eqb-true (length w.places) 0 n.0)))
+    let m = and_parts (is_lists w.set lists) (is_new w) may in
+    create_ok w lists b m.0 m.1 (none_there w b (b.places.unused (eqb-true (length w.places) 0 m.1)))
 lists_event_ok w lists (Creating next) b ok may =
-    let m = and_parts (is_lists w.set lists) (is_new w && nat_lt w.changes (2 ^ 63)) may in
-    let n = and_parts (is_new w) (nat_lt w.changes (2 ^ 63)) m.1 in
-    create_ok w lists b m.0 n.0 (none_there w b (b.places.unused (eqb-true (length w.places) 0 n.0)))
+    let m = and_parts (is_lists w.set lists) (is_new w) may in
+    create_ok w lists b m.0 m.1 (none_there w b (b.places.unused (eqb-true (length w.places) 0 m.1)))
 lists_event_ok w lists (Claiming adopted next claimed) b ok may = absurd (false≢true may)
 lists_event_ok w lists (Writing boot took) b ok may = absurd (false≢true may)
 lists_event_ok w lists (Ready next) b ok may =
-    let m = and_parts (is_lists w.set lists) (may_follow (last_table w).lists lists && (nat_lt ((last_table w).mark.count + 1) (2 ^ 63) && nat_lt w.changes (2 ^ 63))) may in
-    let n = and_parts (may_follow (last_table w).lists lists) (nat_lt ((last_table w).mark.count + 1) (2 ^ 63) && nat_lt w.changes (2 ^ 63)) m.1 in
+    let m = and_parts (is_lists w.set lists) (may_follow (last_table w).lists lists && nat_lt ((last_table w).mark.count + 1) (2 ^ 63)) may in
+    let n = and_parts (may_follow (last_table w).lists lists) (nat_lt ((last_table w).mark.count + 1) (2 ^ 63)) m.1 in
     change_ok w lists next b ok m.0 n.0

@@ -117,6 +117,7 @@ wipe_claiming w p i next claimed e b ok free = record {
     known = ok.known;
     chosen = ok.chosen;
     fits = ok.fits;
+    live = ok.live;
     higher = ok.higher;
     claims = λ q has. subst (λ (c : ℕ). next.mark.boot ≤ c) (sym (wipe_claims w.places p q)) (ok.claims q has);
   });

@@ -167,6 +167,7 @@ pub record IsChosen (family : List Version) (log told : List ℕ) (i : ℕ) (t :
 pub record ClaimingOk (set : Bool) (family : List Version) (firm : Option ℕ) (places : List SpotState) (deleted : Option Spot) (log told : List ℕ) (i : ℕ) (next : Version) (claimed : List Spot) : Type 0 where
   pub there : deleted ≡ None
   pub known : i < length family
+  pub live : IsLive firm i
   pub chosen : IsChosen family log told i next
   pub fits : Fits set family firm log told next
   pub higher : (u : ℕ) → u < length family → boot_at family u < next.mark.boot
@@ -177,17 +178,22 @@ pub record HasTaken (family : List Version) (places : List SpotState) (p : Spot)
   pub held : holds places p ≡ true
   pub named : is_named (lists_at family (length family - 1)) p ≡ true
 
-abbrev pub BootOk : List Version → List ℕ → List ℕ → Option ℕ → Type 0
-BootOk family log told None = Unit {0}
-BootOk family log told (Some i) =
-    (i < length family) × IsChosen family log told i (table_at family (length family - 1))
-    × ((u : ℕ) → u < length family - 1 → boot_at family u < boot_at family (length family - 1))
+-- a boot's table is the last one, and this is the one that it chose before
+pub record IsBoot (family : List Version) (firm : Option ℕ) (log told : List ℕ) (i : ℕ) : Type 0 where
+  pub known : i < length family - 1
+  pub live : (f : ℕ) → firm ≡ Some f → f < length family - 1 → f ≤ i
+  pub chosen : IsChosen family log told i (table_at family (length family - 1))
+  pub higher : (u : ℕ) → u < length family - 1 → boot_at family u < boot_at family (length family - 1)
+
+abbrev pub BootOk : List Version → Option ℕ → List ℕ → List ℕ → Option ℕ → Type 0
+BootOk family firm log told None = Unit {0}
+BootOk family firm log told (Some i) = IsBoot family firm log told i
 
 pub record TakingOk (family : List Version) (firm : Option ℕ) (places : List SpotState) (deleted : Option Spot) (log told : List ℕ) (boot : Option ℕ) (took : List Spot) : Type 0 where
   pub there : deleted ≡ None
   pub some : 0 < length family
   pub taken : (p : Spot) → is_in took p ≡ true → HasTaken family places p
-  pub made : BootOk family log told boot
+  pub made : BootOk family firm log told boot
   pub alone : IsAlone family firm (table_at family (length family - 1))
 
 pub record WritingOk (family : List Version) (firm : Option ℕ) (places : List SpotState) (deleted : Option Spot) (log told : List ℕ) (boot : Option ℕ) (took : List Spot) : Type 0 where

@@ -10,6 +10,7 @@ mod Writes
 mod Formats
 mod Changed
 mod Steps
+pub mod Events
 pub mod Stands
 mod Rising
 mod Limits

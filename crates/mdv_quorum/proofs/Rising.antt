@@ -9,10 +9,11 @@ use Rattle.mdv_quorum.specs.declared.machine.Core.{Core}
 use Rattle.mdv_quorum.specs.declared.machine.Stage.{Stage}
 use Rattle.mdv_quorum.specs.declared.machine.Stage.TheVariants.{Reading, Creating, Claiming, Writing, Ready}
 use Rattle.mdv_quorum.specs.World.{start, happens, after_all, read, claimed, chosen, slotted, slotted_next, wrote, with_table, settled, last_table, places_after, taken_after, formatted_at, formatted_next, formatted_seat, wiped_at, given_up, lists_at as lists_next, told_at, told_of}
-use Rattle.mdv_quorum.specs.May.{MayAll, may_tell}
+use Rattle.mdv_quorum.specs.May.{may_tell}
 use Rattle.mdv_quorum.specs.Standing.{BootsAt, drawn_at, NumbersRise}
 use Rattle.mdv_quorum.proofs.More.{longer, old_table}
 use Rattle.mdv_quorum.proofs.Written.{some_same}
+use Rattle.mdv_quorum.proofs.Events.{after_both, may_front, may_back}
 use Rattle.mdv_quorum.proofs.Stands.{stands_always}
 
 -- a table that is being written comes later than this one
@@ -133,14 +134,6 @@ module _ (t : Version) (m : ℕ) where
   past_all w [] past = past
   past_all w (e ∷ es) past = past_all (happens w e) es (past_step w e past)
 
-after_both : (w : Core) (es fs : List Event) → after_all w (es ++ fs) ≡ after_all (after_all w es) fs
-after_both w [] fs = refl
-after_both w (e ∷ es) fs = after_both (happens w e) es fs
-
-may_front : (w : Core) (es fs : List Event) → MayAll w (es ++ fs) → MayAll w es
-may_front w [] fs m = tt
-may_front w (e ∷ es) fs m = (m.0, may_front (happens w e) es fs m.1)
-
 none_is : (a : ℕ) → None ≡ Some a → ⊥
 none_is a e = cc
 
@@ -158,10 +151,6 @@ drawn_above t m w (Writing (Some i) took) b here same later boots e =
     let eb = some_same (table_at w.family (length w.family - 1)).mark.boot b e in
     omega (arith, fresh, eb, ap (λ (x : Version). x.mark.boot) same)
 drawn_above t m w (Ready next) b here same later boots e = absurd (none_is b e)
-
-may_back : (w : Core) (es fs : List Event) → MayAll w (es ++ fs) → MayAll (after_all w es) fs
-may_back w [] fs m = m
-may_back w (e ∷ es) fs m = may_back (happens w e) es fs m.1
 
 -- a boot that is told: its table is past
 told_past : (w : Core) (s : Stage) (a : ℕ) → BootsAt w s → drawn_at w s ≡ Some a → may_tell w s ≡ true

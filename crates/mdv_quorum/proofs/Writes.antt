@@ -15,7 +15,7 @@ use Rattle.mdv_quorum.specs.declared.machine.Stage.TheVariants.{Reading, Creatin
 use Rattle.mdv_quorum.specs.World.{slotted, slotted_next, wrote, settled, with_table, taken_after, places_after, last_table, told_at, told_of}
 use Rattle.mdv_quorum.specs.May.{may_slot, may_slot_next, may_tell, is_target}
 use Rattle.mdv_quorum.proofs.More.{longer, old_table, new_at, which, tables_more, all_common_more, plans_more, places_more}
-use Rattle.mdv_quorum.proofs.Written.{write_places, write_taken, settle_places, settle_taken, settle_common, settle_plans, prefix_itself}
+use Rattle.mdv_quorum.proofs.Written.{some_same, write_places, write_taken, settle_places, settle_taken, settle_common, settle_plans, prefix_itself}
 use Rattle.mdv_quorum.proofs.Invariant.{holds, boot_at, plan_at, IsLive, Base, Inv, StageOk, TakingOk, BootOk, Fits, KnownIn, HasTaken, IsAlone, MadeFrom, HasAll, IsPrefix}
 
 -- one more place, where it took the table
@@ -51,6 +51,16 @@ taking_after w p Holds boot took t held named = record {
   alone = t.alone;
 }
 
+-- what a boot chose is as it was, whatever is firm now
+boot_settled : (family : List Version) (firm : Option ℕ) (log told : List ℕ) (boot : Option ℕ) → BootOk family firm log told boot → BootOk family (Some (length family - 1)) log told boot
+boot_settled family firm log told None b = tt
+boot_settled family firm log told (Some i) b = record {
+  known = b.known;
+  live = λ f e h. absurd (omega (arith, h, some_same (length family - 1) f e));
+  chosen = b.chosen;
+  higher = b.higher;
+}
+
 -- the table becomes firm where it reached a write quorum
 settled_ok : (v : Core) (boot : Option ℕ) (took : List Spot) (b : Bool) → Base v → TakingOk v.family v.firm v.places v.deleted v.log v.told boot took
     → is_written (last_table v) (is_in took) ≡ b → Inv (settled (record v { stage = Writing boot took }) (last_table v) b)
@@ -70,7 +80,7 @@ settled_ok v boot took true b t e = record {
       there = t.there;
       some = t.some;
       taken = λ q has. settle_taken v.family v.places q (last_list (last_table v).lists) (t.taken q has);
-      made = t.made;
+      made = boot_settled v.family v.firm v.log v.told boot t.made;
       alone = λ half nobody i hi live.
           let up = live (length v.family - 1) refl in
           let last : length v.family - 1 ≡ i = omega (arith, up, hi) in
@@ -89,7 +99,7 @@ wrote_ok w p end boot took b t held named =
 
 -- the first write of a table
 first_ok : (w : Core) (p : Spot) (end : SlotEnd) (boot : Option ℕ) (next : Version) → Base w → Fits w.set w.family w.firm w.log w.told next → w.deleted ≡ None
-    → BootOk (w.family ++ next ∷ []) w.log w.told boot
+    → BootOk (w.family ++ next ∷ []) w.firm w.log w.told boot
     → ((i : ℕ) (read knows : Spot → Bool) → i < length w.family → IsLive w.firm i → is_read (table_at w.family i) read knows ≡ true
     → (next.mark.boot ≤ boot_at w.family i) ⊎ KnownIn w.family w.places read next.mark.boot)
     → is_target w next.lists p ≡ true → Inv (wrote (with_table w next) p end boot [])
@@ -131,19 +141,20 @@ slot_claiming w p end i next claimed b ok may =
     let c = ok.chosen in
     let same : plan_at (w.family ++ next ∷ []) i ≡ plan_at w.family i = ap (λ (t : Version). t.plan) (old_table w.set w.family next i ok.known) in
     let known = ok.known in
-    first_ok w p end (Some i) next b ok.fits ok.there (
-      omega (arith, l, known),
-      record {
+    first_ok w p end (Some i) next b ok.fits ok.there (record {
+      known = omega (arith, l, known);
+      live = λ f e h. ok.live f e;
+      chosen = record {
         plan = ap (λ (t : Version). t.plan) is ∙ c.plan ∙ sym same;
         same = ap (λ (t : Version). t.change) is ∙ c.same;
         issued = subst (λ (x : List ℕ). IsPrefix x w.log) (sym same) c.issued;
         holds_told = subst (λ (x : List ℕ). HasAll w.told x) (sym same) c.holds_told;
-      },
-      λ u hu.
+      };
+      higher = λ u hu.
           let old : u < length w.family = omega (arith, hu, last) in
           let high = ok.higher u old in
-          omega (arith, high, ap (λ (t : Version). t.mark.boot) (old_table w.set w.family next u old), ap (λ (t : Version). t.mark.boot) is),
-    )
+          omega (arith, high, ap (λ (t : Version). t.mark.boot) (old_table w.set w.family next u old), ap (λ (t : Version). t.mark.boot) is);
+    })
     (λ j read knows hj lj reads.
     let f = claims_meet_reads w.set (table_at w.family j) next (is_in claimed) read knows (ok.fits.before j hj lj).shared (b.tables.lists j hj).alone m.0 reads in
     inr (f.0, f.2, inl (ok.claims f.0 f.1)))

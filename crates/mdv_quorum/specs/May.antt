@@ -1,5 +1,5 @@
 -- When each event may happen.
-use Rattle.std.specs.Prelude.{ℕ, ◌+◌, ◌^◌, ◌&&◌, ◌||◌, ◌==◌, not, Bool, true, false, List, [], ◌∷◌, Option, None, Some, length, nat_lt, nat_le, cond, IsTrue}
+use Rattle.std.specs.Prelude.{◌≡◌, ℕ, ◌+◌, ◌^◌, ◌++◌, ◌&&◌, ◌||◌, ◌==◌, not, Bool, true, false, List, [], ◌∷◌, Option, None, Some, length, nat_lt, nat_le, cond, IsTrue}
 use Rattle.std.specs.List.{list_any, list_all}
 use Rattle.mdv_quorum.specs.Below.{DriveNo, Spot, SpotLists, Version, SpotState, same_spot, is_in, is_named, is_none, same_spots, is_written, is_claimed, is_read, table_at, place_at, newest_of, greatest_of, knows_above}
 use Rattle.mdv_quorum.specs.declared.event.Event.{Event}
@@ -7,7 +7,7 @@ use Rattle.mdv_quorum.specs.declared.event.Event.TheVariants.{Read, Claimed, Slo
 use Rattle.mdv_quorum.specs.declared.machine.Core.{Core}
 use Rattle.mdv_quorum.specs.declared.machine.Stage.{Stage}
 use Rattle.mdv_quorum.specs.declared.machine.Stage.TheVariants.{Reading, Creating, Claiming, Writing, Ready}
-use Rattle.mdv_quorum.specs.World.{last_table, happens, raised, without_drive, rewritten}
+use Rattle.mdv_quorum.specs.World.{last_table, happens, after_all, raised, without_drive, rewritten}
 
 abbrev pub is_up : List DriveNo → Spot → Bool
 is_up lost p = not (list_any (λ (d : DriveNo). d.0 == p.drive.0) lost)
@@ -167,13 +167,11 @@ is_new w = length w.places == 0
 
 -- from the table that was told last
 abbrev pub may_commit : Core → SpotLists → Bool
-may_commit w lists =
-    is_lists w.set lists
-    && (may_follow (last_table w).lists lists && (nat_lt ((last_table w).mark.count + 1) (2 ^ 63) && nat_lt w.changes (2 ^ 63)))
+may_commit w lists = is_lists w.set lists && (may_follow (last_table w).lists lists && nat_lt ((last_table w).mark.count + 1) (2 ^ 63))
 
 abbrev pub may_list : Core → SpotLists → Stage → Bool
-may_list w lists (Reading places) = is_lists w.set lists && (is_new w && nat_lt w.changes (2 ^ 63))
-may_list w lists (Creating next) = is_lists w.set lists && (is_new w && nat_lt w.changes (2 ^ 63))
+may_list w lists (Reading places) = is_lists w.set lists && is_new w
+may_list w lists (Creating next) = is_lists w.set lists && is_new w
 may_list w lists (Claiming adopted next claimed) = false
 may_list w lists (Writing boot took) = false
 may_list w lists (Ready next) = may_commit w lists
@@ -214,3 +212,28 @@ may w (Back d) = may_come_back w d.0
 abbrev pub MayAll : Core → List Event → Type 0
 MayAll w [] = Unit {0}
 MayAll w (e ∷ es) = IsTrue (may w e) × MayAll (happens w e) es
+
+-- One list of events behind another.
+pub record Joins (w : Core) (events later : List Event) : Type 0 where
+  pub after : after_all w (events ++ later) ≡ after_all (after_all w events) later
+  pub may : MayAll w events → MayAll (after_all w events) later → MayAll w (events ++ later)
+  pub first : MayAll w (events ++ later) → MayAll w events
+  pub rest : MayAll w (events ++ later) → MayAll (after_all w events) later
+
+-- One event more at a list's end.
+pub record HasOneMore (w : Core) (events : List Event) (e : Event) : Type 0 where
+  pub after : after_all w (events ++ e ∷ []) ≡ happens (after_all w events) e
+  pub may : MayAll w events → IsTrue (may (after_all w events) e) → MayAll w (events ++ e ∷ [])
+
+-- Whether the change that an event issues has a number for the machine's memory. Whether the event may happen doesn't hang on it.
+abbrev pub has_room : Core → Event → Bool
+has_room w (Read p) = true
+has_room w (Claimed p) = true
+has_room w (Slotted p end) = true
+has_room w (Formatted p) = true
+has_room w (Wiped p) = true
+has_room w (Lists lists) = nat_lt w.changes (2 ^ 63)
+has_room w Told = true
+has_room w Crash = true
+has_room w (Lose d) = true
+has_room w (Back d) = true

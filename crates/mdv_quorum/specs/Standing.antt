@@ -7,7 +7,7 @@ use Rattle.mdv_quorum.specs.declared.machine.Core.{Core}
 use Rattle.mdv_quorum.specs.declared.machine.Stage.{Stage}
 use Rattle.mdv_quorum.specs.declared.machine.Stage.TheVariants.{Reading, Creating, Claiming, Writing, Ready}
 use Rattle.mdv_quorum.specs.World.{start, after_all}
-use Rattle.mdv_quorum.specs.May.{is_up, MayAll}
+use Rattle.mdv_quorum.specs.May.{is_up, IsReady, MayAll}
 
 abbrev pub newest_at : Core → Spot → Option ℕ
 newest_at w p = (place_at w.places p).newest
@@ -33,9 +33,10 @@ IsFront xs ys = (rest : List ℕ) × (xs ++ rest ≡ ys)
 abbrev pub HasEach : List ℕ → List ℕ → Type 0
 HasEach changes plan = (c : ℕ) → Contains changes c → Contains plan c
 
--- The firm table has every change that was told, each greater table descends from it, and the plan
--- of each is the front of the changes that were issued and not struck.
+-- The firm table is one of the family that has every change that was told, each greater table
+-- descends from it, and the plan of each is the front of the changes that were issued and not struck.
 pub record IsDescended (w : Core) : Type 0 where
+  pub known : (f : ℕ) → w.firm ≡ Some f → f < length w.family
   pub acknowledged : (f : ℕ) → w.firm ≡ Some f → HasEach w.told (table_of w f).plan
   pub nothing : w.firm ≡ None → w.told ≡ []
   pub descends : (f i : ℕ) → w.firm ≡ Some f → f ≤ i → i < length w.family → IsFront (table_of w f).plan (table_of w i).plan
@@ -62,9 +63,10 @@ pub record IsReadable (w : Core) (p : Spot) : Type 0 where
 abbrev pub Reads : Core → ℕ → (Spot → Bool) → Type 0
 Reads w i read = IsTrue (is_read (table_of w i) read (knows_above w.family w.places (table_of w i)))
 
--- a place of what was read that isn't readable or shows a greater table
+-- a replica's place of what was read, and no mediator's seat, that isn't readable or shows a greater table
 pub record IsBeaten (w : Core) (i : ℕ) (read : Spot → Bool) : Type 0 where
   pub place : Spot
+  pub kind : place.mediator ≡ false
   pub was_read : IsTrue (read place)
   pub shows : IsReadable w place → (j : ℕ) × (newest_at w place ≡ Some j) × (i < j)
 
@@ -73,21 +75,24 @@ abbrev pub AreBeaten : Core → Type 0
 AreBeaten w =
     (f i : ℕ) (p : Spot) (read : Spot → Bool) → w.firm ≡ Some f → i < f → IsReadable w p → newest_at w p ≡ Some i → Reads w i read → IsBeaten w i read
 
--- a place or mediator of what was read whose claim or newest boot number is at least this one
-abbrev pub IsKnown : Core → (Spot → Bool) → ℕ → Type 0
-IsKnown w read n = (p : Spot) × IsTrue (read p) × ((n ≤ (place_at w.places p).claim) ⊎ (n ≤ boot_of w.family (newest_at w p)))
+-- its claim or newest boot number is at least each boot number of the family above that of this table
+abbrev pub KnowsNumbers : Core → ℕ → Spot → Type 0
+KnowsNumbers w i p =
+    (u : ℕ) → u < length w.family → (table_of w i).mark.boot < (table_of w u).mark.boot
+    → ((table_of w u).mark.boot ≤ (place_at w.places p).claim) ⊎ ((table_of w u).mark.boot ≤ boot_of w.family (newest_at w p))
 
--- Whoever reads a quorum of the firm table or of a greater one learns of each boot number of the
--- family: it is none above that table's own, or a place that was read knows it.
+-- Each read quorum of the firm table or of a greater one has a place or mediator that knows each boot
+-- number of the family above that table's own. Its own is seen by whoever adopts it.
 abbrev pub AreNumbersKnown : Core → Type 0
 AreNumbersKnown w =
-    (f i u : ℕ) (read : Spot → Bool) → w.firm ≡ Some f → f ≤ i → i < length w.family → u < length w.family → Reads w i read
-    → ((table_of w u).mark.boot ≤ (table_of w i).mark.boot) ⊎ IsKnown w read (table_of w u).mark.boot
+    (f i : ℕ) (read : Spot → Bool) → w.firm ≡ Some f → f ≤ i → i < length w.family → Reads w i read → (p : Spot) × IsTrue (read p) × KnowsNumbers w i p
 
--- A boot that has drawn this number adopted a table whose plan is a front of the issued changes that
--- has each one told, and none of the first tables of the family has its number.
+-- A boot that has drawn this number, when the family had so many tables, adopted one of these that
+-- isn't below the firm one of them, whose plan is a front of the issued changes that has each one
+-- told; and none of these tables has its number.
 pub record Adopts (w : Core) (i number tables : ℕ) : Type 0 where
-  pub known : i < length w.family
+  pub known : i < tables
+  pub above : (f : ℕ) → w.firm ≡ Some f → f < tables → f ≤ i
   pub issued : IsFront (table_of w i).plan w.log
   pub told : HasEach w.told (table_of w i).plan
   pub fresh : (u : ℕ) → u < tables → (table_of w u).mark.boot < number
@@ -104,6 +109,10 @@ BootsAt w (Claiming i next claimed) = Adopts w i next.mark.boot (length w.family
 BootsAt w (Writing boot took) = (w.deleted ≡ None) × AdoptsOf w boot
 BootsAt w (Ready next) = w.deleted ≡ None
 
+-- the table that was written last is firm
+abbrev pub IsLastFirm : Core → Type 0
+IsLastFirm w = (0 < length w.family) × (w.firm ≡ Some (length w.family - 1))
+
 -- all of it
 pub record Standing (w : Core) : Type 0 where
   pub family : IsFamily w
@@ -113,6 +122,8 @@ pub record Standing (w : Core) : Type 0 where
   pub numbers : AreNumbersKnown w
   -- what a boot adopts; once the database is deleted none goes past reading
   pub boots : BootsAt w w.stage
+  -- no boot or change is in work, but for one of which nothing was written
+  pub ready : IsReady w.stage → IsLastFirm w
 
 -- from nothing, by any list of events each of which may happen where it happens
 abbrev pub StandsAlways : Bool → List Event → Type 0

@@ -13,4 +13,4 @@ pub use machine::Core;
 pub use mdv_votes::{
     Row, Since, Spot, SpotList, SpotLists, SpotState, Version, at_least_half, more_than_half,
 };
-pub use theorem::{numbers_rise, stands_always};
+pub use theorem::{events_join, numbers_rise, stands_always};

@@ -189,7 +189,7 @@ impl Core {
     ghost use Rattle.std.specs.Prelude.{None, nat_lt, ◌+◌, ◌^◌};
     ghost use Rattle.mdv_votes.specs.Family.{newest_of as spec_newest_of, greatest_of as spec_greatest_of};
     ghost use Rattle.mdv_quorum.specs.World.{last_table as spec_last_table};
-    ghost use Rattle.mdv_quorum.specs.May.{may as spec_may, may_read as spec_may_read, may_adopt as spec_may_adopt, may_choose as spec_may_choose, may_commit as spec_may_commit, may_come_back as spec_may_come_back, is_target as spec_is_target, may_claim as spec_may_claim, may_slot as spec_may_slot, is_firm_in, may_format_place as spec_may_format_place, may_format as spec_may_format, may_wipe as spec_may_wipe, may_list as spec_may_list, may_tell as spec_may_tell};
+    ghost use Rattle.mdv_quorum.specs.May.{may as spec_may, has_room as spec_has_room, may_read as spec_may_read, may_adopt as spec_may_adopt, may_choose as spec_may_choose, may_commit as spec_may_commit, may_come_back as spec_may_come_back, is_target as spec_is_target, may_claim as spec_may_claim, may_slot as spec_may_slot, is_firm_in, may_format_place as spec_may_format_place, may_format as spec_may_format, may_wipe as spec_may_wipe, may_list as spec_may_list, may_tell as spec_may_tell};
 
     fn may_read(&self, p: Spot) -> bool
         ensures { result ≡ spec_may_read self.now p self.now.stage }
@@ -342,15 +342,13 @@ impl Core {
         let last = self.family.as_slice().len().saturating_sub(1);
         let table = table_at(self.family.as_slice(), last, &none);
         is_lists(self.set, lists)
-            && (may_follow(&table.lists, lists)
-                && (table.mark.count < NUMBER_LIMIT - 1 && self.changes < NUMBER_LIMIT))
+            && (may_follow(&table.lists, lists) && table.mark.count < NUMBER_LIMIT - 1)
     }
 
     fn may_list(&self, alloc: Global, lists: &SpotLists) -> bool
         ensures { result ≡ spec_may_list self.now lists.now self.now.stage }
     {
-        let new = is_lists(self.set, lists)
-            && (self.places.as_slice().is_empty() && self.changes < NUMBER_LIMIT);
+        let new = is_lists(self.set, lists) && self.places.as_slice().is_empty();
         match &self.stage {
             Stage::Reading { .. } => new,
             Stage::Creating { .. } => new,
@@ -383,6 +381,24 @@ impl Core {
         let lost = self.lost.as_slice();
         let clean = all_clean_back(self.floor, lost, drive, self.places.as_slice());
         is_lost(lost, drive) && clean
+    }
+
+    /// Whether the change that the event issues has a number: there are 2^63. Only `Lists` issues one.
+    pub fn has_room(&self, event: &Event) -> bool
+        ensures { result ≡ spec_has_room self.now event.now }
+    {
+        match event {
+            Event::Read(_) => true,
+            Event::Claimed(_) => true,
+            Event::Slotted(_, _) => true,
+            Event::Formatted(_) => true,
+            Event::Wiped(_) => true,
+            Event::Lists(_) => self.changes < NUMBER_LIMIT,
+            Event::Told => true,
+            Event::Crash => true,
+            Event::Lose(_) => true,
+            Event::Back(_) => true,
+        }
     }
 
     /// Whether the event may happen now.

@@ -97,7 +97,7 @@ impl Core {
     ghost use Rattle.mdv_votes.specs.Quorum.{is_written as spec_is_written};
     ghost use Rattle.mdv_votes.specs.Family.{put_at, formatted};
     ghost use Rattle.mdv_quorum.specs.World.{read as spec_read, claimed as spec_claimed, last_table as spec_last_table, settled, with_table, with_taken, wrote as spec_wrote, slotted as spec_slotted, told_at, created, changed, lists_at, formatted_seat, formatted_under, formatted_at, wiped_at, crashed, happens};
-    ghost use Rattle.mdv_quorum.specs.May.{may_claim, may_slot, may_list, may, IsReady};
+    ghost use Rattle.mdv_quorum.specs.May.{may_claim, may_slot, may_list, may, has_room, IsReady};
     ghost use Rattle.mdv_quorum.specs.declared.machine.Stage.TheVariants.{Writing};
 
     /// A boot knows what is at this place.
@@ -310,7 +310,8 @@ impl Core {
 
     /// The next table has these lists.
     fn list(&mut self, alloc: Global, lists: SpotLists) -> Result<(), AllocError>
-        requires { IsTrue (may_list self.old lists self.old.stage) }
+        requires may { IsTrue (may_list self.old lists self.old.stage) }
+        requires changes { self.old.changes < 2 ^ 63 }
         ensures ok { OnOk result (self.new ≡ lists_at self.old lists self.old.stage) }
         ensures err { OnErr result (self.new ≡ self.old) }
     {
@@ -414,10 +415,11 @@ impl Core {
         };
     }
 
-    /// One event. An event that may not happen is the caller's error. Where memory is short, the core
-    /// is as before.
+    /// One event. An event that may not happen is the caller's error, and so is a change behind the last
+    /// number. Where memory is short, the core is as before.
     pub fn step(&mut self, alloc: Global, event: Event) -> Result<(), AllocError>
-        requires { IsTrue (may self.old event) }
+        requires may { IsTrue (may self.old event) }
+        requires room { IsTrue (has_room self.old event) }
         ensures ok { OnOk result (self.new ≡ happens self.old event) }
         ensures err { OnErr result (self.new ≡ self.old) }
     {

@@ -113,7 +113,7 @@ fn play_both<R: Abort>(rt: &R, alloc: Global, pair: &mut Pair, act: Act) -> Resu
     for index in 0..32 {
         if has(act.spots(), index) {
             let event = act.event(alloc, index)?;
-            if pair.core.may(alloc, &event) {
+            if pair.core.may(alloc, &event) && pair.core.has_room(&event) {
                 pair.core.step(alloc, event)?;
                 pair.world.step(alloc, act, index)?;
                 pair.events = pair.events.saturating_add(1);

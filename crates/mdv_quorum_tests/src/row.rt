@@ -85,7 +85,8 @@ fn play_act<R: Abort>(rt: &R, alloc: Global, core: &mut Core, act: Act) -> Resul
     for index in 0..32 {
         if has(act.spots(), index) {
             let event = act.event(alloc, index)?;
-            assert!(rt; core.may(alloc, &event), "{act:?} at {index}");
+            let happens = core.may(alloc, &event) && core.has_room(&event);
+            assert!(rt; happens, "{act:?} at {index}");
             core.step(alloc, event)?;
         }
     }
