@@ -13,7 +13,7 @@ use Rattle.mdv_volumes.specs.LogLaws.{BootsSettle, IssuesAloneAdd, WritesLast}
 from_test : (b from : ℕ) → nat_lt b from ≡ false → from ≤ b
 from_test b from is = grind (arith, nat_tests)
 
-goes_test : (b from : ℕ) → b < from → nat_lt b from ≡ true
+pub goes_test : (b from : ℕ) → b < from → nat_lt b from ≡ true
 goes_test b from lt = grind (arith, nat_tests)
 
 -- what an answered write has there is among the values that a read gave

@@ -1,3 +1,5 @@
 pub mod Below
 pub mod Events
 pub mod LogLaws
+pub mod Standing
+pub mod StandLaws

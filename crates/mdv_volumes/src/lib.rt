@@ -3,4 +3,7 @@
 
 mod law;
 
-pub use law::{boots_settle, issues_alone_add, writes_last};
+pub use law::{
+    beginnings_stand, boots_settle, boots_stand, frames_stand, issues_alone_add, reads_stand,
+    restarts_stand, writes_last, writes_stand,
+};
