@@ -1,2 +1,12 @@
 pub mod Logs
 pub mod Standing
+pub mod Tables
+pub mod Databases
+pub mod Lives
+pub mod Found
+pub mod Volumes
+pub mod Transfers
+pub mod Restarts
+pub mod Lifting
+pub mod Telling
+pub mod Waking

@@ -1,7 +1,29 @@
 -- The words of the crates below in which this crate speaks, so that a file of it needs one line of import.
+pub use Rattle.mdv_base.specs.declared.drive.SliceName.{SliceName}
+pub use Rattle.mdv_base.specs.declared.mark.Identity.{Identity}
+pub use Rattle.mdv_base.specs.declared.name.Key.{Key}
+pub use Rattle.mdv_base.specs.declared.name.Key.TheVariants.{Local, Set}
+pub use Rattle.mdv_base.specs.declared.name.VolId.{VolId}
 pub use Rattle.mdv_map.specs.Logs.{AreLastIssued, BlockLog, Follows, VolumeLog, after_answer, after_begin, after_crash, after_flush, after_issue, is_among, left_in, only, opening}
-pub use Rattle.mdv_map.specs.Maps.{AreDisjoint, DriveBlock, HasDriveBlock, IsDisjoint, Map, area_of_map, readings}
+pub use Rattle.mdv_map.specs.Maps.{AreDisjoint, DriveBlock, HasDriveBlock, IsDisjoint, Map, area_of_map, readings, run_map}
 pub use Rattle.mdv_map.specs.Requests.{AllOnDisk, AllRead, Rewriting}
-pub use Rattle.mdv_shelf.specs.Area.{Area, AreApart, IsKept, KeptOutside}
+pub use Rattle.mdv_name.specs.SliceIndex.{HasSlice}
+pub use Rattle.mdv_name.specs.declared.geometry.Geometry.{Geometry}
+pub use Rattle.mdv_name.specs.declared.slice_lines.SliceAt.{SliceAt}
+pub use Rattle.mdv_shelf.specs.Area.{Area, AreApart, IsKept, KeptOutside, nowhere, range}
 pub use Rattle.mdv_shelf.specs.Everywhere.{Image}
 pub use Rattle.mdv_shelf.specs.Tale.{Among, Begun, IsImage, MayLeave, Start, Tale, last, values}
+pub use Rattle.mdv_store_law.specs.Laws.{restarted}
+pub use Rattle.mdv_store_law.specs.Log.{IsNotOlder, Log, Version, empty_log, is_firm}
+pub use Rattle.mdv_store_law.specs.Site.{Site, area_of}
+pub use Rattle.mdv_table.specs.Slices.{IsSound}
+pub use Rattle.mdv_table.specs.Table.{IsOfGeometry}
+pub use Rattle.mdv_table.specs.Volumes.{HasVolume}
+pub use Rattle.mdv_table.specs.declared.change.Change.{Change}
+pub use Rattle.mdv_table.specs.declared.table.Table.{Table}
+pub use Rattle.mdv_table.specs.declared.volume.Base.{Base}
+pub use Rattle.mdv_table.specs.declared.volume.Base.TheVariants.{Slice}
+pub use Rattle.mdv_table.specs.declared.volume.Component.{Component}
+pub use Rattle.mdv_table.specs.declared.volume.Volume.{Volume}
+pub use Rattle.mdv_table.specs.declared.volume.VolumeKind.{VolumeKind}
+pub use Rattle.mdv_table.specs.declared.volume.VolumeKind.TheVariants.{Stripe}

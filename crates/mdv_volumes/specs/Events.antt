@@ -1,5 +1,5 @@
 -- What happens to the blocks of a volume, when it may, and what it makes of their logs.
-use Rattle.std.specs.Prelude.{ℕ, ◌-◌, ◌<◌, ◌≤◌, nat_lt, List, [], ◌∷◌, length, slice_index_or, if◌then◌else◌}
+use Rattle.std.specs.Prelude.{ℕ, ◌+◌, ◌-◌, ◌<◌, ◌≤◌, nat_lt, List, [], ◌∷◌, length, slice_index_or, if◌then◌else◌}
 use Rattle.mdv_volumes.specs.Below.{Among, BlockLog, VolumeLog, AreLastIssued, after_answer, after_begin, after_crash, after_flush, after_issue, is_among, only}
 use Rattle.mdv_store_law.specs.Machine.{AreAll, after_all, all_of}
 use Rattle.mdv_store_law.specs.Machine as machine
@@ -40,6 +40,10 @@ MayBeLeft log = (x : List ℕ) → Among log.reads x → Among log.leaves x
 -- each of the first so many blocks has a value that a read may give, and a crash leave
 abbrev pub AreFound : VolumeLog → ℕ → (ℕ → List ℕ) → Type 0
 AreFound log count content = (b : ℕ) → b < count → Among (log b).reads (content b) × Among (log b).leaves (content b)
+
+-- a read may give each of these values
+abbrev pub AreReadable : VolumeLog → ℕ → List (List ℕ) → Type 0
+AreReadable log at blocks = (k : ℕ) → k < length blocks → Among (log (at + k)).reads (slice_index_or blocks k [])
 
 -- When each may happen. A write is answered while its values are the last that were issued for its blocks.
 abbrev pub MayHappen : VolumeLog → VolumeEvent → Type 0

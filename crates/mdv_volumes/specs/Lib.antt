@@ -3,3 +3,9 @@ pub mod Events
 pub mod LogLaws
 pub mod Standing
 pub mod StandLaws
+pub mod Tables
+pub mod Databases
+pub mod History
+pub mod Happening
+pub mod Histories
+pub mod HistoryLaws

@@ -1,8 +1,8 @@
 -- Laws of one volume's standing, by its map: over its requests, over those of others, over crashes and boots, and where a log begins.
 use Rattle.std.specs.Prelude.{◌≡◌, ℕ, ◌+◌, ◌<◌, ◌≤◌, List, [], ◌∷◌, length}
 use Rattle.mdv_volumes.specs.Below.{AllOnDisk, AllRead, Among, AreApart, AreDisjoint, Area, Begun, Follows, IsDisjoint, IsImage, KeptOutside, Map, Rewriting, Start, Tale, VolumeLog, area_of_map, last, opening, readings}
-use Rattle.mdv_volumes.specs.Events.{Answers, Begins, Crashes, Flushes, Issues, Woke}
-use Rattle.mdv_volumes.specs.Standing.{AreKept, AreReadable, GoesBy, HaveCopies, HaveOneValue, HoldWhatWas, LeavesNoMore}
+use Rattle.mdv_volumes.specs.Events.{AreReadable, Answers, Begins, Crashes, Flushes, Issues, Woke}
+use Rattle.mdv_volumes.specs.Standing.{AreKept, GoesBy, HaveCopies, HaveOneValue, HoldWhatWas, LeavesNoMore}
 
 -- blocks of the volume are written
 pub record WritesStand : Type 0 where

@@ -1,5 +1,5 @@
 -- How the drives stand with a volume's log, by its map, and how that goes on.
-use Rattle.std.specs.Prelude.{◌≡◌, ◌⊎◌, ℕ, ◌+◌, ◌<◌, List, [], length, slice_index_or}
+use Rattle.std.specs.Prelude.{◌≡◌, ◌⊎◌, ℕ, ◌+◌, ◌<◌, List}
 use Rattle.mdv_volumes.specs.Below.{Among, Follows, HasDriveBlock, Image, IsImage, IsKept, Map, MayLeave, Start, Tale, VolumeLog, last, readings}
 use Rattle.mdv_volumes.specs.Events.{VolumeEvent, IsCourse, log_after_all}
 
@@ -11,10 +11,6 @@ pub record GoesBy (v : Map) (log : VolumeLog) (es : List VolumeEvent) (m : Tale)
 -- each of so many blocks, from that one on, has a copy
 abbrev pub HaveCopies : Map → ℕ → ℕ → Type 0
 HaveCopies v at count = (k : ℕ) → k < count → (drive : ℕ) × (block : ℕ) × HasDriveBlock (v.copies (at + k)) drive block
-
--- a read may give each of these values
-abbrev pub AreReadable : VolumeLog → ℕ → List (List ℕ) → Type 0
-AreReadable log at blocks = (k : ℕ) → k < length blocks → Among (log (at + k)).reads (slice_index_or blocks k [])
 
 -- each copy of the volume's blocks is kept
 abbrev pub AreKept : Map → Tale → Tale → Type 0

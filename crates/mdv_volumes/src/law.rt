@@ -1,5 +1,6 @@
 ghost use Rattle.mdv_volumes.specs.LogLaws.{BootsSettle, IssuesAloneAdd, WritesLast};
 ghost use Rattle.mdv_volumes.specs.StandLaws.{BeginningsStand, BootsStand, FramesStand, ReadsStand, RestartsStand, WritesStand};
+ghost use Rattle.mdv_volumes.specs.Tables.{TablesLie};
 
 /// A read gives, and a crash leaves, no value but those from before and those that were issued since; and what a read gives a crash may leave.
 pub fn issues_alone_add()
@@ -44,4 +45,9 @@ pub fn boots_stand()
 /// A log that begins has what a read gives and what a crash may leave.
 pub fn beginnings_stand()
     ensures { BeginningsStand }
+{}
+
+/// Each volume of a table of the geometry has one map, and no block of a drive belongs to two of their blocks, or to a database.
+pub fn tables_lie()
+    ensures { TablesLie }
 {}

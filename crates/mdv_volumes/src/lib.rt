@@ -1,9 +1,14 @@
-//! What volumes have lived through, told of each by its own blocks: laws for the crates that carry commands out.
+//! What volumes have lived through, told of each by its own blocks, and histories of all of them with their databases: laws for the crates that
+//! carry commands out.
 #![tactic(auto)]
 
+mod history_law;
 mod law;
 
+pub use history_law::{
+    beginnings_go, boots_go, databases_go, reads_go, restarts_go, tells_go, volumes_live, writes_go,
+};
 pub use law::{
     beginnings_stand, boots_settle, boots_stand, frames_stand, issues_alone_add, reads_stand,
-    restarts_stand, writes_last, writes_stand,
+    restarts_stand, tables_lie, writes_last, writes_stand,
 };

@@ -1,0 +1,153 @@
+-- When each event of a history may happen, what it tells and what it begins.
+use Rattle.std.specs.Prelude.{◌≡◌, ℕ, ◌+◌, ◌<◌, ◌≤◌, true, false, List, [], ◌∷◌, length, map, slice_index_or, Option, None, Some, Contains}
+use Rattle.mdv_volumes.specs.Below.{Change, Identity, IsNotOlder, Key, Map, Site, Version, VolId, is_firm}
+use Rattle.mdv_store_law.specs.Log as log
+use Rattle.mdv_store_law.specs.Machine.{all_of}
+use Rattle.mdv_store_law.specs.Machine as machine
+use Rattle.mdv_volumes.specs.Databases.{Database, current_of, log_of}
+use Rattle.mdv_volumes.specs.Events.{VolumeEvent, Issues, Answers, Flushes, Begins, Woke, AreReadable}
+use Rattle.mdv_volumes.specs.Events as lives
+use Rattle.mdv_volumes.specs.History.{Deed, Created, Changed, Wrote, Saw, Event, Creation, OfDatabase, OfVolume, Reads, Acknowledges, Shows, Boots, Stops, Crashes, History, history_after}
+use Rattle.mdv_volumes.specs.Tables.{IsMapOf, IsSite, Sites}
+
+-- a boot may find this version: none whose write was answered is above it
+abbrev pub MayBeFound : List Version → Version → Type 0
+MayBeFound family version = Contains family version × IsNotOlder version.mark family
+
+-- a table that a boot may find has the volume, with this map
+pub record IsNamed (sites : Sites) (databases : List Database) (key : Key) (volume : VolId) (v : Map) : Type 0 where
+  pub site : Site
+  pub is_site : IsSite sites key site
+  pub version : Version
+  pub found : MayBeFound (log_of databases key).family version
+  pub map : IsMapOf site.drives version.table volume v
+
+-- the newest table of the key was written, and has the volume with this map
+pub record IsThere (sites : Sites) (databases : List Database) (key : Key) (volume : VolId) (v : Map) : Type 0 where
+  pub site : Site
+  pub is_site : IsSite sites key site
+  pub newest : Version
+  pub older : List Version
+  pub family : (log_of databases key).family ≡ newest ∷ older
+  pub written : newest.is_written ≡ true
+  pub map : IsMapOf site.drives newest.table volume v
+
+-- and so many blocks, from that one on
+pub record HasRange (sites : Sites) (databases : List Database) (key : Key) (volume : VolId) (at count : ℕ) : Type 0 where
+  pub map : Map
+  pub there : IsThere sites databases key volume map
+  pub some : 0 < count
+  pub within : at + count ≤ map.blocks
+
+-- it isn't a creation
+abbrev pub IsLater : log.Event → Type 0
+IsLater (log.Issued identity) = ⊥
+IsLater (log.Writing mark asked before table) = Unit {0}
+IsLater log.Written = Unit {0}
+IsLater (log.Told which before) = Unit {0}
+
+-- an event of the key's current database, which has this identity
+pub record IsOfCurrent (sites : Sites) (databases : List Database) (key : Key) (identity : Identity) (e : log.Event) : Type 0 where
+  pub site : Site
+  pub is_site : IsSite sites key site
+  pub database : Database
+  pub current : current_of databases key ≡ Some database
+  pub as_begun : database.identity ≡ identity
+  pub later : IsLater e
+  pub may : log.MayHappen site.drives database.log e
+
+-- a creation where the key may have a database, and none whose table was written
+pub record MayBegin (sites : Sites) (databases : List Database) (key : Key) : Type 0 where
+  pub site : Site
+  pub is_site : IsSite sites key site
+  pub free : is_firm (log_of databases key) ≡ false
+
+-- Blocks are issued of a volume that the one table has which a boot may find; a log begins where no table that a boot may find has the
+-- volume with blocks from there on; drives begin anew all at once.
+abbrev pub IsPlaced : Sites → History → Key → VolId → VolumeEvent → Type 0
+IsPlaced sites h key volume (Issues at blocks) = HasRange sites h.databases key volume at (length blocks)
+IsPlaced sites h key volume (Answers at blocks) = Unit {0}
+IsPlaced sites h key volume (Flushes at count) = Unit {0}
+IsPlaced sites h key volume (Begins from logs) = (v : Map) → IsNamed sites h.databases key volume v → v.blocks ≤ from
+IsPlaced sites h key volume lives.Crashes = ⊥
+IsPlaced sites h key volume (Woke count content) = Unit {0}
+
+-- this deed is done and not told, at that place of the list
+abbrev pub IsUntoldAt : List Deed → ℕ → Deed → Type 0
+IsUntoldAt deeds place deed = (place < length deeds) × (slice_index_or deeds place deed ≡ deed)
+
+-- when each event may happen
+abbrev pub MayHappen : Sites → History → Event → Type 0
+MayHappen sites h (Creation key identity) = MayBegin sites h.databases key
+MayHappen sites h (OfDatabase key identity e) = IsOfCurrent sites h.databases key identity e
+MayHappen sites h (OfVolume key volume e) = lives.MayHappen (h.volumes key volume) e × IsPlaced sites h key volume e
+MayHappen sites h (Reads key volume at blocks) = HasRange sites h.databases key volume at (length blocks) × AreReadable (h.volumes key volume) at blocks
+MayHappen sites h (Acknowledges place key volume at blocks) = IsUntoldAt h.untold place (Wrote key volume at blocks)
+MayHappen sites h (Shows place key volume at blocks) = IsUntoldAt h.untold place (Saw key volume at blocks)
+MayHappen sites h (Boots key) = Unit {0}
+MayHappen sites h Stops = Unit {0}
+MayHappen sites h Crashes = (h.answered ≡ []) × (h.untold ≡ [])
+
+-- each of the events may happen where it happens
+abbrev pub IsCourse : Sites → History → List Event → Type 0
+IsCourse sites = machine.IsCourse history_after (MayHappen sites)
+
+-- a creation or a change of the key's database, told or begun
+abbrev pub deed_of : Key → Option Change → Deed
+deed_of key None = Created key
+deed_of key (Some change) = Changed key change
+
+-- what an event tells
+abbrev pub tells : Event → List Deed
+tells (Creation key identity) = []
+tells (OfDatabase key identity e) = map (deed_of key) (log.tells e)
+tells (OfVolume key volume e) = []
+tells (Reads key volume at blocks) = []
+tells (Acknowledges place key volume at blocks) = Wrote key volume at blocks ∷ []
+tells (Shows place key volume at blocks) = Saw key volume at blocks ∷ []
+tells (Boots key) = []
+tells Stops = []
+tells Crashes = []
+
+abbrev pub told_by : List Event → List Deed
+told_by = all_of tells
+
+-- what an event of a volume begins
+abbrev pub begun_of : Key → VolId → VolumeEvent → List Deed
+begun_of key volume (Issues at blocks) = Wrote key volume at blocks ∷ []
+begun_of key volume (Answers at blocks) = []
+begun_of key volume (Flushes at count) = []
+begun_of key volume (Begins from logs) = []
+begun_of key volume lives.Crashes = []
+begun_of key volume (Woke count content) = []
+
+-- what an event begins
+abbrev pub begins : Event → List Deed
+begins (Creation key identity) = Created key ∷ []
+begins (OfDatabase key identity e) = map (deed_of key) (log.begins e)
+begins (OfVolume key volume e) = begun_of key volume e
+begins (Reads key volume at blocks) = []
+begins (Acknowledges place key volume at blocks) = []
+begins (Shows place key volume at blocks) = []
+begins (Boots key) = []
+begins Stops = []
+begins Crashes = []
+
+abbrev pub issued_by : List Event → List Deed
+issued_by = all_of begins
+
+-- a creation that an event issues is such a one
+abbrev pub IsIssue : (Identity → Type 0) → Event → Type 0
+IsIssue Which (Creation key identity) = Which identity
+IsIssue Which (OfDatabase key identity e) = Unit {0}
+IsIssue Which (OfVolume key volume e) = Unit {0}
+IsIssue Which (Reads key volume at blocks) = Unit {0}
+IsIssue Which (Acknowledges place key volume at blocks) = Unit {0}
+IsIssue Which (Shows place key volume at blocks) = Unit {0}
+IsIssue Which (Boots key) = Unit {0}
+IsIssue Which Stops = Unit {0}
+IsIssue Which Crashes = Unit {0}
+
+-- The events tell these deeds, and begin only deeds that are asked, in that order and each once; and each creation is such a one.
+abbrev pub Adds : (Identity → Type 0) → List Deed → List Deed → List Event → Type 0
+Adds Which = machine.Adds tells begins (IsIssue Which)

@@ -1,0 +1,174 @@
+-- Laws of histories: of each volume, of databases and of deeds, over crashes, boots, writes and reads.
+use Rattle.std.specs.Prelude.{◌≡◌, ◌⊎◌, ◌≤◌, ℕ, List, [], ◌∷◌, length, map, Option, Some, None, All, Contains}
+use Rattle.mdv_volumes.specs.Below.{AllOnDisk, AllRead, AreApart, AreDisjoint, Change, Follows, Identity, Image, Key, KeptOutside, Map, Rewriting, Site, Table, Tale, VolId, area_of, nowhere, only, opening, restarted}
+use Rattle.mdv_store_law.specs.Log as log
+use Rattle.mdv_store_law.specs.Site.{IsFound}
+use Rattle.mdv_store_law.specs.Standing as database
+use Rattle.mdv_volumes.specs.Databases.{Database, current_of, log_of}
+use Rattle.mdv_volumes.specs.Events.{Answers, Begins, Flushes, Issues, Woke}
+use Rattle.mdv_volumes.specs.Events as lives
+use Rattle.mdv_volumes.specs.Happening.{HasRange, IsCourse, IsNamed, IsThere, deed_of}
+use Rattle.mdv_volumes.specs.Histories.{Happens, Stands}
+use Rattle.mdv_volumes.specs.History.{Deed, Created, Changed, Wrote, Saw, Event, Creation, OfDatabase, OfVolume, Reads, Stops, Crashes, History, events_of, history_after, history_after_all}
+use Rattle.mdv_volumes.specs.Standing.{HaveCopies, HaveOneValue, LeavesNoMore}
+use Rattle.mdv_volumes.specs.Tables.{AreLaid, IsMapOf, IsSite, Sites}
+
+-- a table that an event begins to write, for a change
+abbrev pub AsksTable : log.Event → Table → Type 0
+AsksTable (log.Issued identity) table = ⊥
+AsksTable (log.Writing mark None before other) table = ⊥
+AsksTable (log.Writing mark (Some change) before other) table = other ≡ table
+AsksTable log.Written table = ⊥
+AsksTable (log.Told which before) table = ⊥
+
+-- one of them begins it
+abbrev pub IsAsked : List log.Event → Table → Type 0
+IsAsked [] table = ⊥
+IsAsked (e ∷ es) table = AsksTable e table ⊎ IsAsked es table
+
+-- a history says of a volume's blocks what happened to them, so the laws of their logs are its laws
+pub record VolumesLive : Type 0 where
+  pub is : (key : Key) (volume : VolId) (h : History) (es : List Event) → (history_after_all h es).volumes key volume ≡ lives.log_after_all (h.volumes key volume) (events_of key volume es)
+  pub may : (key : Key) (volume : VolId) (sites : Sites) (h : History) (es : List Event) → IsCourse sites h es → lives.IsCourse (h.volumes key volume) (events_of key volume es)
+
+-- what the events of a write that is done make of a history
+abbrev pub write_of : Key → VolId → ℕ → List (List ℕ) → List Event
+write_of key volume at blocks = OfVolume key volume (Issues at blocks) ∷ OfVolume key volume (Answers at blocks) ∷ OfVolume key volume (Flushes at (length blocks)) ∷ []
+
+-- a write is done, and can be told
+pub record IsWritten (sites : Sites) (h : History) (key : Key) (volume : VolId) (at : ℕ) (blocks : List (List ℕ)) (u : Tale) : Type 0 where
+  pub happens : Happens sites h (write_of key volume at blocks) (Wrote key volume at blocks ∷ []) [] u
+  pub untold : Contains (history_after_all h (write_of key volume at blocks)).untold (Wrote key volume at blocks)
+
+-- blocks of a volume are written
+pub record WritesGo : Type 0 where
+  -- at each moment they were issued
+  pub issued : (sites : Sites) (h : History) (key : Key) (volume : VolId) (at : ℕ) (blocks : List (List ℕ)) (t m : Tale) (range : HasRange sites h.databases key volume at (length blocks)) → Stands sites h t
+      → Rewriting range.map at blocks t m → Happens sites h (OfVolume key volume (Issues at blocks) ∷ []) (Wrote key volume at blocks ∷ []) [] m
+  -- in the end, on the disk, they were answered too, and can be told
+  pub done : (sites : Sites) (h : History) (key : Key) (volume : VolId) (at : ℕ) (blocks : List (List ℕ)) (t u : Tale) (range : HasRange sites h.databases key volume at (length blocks)) → Stands sites h t
+      → Rewriting range.map at blocks t u → AllRead range.map at blocks u → AllOnDisk range.map at (length blocks) u → IsWritten sites h key volume at blocks u
+
+-- they were read, and their values can be told
+pub record IsSeen (sites : Sites) (h : History) (key : Key) (volume : VolId) (at : ℕ) (blocks : List (List ℕ)) (t : Tale) : Type 0 where
+  pub happens : Happens sites h (Reads key volume at blocks ∷ []) [] [] t
+  pub untold : Contains (history_after_all h (Reads key volume at blocks ∷ [])).untold (Saw key volume at blocks)
+
+-- they are read, each from a copy of it
+abbrev pub ReadsGo : Type 0
+ReadsGo = (sites : Sites) (h : History) (key : Key) (volume : VolId) (at : ℕ) (blocks : List (List ℕ)) (t : Tale) (range : HasRange sites h.databases key volume at (length blocks)) → Stands sites h t
+    → HaveCopies range.map at (length blocks) → AllRead range.map at blocks t → IsSeen sites h key volume at blocks t
+
+-- nothing happened yet
+abbrev pub new_history : History
+new_history = record { databases = []; volumes = λ key volume b. only []; answered = []; untold = []; woken = λ key volume. 0 }
+
+-- drives begin anew, or go on as they were
+pub record RestartsGo : Type 0 where
+  pub crashed : (sites : Sites) (h : History) (t u : Tale) → LeavesNoMore t u → Stands sites h t → Happens sites h (Stops ∷ Crashes ∷ []) [] [] u
+  pub ended : (sites : Sites) (h : History) (t : Tale) → Stands sites h t → Happens sites h (Stops ∷ []) [] [] t
+  -- where nothing is done all stands as it did
+  pub kept : (sites : Sites) (h : History) (t m : Tale) → KeptOutside nowhere t m → Stands sites h t → Stands sites h m
+  -- new drives, on which no boot finds a database, whatever else they hold
+  pub new_drives : (sites : Sites) (image : Image) (told : List ℕ) → ((key : Key) (site : Site) → IsSite sites key site → IsFound site (image site.at.drive.0) None) → Stands sites new_history (restarted image told)
+
+-- areas of databases of different keys are apart
+abbrev pub AreSitesApart : Sites → Type 0
+AreSitesApart sites = (key other : Key) (site beside : Site) → (key ≡ other → ⊥) → IsSite sites key site → IsSite sites other beside → AreApart (area_of site) (area_of beside)
+
+-- events of a key's log as a history's
+abbrev pub lifted : Key → Identity → List log.Event → List Event
+lifted key identity [] = []
+lifted key identity (log.Issued other ∷ es) = Creation key other ∷ lifted key other es
+lifted key identity (log.Writing mark asked before table ∷ es) = OfDatabase key identity (log.Writing mark asked before table) ∷ lifted key identity es
+lifted key identity (log.Written ∷ es) = OfDatabase key identity log.Written ∷ lifted key identity es
+lifted key identity (log.Told which before ∷ es) = OfDatabase key identity (log.Told which before) ∷ lifted key identity es
+
+-- where the key has no current database, they begin with a creation
+abbrev pub BeginWithCreation : List log.Event → Type 0
+BeginWithCreation [] = Unit {0}
+BeginWithCreation (log.Issued identity ∷ es) = Unit {0}
+BeginWithCreation (log.Writing mark asked before table ∷ es) = ⊥
+BeginWithCreation (log.Written ∷ es) = ⊥
+BeginWithCreation (log.Told which before ∷ es) = ⊥
+
+abbrev pub HaveDatabase : Option Database → List log.Event → Type 0
+HaveDatabase None es = BeginWithCreation es
+HaveDatabase (Some d) es = Unit {0}
+
+abbrev pub identity_in : Option Database → Identity
+identity_in None = record { fresh = 0; number = 0 }
+identity_in (Some d) = d.identity
+
+-- A table may become one that a boot may find: its volumes lie apart from each other, from databases and from those of other keys, and the drives
+-- follow the log of each.
+pub record IsReady (sites : Sites) (h : History) (key : Key) (site : Site) (t : Tale) (table : Table) : Type 0 where
+  pub laid : AreLaid sites site.drives table
+  pub apart : (other : Key) (volume beside : VolId) (v w : Map) → (key ≡ other → ⊥) → IsMapOf site.drives table volume v → IsNamed sites h.databases other beside w → AreDisjoint v w
+  pub follows : (volume : VolId) (v : Map) → IsMapOf site.drives table volume v → Follows v (h.volumes key volume) t
+
+-- the events of a key's log happened to the history; what was told of other keys and of volumes stays
+pub record IsLifted (sites : Sites) (h : History) (key : Key) (es : List log.Event) (m : Tale) : Type 0 where
+  pub happens : Happens sites h (lifted key (identity_in (current_of h.databases key)) es) (map (deed_of key) (log.begun_by es)) (map (deed_of key) (log.told_by es)) m
+  pub own : log_of (history_after_all h (lifted key (identity_in (current_of h.databases key)) es)).databases key ≡ log.log_after_all (log_of h.databases key) es
+  pub others : (other : Key) → (key ≡ other → ⊥) → log_of (history_after_all h (lifted key (identity_in (current_of h.databases key)) es)).databases other ≡ log_of h.databases other
+  pub volumes : (history_after_all h (lifted key (identity_in (current_of h.databases key)) es)).volumes ≡ h.volumes
+
+-- A key's log goes on, with nothing done outside the place of its database: so does the history, if each table that is made by a change is ready.
+abbrev pub DatabasesGo : Type 0
+DatabasesGo = (sites : Sites) (h : History) (key : Key) (site : Site) (es : List log.Event) (t m : Tale) → AreSitesApart sites → IsSite sites key site → Stands sites h t → KeptOutside (area_of site) t m
+    → log.IsCourse site.drives (log_of h.databases key) es → HaveDatabase (current_of h.databases key) es → database.Covers site (log.log_after_all (log_of h.databases key) es) m
+    → ((table : Table) → IsAsked es table → IsReady sites h key site t table) → IsLifted sites h key es m
+
+-- the creation of a key's database, or a change of it, came to the newest table, and wasn't told
+pub record IsTellable (sites : Sites) (h : History) (key : Key) (asked : Option Change) : Type 0 where
+  pub site : Site
+  pub is_site : IsSite sites key site
+  pub may : log.IsNewestTellable (log_of h.databases key) asked
+
+-- What an `ok` may tell of a history: a write or a read only where it is done.
+abbrev pub CanTell : Sites → Deed → History → Type 0
+CanTell sites (Created key) h = IsTellable sites h key None
+CanTell sites (Changed key change) h = IsTellable sites h key (Some change)
+CanTell sites (Wrote key volume at blocks) h = Contains h.untold (Wrote key volume at blocks)
+CanTell sites (Saw key volume at blocks) h = Contains h.untold (Saw key volume at blocks)
+
+-- it was told, and nothing else happened
+pub record IsTold (sites : Sites) (h : History) (deed : Deed) (t : Tale) : Type 0 where
+  pub es : List Event
+  pub happens : Happens sites h es [] (deed ∷ []) t
+  pub families : (key : Key) → (log_of (history_after_all h es).databases key).family ≡ (log_of h.databases key).family
+  pub volumes : (history_after_all h es).volumes ≡ h.volumes
+
+abbrev pub TellsGo : Type 0
+TellsGo = (sites : Sites) (h : History) (deed : Deed) (t : Tale) → AreSitesApart sites → CanTell sites deed h → Stands sites h t → IsTold sites h deed t
+
+-- A boot finds one value of each block of volumes: of those with these numbers, each with so many blocks and this content.
+abbrev pub wakings : Key → (VolId → ℕ) → (VolId → ℕ → List ℕ) → List VolId → List Event
+wakings key count content [] = []
+wakings key count content (volume ∷ volumes) = OfVolume key volume (Woke (count volume) (content volume)) ∷ wakings key count content volumes
+
+-- the volume is there, so long, and has that one value in each block, on the disk
+pub record IsFoundBy (sites : Sites) (h : History) (key : Key) (t : Tale) (count : ℕ) (content : ℕ → List ℕ) (volume : VolId) : Type 0 where
+  pub map : Map
+  pub there : IsThere sites h.databases key volume map
+  pub long : count ≡ map.blocks
+  pub one : HaveOneValue map content t
+
+pub record IsAwake (sites : Sites) (h : History) (key : Key) (count : VolId → ℕ) (content : VolId → ℕ → List ℕ) (volumes : List VolId) (t : Tale) : Type 0 where
+  pub happens : Happens sites h (wakings key count content volumes) [] [] t
+  pub woken : (volume : VolId) → Contains volumes volume → (history_after_all h (wakings key count content volumes)).woken key volume ≡ count volume
+  pub databases : (history_after_all h (wakings key count content volumes)).databases ≡ h.databases
+
+abbrev pub BootsGo : Type 0
+BootsGo = (sites : Sites) (h : History) (key : Key) (count : VolId → ℕ) (content : VolId → ℕ → List ℕ) (volumes : List VolId) (t : Tale) → All (λ volume. IsFoundBy sites h key t (count volume) (content volume) volume) volumes → Stands sites h t
+    → IsAwake sites h key count content volumes t
+
+pub record IsBegun (sites : Sites) (h : History) (key : Key) (volume : VolId) (from : ℕ) (v : Map) (t : Tale) : Type 0 where
+  pub happens : Happens sites h (OfVolume key volume (Begins from (opening v t)) ∷ []) [] [] t
+  pub follows : Follows v ((history_after h (OfVolume key volume (Begins from (opening v t)))).volumes key volume) t
+
+-- A volume is made: its log begins before a table has it. So it is with blocks behind those that it has.
+abbrev pub BeginningsGo : Type 0
+BeginningsGo = (sites : Sites) (h : History) (key : Key) (volume : VolId) (from : ℕ) (v : Map) (t : Tale) → ((w : Map) → IsNamed sites h.databases key volume w → w.blocks ≤ from) → Follows (record v { blocks = from }) (h.volumes key volume) t
+    → Stands sites h t → IsBegun sites h key volume from v t

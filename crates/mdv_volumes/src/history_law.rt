@@ -1,0 +1,41 @@
+ghost use Rattle.mdv_volumes.specs.HistoryLaws.{BeginningsGo, BootsGo, DatabasesGo, ReadsGo, RestartsGo, TellsGo, VolumesLive, WritesGo};
+
+/// What a history says of a volume is what happened to that volume, each where it may.
+pub fn volumes_live()
+    ensures { VolumesLive }
+{}
+
+/// At each moment of a write of blocks of a volume a history goes on by their issue; in the end the write can be told.
+pub fn writes_go()
+    ensures { WritesGo }
+{}
+
+/// What was read of blocks that have a copy can be told.
+pub fn reads_go()
+    ensures { ReadsGo }
+{}
+
+/// Drives that begin anew stand with the history behind a crash, those that go on with the same one; new drives stand with the one in which nothing happened.
+pub fn restarts_go()
+    ensures { RestartsGo }
+{}
+
+/// What goes on in one key's database goes on in the history; volumes, and the databases of other keys, stay.
+pub fn databases_go()
+    ensures { DatabasesGo }
+{}
+
+/// A deed that is done is told by one event, and nothing else changes.
+pub fn tells_go()
+    ensures { TellsGo }
+{}
+
+/// A boot that finds one value of each block of some volumes leaves each of them that one.
+pub fn boots_go()
+    ensures { BootsGo }
+{}
+
+/// A volume's log begins before a table has it, or blocks more of it.
+pub fn beginnings_go()
+    ensures { BeginningsGo }
+{}
