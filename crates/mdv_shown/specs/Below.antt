@@ -1,0 +1,26 @@
+-- The words of the crates below in which this crate speaks, so that a file of it needs one line of import.
+pub use Rattle.mdv_base.specs.Mark.{IsBelow}
+pub use Rattle.mdv_base.specs.declared.drive.DriveNo.{DriveNo}
+pub use Rattle.mdv_base.specs.declared.mark.Identity.{Identity}
+pub use Rattle.mdv_base.specs.declared.mark.Mark.{Mark}
+pub use Rattle.mdv_base.specs.declared.name.Key.{Key}
+pub use Rattle.mdv_base.specs.declared.place.Place.{Place}
+pub use Rattle.mdv_name.specs.declared.slice_lines.SliceLine.{SliceLine}
+pub use Rattle.mdv_quorum.specs.declared.machine.Core.{Core}
+pub use Rattle.mdv_replica.specs.Form.{IsReadable, SlotFits, gate_of, other_slot, room_of, text_of}
+pub use Rattle.mdv_replica.specs.Images.{Fills, SameOutside}
+pub use Rattle.mdv_replica.specs.Replica.{body_at, slot_blocks, with_blocks}
+pub use Rattle.mdv_replica.specs.Seen.{IsMasterAt}
+pub use Rattle.mdv_replica.specs.declared.forms.Gate.{Gate}
+pub use Rattle.mdv_replica.specs.declared.forms.Gate.TheVariants.{Closed, Open}
+pub use Rattle.mdv_replica.specs.declared.forms.Master.{Master}
+pub use Rattle.mdv_replica.specs.declared.replica.Head.{Head}
+pub use Rattle.mdv_replica.specs.declared.replica.PlaceAt.{PlaceAt}
+pub use Rattle.mdv_replica.specs.declared.replica.Slot.{Slot}
+pub use Rattle.mdv_replica.specs.declared.replica.Slot.TheVariants.{First, Second}
+pub use Rattle.mdv_shelf.specs.Area.{AreApart, Area, range}
+pub use Rattle.mdv_shelf.specs.Everywhere.{Image}
+pub use Rattle.mdv_votes.specs.Family.{place_at, table_at}
+pub use Rattle.mdv_votes.specs.declared.spot.Spot.{Spot}
+pub use Rattle.mdv_votes.specs.declared.version.SpotState.{SpotState}
+pub use Rattle.mdv_votes.specs.declared.version.Version.{Version}

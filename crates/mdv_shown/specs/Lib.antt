@@ -1,0 +1,5 @@
+pub mod Below
+pub mod Site
+pub mod Found
+pub mod Shown
+pub mod Laws

@@ -1,0 +1,36 @@
+-- Where a boot looks for replicas of a database.
+use Rattle.std.specs.Prelude.{◌≡◌, ◌⊎◌, ℕ, ◌+◌, ◌*◌, ◌≤◌, false, List, Contains, slice_index_or}
+use Rattle.mdv_shown.specs.Below.{DriveNo, Key, SliceLine, PlaceAt, Spot, Area, AreApart, range}
+
+-- whose database it is; the slices on which a boot looks, in the order of the table of drives; the drives that it brings up
+-- before; and how many blocks each drive has
+pub record Site : Type 0 where
+  pub key : Key
+  pub lines : List SliceLine
+  pub drives : List DriveNo
+  pub sizes : List ℕ
+
+abbrev pub size_on : Site → SliceLine → ℕ
+size_on site line = slice_index_or site.sizes line.at.drive.0 0
+
+-- the place of the replica of this number, where each one of the slice has so many blocks and there are so many of them
+abbrev pub place_on : SliceLine → ℕ → ℕ → ℕ → PlaceAt
+place_on line blocks count k = record {
+  place = record { slice = line.name; start = 16 + k * blocks; blocks = blocks };
+  drive = line.at.drive;
+  first = line.at.start + (16 + k * blocks);
+  index = k;
+  count = count;
+}
+
+abbrev pub spot_on : SliceLine → ℕ → ℕ → Spot
+spot_on line blocks k = record { drive = line.at.drive; first = line.at.start + (16 + k * blocks); mediator = false }
+
+-- the blocks of a slice
+abbrev pub line_area : SliceLine → Area
+line_area line = range line.at.drive.0 line.at.start line.at.blocks
+
+-- no two of the slices share a block, and each has the block where the first replica's master lies
+pub record IsSite (site : Site) : Type 0 where
+  pub apart : (a b : SliceLine) → Contains site.lines a → Contains site.lines b → (a ≡ b) ⊎ AreApart (line_area a) (line_area b)
+  pub long : (line : SliceLine) → Contains site.lines line → 17 ≤ line.at.blocks

@@ -1,0 +1,7 @@
+//! What the drives show of a database with several replicas, and of its world as the votes know it: definitions, and laws for the crates
+//! that write.
+#![tactic(auto)]
+
+mod law;
+
+pub use law::slots_show;
