@@ -1,1 +1,6 @@
 pub mod Slots
+pub mod Elsewhere
+pub mod Rewritten
+pub mod Writes
+pub mod Framed
+pub mod Worlds

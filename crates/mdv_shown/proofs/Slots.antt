@@ -13,6 +13,19 @@ open_same m n a b e = (cc (e), cc (e))
 never_below : (a b : Mark) → IsBelow a b → IsBelow b a → ⊥
 never_below a b h k = grind arith
 
+-- a slot is one or the other
+pub slot_cases : (a b : Slot) → (a ≡ b) ⊎ (b ≡ other_slot a)
+slot_cases First First = inl refl
+slot_cases First Second = inr refl
+slot_cases Second First = inr refl
+slot_cases Second Second = inl refl
+
+pub other_back : (a b : Slot) → b ≡ other_slot a → a ≡ other_slot b
+other_back First First e = cc
+other_back First Second e = refl
+other_back Second First e = refl
+other_back Second Second e = cc
+
 module _ {Table : Type 0} (Spells : List ℕ → Table → Type 0) where
   -- a text is a record of one table at most
   abbrev pub OneTable : Type 0
@@ -56,19 +69,6 @@ module _ {Table : Type 0} (Spells : List ℕ → Table → Type 0) where
   shows_some at size content head Second mark bytes is e =
       let some = fits_some (with_blocks at head.master.blocks) Second head.second content mark bytes is.of_second e in
       (some.0, record { bytes = bytes; gate = e; text = some.1 })
-
-  -- a slot is one or the other
-  pub slot_cases : (a b : Slot) → (a ≡ b) ⊎ (b ≡ other_slot a)
-  slot_cases First First = inl refl
-  slot_cases First Second = inr refl
-  slot_cases Second First = inr refl
-  slot_cases Second Second = inl refl
-
-  pub other_back : (a b : Slot) → b ≡ other_slot a → a ≡ other_slot b
-  other_back First First e = cc
-  other_back First Second e = refl
-  other_back Second First e = refl
-  other_back Second Second e = cc
 
   pub newest_one : OneTable → (at : PlaceAt) (content : ℕ → List ℕ) (head : Head) (a b : Slot) (m n : Mark) (s t : Table)
       → IsNewestOf Spells at content head a m s → IsNewestOf Spells at content head b n t → (a ≡ b) × (m ≡ n) × (s ≡ t)

@@ -6,10 +6,19 @@ pub use Rattle.mdv_base.specs.declared.mark.Mark.{Mark}
 pub use Rattle.mdv_base.specs.declared.name.Key.{Key}
 pub use Rattle.mdv_base.specs.declared.place.Place.{Place}
 pub use Rattle.mdv_name.specs.declared.slice_lines.SliceLine.{SliceLine}
+pub use Rattle.mdv_quorum.specs.May.{may}
+pub use Rattle.mdv_quorum.specs.Standing.{IsFamily}
+pub use Rattle.mdv_quorum.specs.World.{happens, last_table}
+pub use Rattle.mdv_quorum.specs.declared.event.Event.TheVariants.{Claimed, Slotted}
+pub use Rattle.mdv_quorum.specs.declared.event.SlotEnd.TheVariants.{Closed as LeftClosed, Holds}
 pub use Rattle.mdv_quorum.specs.declared.machine.Core.{Core}
-pub use Rattle.mdv_replica.specs.Form.{IsReadable, SlotFits, gate_of, other_slot, room_of, text_of}
-pub use Rattle.mdv_replica.specs.Images.{Fills, SameOutside}
-pub use Rattle.mdv_replica.specs.Replica.{body_at, slot_blocks, with_blocks}
+pub use Rattle.mdv_quorum.specs.declared.machine.Stage.{Stage}
+pub use Rattle.mdv_quorum.specs.declared.machine.Stage.TheVariants.{Claiming, Creating, Reading, Ready, Writing}
+pub use Rattle.mdv_replica.specs.Form.{IsReadable, IsSpare, IsSpareSlot, IsTable, SlotFits, gate_of, other_slot, room_of, text_of}
+pub use Rattle.mdv_replica.specs.Form.{with_claim as claimed_head, with_slot}
+pub use Rattle.mdv_replica.specs.Images.{Claims, Fills, IsSame, MayClaim, MayFill, SameOutside, closed, filled, untouched}
+pub use Rattle.mdv_replica.specs.Forms.{block_of, claim_text, gate_text}
+pub use Rattle.mdv_replica.specs.Replica.{body_at, gate_at, slot_area, slot_blocks, with_blocks}
 pub use Rattle.mdv_replica.specs.Seen.{IsMasterAt}
 pub use Rattle.mdv_replica.specs.declared.forms.Gate.{Gate}
 pub use Rattle.mdv_replica.specs.declared.forms.Gate.TheVariants.{Closed, Open}
@@ -19,8 +28,8 @@ pub use Rattle.mdv_replica.specs.declared.replica.PlaceAt.{PlaceAt}
 pub use Rattle.mdv_replica.specs.declared.replica.Slot.{Slot}
 pub use Rattle.mdv_replica.specs.declared.replica.Slot.TheVariants.{First, Second}
 pub use Rattle.mdv_shelf.specs.Area.{AreApart, Area, range}
-pub use Rattle.mdv_shelf.specs.Everywhere.{Image}
-pub use Rattle.mdv_votes.specs.Family.{place_at, table_at}
+pub use Rattle.mdv_shelf.specs.Everywhere.{Image, RestsOn}
+pub use Rattle.mdv_votes.specs.Family.{greatest_of, place_at, put_at, table_at, with_claim, with_newest}
 pub use Rattle.mdv_votes.specs.declared.spot.Spot.{Spot}
 pub use Rattle.mdv_votes.specs.declared.version.SpotState.{SpotState}
 pub use Rattle.mdv_votes.specs.declared.version.Version.{Version}

@@ -1,5 +1,6 @@
 -- Where a boot looks for replicas of a database.
-use Rattle.std.specs.Prelude.{◌≡◌, ◌⊎◌, ℕ, ◌+◌, ◌*◌, ◌≤◌, false, List, Contains, slice_index_or}
+use Rattle.std.specs.Prelude.{◌≡◌, ◌⊎◌, ℕ, ◌+◌, ◌-◌, ◌*◌, ◌≤◌, false, List, Contains, slice_index_or}
+use Rattle.std.specs.List.{list_any}
 use Rattle.mdv_shown.specs.Below.{DriveNo, Key, SliceLine, PlaceAt, Spot, Area, AreApart, range}
 
 -- whose database it is; the slices on which a boot looks, in the order of the table of drives; the drives that it brings up
@@ -29,6 +30,10 @@ spot_on line blocks k = record { drive = line.at.drive; first = line.at.start + 
 -- the blocks of a slice
 abbrev pub line_area : SliceLine → Area
 line_area line = range line.at.drive.0 line.at.start line.at.blocks
+
+-- the blocks of its slices from the first master on: what is found there rests on these alone
+abbrev pub site_area : Site → Area
+site_area site drive block = list_any (λ (line : SliceLine). range line.at.drive.0 (line.at.start + 16) (line.at.blocks - 16) drive block) site.lines
 
 -- no two of the slices share a block, and each has the block where the first replica's master lies
 pub record IsSite (site : Site) : Type 0 where

@@ -1,4 +1,5 @@
 ghost use Rattle.mdv_shown.specs.Laws.{ShowsOne, NewestIsOne, ShowsKept, ShowsFilled, ShowsSome};
+ghost use Rattle.mdv_shown.specs.Worlds.{ClaimsGo, TablesBegin, SlotsGo, Frames};
 
 /// What a slot shows of tables of any type: one under one mark, by its gate and its body alone, the one that it was filled with; and where it is
 /// open and the replica is readable, one at least. So a replica has one newest table at most.
@@ -8,4 +9,25 @@ pub fn slots_show<T>()
     ensures kept { ShowsKept T }
     ensures filled { ShowsFilled T }
     ensures some { ShowsSome T }
+{}
+
+/// While a claim is written to a replica that an image has, it goes on showing the world, or that with the place claimed.
+pub fn claims_go<T>()
+    ensures { ClaimsGo T }
+{}
+
+/// A table that begins to be written is in the family of the world that an image shows, and at no place.
+pub fn tables_begin<T>()
+    ensures { TablesBegin T }
+{}
+
+/// While the last table is written to a spare slot of a replica that an image has, it goes on showing the world, or that with
+/// the table at the place. No other replica is found or lost meanwhile, or shows anything else.
+pub fn slots_go<T>()
+    ensures { SlotsGo T }
+{}
+
+/// What is written outside the slices of the site leaves what an image shows.
+pub fn frames<T>()
+    ensures { Frames T }
 {}
