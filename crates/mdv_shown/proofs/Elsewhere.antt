@@ -25,10 +25,10 @@ one_master line size block a b x y =
 pub places_step : (j k b : ℕ) → j < k → j * b + b ≤ k * b
 places_step j k b lt = row_fits j b k b lt (omega arith)
 
-in_range : (drive at count other block : ℕ) → range drive at count other block ≡ true → (drive ≡ other) × (at ≤ block) × (block < at + count)
+pub in_range : (drive at count other block : ℕ) → range drive at count other block ≡ true → (drive ≡ other) × (at ≤ block) × (block < at + count)
 in_range drive at count other block is = (grind (arith, nat_tests), grind (arith, nat_tests), grind (arith, nat_tests))
 
-range_has : (drive at count block : ℕ) → at ≤ block → block < at + count → range drive at count drive block ≡ true
+pub range_has : (drive at count block : ℕ) → at ≤ block → block < at + count → range drive at count drive block ≡ true
 range_has drive at count block from to = grind (arith, nat_tests)
 
 module _ {Table : Type 0} (Spells : List ℕ → Table → Type 0) (site : Site) (line : SliceLine) (old new : ℕ → List ℕ) (first : Master) (head : Head) where

@@ -1,6 +1,5 @@
 -- What an image shows rests on the blocks of the site's slices.
 use Rattle.std.proofs.Common.{◌≡◌, ℕ, ◌+◌, ◌-◌, ◌<◌, ◌≤◌, Bool, true, sym, List, arith}
-use Rattle.std.proofs.lemmas.Bool.Decides.{nat_tests}
 use Rattle.std.proofs.lemmas.List.Folds.{list_any-from_Any}
 use Rattle.std.specs.Prelude.{Contains}
 use Rattle.std.specs.List.{list_any}
@@ -8,21 +7,18 @@ use Rattle.mdv_shown.specs.Below.{Identity, SliceLine, Master, Head, Image, IsSa
 use Rattle.mdv_shown.specs.Site.{Site, site_area, place_on, spot_on}
 use Rattle.mdv_shown.specs.Found.{IsFound}
 use Rattle.mdv_shown.specs.Shown.{ShowsPlaces}
-use Rattle.mdv_shown.proofs.Elsewhere.{found_kept}
+use Rattle.mdv_shown.proofs.Elsewhere.{found_kept, range_has}
 use Rattle.mdv_shown.proofs.Rewritten.{place_same}
 
 any_of : {X : Type 0} (p : X → Bool) (xs : List X) (x : X) → Contains xs x → p x ≡ true → list_any p xs ≡ true
 any_of p xs x has is = list_any-from_Any p xs (has.0, x, has.1, has.2, is)
-
-line_has : (drive at count block : ℕ) → at ≤ block → block < at + count → range drive at count drive block ≡ true
-line_has drive at count block from to = grind (arith, nat_tests)
 
 module _ {Table : Type 0} (Spells : List ℕ → Table → Type 0) (site : Site) (identity : Identity) (old new : Image)
     (same : (drive block : ℕ) → site_area site drive block ≡ true → new drive block ≡ old drive block) where
   line_same : (line : SliceLine) → Contains site.lines line → (block : ℕ) → line.at.start + 16 ≤ block → block < line.at.start + line.at.blocks → new line.at.drive.0 block ≡ old line.at.drive.0 block
   line_same line one_of block from to =
       same line.at.drive.0 block (any_of (λ (l : SliceLine). range l.at.drive.0 (l.at.start + 16) (l.at.blocks - 16) line.at.drive.0 block) site.lines line one_of
-      (line_has line.at.drive.0 (line.at.start + 16) (line.at.blocks - 16) block from (omega (arith, from, to))))
+      (range_has line.at.drive.0 (line.at.start + 16) (line.at.blocks - 16) block from (omega (arith, from, to))))
 
   found_same : (line : SliceLine) (k : ℕ) (first : Master) (head : Head) → IsFound Spells site line k (old line.at.drive.0) first head → IsFound Spells site line k (new line.at.drive.0) first head
   found_same line k first head is =

@@ -4,3 +4,4 @@ pub mod Rewritten
 pub mod Writes
 pub mod Framed
 pub mod Worlds
+pub mod Wiped

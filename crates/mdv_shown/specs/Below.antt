@@ -8,15 +8,16 @@ pub use Rattle.mdv_base.specs.declared.place.Place.{Place}
 pub use Rattle.mdv_name.specs.declared.slice_lines.SliceLine.{SliceLine}
 pub use Rattle.mdv_quorum.specs.May.{may}
 pub use Rattle.mdv_quorum.specs.Standing.{IsFamily}
-pub use Rattle.mdv_quorum.specs.World.{happens, last_table}
-pub use Rattle.mdv_quorum.specs.declared.event.Event.TheVariants.{Claimed, Slotted}
+pub use Rattle.mdv_quorum.specs.World.{after_all, happens, last_table}
+pub use Rattle.mdv_quorum.specs.declared.event.Event.{Event}
+pub use Rattle.mdv_quorum.specs.declared.event.Event.TheVariants.{Claimed, Slotted, Wiped}
 pub use Rattle.mdv_quorum.specs.declared.event.SlotEnd.TheVariants.{Closed as LeftClosed, Holds}
 pub use Rattle.mdv_quorum.specs.declared.machine.Core.{Core}
 pub use Rattle.mdv_quorum.specs.declared.machine.Stage.{Stage}
 pub use Rattle.mdv_quorum.specs.declared.machine.Stage.TheVariants.{Claiming, Creating, Reading, Ready, Writing}
 pub use Rattle.mdv_replica.specs.Form.{IsReadable, IsSpare, IsSpareSlot, IsTable, SlotFits, gate_of, other_slot, room_of, text_of}
 pub use Rattle.mdv_replica.specs.Form.{with_claim as claimed_head, with_slot}
-pub use Rattle.mdv_replica.specs.Images.{Claims, Fills, IsSame, MayClaim, MayFill, SameOutside, closed, filled, untouched}
+pub use Rattle.mdv_replica.specs.Images.{Claims, Fills, IsSame, MayClaim, MayFill, MayWipe, SameOutside, Wipes, closed, filled, untouched}
 pub use Rattle.mdv_replica.specs.Forms.{block_of, claim_text, gate_text}
 pub use Rattle.mdv_replica.specs.Replica.{body_at, gate_at, slot_area, slot_blocks, with_blocks}
 pub use Rattle.mdv_replica.specs.Seen.{IsMasterAt}

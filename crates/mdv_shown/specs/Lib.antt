@@ -5,3 +5,4 @@ pub mod Shown
 pub mod Steps
 pub mod Laws
 pub mod Worlds
+pub mod Wipes

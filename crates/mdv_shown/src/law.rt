@@ -1,5 +1,6 @@
 ghost use Rattle.mdv_shown.specs.Laws.{ShowsOne, NewestIsOne, ShowsKept, ShowsFilled, ShowsSome};
 ghost use Rattle.mdv_shown.specs.Worlds.{ClaimsGo, TablesBegin, SlotsGo, Frames};
+ghost use Rattle.mdv_shown.specs.Wipes.{WipesGo};
 
 /// What a slot shows of tables of any type: one under one mark, by its gate and its body alone, the one that it was filled with; and where it is
 /// open and the replica is readable, one at least. So a replica has one newest table at most.
@@ -25,6 +26,12 @@ pub fn tables_begin<T>()
 /// the table at the place. No other replica is found or lost meanwhile, or shows anything else.
 pub fn slots_go<T>()
     ensures { SlotsGo T }
+{}
+
+/// While the master of a replica is blanked, whosever it is, an image goes on showing the world, or that without this replica and
+/// those behind it on the slice.
+pub fn wipes_go<T>()
+    ensures { WipesGo T }
 {}
 
 /// What is written outside the slices of the site leaves what an image shows.
