@@ -1,3 +1,4 @@
+pub mod Lists
 pub mod Logs
 pub mod Standing
 pub mod Tables
@@ -10,3 +11,4 @@ pub mod Restarts
 pub mod Lifting
 pub mod Telling
 pub mod Waking
+pub mod Told

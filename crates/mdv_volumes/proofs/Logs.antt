@@ -7,6 +7,7 @@ use Rattle.mdv_map.proofs.Following.{answers_follow}
 use Rattle.mdv_store_law.proofs.Machine.{after_more, all_more}
 use Rattle.mdv_volumes.specs.Below.{Among, BlockLog, VolumeLog, AreLastIssued, is_among, only}
 use Rattle.mdv_volumes.specs.Events.{VolumeEvent, Issues, Answers, Flushes, Begins, Crashes, Woke, AllGoOn, GoesOn, IsCourse, IsNoCrash, MayBeLeft, MayHappen, NoCrash, issued_to, issues_of, log_after, log_after_all}
+use Rattle.mdv_volumes.proofs.Lists.{all_front, all_rest, course_front, course_rest}
 use Rattle.mdv_volumes.specs.LogLaws.{BootsSettle, IssuesAloneAdd, WritesLast}
 
 -- a block from a test on is at or behind it
@@ -163,23 +164,6 @@ boots_settle = record {
 answered_first : (log : VolumeLog) (at : ℕ) (blocks : List (List ℕ)) (k : ℕ) → k < length blocks → (log_after log (Answers at blocks) (at + k)).reads ≡ slice_index_or blocks k [] ∷ []
 answered_first log at blocks k lt = answers_follow.one at blocks log k lt
 
--- a course of two parts
-course_first : (log : VolumeLog) (es fs : List VolumeEvent) → IsCourse log (es ++ fs) → IsCourse log es
-course_first log [] fs course = tt
-course_first log (e ∷ es) fs course = (course.0, course_first (log_after log e) es fs course.1)
-
-course_second : (log : VolumeLog) (es fs : List VolumeEvent) → IsCourse log (es ++ fs) → IsCourse (log_after_all log es) fs
-course_second log [] fs course = course
-course_second log (e ∷ es) fs course = course_second (log_after log e) es fs course.1
-
-all_first : (b : ℕ) (es fs : List VolumeEvent) → AllGoOn b (es ++ fs) → AllGoOn b es
-all_first b [] fs goes = tt
-all_first b (e ∷ es) fs goes = (goes.0, all_first b es fs goes.1)
-
-all_second : (b : ℕ) (es fs : List VolumeEvent) → AllGoOn b (es ++ fs) → AllGoOn b fs
-all_second b [] fs goes = goes
-all_second b (e ∷ es) fs goes = all_second b es fs goes.1
-
 module _ (log : VolumeLog) (at : ℕ) (blocks : List (List ℕ)) (es : List VolumeEvent) (k : ℕ) (lt : k < length blocks) (course : IsCourse log (Answers at blocks ∷ es)) (goes : AllGoOn (at + k) es) (calm : NoCrash es) where
   value : List ℕ
   value = slice_index_or blocks k []
@@ -208,15 +192,15 @@ writes_last = record {
       subst (λ (l : VolumeLog). l (at + k) ≡ only (slice_index_or blocks k [])) (sym (after_more log_after log (Answers at blocks ∷ es) (Flushes from count ∷ [])))
       (flushed_one (log_after_all log (Answers at blocks ∷ es)) from count (at + k) (slice_index_or blocks k []) is (answered_alone log at blocks es k lt course goes calm none));
   acknowledged = λ log at blocks es later from count k x lt course goes calm is may.
-      let first = course_first log (Answers at blocks ∷ es) (Flushes from count ∷ later) course in
-      let second = course_second log (Answers at blocks ∷ es) (Flushes from count ∷ later) course in
+      let first = course_front log_after MayHappen log (Answers at blocks ∷ es) (Flushes from count ∷ later) course in
+      let second = course_rest log_after MayHappen log (Answers at blocks ∷ es) (Flushes from count ∷ later) course in
       let mid : VolumeLog = log_after_all log (Answers at blocks ∷ es) in
       let on : VolumeLog = log_after mid (Flushes from count) in
       let b : ℕ = at + k in
       let same = flushed_reads mid from count b is in
       let within : MayBeLeft (on b) = (λ y read. subst (λ (l : List (List ℕ)). Among l y) (sym same) (flush_read mid from count b y read)) in
-      let goes_first = all_first b es later goes in
-      let goes_second = all_second b es later goes in
+      let goes_first = all_front (GoesOn b) es later goes in
+      let goes_second = all_rest (GoesOn b) es later goes in
       let left = ⊎_elim (λ read. within_all b on later second.1 within x (subst (λ (l : VolumeLog). Among (l b).reads x) (after_more log_after log (Answers at blocks ∷ es) (Flushes from count ∷ later)) read))
       (λ left. subst (λ (l : VolumeLog). Among (l b).leaves x) (after_more log_after log (Answers at blocks ∷ es) (Flushes from count ∷ later)) left) may in
       ⊎_elim (λ before. ⊎_elim (λ one. inl one) (λ since. inr (issued_more b es later x (among_first (issued_to b es) (issued_to b later) x since)))

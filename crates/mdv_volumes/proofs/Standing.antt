@@ -126,6 +126,10 @@ boots_stand = record {
         let same = on b copy.drive copy.block (image copy.drive copy.block) lt there (is_image.each copy.drive copy.block) in
         copy.is ∙ same ∙ reads b (last t copy.drive copy.block) lt (reading_of (last t) (v.copies b) copy.drive copy.block copy.has);
   };
+  run = λ drive first count t synced. record {
+    some = λ b lt. inl refl;
+    alone = λ image b x is lt reading. ⊎_elim (λ same. same ∙ synced (first + b) (image drive (first + b)) (is.each drive (first + b))) (λ none. absurd none) reading;
+  };
 }
 
 -- what a read gives a crash may leave, as a log begins

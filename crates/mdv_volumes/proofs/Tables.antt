@@ -1,10 +1,11 @@
 -- Where the volumes of a table of the geometry lie.
-use Rattle.std.proofs.Common.{◌≡◌, ◌⊎◌, inl, inr, ℕ, ◌<◌, false, List, [], ◌∷◌, ◌++◌, length, get_or, map, Contains, refl, sym, ◌∙◌, ap, subst, arith}
+use Rattle.std.proofs.Common.{◌≡◌, ◌⊎◌, inl, inr, ℕ, ◌+◌, ◌<◌, false, List, [], ◌∷◌, ◌++◌, length, get_or, map, Contains, Option, Some, None, refl, sym, ◌∙◌, ap, subst, arith}
 use Rattle.std.specs.Prelude.{AllPairs}
 use Rattle.std.proofs.lemmas.Bool.{cases_lt}
 use Rattle.std.proofs.lemmas.List.{get_or-map, get_or_default, length-map}
 use Rattle.std.proofs.lemmas.List.Concat.{flat_map-cons}
-use Rattle.std.proofs.lemmas.List.Elements.{All-contains}
+use Rattle.std.proofs.lemmas.List.Elements.{All-contains, All-contains_itself}
+use Rattle.std.proofs.lemmas.Option.{none-some}
 use Rattle.mdv_base.specs.declared.drive.DriveNo.{DriveNo}
 use Rattle.mdv_map.proofs.Combining.{in_run, run_disjoint}
 use Rattle.mdv_map.proofs.Covering.{runs_lie}
@@ -12,8 +13,17 @@ use Rattle.mdv_table.specs.Plan.{component_slices}
 use Rattle.mdv_table.specs.Slices.{HasBlock, Overlaps}
 use Rattle.mdv_table.specs.Table.{IsComponentOn, IsKindOf}
 use Rattle.mdv_table.specs.Volume.{base_slices, kind_slices, volume_slices}
+use Rattle.mdv_table.specs.Change.{blocks_at}
+use Rattle.mdv_table.specs.Volume.{stripe_on}
+use Rattle.mdv_table.specs.Volumes.{with_volume}
+use Rattle.mdv_table.specs.declared.plan.Plan.{Plan}
 use Rattle.mdv_table.proofs.Apart.{volume_slice}
-use Rattle.mdv_volumes.specs.Below.{AreApart, AreDisjoint, Base, Component, Geometry, HasSlice, HasVolume, IsDisjoint, IsOfGeometry, IsSound, Map, Slice, SliceAt, SliceName, Stripe, Table, VolId, Volume, VolumeKind, area_of, area_of_map, run_map}
+use Rattle.mdv_table.proofs.Ascending.{All-with}
+use Rattle.mdv_table.proofs.Causes.{name_taken, no_slice}
+use Rattle.mdv_name.specs.SliceIndex.{slice_at}
+use Rattle.mdv_name.proofs.Finding.{slice_at-none, slice_at-some}
+use Rattle.mdv_base.specs.declared.refusal.Refusal.TheVariants.{NameTaken, NoSuchSlice}
+use Rattle.mdv_volumes.specs.Below.{AreApart, AreDisjoint, Base, Component, Geometry, HasSlice, HasVolume, IsDisjoint, IsAfter, IsOfGeometry, IsSound, MakeStripe, Map, Slice, SliceAt, SliceName, Stripe, Table, VolId, Volume, VolumeKind, area_of, area_of_map, run_map}
 use Rattle.mdv_volumes.specs.Tables.{AreLaid, ArePlain, IsBaseMap, IsClear, IsKindMap, IsMapOf, Sites, TablesLie}
 
 -- a volume lies on all blocks of one slice
@@ -166,5 +176,35 @@ module _ (g : Geometry) (sound : IsSound g) where
       clear = clear_map sites plain;
     }
 
+-- the maps of a component of the geometry, and of a volume
+some_base : (g : Geometry) (c : Component) (base : Base) → IsComponentOn g c base → (v : Map) × IsBaseMap g c base v
+some_base g c (Slice slice) on = (run_map on.at.drive.0 (on.at.start + c.start) c.blocks, (on.at, on.has, refl))
+
+some_kind : (g : Geometry) (kind : VolumeKind) → IsKindOf g kind → (v : Map) × IsKindMap g kind v
+some_kind g (Stripe s) kind = some_base g s.component s.component.on kind.component
+
+module _ (g : Geometry) (old next : Table) (volume : VolId) (slice : SliceName) (after : IsAfter g (MakeStripe volume slice) old.plan next.plan) where
+  never_taken : (o : Option SliceAt) → slice_at g.slices slice ≡ o → IsSound g → (of : Volume) → HasVolume old.plan.volumes volume of → ⊥
+  never_taken None is sound of has = none-some NoSuchSlice (sym after.0 ∙ no_slice g sound old.plan volume slice ((slice_at-none g.slices slice).0 is))
+  never_taken (Some at) is sound of has = none-some NameTaken (sym after.0 ∙ name_taken g sound old.plan volume slice at ((slice_at-some g slice at sound).0 is) of has)
+
+  abbrev stripe : Volume
+  stripe = stripe_on volume slice (blocks_at (slice_at g.slices slice))
+
+  is_old : (of : Volume) → Contains (with_volume stripe old.plan.volumes) of → (of ≡ stripe) ⊎ Contains old.plan.volumes of
+  is_old of has = All-contains (λ (x : Volume). (x ≡ stripe) ⊎ Contains old.plan.volumes x) (with_volume stripe old.plan.volumes) of
+      (All-with (λ (x : Volume). (x ≡ stripe) ⊎ Contains old.plan.volumes x) stripe old.plan.volumes (inl refl) (λ k d lt. inr (All-contains_itself old.plan.volumes k d lt))) has
+
+  of_old : (other : VolId) (v : Map) → IsMapOf g next other v → IsMapOf g old other v ⊎ (other ≡ volume)
+  of_old other v map = elim (is_old map.of (subst (λ (p : Plan). Contains p.volumes map.of) after.1 map.has.0)) [
+    | inl new ↦ inr (sym map.has.1 ∙ ap (λ (x : Volume). x.number) new)
+    | inr old_one ↦ inl (record { of = map.of; has = (old_one, map.has.1); kind = map.kind })
+  ]
+
 pub tables_lie : TablesLie
-tables_lie sites g table sound plain is = laid g sound table is sites plain
+tables_lie = record {
+  laid = λ sites g table sound plain is. laid g sound table is sites plain;
+  some = λ g table of is has. let found = some_kind g of.kind (All-contains (λ (w : Volume). IsKindOf g w.kind) table.plan.volumes of is.kinds has) in (found.0, record { of = of; has = (has, refl); kind = found.1 });
+  new = λ g old next volume slice v sound after map. never_taken g old next volume slice after (slice_at g.slices slice) refl sound map.of map.has;
+  made = λ g old next volume slice other v after map. of_old g old next volume slice after other v map;
+}

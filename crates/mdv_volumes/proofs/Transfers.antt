@@ -1,5 +1,5 @@
 -- Blocks of a volume are written and read.
-use Rattle.std.proofs.Common.{◌≡◌, ℕ, ◌+◌, true, false, ◌&&◌, nat_le, List, [], ◌∷◌, ◌++◌, filter, length, Contains, refl, sym, subst, arith}
+use Rattle.std.proofs.Common.{◌≡◌, ℕ, true, false, List, [], ◌∷◌, ◌++◌, filter, length, Contains, refl, sym, subst, arith}
 use Rattle.std.proofs.lemmas.Bool.Decides.{nat_tests}
 use Rattle.mdv_map.proofs.Covering.{areas_cover}
 use Rattle.mdv_map.proofs.Following.{answers_follow, flushes_follow, issues_follow}
@@ -90,10 +90,7 @@ module _ (sites : Sites) (h : History) (key : Key) (volume : VolId) (at : ℕ) (
   last_issued = subst (λ (l : VolumeLog). AreLastIssued l at blocks) (sym (after_own sites h key volume (Issues at blocks) t u stands)) (issues_follow.newest at blocks (h.volumes key volume))
 
   within_itself : is_within key volume at (length blocks) (Wrote key volume at blocks) ≡ true
-  within_itself = let here = volume_itself key volume in rw here (both at (at + length blocks))
-    where
-      both : (a b : ℕ) → nat_le a a && nat_le b b ≡ true
-      both a b = grind (arith, nat_tests)
+  within_itself = let here = volume_itself key volume in rw here (grind (arith, nat_tests))
 
   pub written_goes : IsWritten sites h key volume at blocks u
   written_goes = record {

@@ -2,13 +2,16 @@
 use Rattle.std.proofs.Common.{◌≡◌, inl, inr, Bool, true, false, List, ◌∷◌, ◌++◌, refl, sym, ◌∙◌, ap, subst}
 use Rattle.mdv_shelf.proofs.Blocks.{both_ways}
 use Rattle.mdv_store_law.specs.Log.{IsRising, Version}
+use Rattle.mdv_store_law.specs.Machine.{AreAll}
+use Rattle.mdv_store_law.specs.Machine as machine
+use Rattle.mdv_store_law.specs.Part.{IsPart}
 use Rattle.mdv_store_law.specs.Standing as database
 use Rattle.mdv_store_law.proofs.Machine.{after_more, all_more, course_more}
-use Rattle.mdv_volumes.specs.Below.{AreDisjoint, Follows, Key, Map, Site, Tale, VolId}
+use Rattle.mdv_volumes.specs.Below.{AreDisjoint, Follows, Identity, Key, Map, Site, Tale, VolId}
 use Rattle.mdv_volumes.specs.Databases.{is_volume, log_of, same_key}
 use Rattle.mdv_volumes.specs.Events.{VolumeEvent}
 use Rattle.mdv_volumes.specs.Events as lives
-use Rattle.mdv_volumes.specs.Happening.{IsNamed, IsThere, MayBeFound, MayHappen, begins, issued_by, tells, told_by}
+use Rattle.mdv_volumes.specs.Happening.{Adds, IsIssue, IsNamed, IsThere, MayBeFound, MayHappen, begins, issued_by, tells, told_by}
 use Rattle.mdv_volumes.specs.Histories.{Happens, Stands}
 use Rattle.mdv_volumes.specs.History.{Deed, Event, OfVolume, History, history_after, history_after_all}
 use Rattle.mdv_volumes.specs.Tables.{IsMapOf, IsSite, Sites}
@@ -88,3 +91,14 @@ module _ (sites : Sites) (h : History) (key : Key) (volume : VolId) (e : VolumeE
       | inr never ↦ rw never (others other beside w never named)
     ];
   }
+
+-- events that happen, in the form of a history that goes on
+pub goes_by : (sites : Sites) (h : History) (Which : Identity → Type 0) (asks : List Deed) (After : List Event → History → Type 0) (es : List Event) (begun told : List Deed) (m : Tale) → Happens sites h es begun told m → IsPart begun asks
+    → AreAll (IsIssue Which) es → After es (history_after_all h es) → machine.Goes history_after (MayHappen sites) (Adds Which asks told) (λ next. Stands sites next m) After h
+goes_by sites h Which asks After es begun told m happens part issues after = record {
+  es = es;
+  course = happens.course;
+  come = record { tells = happens.tells; issues = issues; begins = subst (λ (l : List Deed). IsPart l asks) (sym happens.begins) part };
+  stands = happens.stands;
+  after = after;
+}

@@ -1,5 +1,5 @@
 -- Boots that find one value of each block, and logs that begin.
-use Rattle.std.proofs.Common.{◌≡◌, ◌⊎◌, inl, inr, ⊎_elim, ℕ, zero, suc, length, slice_index_or, ◌<◌, ◌≤◌, List, [], ◌∷◌, Contains, All, refl, sym, ap, subst, arith}
+use Rattle.std.proofs.Common.{◌≡◌, inl, inr, ⊎_elim, ℕ, ◌≤◌, List, [], ◌∷◌, All, refl, sym, ap, subst, arith}
 use Rattle.std.proofs.lemmas.List.Elements.{All-head, All-tail}
 use Rattle.mdv_shelf.proofs.Blocks.{both_ways}
 use Rattle.mdv_volumes.specs.Below.{Follows, Key, Map, Tale, VolId, VolumeLog, after_begin, opening}
@@ -11,6 +11,7 @@ use Rattle.mdv_volumes.specs.History.{OfVolume, History, history_after, history_
 use Rattle.mdv_volumes.specs.HistoryLaws.{BeginningsGo, BootsGo, IsAwake, IsFoundBy, wakings}
 use Rattle.mdv_volumes.specs.Tables.{Sites}
 use Rattle.mdv_volumes.proofs.Databases.{volume_itself, volume_number}
+use Rattle.mdv_volumes.proofs.Lists.{first_or_behind}
 use Rattle.mdv_volumes.proofs.Logs.{goes_test}
 use Rattle.mdv_volumes.proofs.Standing.{beginnings_stand, boots_stand}
 use Rattle.mdv_volumes.proofs.Transfers.{noted}
@@ -34,12 +35,6 @@ module _ (sites : Sites) (h : History) (key : Key) (volume : VolId) (count : ℕ
 
   woke_count : (history_after h (OfVolume key volume (Woke count content))).woken key volume ≡ count
   woke_count = let here = volume_itself key volume in rw here refl
-
-first_or_behind : (x y : VolId) (xs : List VolId) → Contains (x ∷ xs) y → (x ≡ y) ⊎ Contains xs y
-first_or_behind x y xs has = by has.0 has.1 has.2 where
-  by : (k : ℕ) → k < length (x ∷ xs) → slice_index_or (x ∷ xs) k y ≡ y → (x ≡ y) ⊎ Contains xs y
-  by zero lt same = inl same
-  by (suc k) lt same = inr (k, omega arith, same)
 
 module _ (sites : Sites) (key : Key) (count : VolId → ℕ) (content : VolId → ℕ → List ℕ) (t : Tale) where
   -- the counts of others stay, and one that is found again has the same

@@ -16,10 +16,12 @@ pub use Rattle.mdv_shelf.specs.Tale.{Among, Begun, IsImage, MayLeave, Start, Tal
 pub use Rattle.mdv_store_law.specs.Laws.{restarted}
 pub use Rattle.mdv_store_law.specs.Log.{IsNotOlder, Log, Version, empty_log, is_firm}
 pub use Rattle.mdv_store_law.specs.Site.{Site, area_of}
+pub use Rattle.mdv_table.specs.Change.{IsAfter}
 pub use Rattle.mdv_table.specs.Slices.{IsSound}
 pub use Rattle.mdv_table.specs.Table.{IsOfGeometry}
 pub use Rattle.mdv_table.specs.Volumes.{HasVolume}
 pub use Rattle.mdv_table.specs.declared.change.Change.{Change}
+pub use Rattle.mdv_table.specs.declared.change.Change.TheVariants.{MakeStripe}
 pub use Rattle.mdv_table.specs.declared.table.Table.{Table}
 pub use Rattle.mdv_table.specs.declared.volume.Base.{Base}
 pub use Rattle.mdv_table.specs.declared.volume.Base.TheVariants.{Slice}

@@ -1,6 +1,6 @@
 -- Laws of histories: of each volume, of databases and of deeds, over crashes, boots, writes and reads.
-use Rattle.std.specs.Prelude.{◌≡◌, ◌⊎◌, ◌≤◌, ℕ, List, [], ◌∷◌, length, map, Option, Some, None, All, Contains}
-use Rattle.mdv_volumes.specs.Below.{AllOnDisk, AllRead, AreApart, AreDisjoint, Change, Follows, Identity, Image, Key, KeptOutside, Map, Rewriting, Site, Table, Tale, VolId, area_of, nowhere, only, opening, restarted}
+use Rattle.std.specs.Prelude.{◌≡◌, ◌⊎◌, ◌+◌, ◌<◌, ◌≤◌, ℕ, List, [], ◌∷◌, ◌++◌, length, slice_index_or, map, Option, Some, None, All, Contains}
+use Rattle.mdv_volumes.specs.Below.{AllOnDisk, AllRead, Among, AreApart, AreDisjoint, Change, Follows, Identity, Image, Key, KeptOutside, Map, Rewriting, Site, Table, Tale, VolId, area_of, nowhere, only, opening, restarted}
 use Rattle.mdv_store_law.specs.Log as log
 use Rattle.mdv_store_law.specs.Site.{IsFound}
 use Rattle.mdv_store_law.specs.Standing as database
@@ -9,7 +9,8 @@ use Rattle.mdv_volumes.specs.Events.{Answers, Begins, Flushes, Issues, Woke}
 use Rattle.mdv_volumes.specs.Events as lives
 use Rattle.mdv_volumes.specs.Happening.{HasRange, IsCourse, IsNamed, IsThere, deed_of}
 use Rattle.mdv_volumes.specs.Histories.{Happens, Stands}
-use Rattle.mdv_volumes.specs.History.{Deed, Created, Changed, Wrote, Saw, Event, Creation, OfDatabase, OfVolume, Reads, Stops, Crashes, History, events_of, history_after, history_after_all}
+use Rattle.mdv_volumes.specs.LogLaws.{MayBe}
+use Rattle.mdv_volumes.specs.History.{Deed, Created, Changed, Wrote, Saw, Event, Creation, OfDatabase, OfVolume, Reads, Acknowledges, Stops, Crashes, History, events_of, history_after, history_after_all}
 use Rattle.mdv_volumes.specs.Standing.{HaveCopies, HaveOneValue, LeavesNoMore}
 use Rattle.mdv_volumes.specs.Tables.{AreLaid, IsMapOf, IsSite, Sites}
 
@@ -172,3 +173,18 @@ pub record IsBegun (sites : Sites) (h : History) (key : Key) (volume : VolId) (f
 abbrev pub BeginningsGo : Type 0
 BeginningsGo = (sites : Sites) (h : History) (key : Key) (volume : VolId) (from : ℕ) (v : Map) (t : Tale) → ((w : Map) → IsNamed sites h.databases key volume w → w.blocks ≤ from) → Follows (record v { blocks = from }) (h.volumes key volume) t
     → Stands sites h t → IsBegun sites h key volume from v t
+
+-- A write of blocks was answered among these events. Behind them it was told, and later ones came: whatever happened, a read gives of each of its blocks, and
+-- a crash leaves, what was written, or what was issued since it was answered.
+pub record Lasts (h : History) (es later : List Event) (place : ℕ) (key : Key) (volume : VolId) (at : ℕ) (blocks : List (List ℕ)) : Type 0 where
+  pub before : List Event
+  pub since : List Event
+  pub is : es ≡ before ++ OfVolume key volume (Answers at blocks) ∷ since
+  pub lasts : (k : ℕ) (x : List ℕ) → k < length blocks → lives.AllGoOn (at + k) (events_of key volume (since ++ later))
+      → MayBe ((history_after_all h (es ++ Acknowledges place key volume at blocks ∷ later)).volumes key volume) (at + k) x
+      → (x ≡ slice_index_or blocks k []) ⊎ Among (lives.issued_to (at + k) (events_of key volume (since ++ later))) x
+
+-- so it is of every write that is told, from a history of which nothing was done and untold
+abbrev pub ToldWritesLast : Type 0
+ToldWritesLast = (sites : Sites) (h : History) (es later : List Event) (place : ℕ) (key : Key) (volume : VolId) (at : ℕ) (blocks : List (List ℕ)) → h.answered ≡ [] → h.untold ≡ []
+    → IsCourse sites h (es ++ Acknowledges place key volume at blocks ∷ later) → Lasts h es later place key volume at blocks

@@ -1,6 +1,7 @@
 -- Laws of one volume's standing, by its map: over its requests, over those of others, over crashes and boots, and where a log begins.
 use Rattle.std.specs.Prelude.{◌≡◌, ℕ, ◌+◌, ◌<◌, ◌≤◌, List, [], ◌∷◌, length}
-use Rattle.mdv_volumes.specs.Below.{AllOnDisk, AllRead, Among, AreApart, AreDisjoint, Area, Begun, Follows, IsDisjoint, IsImage, KeptOutside, Map, Rewriting, Start, Tale, VolumeLog, area_of_map, last, opening, readings}
+use Rattle.mdv_volumes.specs.Below.{AllOnDisk, AllRead, Among, AreApart, AreDisjoint, Area, Begun, Follows, IsDisjoint, IsImage, KeptOutside, Map, Rewriting, Start, Tale, VolumeLog, area_of_map, last, opening, readings, run_map}
+use Rattle.mdv_shelf.specs.Settle.{IsSynced}
 use Rattle.mdv_volumes.specs.Events.{AreReadable, Answers, Begins, Crashes, Flushes, Issues, Woke}
 use Rattle.mdv_volumes.specs.Standing.{AreKept, GoesBy, HaveCopies, HaveOneValue, HoldWhatWas, LeavesNoMore}
 
@@ -48,6 +49,8 @@ pub record BootsStand : Type 0 where
   -- as where each copy reads that one, and is on the disk
   pub one : (v : Map) (content : ℕ → List ℕ) (t : Tale) → HaveCopies v 0 v.blocks → ((b : ℕ) (x : List ℕ) → b < v.blocks → Among (readings v (last t) b) x → x ≡ content b)
       → AllOnDisk v 0 v.blocks t → HaveOneValue v content t
+  -- so it is of blocks that lie together on a drive that is synced
+  pub run : (drive first count : ℕ) (t : Tale) → IsSynced drive t → HaveOneValue (run_map drive first count) (λ b. last t drive (first + b)) t
 
 -- a log begins with what a read gives and a crash may leave
 pub record BeginningsStand : Type 0 where

@@ -1,6 +1,6 @@
 -- Where the volumes of a table lie: the map of each of them.
-use Rattle.std.specs.Prelude.{◌≡◌, ◌+◌, false, Option, Some}
-use Rattle.mdv_volumes.specs.Below.{AreApart, AreDisjoint, Base, Component, Geometry, HasSlice, HasVolume, IsDisjoint, IsOfGeometry, IsSound, Key, Map, Site, Slice, SliceAt, SliceName, Stripe, Table, VolId, Volume, VolumeKind, area_of, area_of_map, range, run_map}
+use Rattle.std.specs.Prelude.{◌≡◌, ◌⊎◌, ◌+◌, false, Option, Some, Contains}
+use Rattle.mdv_volumes.specs.Below.{AreApart, AreDisjoint, Base, Component, Geometry, HasSlice, HasVolume, IsAfter, IsDisjoint, IsOfGeometry, IsSound, Key, MakeStripe, Map, Site, Slice, SliceAt, SliceName, Stripe, Table, VolId, Volume, VolumeKind, area_of, area_of_map, range, run_map}
 
 -- the blocks of a slice that a component has
 abbrev pub IsBaseMap : Geometry → Component → Base → Map → Type 0
@@ -38,6 +38,12 @@ pub record AreLaid (sites : Sites) (g : Geometry) (table : Table) : Type 0 where
 abbrev pub ArePlain : Sites → Geometry → Type 0
 ArePlain sites g = (key : Key) (site : Site) (name : SliceName) (at : SliceAt) → IsSite sites key site → HasSlice g.slices name at → at.db ≡ false → AreApart (area_of site) (range at.drive.0 at.start at.blocks)
 
--- so are those of each table of the geometry, where slices that replicas may have share no block with others
-abbrev pub TablesLie : Type 0
-TablesLie = (sites : Sites) (g : Geometry) (table : Table) → IsSound g → ArePlain sites g → IsOfGeometry g table → AreLaid sites g table
+-- tables of the geometry
+pub record TablesLie : Type 0 where
+  -- their volumes lie apart, where slices that replicas may have share no block with others
+  pub laid : (sites : Sites) (g : Geometry) (table : Table) → IsSound g → ArePlain sites g → IsOfGeometry g table → AreLaid sites g table
+  -- each of them has a map
+  pub some : (g : Geometry) (table : Table) (of : Volume) → IsOfGeometry g table → Contains table.plan.volumes of → (v : Map) × IsMapOf g table of.number v
+  -- a change makes one that the table before didn't have, and leaves the others where they lay
+  pub new : (g : Geometry) (old next : Table) (volume : VolId) (slice : SliceName) (v : Map) → IsSound g → IsAfter g (MakeStripe volume slice) old.plan next.plan → IsMapOf g old volume v → ⊥
+  pub made : (g : Geometry) (old next : Table) (volume : VolId) (slice : SliceName) (other : VolId) (v : Map) → IsAfter g (MakeStripe volume slice) old.plan next.plan → IsMapOf g next other v → IsMapOf g old other v ⊎ (other ≡ volume)

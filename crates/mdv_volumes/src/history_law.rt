@@ -1,4 +1,4 @@
-ghost use Rattle.mdv_volumes.specs.HistoryLaws.{BeginningsGo, BootsGo, DatabasesGo, ReadsGo, RestartsGo, TellsGo, VolumesLive, WritesGo};
+ghost use Rattle.mdv_volumes.specs.HistoryLaws.{BeginningsGo, BootsGo, DatabasesGo, ReadsGo, RestartsGo, TellsGo, ToldWritesLast, VolumesLive, WritesGo};
 
 /// What a history says of a volume is what happened to that volume, each where it may.
 pub fn volumes_live()
@@ -38,4 +38,9 @@ pub fn boots_go()
 /// A volume's log begins before a table has it, or blocks more of it.
 pub fn beginnings_go()
     ensures { BeginningsGo }
+{}
+
+/// A write whose `ok` was told was answered and put on the disk before: every later read gives it and every crash leaves it, or what was issued since.
+pub fn told_writes_last()
+    ensures { ToldWritesLast }
 {}
