@@ -1,9 +1,11 @@
 pub mod Lists
 pub mod Logs
 pub mod Standing
+pub mod Runs
 pub mod Tables
 pub mod Databases
 pub mod Lives
+pub mod Keys
 pub mod Found
 pub mod Volumes
 pub mod Transfers

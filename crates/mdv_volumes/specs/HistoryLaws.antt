@@ -1,16 +1,17 @@
 -- Laws of histories: of each volume, of databases and of deeds, over crashes, boots, writes and reads.
-use Rattle.std.specs.Prelude.{◌≡◌, ◌⊎◌, ◌+◌, ◌<◌, ◌≤◌, ℕ, List, [], ◌∷◌, ◌++◌, length, slice_index_or, map, Option, Some, None, All, Contains}
+use Rattle.std.specs.Prelude.{◌≡◌, ◌⊎◌, ◌+◌, ◌<◌, ◌≤◌, ℕ, List, [], ◌∷◌, ◌++◌, length, slice_index_or, if◌then◌else◌, map, Option, Some, None, All, Contains}
 use Rattle.mdv_volumes.specs.Below.{AllOnDisk, AllRead, Among, AreApart, AreDisjoint, Change, Follows, Identity, Image, Key, KeptOutside, Map, Rewriting, Site, Table, Tale, VolId, area_of, nowhere, only, opening, restarted}
 use Rattle.mdv_store_law.specs.Log as log
+use Rattle.mdv_store_law.specs.Machine.{all_of}
 use Rattle.mdv_store_law.specs.Site.{IsFound}
 use Rattle.mdv_store_law.specs.Standing as database
-use Rattle.mdv_volumes.specs.Databases.{Database, current_of, log_of}
+use Rattle.mdv_volumes.specs.Databases.{Database, current_of, log_of, same_key}
 use Rattle.mdv_volumes.specs.Events.{Answers, Begins, Flushes, Issues, Woke}
 use Rattle.mdv_volumes.specs.Events as lives
-use Rattle.mdv_volumes.specs.Happening.{HasRange, IsCourse, IsNamed, IsThere, deed_of}
+use Rattle.mdv_volumes.specs.Happening.{HasRange, IsCourse, IsNamed, IsThere, deed_of, issued_by, told_by}
 use Rattle.mdv_volumes.specs.Histories.{Happens, Stands}
 use Rattle.mdv_volumes.specs.LogLaws.{MayBe}
-use Rattle.mdv_volumes.specs.History.{Deed, Created, Changed, Wrote, Saw, Event, Creation, OfDatabase, OfVolume, Reads, Acknowledges, Stops, Crashes, History, events_of, history_after, history_after_all}
+use Rattle.mdv_volumes.specs.History.{Deed, Created, Changed, Wrote, Saw, Event, Creation, OfDatabase, OfVolume, Reads, Acknowledges, Shows, Boots, Stops, Crashes, History, events_of, history_after, history_after_all}
 use Rattle.mdv_volumes.specs.Standing.{HaveCopies, HaveOneValue, LeavesNoMore}
 use Rattle.mdv_volumes.specs.Tables.{AreLaid, IsMapOf, IsSite, Sites}
 
@@ -40,6 +41,36 @@ write_of key volume at blocks = OfVolume key volume (Issues at blocks) ∷ OfVol
 pub record IsWritten (sites : Sites) (h : History) (key : Key) (volume : VolId) (at : ℕ) (blocks : List (List ℕ)) (u : Tale) : Type 0 where
   pub happens : Happens sites h (write_of key volume at blocks) (Wrote key volume at blocks ∷ []) [] u
   pub untold : Contains (history_after_all h (write_of key volume at blocks)).untold (Wrote key volume at blocks)
+
+-- what happens to the log of one key
+abbrev pub log_events_at : Key → Event → List log.Event
+log_events_at key (Creation other identity) = if same_key key other then log.Issued identity ∷ [] else []
+log_events_at key (OfDatabase other identity e) = if same_key key other then e ∷ [] else []
+log_events_at key (OfVolume other volume e) = []
+log_events_at key (Reads other volume at blocks) = []
+log_events_at key (Acknowledges place other volume at blocks) = []
+log_events_at key (Shows place other volume at blocks) = []
+log_events_at key (Boots other) = []
+log_events_at key Stops = []
+log_events_at key Crashes = []
+
+abbrev pub log_events_of : Key → List Event → List log.Event
+log_events_of key = all_of (log_events_at key)
+
+-- which of these deeds are of the key's database
+abbrev pub database_deeds : Key → List Deed → List (Option Change)
+database_deeds key [] = []
+database_deeds key (Created other ∷ deeds) = if same_key key other then None ∷ database_deeds key deeds else database_deeds key deeds
+database_deeds key (Changed other change ∷ deeds) = if same_key key other then Some change ∷ database_deeds key deeds else database_deeds key deeds
+database_deeds key (Wrote other volume at blocks ∷ deeds) = database_deeds key deeds
+database_deeds key (Saw other volume at blocks ∷ deeds) = database_deeds key deeds
+
+-- a history says of a key's log what happened to it, so the laws of logs are its laws
+pub record DatabasesLive : Type 0 where
+  pub is : (key : Key) (sites : Sites) (h : History) (es : List Event) → IsCourse sites h es → log_of (history_after_all h es).databases key ≡ log.log_after_all (log_of h.databases key) (log_events_of key es)
+  pub may : (key : Key) (site : Site) (sites : Sites) (h : History) (es : List Event) → IsSite sites key site → IsCourse sites h es → log.IsCourse site.drives (log_of h.databases key) (log_events_of key es)
+  pub tells : (key : Key) (es : List Event) → log.told_by (log_events_of key es) ≡ database_deeds key (told_by es)
+  pub begins : (key : Key) (es : List Event) → log.begun_by (log_events_of key es) ≡ database_deeds key (issued_by es)
 
 -- blocks of a volume are written
 pub record WritesGo : Type 0 where

@@ -1,7 +1,8 @@
 -- Laws of one volume's standing, by its map: over its requests, over those of others, over crashes and boots, and where a log begins.
 use Rattle.std.specs.Prelude.{◌≡◌, ℕ, ◌+◌, ◌<◌, ◌≤◌, List, [], ◌∷◌, length}
 use Rattle.mdv_volumes.specs.Below.{AllOnDisk, AllRead, Among, AreApart, AreDisjoint, Area, Begun, Follows, IsDisjoint, IsImage, KeptOutside, Map, Rewriting, Start, Tale, VolumeLog, area_of_map, last, opening, readings, run_map}
-use Rattle.mdv_shelf.specs.Settle.{IsSynced}
+use Rattle.mdv_shelf.specs.Calls.{Shows}
+use Rattle.mdv_shelf.specs.Settle.{IsSettled, IsSynced, Settling}
 use Rattle.mdv_volumes.specs.Events.{AreReadable, Answers, Begins, Crashes, Flushes, Issues, Woke}
 use Rattle.mdv_volumes.specs.Standing.{AreKept, GoesBy, HaveCopies, HaveOneValue, HoldWhatWas, LeavesNoMore}
 
@@ -57,3 +58,10 @@ pub record BeginningsStand : Type 0 where
   pub made : (v : Map) (log : VolumeLog) (t : Tale) → GoesBy v log (Begins 0 (opening v t) ∷ []) t
   -- from some block on, where those before it have theirs
   pub grown : (v : Map) (from : ℕ) (log : VolumeLog) (t : Tale) → Follows (record v { blocks = from }) log t → GoesBy v log (Begins from (opening v t) ∷ []) t
+
+-- blocks that lie together on a drive, where they are written, synced and read as such
+pub record RunsStand : Type 0 where
+  pub written : (drive first count at : ℕ) (blocks : List (List ℕ)) (t m : Tale) → Settling drive (first + at) blocks t m → Rewriting (run_map drive first count) at blocks t m
+  pub settled : (drive first count at : ℕ) (blocks : List (List ℕ)) (u : Tale) → IsSettled drive (first + at) blocks u → AllRead (run_map drive first count) at blocks u × AllOnDisk (run_map drive first count) at (length blocks) u
+  pub read : (drive first count at : ℕ) (blocks : List (List ℕ)) (t : Tale) → Shows t drive (first + at) blocks → AllRead (run_map drive first count) at blocks t
+  pub copies : (drive first count at number : ℕ) → HaveCopies (run_map drive first count) at number

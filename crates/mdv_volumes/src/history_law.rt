@@ -1,4 +1,4 @@
-ghost use Rattle.mdv_volumes.specs.HistoryLaws.{BeginningsGo, BootsGo, DatabasesGo, ReadsGo, RestartsGo, TellsGo, ToldWritesLast, VolumesLive, WritesGo};
+ghost use Rattle.mdv_volumes.specs.HistoryLaws.{BeginningsGo, BootsGo, DatabasesGo, DatabasesLive, ReadsGo, RestartsGo, TellsGo, ToldWritesLast, VolumesLive, WritesGo};
 
 /// What a history says of a volume is what happened to that volume, each where it may.
 pub fn volumes_live()
@@ -43,4 +43,9 @@ pub fn beginnings_go()
 /// A write whose `ok` was told was answered and put on the disk before: every later read gives it and every crash leaves it, or what was issued since.
 pub fn told_writes_last()
     ensures { ToldWritesLast }
+{}
+
+/// What a history says of a key's log is what happened to that log, each where it may; and of what it tells and begins that key's part.
+pub fn databases_live()
+    ensures { DatabasesLive }
 {}

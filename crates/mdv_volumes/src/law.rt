@@ -1,5 +1,5 @@
 ghost use Rattle.mdv_volumes.specs.LogLaws.{BootsSettle, IssuesAloneAdd, WritesLast};
-ghost use Rattle.mdv_volumes.specs.StandLaws.{BeginningsStand, BootsStand, FramesStand, ReadsStand, RestartsStand, WritesStand};
+ghost use Rattle.mdv_volumes.specs.StandLaws.{BeginningsStand, BootsStand, FramesStand, ReadsStand, RestartsStand, RunsStand, WritesStand};
 ghost use Rattle.mdv_volumes.specs.Tables.{TablesLie};
 
 /// A read gives, and a crash leaves, no value but those from before and those that were issued since; and what a read gives a crash may leave.
@@ -50,4 +50,9 @@ pub fn beginnings_stand()
 /// Each volume of a table of the geometry has one map, and no block of a drive belongs to two of their blocks, or to a database.
 pub fn tables_lie()
     ensures { TablesLie }
+{}
+
+/// Blocks that lie together on a drive, and are written, synced and read as such, are written, on the disk and read as those of a volume.
+pub fn runs_stand()
+    ensures { RunsStand }
 {}
