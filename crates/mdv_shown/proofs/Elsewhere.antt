@@ -3,7 +3,8 @@ use Rattle.std.proofs.Common.{◌≡◌, ◌⊎◌, inl, inr, ℕ, ◌+◌, ◌-
 use Rattle.std.proofs.lemmas.Bool.{cases_lt, cases_eq, false_from_ne_true}
 use Rattle.std.proofs.lemmas.Bool.Decides.{nat_tests}
 use Rattle.std.proofs.lemmas.Nat.{row_fits}
-use Rattle.mdv_shown.specs.Below.{SliceLine, IsMasterAt, Master, Head, Image, Spot, SameOutside, AreApart, range, Closed, gate_text, claim_text, block_of}
+use Rattle.std.specs.Prelude.{Contains}
+use Rattle.mdv_shown.specs.Below.{Key, SliceLine, IsMasterAt, Master, Head, Image, Spot, SameOutside, AreApart, range, Closed, gate_text, claim_text, block_of}
 use Rattle.mdv_votes.specs.Spots.{same_spot}
 use Rattle.mdv_votes.proofs.Meeting.{same_is}
 use Rattle.mdv_shelf.proofs.Frame.{before_range, behind_range}
@@ -64,6 +65,22 @@ module _ {Table : Type 0} (Spells : List ℕ → Table → Type 0) (site : Site)
         of_key = is.of_key;
       }
 
+-- what others rest on of a replica that is found, whatever its key
+pub record IsThere {Table : Type 0} (Spells : List ℕ → Table → Type 0) (site : Site) (line : SliceLine) (k : ℕ) (content : ℕ → List ℕ) (first : Master) (head : Head) : Type 0 where
+  pub one_of : Contains site.lines line
+  pub located : IsMasterAt (place_on line 8192 0 0) (size_on site line) (content (line.at.start + 16)) first
+  pub within : 16 + k * first.blocks + first.blocks ≤ line.at.blocks
+  pub here : IsInChain Spells site line k content first head
+
+pub there_of : {Table : Type 0} (Spells : List ℕ → Table → Type 0) (site : Site) (key : Key) (line : SliceLine) (k : ℕ) (content : ℕ → List ℕ) (first : Master) (head : Head)
+    → IsFound Spells (record site { key = key }) line k content first head → IsThere Spells site line k content first head
+there_of Spells site key line k content first head is = record {
+  one_of = is.one_of;
+  located = is.located;
+  within = is.within;
+  here = record { readable = is.here.readable; length = is.here.length };
+}
+
 -- one that is found in both, with the same blocks
 pub record IsKept {Table : Type 0} (Spells : List ℕ → Table → Type 0) (site : Site) (p : Spot) (old new : Image) (line : SliceLine) (k : ℕ) (first : Master) (head : Head) : Type 0 where
   pub apart : same_spot p (spot_on line first.blocks k) ≡ false
@@ -82,7 +99,7 @@ module _ {Table : Type 0} (Spells : List ℕ → Table → Type 0) (site : Site)
       let e = same_is (spot_on L F.blocks K) (spot_on line b k) is in
       never (ap (λ (s : Spot). s.drive.0) e) (ap (λ (s : Spot). s.first) e))
 
-  module _ (there : IsFound Spells site L K (new L.at.drive.0) F here) (same : SameOutside (Behind L K F.blocks) old new) where
+  module _ (there : IsThere Spells site L K (new L.at.drive.0) F here) (same : SameOutside (Behind L K F.blocks) old new) where
     -- on the slice itself
     module _ (k : ℕ) (head : Head) (is : IsFound Spells site L k (old L.at.drive.0) F head) where
       before_it : k < K → IsKept Spells site (spot_on L F.blocks K) old new L k F head

@@ -5,3 +5,4 @@ pub mod Writes
 pub mod Framed
 pub mod Worlds
 pub mod Wiped
+pub mod Others

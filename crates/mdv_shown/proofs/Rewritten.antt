@@ -11,7 +11,7 @@ use Rattle.mdv_shown.specs.Found.{IsOwn}
 use Rattle.mdv_shown.specs.Shown.{SlotShows, NewestIs, IsPlaceWith, ShowsPlaces}
 use Rattle.mdv_shown.specs.Steps.{IsRewrittenAt}
 use Rattle.mdv_shown.proofs.Slots.{shows_kept}
-use Rattle.mdv_shown.proofs.Elsewhere.{chain_kept, elsewhere, places_step}
+use Rattle.mdv_shown.proofs.Elsewhere.{chain_kept, elsewhere, places_step, there_of}
 
 -- the bodies of two slots are within the place
 pub body_within : (at : PlaceAt) (slot : Slot) (block : ℕ) → 16 ≤ at.place.blocks → body_at at slot ≤ block → block < body_at at slot + slot_blocks at.place.blocks
@@ -93,7 +93,7 @@ module _ {Table : Type 0} (Spells : List ℕ → Table → Type 0) (site : Site)
       → ((q : Spot) → same_spot spot q ≡ false → place_at after q ≡ place_at places q)
       → ShowsPlaces Spells site identity tables family after new
   rewritten_shows tables family places after shows here others = record {
-    each = λ line k first h own. elim (elsewhere Spells site ok new old L K F head r.own.found (λ drive block out. sym (r.elsewhere drive block out)) own_new.found.located line k first h own.found) [
+    each = λ line k first h own. elim (elsewhere Spells site ok new old L K F head (there_of Spells site site.key L K (old L.at.drive.0) F head r.own.found) (λ drive block out. sym (r.elsewhere drive block out)) own_new.found.located line k first h own.found) [
       | inl e ↦
           subst (λ (l : SliceLine). IsOwn Spells site identity l k new first h → IsPlaceWith Spells tables family (place_on l first.blocks first.count k) (new l.at.drive.0) h (place_at after (spot_on l first.blocks k))) (sym e.0)
           (subst (λ (n : ℕ). IsOwn Spells site identity L n new first h → IsPlaceWith Spells tables family (place_on L first.blocks first.count n) (new L.at.drive.0) h (place_at after (spot_on L first.blocks n))) (sym e.1)
@@ -109,7 +109,7 @@ module _ {Table : Type 0} (Spells : List ℕ → Table → Type 0) (site : Site)
       | inl is ↦ record { line = L; number = K; first = F; head = next; own = own_new; spot = sym (same_is spot q is) }
       | inr isnt ↦
           let was = shows.only q kind (sym (ap (λ (x : SpotState). x.holds) (others q isnt)) ∙ holds) in
-          elim (elsewhere Spells site ok old new L K F next own_new.found r.elsewhere r.own.found.located was.line was.number was.first was.head was.own.found) [
+          elim (elsewhere Spells site ok old new L K F next (there_of Spells site site.key L K (new L.at.drive.0) F next own_new.found) r.elsewhere r.own.found.located was.line was.number was.first was.head was.own.found) [
             | inl e ↦
                 absurd (false≢true (sym isnt ∙ subst (λ (s : Spot). same_spot spot s ≡ true) (sym (same_place was.line was.number was.first e) ∙ sym was.spot) (same_self spot)))
             | inr kept ↦ record {

@@ -25,7 +25,7 @@ gate_other : (head : Head) (slot : Slot) (gate : Gate) → gate_of (with_slot he
 gate_other head First gate = refl
 gate_other head Second gate = refl
 
-master_slotted : (head : Head) (slot : Slot) (gate : Gate) → (with_slot head slot gate).master ≡ head.master
+pub master_slotted : (head : Head) (slot : Slot) (gate : Gate) → (with_slot head slot gate).master ≡ head.master
 master_slotted head First gate = refl
 master_slotted head Second gate = refl
 
@@ -41,7 +41,7 @@ shut_never : (mark : Mark) (bytes : ℕ) → Closed ≡ Open mark bytes → ⊥
 shut_never mark bytes e = cc
 
 -- the blocks of a slot lie behind the master, and none of them is in the other slot's body
-slot_within : (at : PlaceAt) (slot : Slot) (count drive block : ℕ) → count ≤ slot_blocks at.place.blocks → 16 ≤ at.place.blocks
+pub slot_within : (at : PlaceAt) (slot : Slot) (count drive block : ℕ) → count ≤ slot_blocks at.place.blocks → 16 ≤ at.place.blocks
     → range at.drive.0 (at.first + 1) (at.place.blocks - 1) drive block ≡ false → slot_area at slot count drive block ≡ false
 slot_within at First count drive block fits least out =
     or_from _ _

@@ -6,3 +6,4 @@ pub mod Steps
 pub mod Laws
 pub mod Worlds
 pub mod Wipes
+pub mod Others

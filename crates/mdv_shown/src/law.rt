@@ -1,6 +1,7 @@
 ghost use Rattle.mdv_shown.specs.Laws.{ShowsOne, NewestIsOne, ShowsKept, ShowsFilled, ShowsSome};
 ghost use Rattle.mdv_shown.specs.Worlds.{ClaimsGo, TablesBegin, SlotsGo, Frames};
 ghost use Rattle.mdv_shown.specs.Wipes.{WipesGo};
+ghost use Rattle.mdv_shown.specs.Others.{OthersGo};
 
 /// What a slot shows of tables of any type: one under one mark, by its gate and its body alone, the one that it was filled with; and where it is
 /// open and the replica is readable, one at least. So a replica has one newest table at most.
@@ -32,6 +33,11 @@ pub fn slots_go<T>()
 /// those behind it on the slice.
 pub fn wipes_go<T>()
     ensures { WipesGo T }
+{}
+
+/// While another database's replica is claimed or written, an image goes on showing this one's world.
+pub fn others_go<T>()
+    ensures { OthersGo T }
 {}
 
 /// What is written outside the slices of the site leaves what an image shows.

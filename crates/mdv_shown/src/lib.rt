@@ -4,4 +4,4 @@
 
 mod law;
 
-pub use law::{claims_go, frames, slots_go, slots_show, tables_begin, wipes_go};
+pub use law::{claims_go, frames, others_go, slots_go, slots_show, tables_begin, wipes_go};
