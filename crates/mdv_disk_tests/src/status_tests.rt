@@ -21,6 +21,18 @@ fn is_told(alloc: Global, at: u64, blocks: &[Block], want: &str) -> Result<bool,
     Ok(reply.as_bytes() == want.as_bytes())
 }
 
+fn is_counted(alloc: Global, count: u32, want: &str) -> Result<bool, Fail> {
+    let reply = ValueText::of_entries(alloc, count)?;
+    Ok(reply.as_bytes() == want.as_bytes())
+}
+
+#[test]
+fn tells_how_many_entries(rt: HostRuntime) -> Result<(), Fail> {
+    assert!(rt; is_counted(rt.alloc(), 0, "entries 0\nok\n")?);
+    assert!(rt; is_counted(rt.alloc(), u32::MAX, "entries 4294967295\nok\n")?);
+    Ok(())
+}
+
 #[test]
 fn tells_blocks(rt: HostRuntime) -> Result<(), Fail> {
     let all = [0xff; 512];

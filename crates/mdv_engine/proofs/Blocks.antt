@@ -2,15 +2,17 @@
 use Rattle.mdv_engine_law.specs.Line.{Ask, ToDo}
 use Rattle.std.proofs.Common.{◌≡◌, inl, inr, ◌+◌, ℕ, List, [], ◌∷◌, Option, Some, None, Err, refl, sym, ap, ◌∙◌, subst, arith}
 use Rattle.mdv_engine.specs.Below.{Failures, VolId, Refusal, IoFault, Moments, Ends, IsSettled, Settling, Tale, Read, Write, Wrote, Host, IsReady, Memory, AreBlocksAt, CameTo, kept_at, IsPlain, CarriedTo, CarryMoment, Knows}
-use Rattle.mdv_engine.proofs.Judged.{blocks_judged, judged_said}
+use Rattle.mdv_engine.proofs.Judged.{blocks_judged, judged_said, read_judged}
 use Rattle.mdv_shelf.proofs.Moments.{moments_end, moments_none, moments_weaker, ends_both}
 use Rattle.mdv_engine_law.specs.Commands as came
 use Rattle.mdv_engine_law.specs.Line.{Stays}
-use Rattle.mdv_engine_law.specs.Refusals.{blocks_refusal}
+use Rattle.mdv_engine_law.specs.Refusals.{blocks_refusal, held_of_blocks}
+use Rattle.mdv_base.specs.Order.{order}
+use Rattle.mdv_base.proofs.Order.{first_holds}
 use Rattle.mdv_engine_law.specs.Answers.{accepted, refusing}
 use Rattle.mdv_engine_law.specs.Replies.{HasAnswerCause}
 use Rattle.mdv_engine_law.proofs.Keeping.{are_put, may_be_put}
-use Rattle.mdv_engine_law.proofs.Plain.{fault_plain, memory_plain, refusal_plain}
+use Rattle.mdv_engine_law.proofs.Plain.{blocks_plain, fault_plain, memory_plain, refusal_plain}
 use Rattle.mdv_engine_law.proofs.Staying.{stays_in_volume}
 use Rattle.mdv_engine_law.proofs.Transfer.{writing_moment, wrote_blocks, wrote_some}
 use Rattle.mdv_engine_law.proofs.Turning.{carry_none, refused_none}
@@ -34,25 +36,27 @@ still memory t = record { memory = refl; content = λ drive block. refl }
 module _ (host : Host) (memory : Memory) (volume : VolId) (at count : ℕ) where
   -- a read that isn't told
   pub unread_line : (failures : Failures) (t : Tale) (r : Refusal) → HasReadCause failures host memory volume at count r → CameTo failures host (kept_at memory t) (Read volume at count) (refusing r) (kept_at memory t)
-  unread_line failures t r (inl (inl is)) = came.refused is.0 r is.1 (refl, still memory t)
-  unread_line failures t r (inl (inr (so, has, fault))) = came.faulted so has.2 (ap refusing fault) (still memory t)
-  unread_line failures t r (inr (calm, has, want)) = came.wanting calm (ap refusing want) (has.2, still memory t)
-
-  pub unwritten_plain : (failures : Failures) (r : Refusal) → HasBlocksCause failures host memory volume at count r → IsPlain r
-  unwritten_plain failures r (inl is) = refusal_plain (record { host = host; memory = memory }) (Read volume at count) r is.1
-  unwritten_plain failures r (inr (so, has, fault)) = subst IsPlain (sym fault) fault_plain
+  unread_line failures t r (inl is) = came.refused is.0 r is.1 (refl, still memory t)
+  unread_line failures t r (inr (inl (so, has, fault))) = came.faulted so has.2 (ap refusing fault) (still memory t)
+  unread_line failures t r (inr (inr (calm, has, want))) = came.wanting calm (ap refusing want) (has.2, still memory t)
 
   pub unread_plain : (failures : Failures) (r : Refusal) → HasReadCause failures host memory volume at count r → IsPlain r
-  unread_plain failures r (inl cause) = unwritten_plain failures r cause
-  unread_plain failures r (inr (calm, has, want)) = subst IsPlain (sym want) memory_plain
+  unread_plain failures r (inl is) = refusal_plain (record { host = host; memory = memory }) (Read volume at count) r is.1
+  unread_plain failures r (inr (inl (so, has, fault))) = subst IsPlain (sym fault) fault_plain
+  unread_plain failures r (inr (inr (calm, has, want))) = subst IsPlain (sym want) memory_plain
+
+  pub unwritten_plain : (failures : Failures) (r : Refusal) → HasBlocksCause failures host memory volume at count r → IsPlain r
+  unwritten_plain failures r (inl is) = first_holds IsPlain order (held_of_blocks memory.opened volume (at + count)) r (blocks_plain memory.opened volume (at + count)) is.1
+  unwritten_plain failures r (inr (so, has, fault)) = subst IsPlain (sym fault) fault_plain
 
   pub unwritten_cause : (failures : Failures) (r : Refusal) → HasBlocksCause failures host memory volume at count r → HasAnswerCause failures (refusing r)
   unwritten_cause failures r (inl is) = judged_said failures r (blocks_judged memory.opened volume (at + count) r is.1) is.0
   unwritten_cause failures r (inr (so, has, fault)) = subst (λ (x : Refusal). HasAnswerCause failures (refusing x)) (sym fault) so
 
   pub unread_cause : (failures : Failures) (r : Refusal) → HasReadCause failures host memory volume at count r → HasAnswerCause failures (refusing r)
-  unread_cause failures r (inl cause) = unwritten_cause failures r cause
-  unread_cause failures r (inr (calm, has, want)) = subst (λ (x : Refusal). HasAnswerCause failures (refusing x)) (sym want) calm
+  unread_cause failures r (inl is) = judged_said failures r (read_judged memory.opened volume at count r is.1) is.0
+  unread_cause failures r (inr (inl (so, has, fault))) = subst (λ (x : Refusal). HasAnswerCause failures (refusing x)) (sym fault) so
+  unread_cause failures r (inr (inr (calm, has, want))) = subst (λ (x : Refusal). HasAnswerCause failures (refusing x)) (sym want) calm
 
 -- of one block that was written some
 pub torn_of : {S : Type 0} (shelf : Ghosts S) (old new : S) (engine : Engine) (volume : VolId) (at : ℕ) (value : List ℕ) (r : Refusal) → AreWritten shelf old new engine volume at (value ∷ []) (Err r) → r ≡ IoFault

@@ -1,5 +1,5 @@
 -- What a boot of the host's database leaves, told of the host.
-use Rattle.std.proofs.Common.{◌≡◌, ℕ, false, List, Option, Some, None, refl, sym, subst, ap, ◌∙◌}
+use Rattle.std.proofs.Common.{◌≡◌, ℕ, false, List, [], Option, Some, None, refl, sym, subst, ap, ◌∙◌}
 use Rattle.mdv_database.specs.Boot.{BootedBy}
 use Rattle.mdv_shelf.specs.Made.{Made}
 use Rattle.mdv_database.specs.declared.database.BootEnd.{BootEnd}
@@ -92,8 +92,9 @@ module _ (host : Host) (sizes : List ℕ) (ready : IsReady host sizes) (at : Pla
   beside_here t u quiet = same_beside host t u (quiet_here host sizes ready at at_is t u quiet)
 
 -- an adopted database is in order
-pub adopted_well : (host : Host) (begun : ℕ) (newest : Newest) (at : PlaceAt) → at ≡ place_of host.home → IsTableAt host.drives (with_blocks at newest.blocks).place newest.table → IsWell host (booted (Some newest) begun) × (begun ≡ begun)
+pub adopted_well : (host : Host) (begun : ℕ) (newest : Newest) (at : PlaceAt) → at ≡ place_of host.home → IsTableAt host.drives (with_blocks at newest.blocks).place newest.table → IsWell host (booted (Some newest) begun) × (begun ≡ begun) × ((booted (Some newest) begun).entries ≡ [])
 adopted_well host begun newest at at_is is = (
   record { sound = λ down. absurd (cc (down)); table = subst (λ (p : PlaceAt). IsTableAt host.drives (with_blocks p newest.blocks).place newest.table) at_is is },
+  refl,
   refl,
 )

@@ -20,7 +20,7 @@ abbrev pub begun : Memory → Memory
 begun memory = record memory { begun = memory.begun + 1 }
 
 abbrev pub with_new : Host → Memory → Memory
-with_new host memory = record { opened = Some (first_newest (site_of host).at); down = false; begun = memory.begun + 1 }
+with_new host memory = record { opened = Some (first_newest (site_of host).at); down = false; begun = memory.begun + 1; entries = memory.entries }
 
 module _ (host : Host) (sizes : List ℕ) (ready : IsReady host sizes) (at : PlaceAt) (at_is : at ≡ place_of host.home) (memory : Memory) (room : 8208 ≤ host.home.blocks) (none : memory.opened ≡ None) (up : memory.down ≡ false) (a b : Option Tale)
     (quiet : Moments (IsQuiet at) a b) where
@@ -64,8 +64,8 @@ module _ (host : Host) (sizes : List ℕ) (ready : IsReady host sizes) (at : Pla
       (ends_both (λ t u. IsOpened site newest u) (Goes (IsCreated site identity newest.table)) (λ t u. IsOpened site newest u × Goes (IsCreated site identity newest.table) t u) a b (λ t u o g. (o, g)) opened goes)
 
   -- what is in memory then
-  pub new_memory : (newest : Newest) → newest ≡ first_newest at → ◌≡◌ {A = Memory} (record { opened = Some newest; down = memory.down; begun = memory.begun + 1 }) (with_new host memory)
-  new_memory newest is = λ i. record { opened = Some ((is ∙ ap first_newest at_is) i); down = up i; begun = memory.begun + 1 }
+  pub new_memory : (newest : Newest) → newest ≡ first_newest at → ◌≡◌ {A = Memory} (record { opened = Some newest; down = memory.down; begun = memory.begun + 1; entries = memory.entries }) (with_new host memory)
+  new_memory newest is = λ i. record { opened = Some ((is ∙ ap first_newest at_is) i); down = up i; begun = memory.begun + 1; entries = memory.entries }
 
   -- its format failed
   module _ (nothing : Ends (λ t u. ShowsNothing site t → ShowsNothing site u) a b) where

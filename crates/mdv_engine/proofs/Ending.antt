@@ -72,8 +72,8 @@ from_state failures calls host old next new answer t u same end = subst (λ (m :
     from (wanting calm headed is same) = wanting calm headed is same
 
 -- what a boot leaves that found no database
-pub closed_well : (host : Host) (memory : Memory) (unread : Bool) (begun : ℕ) → memory ≡ record { opened = None; down = unread; begun = begun } → IsWell host memory × (memory.begun ≡ begun)
-closed_well host memory unread begun is = subst (λ (m : Memory). IsWell host m × (m.begun ≡ begun)) (sym is) (record { sound = λ was. refl; table = tt }, refl)
+pub closed_well : (host : Host) (memory : Memory) (unread : Bool) (begun : ℕ) → memory ≡ record { opened = None; down = unread; begun = begun; entries = [] } → IsWell host memory × (memory.begun ≡ begun) × (memory.entries ≡ [])
+closed_well host memory unread begun is = subst (λ (m : Memory). IsWell host m × (m.begun ≡ begun) × (m.entries ≡ [])) (sym is) (record { sound = λ was. refl; table = tt }, refl, refl)
 
 -- one that wasn't
 pub unanswered_ends : (failures : Failures) (calls : Made) (host : Host) (old new : Memory) (end : Ended) (a b : Option Tale)

@@ -1,10 +1,10 @@
 -- What a refusal says that comes before anything is done: nothing of a failed call, and nothing of want of memory.
-use Rattle.std.proofs.Common.{◌≡◌, inl, inr, ◌++◌, ◌&&◌, not, ℕ, Bool, true, false, List, [], Option, Some, None, All, sym, subst, ◌∙◌}
+use Rattle.std.proofs.Common.{◌≡◌, inl, inr, ◌+◌, ◌++◌, ◌&&◌, not, ℕ, Bool, true, false, List, [], Option, Some, None, All, sym, subst, ◌∙◌}
 use Rattle.std.proofs.lemmas.List.Elements.{All-append, All-cons, All-nil}
 use Rattle.std.specs.List.{find}
 use Rattle.std.specs.Prelude.{nat_lt, is_some, is_none}
 use Rattle.mdv_base.specs.Order.{order, where_so}
-use Rattle.mdv_base.specs.declared.refusal.Refusal.TheVariants.{NameTaken, NeedForce, NoDatabase, NoSuchSlice, NoSuchVolume, OutOfRange, ReplicaFull, SliceInUse, TooSmall, WrongKind, WrongState}
+use Rattle.mdv_base.specs.declared.refusal.Refusal.TheVariants.{NameTaken, NeedForce, NoDatabase, NoSuchSlice, NoSuchVolume, OutOfRange, ReplicaFull, SliceInUse, TooMany, TooSmall, WrongKind, WrongState}
 use Rattle.mdv_base.proofs.Order.{first_holds}
 use Rattle.mdv_name.specs.SliceIndex.{slice_at}
 use Rattle.mdv_table.specs.Change.{is_db}
@@ -12,7 +12,7 @@ use Rattle.mdv_table.specs.Plan.{is_in_use, used_slices}
 use Rattle.mdv_table.specs.Volumes.{has_volume}
 use Rattle.mdv_engine_law.specs.Below.{Down}
 use Rattle.mdv_engine_law.specs.Answers.{refusing}
-use Rattle.mdv_engine_law.specs.Refusals.{Case, blocks_refusal, bytes_after, change_refusal, has_number, held_of_blocks, held_of_change, held_of_creation, held_past, is_plain, refusal_of, size_of}
+use Rattle.mdv_engine_law.specs.Refusals.{Case, blocks_refusal, bytes_after, change_refusal, has_number, held_of_blocks, held_of_change, held_of_creation, held_of_read, held_past, is_plain, read_refusal, refusal_of, size_of}
 use Rattle.mdv_engine_law.specs.Replies.{HasAnswerCause}
 use Rattle.mdv_engine.specs.Below.{Failures, SliceName, VolId, Create, Refusal, IoFault, OutOfMemory, Change, MakeStripe, Host, Memory, Newest, Volume, record_room}
 use Rattle.mdv_engine.specs.Engine.{HasChangeCause}
@@ -22,6 +22,10 @@ abbrev pub IsJudged : Refusal → Type 0
 IsJudged IoFault = ⊥
 IsJudged OutOfMemory = ⊥
 IsJudged other = Unit {0}
+
+where_judged : (holds : Bool) (r : Refusal) → IsJudged r → All IsJudged (where_so holds r)
+where_judged true r judged = All-cons IsJudged r [] judged (All-nil IsJudged)
+where_judged false r judged = All-nil IsJudged
 
 -- what blocks are refused for is such a one
 past_judged : (volume : Option Volume) (end : ℕ) → All IsJudged (held_past volume end)
@@ -38,11 +42,11 @@ blocks_held (Some newest) volume end = past_judged (find (has_number volume) new
 pub blocks_judged : (opened : Option Newest) (volume : VolId) (end : ℕ) (r : Refusal) → blocks_refusal opened volume end ≡ Some r → IsJudged r
 blocks_judged opened volume end r is = first_holds IsJudged order (held_of_blocks opened volume end) r (blocks_held opened volume end) is
 
--- and what a creation is refused for
-where_judged : (holds : Bool) (r : Refusal) → IsJudged r → All IsJudged (where_so holds r)
-where_judged true r judged = All-cons IsJudged r [] judged (All-nil IsJudged)
-where_judged false r judged = All-nil IsJudged
+pub read_judged : (opened : Option Newest) (volume : VolId) (at count : ℕ) (r : Refusal) → read_refusal opened volume at count ≡ Some r → IsJudged r
+read_judged opened volume at count r is =
+    first_holds IsJudged order (held_of_read opened volume at count) r (All-append IsJudged (held_of_blocks opened volume (at + count)) (where_so (nat_lt 1024 count) TooMany) (blocks_held opened volume (at + count)) (where_judged (nat_lt 1024 count) TooMany tt)) is
 
+-- and what a creation is refused for
 and_judged : (holds : Bool) (r : Refusal) (rest : List Refusal) → IsJudged r → All IsJudged rest → All IsJudged (where_so holds r ++ rest)
 and_judged true r rest judged behind = All-cons IsJudged r rest judged behind
 and_judged false r rest judged behind = behind

@@ -1,3 +1,4 @@
+pub mod ReadJudging
 pub mod Sites
 pub mod Booting
 pub mod Creating
@@ -7,6 +8,7 @@ pub mod Places
 pub mod Blocks
 pub mod Counting
 pub mod Ending
+pub mod Entering
 mod Parts
 mod Judging
 pub mod Judged

@@ -8,13 +8,13 @@ use Rattle.mdv_base.specs.Order.{first_refusal, where_so}
 use Rattle.mdv_base.specs.declared.refusal.Refusal.TheVariants.{NoSuchVolume, OutOfRange}
 use Rattle.mdv_engine_law.specs.Refusals.{blocks_refusal, has_number, held_past, size_of}
 use Rattle.mdv_engine_law.proofs.Volumes.{find_is, find_none}
-use Rattle.mdv_engine.specs.Below.{VolId, SliceName, IsHomeTable, IsWithin, HasSlice, HasNoSlice, SliceAt, Table, Base, Slice, Volume, VolumeKind, Stripe, IsComponentOn, IsKindOf, IsStripeOf, IsWholeSlice, HasVolume, HasNoVolume, Newest, LiesOn, Host, site_of, Memory, HasVolumeOn, IsSound as IsSoundMemory}
+use Rattle.mdv_engine.specs.Below.{AreBlocksAt, VolId, SliceName, IsHomeTable, IsWithin, HasSlice, HasNoSlice, SliceAt, Table, Base, Slice, Volume, VolumeKind, Stripe, IsComponentOn, IsKindOf, IsStripeOf, IsWholeSlice, HasVolume, HasNoVolume, Newest, LiesOn, Host, site_of, Memory, HasVolumeOn, IsSound as IsSoundMemory}
 use Rattle.mdv_shelf.proofs.Blocks.{both_ways}
 use Rattle.mdv_home.proofs.Places.{slices_within}
 use Rattle.mdv_table.specs.declared.volume.Stripe.{Stripe as OneStripe}
 use Rattle.mdv_table.specs.Slices.{IsSound}
 use Rattle.mdv_engine_law.proofs.Refusing.{opened_has}
-use Rattle.mdv_engine.specs.Engine.{HasBlocks, IsTableOf, IsWell}
+use Rattle.mdv_engine.specs.Engine.{IsTableOf, IsWell}
 
 -- there is one kind of volume, and one of bases
 pub stripe_is : (kind : VolumeKind) → (stripe : OneStripe) × (kind ≡ Stripe stripe)
@@ -115,5 +115,5 @@ awake_opened memory newest sound opened = elim (both_ways memory.down) [
   | inr up ↦ up
 ]
 
-pub awake_blocks : (host : Host) (memory : Memory) (volume : VolId) (at count : ℕ) → IsSoundMemory memory → HasBlocks host memory volume at count → memory.down ≡ false
-awake_blocks host memory volume at count sound has = awake_opened memory has.1.lies.0 sound has.1.lies.1
+pub awake_blocks : (host : Host) (memory : Memory) (volume : VolId) (at count : ℕ) → IsSoundMemory memory → (block : ℕ) → AreBlocksAt host memory volume at count block → memory.down ≡ false
+awake_blocks host memory volume at count sound block there = awake_opened memory there.lies.0 sound there.lies.1

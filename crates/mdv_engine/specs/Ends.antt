@@ -1,21 +1,21 @@
 -- What the calls of an engine say of their answers, and of the drive in the end.
 use Rattle.mdv_engine_law.specs.Line.{Ask, deeds}
-use Rattle.std.specs.Prelude.{◌≡◌, ◌≢◌, ◌≤◌, ◌+◌, ℕ, Bool, List, Option, Some, None, Result, Ok, Err, IfOk, IfErr, OnOk, Contains, length}
+use Rattle.std.specs.Prelude.{◌≡◌, ◌≢◌, ◌≤◌, ◌+◌, ℕ, Bool, List, [], Option, Some, None, Result, Ok, Err, IfOk, IfErr, OnOk, Contains, length}
 use Rattle.mdv_shelf.specs.Shelves.{AtEachMoment, AtEachTale, AtEnd, DriveFailures, EndsTold, GivingFailed, GivingFailures, MadeCalls, MadeCallsAtMost, RestsOnceTold}
 use Rattle.mdv_shelf.specs.declared.shelf.Shelf.{Ghosts}
 use Rattle.mdv_words.specs.declared.command.Command.{Command}
 use Rattle.mdv_words.specs.declared.command.Command.TheVariants.{Create, MakeStripe}
-use Rattle.mdv_words.specs.declared.command.Line.TheVariants as words
-use Rattle.mdv_engine.specs.Below.{Failures, site_of, identity_of, SliceName, VolId, Refusal, IoFault, OutOfMemory, KeptOutside, nowhere, IsSettled, Settling, Tale, last, Change, Table, Created, Answer, Ended, Host, Kept, Memory, kept_at, unbooted, asked_by, blocks_of, AreBlocksAt, CameTo, IsRebooted, IsPlainAnswer, BootedTo, CarryEnd, Executed, Knows, TellsFront, TurnMoment, Turned}
+use Rattle.mdv_words.specs.Line as words
+use Rattle.mdv_engine.specs.Below.{Failures, site_of, identity_of, SliceName, VolId, Refusal, IoFault, OutOfMemory, KeptOutside, nowhere, IsSettled, Settling, Tale, last, Change, Table, Created, Answer, Ended, Host, Kept, Memory, kept_at, unbooted, asked_by, blocks_of, AreBlocksAt, CameTo, IsRebooted, IsPlainAnswer, BootedTo, CarryEnd, Executed, Knows, TellMoment, TellsFront, TurnMoment, Turned, text_of}
 use Rattle.mdv_store_law.specs.Site.{Newest}
 use Rattle.mdv_store_law.specs.Standing.{ShowsReplica}
 use Rattle.mdv_shelf.specs.Made.{Made, and_more, made_of}
 use Rattle.mdv_engine_law.specs.declared.answer.Answer.TheVariants.{Over}
 use Rattle.mdv_engine_law.specs.declared.answer.Ended.TheVariants as ended
 use Rattle.mdv_engine_law.specs.Line.{contents}
-use Rattle.mdv_engine_law.specs.Answers.{accepted}
+use Rattle.mdv_engine_law.specs.Answers.{accepted, refusing}
 use Rattle.mdv_engine_law.specs.Commands.{IsAllowed}
-use Rattle.mdv_engine_law.specs.Refusals.{blocks_refusal}
+use Rattle.mdv_engine_law.specs.Refusals.{blocks_refusal, read_refusal}
 use Rattle.mdv_engine_law.specs.declared.answer.Outcome.{Outcome}
 use Rattle.mdv_engine_law.specs.declared.answer.Reply.{Reply}
 use Rattle.mdv_engine_law.specs.declared.answer.Reply.TheVariants as reply
@@ -71,18 +71,23 @@ pub record LineMoments {S : Type 0} (shelf : Ghosts S) (host : Host) (ask : Ask)
   pub fronts : AtEachMoment shelf (λ t m. Knows host old t.tale → TellsFront Comes old t m) from to
   pub rests : RestsOnceTold shelf from to
 
--- what a command comes to
-abbrev pub CarriesOut : Host → Command → Failures → Kept → Answer → Kept → Type 0
-CarriesOut host command failures kept answer next = CameTo failures host kept command answer next
-
 -- this answer, with no call on the drive that failed, and all else as it was
 abbrev pub OnlyAnswers : Answer → Failures → Kept → Answer → Kept → Type 0
 OnlyAnswers this failures kept answer next = failures.none × (answer ≡ this) × (next ≡ kept)
 
+-- each moment of a line that is refused so, whatever it asks: a front of the refusal is told
+pub record RefusalMoments {S : Type 0} (shelf : Ghosts S) (host : Host) (old : Memory) (refusal : Refusal) (from to : S) : Type 0 where
+  pub line : (ask : Ask) → LineMoments shelf host ask old (OnlyAnswers (refusing refusal)) from to
+  pub tells : AtEachTale shelf (TellMoment (text_of (refusing refusal))) from to
+
+-- what a command comes to
+abbrev pub CarriesOut : Host → Command → Failures → Kept → Answer → Kept → Type 0
+CarriesOut host command failures kept answer next = CameTo failures host kept command answer next
+
 -- The end of a command and its reply: what it came to and with how many calls, what it led to, what is known where the run isn't lost; a refusal behind which
 -- nothing was written; and what a command left that lost a place.
 pub record TurnEnd (drive : Failures) (replies : Type 0) (made : Made) (old : Engine) (command : Command) (given : Reply) (new : Engine) (t u : Tale) : Type 0 where
-  pub answered : Knows old.host old.state t → Executed drive replies made old.host (words.Command command) old.state new.state given t u
+  pub answered : Knows old.host old.state t → Executed drive replies made old.host (words.Exec command) old.state new.state given t u
   pub turned : IsReplied given → Turned old.host (asked_by command) old.state new.state t u
   pub knows : (IsLost given → ⊥) → Knows old.host old.state t → Knows old.host new.state u
   pub quiet : IsQuietRefusal given → KeptOutside nowhere t u
@@ -147,11 +152,11 @@ BootEndsAs shelf from to host old answer new = AtEnd shelf (IsBootEnd (DriveFail
 -- why a boot isn't answered, and what it leaves that is
 pub record HasBootedFrom (failures : Failures) (host : Host) (begun : ℕ) (result : Result Memory Ended) : Type 0 where
   pub cause : HasBootCause failures (kept_by begun result).down result
-  pub well : IfOk result (λ memory. IsWell host memory × (memory.begun ≡ begun))
+  pub well : IfOk result (λ memory. IsWell host memory × (memory.begun ≡ begun) × (memory.entries ≡ []))
 
 pub record HasBooted (failures : Failures) (host : Host) (result : Result Engine Ended) : Type 0 where
   pub cause : HasBootCause failures (left_by result).down result
-  pub engine : IfOk result (λ engine. (engine.host ≡ host) × IsWell host engine.state × (engine.state.begun ≡ 0))
+  pub engine : IfOk result (λ engine. (engine.host ≡ host) × IsWell host engine.state × (engine.state.begun ≡ 0) × (engine.state.entries ≡ []))
 
 pub record HasRebooted (failures : Failures) (old : Engine) (result : Result (Unit {0}) Ended) (new : Engine) : Type 0 where
   pub cause : HasBootCause failures new.state.down result
@@ -159,12 +164,13 @@ pub record HasRebooted (failures : Failures) (old : Engine) (result : Result (Un
   pub host : new.host ≡ old.host
   pub well : IsWell old.host new.state
   pub begun : new.state.begun ≡ old.state.begun
+  pub fresh : new.state.entries ≡ []
 
 -- what was read is what the drive has in these blocks of the volume, and no call failed
 pub record AreRead {S : Type 0} (shelf : Ghosts S) (old new : S) (engine : Engine) (volume : VolId) (at count : ℕ) (IsTold : List (List ℕ) → Type 0) : Type 0 where
   pub block : ℕ
   pub there : AreBlocksAt engine.host engine.state volume at count block
-  pub allowed : blocks_refusal engine.state.opened volume (at + count) ≡ None
+  pub allowed : read_refusal engine.state.opened volume at count ≡ None
   pub blocks : List (List ℕ)
   pub as_told : IsTold blocks
   pub calm : (DriveFailures shelf old new 0).none

@@ -6,7 +6,7 @@ use Rattle.mdv_table.specs.Change as table
 use Rattle.mdv_table.specs.declared.change.ApplyFault.{ApplyFault}
 use Rattle.mdv_table.specs.declared.change.ApplyFault.TheVariants.{Refused, Memory as ApplyMemory}
 use Rattle.mdv_engine_law.specs.Answers.{accepted}
-use Rattle.mdv_engine_law.specs.Refusals.{Case, IsUnopposed, blocks_refusal, change_refusal}
+use Rattle.mdv_engine_law.specs.Refusals.{Case, IsUnopposed, blocks_refusal, change_refusal, read_refusal}
 use Rattle.mdv_engine_law.specs.Replies.{HasEndCause}
 use Rattle.mdv_engine_law.specs.declared.answer.Answer.TheVariants.{Over}
 use Rattle.mdv_engine_law.specs.declared.answer.Ended.{Ended}
@@ -54,10 +54,15 @@ abbrev pub HasBlocksCause : Failures → Host → Memory → VolId → ℕ → �
 HasBlocksCause failures host memory volume at count refusal =
     (failures.none × (blocks_refusal memory.opened volume (at + count) ≡ Some refusal)) ⊎ (failures.some × HasBlocks host memory volume at count × (refusal ≡ IoFault))
 
--- why a read isn't told: memory may be wanting as well
+-- the volume has these blocks, and nothing refuses a read of them
+abbrev pub HasRead : Host → Memory → VolId → ℕ → ℕ → Type 0
+HasRead host memory volume at count = (block : ℕ) × AreBlocksAt host memory volume at count block × (read_refusal memory.opened volume at count ≡ None)
+
+-- why a read isn't told: the first cause that refuses it; or nothing does, and a call on the drive failed, or memory was wanting
 abbrev pub HasReadCause : Failures → Host → Memory → VolId → ℕ → ℕ → Refusal → Type 0
 HasReadCause failures host memory volume at count refusal =
-    HasBlocksCause failures host memory volume at count refusal ⊎ (failures.none × HasBlocks host memory volume at count × (refusal ≡ OutOfMemory))
+    (failures.none × (read_refusal memory.opened volume at count ≡ Some refusal))
+    ⊎ ((failures.some × HasRead host memory volume at count × (refusal ≡ IoFault)) ⊎ (failures.none × HasRead host memory volume at count × (refusal ≡ OutOfMemory)))
 
 -- the table that the change makes of the open one, which says nothing against it
 pub record IsNextTable (host : Host) (memory : Memory) (change : Change) (next : Table) : Type 0 where

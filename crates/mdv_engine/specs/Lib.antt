@@ -3,3 +3,4 @@ pub use Rattle.mdv_base.specs.Causes
 pub mod Engine
 pub mod Counts
 pub mod Ends
+pub mod Tab

@@ -3,11 +3,12 @@ ghost use Rattle.mdv_shelf.specs.Calls.{OnDrive, OnReplies};
 ghost use Rattle.mdv_shelf.specs.Shelves.{AtEachTale, AtEnd, DriveFailures, GivingFailed, KeptOn, KeptInTime};
 ghost use Rattle.mdv_engine_law.specs.Answers.{accepted, refusing};
 ghost use Rattle.mdv_engine_law.specs.Home.{IsReady};
-ghost use Rattle.mdv_engine_law.specs.Line.{IsExecuted, asked_by, unbooted, Ask, Nothing};
+ghost use Rattle.mdv_words.specs.Line.{IsInForm};
+ghost use Rattle.mdv_engine_law.specs.Line.{asked_by, unbooted, Nothing};
 ghost use Rattle.mdv_engine_law.specs.Replies.{IsPlain};
 ghost use Rattle.mdv_engine_law.specs.Standing.{BootMoment, CarryMoment, OnlyReplied};
 ghost use Rattle.mdv_engine.specs.Counts.{IsBootedCounted, IsCommandCounted};
-ghost use Rattle.mdv_engine.specs.Ends.{BootEndsAs, CarriesOut, CommandEnd, HasAnswered, HasBooted, HasBootedFrom, HasOnlyReplied, HasRebooted, HasReplied, IsReplyCounted, IsTurnCounted, LineMoments, OnlyAnswers, TurnEnds, kept_by, left_by};
+ghost use Rattle.mdv_engine.specs.Ends.{BootEndsAs, CarriesOut, CommandEnd, HasAnswered, HasBooted, HasBootedFrom, HasOnlyReplied, HasRebooted, HasReplied, IsReplyCounted, IsTurnCounted, LineMoments, OnlyAnswers, RefusalMoments, TurnEnds, kept_by, left_by};
 ghost use Rattle.mdv_engine.specs.Engine.{IsWell, boot_answer};
 
 use crate::state::State;
@@ -53,7 +54,7 @@ impl Engine {
         ensures kept { KeptOn S.Shelf shelf.old shelf.new (OnDrive 0) }
     {
         let begun = self.state.begun;
-        self.state = State::without_database(false, begun);
+        self.state = State::without_database(alloc, false, begun);
         match boot_from(shelf, alloc, &self.host, begun) {
             Ok(state) => {
                 self.state = state;
@@ -68,7 +69,7 @@ impl Engine {
         requires ready { IsReady self.old.host (B.sizes bench.old) }
         requires well { IsWell self.old.host self.old.state }
         requires begun { self.old.state.begun + 1 < 2 ^ 32 }
-        requires executed { IsExecuted command.now }
+        requires form { IsInForm command.now }
         ensures moments { LineMoments B.Shelf self.old.host (asked_by command.now) self.old.state (CarriesOut self.old.host command.now) bench.old bench.new }
         ensures end { TurnEnds B.Shelf bench.old bench.new self.old command.now result self.new }
         ensures answer { HasReplied (DriveFailures B.Shelf bench.old bench.new 0) (GivingFailed B.Shelf bench.old bench.new) self.old result self.new }
@@ -82,7 +83,7 @@ impl Engine {
     /// Tells this refusal, whose text is one line.
     pub fn refuse<B: Bench>(&mut self, bench: &mut B, refusal: &Refusal) -> Reply
         requires { IsPlain refusal.now }
-        ensures moments { (ask : Ask) → LineMoments B.Shelf self.old.host ask self.old.state (OnlyAnswers (refusing refusal.now)) bench.old bench.new }
+        ensures moments { RefusalMoments B.Shelf self.old.host self.old.state refusal.now bench.old bench.new }
         ensures end { AtEnd B.Shelf (OnlyReplied (GivingFailed B.Shelf bench.old bench.new) (refusing refusal.now) result) bench.old bench.new }
         ensures answer { HasOnlyReplied (DriveFailures B.Shelf bench.old bench.new 0) (GivingFailed B.Shelf bench.old bench.new) (Outcome.Refused refusal.now) self.old result self.new }
         ensures counted { IsReplyCounted B.Shelf bench.old bench.new result }
@@ -107,7 +108,7 @@ impl Engine {
         requires ready { IsReady self.old.host (S.sizes shelf.old) }
         requires well { IsWell self.old.host self.old.state }
         requires begun { self.old.state.begun + 1 < 2 ^ 32 }
-        requires executed { IsExecuted command.now }
+        requires form { IsInForm command.now }
         ensures moments { AtEachTale S.Shelf (CarryMoment self.old.host (asked_by command.now) self.old.state) shelf.old shelf.new }
         ensures end { AtEnd S.Shelf (CommandEnd (DriveFailures S.Shelf shelf.old shelf.new 0) self.old command.now result self.new) shelf.old shelf.new }
         ensures answer { HasAnswered (DriveFailures S.Shelf shelf.old shelf.new 0) (asked_by command.now) self.old result self.new }
@@ -141,13 +142,9 @@ fn boot_from<S: Shelf>(
 {
     let key = Key::Local(host.home.host);
     match boot(shelf, alloc, &host.drives, place_at(&host.home), &key) {
-        BootEnd::Adopted(database) => Ok(State {
-            database: Some(database),
-            down: false,
-            begun,
-        }),
-        BootEnd::Empty => Ok(State::without_database(false, begun)),
-        BootEnd::Down => Ok(State::without_database(true, begun)),
+        BootEnd::Adopted(database) => Ok(State::with_database(alloc, database, begun)),
+        BootEnd::Empty => Ok(State::without_database(alloc, false, begun)),
+        BootEnd::Down => Ok(State::without_database(alloc, true, begun)),
         BootEnd::Lost => Err(Ended::Lost {
             active: 0,
             listed: 1,

@@ -5,6 +5,7 @@
 mod change;
 mod create;
 mod engine;
+mod keep;
 mod state;
 mod transfer;
 

@@ -14,7 +14,7 @@ ghost use Rattle.mdv_shelf.specs.Calls.{OnDrive};
 ghost use Rattle.mdv_shelf.specs.Shelves.{AtEachTale, AtEnd, DriveFailures, KeptOn};
 ghost use Rattle.mdv_engine_law.specs.Home.{IsReady, site_of};
 ghost use Rattle.mdv_engine_law.specs.Line.{AreBlocksAt, ToDo, ToSee};
-ghost use Rattle.mdv_engine_law.specs.Refusals.{blocks_refusal, size_of};
+ghost use Rattle.mdv_engine_law.specs.Refusals.{blocks_refusal, read_refusal, size_of};
 ghost use Rattle.mdv_engine_law.specs.Standing.{CarryMoment};
 ghost use Rattle.mdv_engine.specs.Ends.{AreBlocksCounted, AreRead, AreWritten, CommandEnd, HasAnswered};
 
@@ -25,6 +25,9 @@ use mdv_shelf::{Shelf, settle};
 use mdv_status::ValueText;
 use mdv_table::{Base, Component, Stripe, Volume, VolumeKind};
 use std::alloc::Global;
+
+// The most blocks that one line reads.
+const MAX_READ: u64 = 1024;
 
 // The host's one drive.
 const DRIVE: DriveNo = DriveNo(0);
@@ -89,11 +92,11 @@ impl Engine {
         alloc: Global,
         volume: VolId,
         at: u64,
-        count: u32,
+        count: u64,
     ) -> Answer
         requires ready { IsReady self.now.host (S.sizes shelf.old) }
         requires well { IsWell self.now.host self.now.state }
-        requires count { IsCount count }
+        requires some { 1 ≤ count }
         ensures moments { AtEachTale S.Shelf (CarryMoment self.now.host (ToSee volume at count) self.now.state) shelf.old shelf.new }
         ensures end { AtEnd S.Shelf (CommandEnd (DriveFailures S.Shelf shelf.old shelf.new 0) self.now (Read volume at count) result self.now) shelf.old shelf.new }
         ensures answer { HasAnswered (DriveFailures S.Shelf shelf.old shelf.new 0) (ToSee volume at count) self.now result self.now }
@@ -113,18 +116,18 @@ impl Engine {
         alloc: Global,
         volume: VolId,
         at: u64,
-        count: u32,
+        count: u64,
     ) -> Result<ValueText, Refusal>
         requires ready { IsReady self.now.host (S.sizes shelf.old) }
         requires well { IsWell self.now.host self.now.state }
-        requires count { IsCount count }
+        requires some { 1 ≤ count }
         ensures ok { IfOk result (λ text. AreRead S.Shelf shelf.old shelf.new self.now volume at count (λ blocks. text ≡ values_reply at blocks)) }
         ensures err { IfErr result (HasReadCause (DriveFailures S.Shelf shelf.old shelf.new 0) self.now.host self.now.state volume at count) }
         ensures same { S.tale shelf.new ≡ S.tale shelf.old }
         ensures counted { HasReadCounts S.tale S.calls S.written shelf.old shelf.new volume at count result self.now.state.opened }
         ensures kept { KeptOn S.Shelf shelf.old shelf.new (OnDrive 0) }
     {
-        let _first = self.place_of(volume, at, u64::from(count))?;
+        let _first = self.read_place(volume, at, count)?;
         let mut blocks = buffer(alloc, count)?;
         match self.read_blocks(shelf, volume, at, blocks.as_mut_slice()) {
             Ok(()) => {}
@@ -156,6 +159,25 @@ impl Engine {
             Ok(()) => Answer::Said(Outcome::Ok),
             Err(refusal) => Answer::Said(Outcome::Refused(refusal)),
         }
+    }
+
+    // The block of the drive where blocks to be read begin, or the first cause that the read is refused for.
+    fn read_place(&self, volume: VolId, at: u64, count: u64) -> Result<u64, Refusal>
+        requires table { IsHomeTable self.now.host.drives self.now.host.home }
+        requires sound { IsSound self.now.host.drives }
+        requires well { IsWell self.now.host self.now.state }
+        ensures ok { IfOk result (AreBlocksAt self.now.host self.now.state volume at count) }
+        ensures few { OnOk result (count ≤ 1024) }
+        ensures free { OnOk result (read_refusal self.now.state.opened volume at count ≡ None) }
+        ensures within { IfOk result (λ block. block + count ≤ self.now.host.home.drive_blocks) }
+        ensures err { IfErr result (λ refusal. read_refusal self.now.state.opened volume at count ≡ Some refusal) }
+    {
+        if count > MAX_READ {
+            // A volume that isn't there comes first, and blocks past its end behind.
+            let _there = self.place_of(volume, 0, 0)?;
+            return Err(Refusal::TooMany);
+        }
+        self.place_of(volume, at, count)
     }
 
     // The block of the drive where these blocks of the volume begin, or the first cause that they are refused for.
@@ -213,7 +235,8 @@ fn slice_of(component: &Component) -> SliceName
     slice
 }
 
-fn buffer(alloc: Global, count: u32) -> Result<Vec<Block>, Refusal>
+fn buffer(alloc: Global, count: u64) -> Result<Vec<Block>, Refusal>
+    requires { count ≤ 1024 }
     ensures ok { IfOk result (λ blocks. length blocks.items ≡ count) }
     ensures err { IfErr result (λ refusal. refusal ≡ Refusal.OutOfMemory) }
 {

@@ -12,10 +12,10 @@ use Rattle.mdv_engine_law.proofs.Lifting.{lift_log, goes_woken}
 
 -- what a boot leaves in memory that has read the drive, and one that hasn't
 abbrev pub booted : Option Newest → ℕ → Memory
-booted opened begun = record { opened = opened; down = false; begun = begun }
+booted opened begun = record { opened = opened; down = false; begun = begun; entries = [] }
 
 abbrev pub unread : ℕ → Memory
-unread begun = record { opened = None; down = true; begun = begun }
+unread begun = record { opened = None; down = true; begun = begun; entries = [] }
 
 module _ (host : Host) (t : Tale) where
   -- the database goes on by what a boot does there

@@ -5,7 +5,7 @@ use Rattle.mdv_shelf.specs.Made.{Made}
 use Rattle.mdv_shelf.proofs.Made.{IsToo, more_too}
 use Rattle.mdv_engine_law.specs.Below.{Image, Refusal, Command, Create, Read, Write, Line, Newest}
 use Rattle.mdv_words.specs.declared.command.Command.TheVariants.{MakeStripe}
-use Rattle.mdv_words.specs.declared.command.Line.TheVariants as words
+use Rattle.mdv_words.specs.Line as words
 use Rattle.mdv_engine_law.specs.declared.answer.Answer.{Answer}
 use Rattle.mdv_engine_law.specs.declared.answer.Answer.TheVariants.{Said, Over}
 use Rattle.mdv_engine_law.specs.declared.answer.Ended.TheVariants as ended
@@ -63,7 +63,8 @@ module _ (one other : Made) (too : IsToo one other) where
 
   pub line_too : (host : Host) (kept : Kept) (line : Line) (answer : Answer) (next : Kept) → LineCalls one host kept line answer next → LineCalls other host kept line answer next
   line_too host kept words.Boot answer next by = boot_too host answer next.memory kept.content by
-  line_too host kept (words.Command command) answer next by = command_too command answer next.memory.opened by
+  line_too host kept (words.Tab lines) answer next by = none_too by
+  line_too host kept (words.Exec command) answer next by = command_too command answer next.memory.opened by
 
 -- its reply's call goes with it
 pub replied_too : (one other : Made) → IsToo one other → (answer : Answer) → IsToo (replied_to answer one) (replied_to answer other)

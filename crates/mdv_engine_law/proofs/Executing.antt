@@ -4,7 +4,7 @@ use Rattle.mdv_base.proofs.Causes.{IsWithin}
 use Rattle.mdv_base.specs.declared.refusal.Refusal.TheVariants as refusal
 use Rattle.mdv_engine_law.specs.Below.{Image, Failures, Refusal, KeptOutside, nowhere, Tale, told, Command, Create, Read, Write, Line}
 use Rattle.mdv_words.specs.declared.command.Command.TheVariants.{MakeStripe}
-use Rattle.mdv_words.specs.declared.command.Line.TheVariants as words
+use Rattle.mdv_words.specs.Line as words
 use Rattle.mdv_engine_law.specs.declared.answer.Answer.{Answer}
 use Rattle.mdv_engine_law.specs.declared.answer.Answer.TheVariants.{Said, Over}
 use Rattle.mdv_engine_law.specs.declared.answer.Outcome.TheVariants as outcome
@@ -15,7 +15,7 @@ use Rattle.mdv_engine_law.specs.declared.answer.Reply.{Reply}
 use Rattle.mdv_engine_law.specs.declared.answer.Reply.TheVariants as reply
 use Rattle.mdv_engine_law.specs.declared.host.Host.{Host}
 use Rattle.mdv_engine_law.specs.Commands as came
-use Rattle.mdv_engine_law.specs.Commands.{CameTo, ComesTo, GivesUp}
+use Rattle.mdv_engine_law.specs.Commands.{CameTo, ComesTo, GivesUp, KeepsTab}
 use Rattle.mdv_engine_law.specs.Line.{Memory, Kept, kept_at, contents, IsRebooted, adopted, empty, down, lost, spent, wanting}
 use Rattle.mdv_engine_law.specs.Replies.{IsTold, HasAnswerCause, HasCommandCause, IsReplyTo, reply_at, reply_to}
 use Rattle.mdv_engine_law.specs.Efforts.{LineCalls, replied_to}
@@ -55,9 +55,15 @@ module _ (failed more : Failures) (cause : IsWithin failed more) (host : Host) (
   came_more command (came.faulted so free is fault) = came.faulted (cause.some so) free is fault
   came_more command (came.over end free is gives) = came.over end free is (gives_up_more command end gives)
 
+  keeps_more : (lines : List ℕ) → KeepsTab failed kept lines answer next → KeepsTab more kept lines answer next
+  keeps_more lines (came.entered calm entries are is memory same) = came.entered (cause.none calm) entries are is memory same
+  keeps_more lines (came.unfit calm refusal why left) = came.unfit (cause.none calm) refusal why left
+  keeps_more lines (came.unread calm is left) = came.unread (cause.none calm) is left
+
   pub comes_more : (line : Line) → ComesTo failed host kept line answer next → ComesTo more host kept line answer next
   comes_more words.Boot is = rebooted_more is
-  comes_more (words.Command command) is = came_more command is
+  comes_more (words.Tab lines) is = keeps_more lines is
+  comes_more (words.Exec command) is = came_more command is
 
 module _ (failed more : Type 0) (piece : List ℕ) (cause : failed → more) where
   pub told_more : (answer : Answer) (r : Reply) → IsTold failed answer r piece → IsTold more answer r piece

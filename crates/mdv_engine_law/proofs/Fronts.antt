@@ -8,7 +8,7 @@ use Rattle.mdv_shelf.specs.declared.shelf.Shelf.{Ghosts}
 use Rattle.mdv_shelf.proofs.Noted.{moments_of_tales}
 use Rattle.mdv_shelf.proofs.Moments.{moments_weaker, some_is}
 use Rattle.mdv_shelf.proofs.Telling.{each_joined, each_within, rests_alone}
-use Rattle.mdv_engine_law.specs.Below.{Failures, Tale, last, told}
+use Rattle.mdv_engine_law.specs.Below.{Failures, Image, Tale, last, told}
 use Rattle.mdv_engine_law.specs.Line.{IsSame, Kept, Memory, contents, kept_at}
 use Rattle.mdv_engine_law.specs.Replies.{text_of}
 use Rattle.mdv_engine_law.specs.Standing.{Knows, TellMoment, TellsFront}
@@ -39,15 +39,16 @@ module _ {S : Type 0} (shelf : Ghosts S) (telling : (s : S) → shelf.tale s ≡
         shows = subst (λ (x : Tale). IsSame (contents x) (contents m.tale)) (some_is (shelf.tale b) (tale_of u) end.0 (telling b ∙ ap (λ (o : Option Story). option_map tale_of o) mid) end.1) (λ drive block. (here.kept drive block refl).last);
       })) (moments_of_tales shelf telling a b (λ t m. told m ≡ told t) on quiet) (moments_of_tales shelf telling b c (TellMoment (text_of answer)) more tells)
 
-  -- the telling of an answer alone
-  pub fronts_alone : (a b : S) (host : Host) (old : Memory) (answer : Answer) → GoesOn shelf a b → shelf.faults b (OnDrive 0) ≡ shelf.faults a (OnDrive 0) → AtEachTale shelf (TellMoment (text_of answer)) a b
-      → AtEachMoment shelf (λ t m. Knows host old t.tale → TellsFront (λ failures kept given next. failures.none × (given ≡ answer) × (next ≡ kept)) old t m) a b
-  fronts_alone a b host old answer on still tells =
-      each_within (OfTales (TellMoment (text_of answer))) (λ t m. Knows host old t.tale → TellsFront (λ failures kept given next. failures.none × (given ≡ answer) × (next ≡ kept)) old t m) _ _ _ _
+  -- the telling alone of an answer to which a line came without a call
+  pub fronts_alone : (a b : S) (Comes : Failures → Kept → Answer → Kept → Type 0) (host : Host) (old : Memory) (answer : Answer) (new : Memory)
+      → ((failures : Failures) → failures.none → (content : Image) → Comes failures (record { memory = old; content = content }) answer (record { memory = new; content = content })) → GoesOn shelf a b → shelf.faults b (OnDrive 0) ≡ shelf.faults a (OnDrive 0)
+      → AtEachTale shelf (TellMoment (text_of answer)) a b → AtEachMoment shelf (λ t m. Knows host old t.tale → TellsFront Comes old t m) a b
+  fronts_alone a b Comes host old answer new comes on still tells =
+      each_within (OfTales (TellMoment (text_of answer))) (λ t m. Knows host old t.tale → TellsFront Comes old t m) _ _ _ _
       (λ s u first last m end here within knows. inr (record {
         answer = answer;
-        next = kept_at old (tale_of s);
-        came = (between _ _ _ still (within.counts.0 (OnDrive 0)) (within.counts.1 (OnDrive 0)), refl, refl);
+        next = kept_at new (tale_of s);
+        came = comes _ (between _ _ _ still (within.counts.0 (OnDrive 0)) (within.counts.1 (OnDrive 0))) (contents (tale_of s));
         count = here.count;
         is_told = here.is_told;
         shows = λ drive block. (here.kept drive block refl).last;

@@ -43,7 +43,7 @@ module _ (host : Host) (memory next : Memory) (t u : Tale) where
   pub stays : next ≡ memory → KeptOutside nowhere t u → Stays (kept_at memory t) (kept_at next u)
   stays same kept = record { memory = same; content = same_content t u kept }
 
-  pub created : (table : Table) → 8208 ≤ host.home.blocks → KeptOutside (area_of (site_of host)) t u → next ≡ record { opened = Some (created_newest (site_of host) table); down = false; begun = memory.begun + 1 } → table.plan.lists ≡ One ((site_of host).at.place ∷ []) → table.plan.volumes ≡ []
+  pub created : (table : Table) → 8208 ≤ host.home.blocks → KeptOutside (area_of (site_of host)) t u → next ≡ record { opened = Some (created_newest (site_of host) table); down = false; begun = memory.begun + 1; entries = memory.entries } → table.plan.lists ≡ One ((site_of host).at.place ∷ []) → table.plan.volumes ≡ []
       → Everywhere (λ image. IsNewestOf (site_of host) (image 0) (created_head (site_of host) (identity_of host memory.begun) table) (created_newest (site_of host) table)) u → IsCreated host (kept_at memory t) (kept_at next u)
   created table room kept is lists volumes each = record {
     newest = created_newest (site_of host) table;

@@ -1,35 +1,34 @@
 -- The texts of replies: which refusals are plain, and that of each text one line answers.
-use Rattle.std.proofs.Common.{◌≡◌, ◌⊎◌, ⊎_elim, inl, inr, ℕ, zero, suc, ◌≤◌, ◌<◌, Bool, true, false, ◌&&◌, ◌||◌, ◌==◌, if◌then◌else◌, not, List, [], ◌∷◌, ◌++◌, ◌+◌, length, take, Option, Some, None, All, refl, sym, ◌∙◌, ap, subst, append_assoc, length-append, arith}
+use Rattle.std.proofs.Common.{◌≡◌, ◌⊎◌, ⊎_elim, inl, inr, ℕ, zero, suc, ◌≤◌, ◌<◌, Bool, true, false, ◌&&◌, ◌||◌, if◌then◌else◌, not, List, [], ◌∷◌, ◌++◌, ◌+◌, length, take, Option, Some, None, All, refl, sym, ◌∙◌, ap, subst, append_assoc, length-append, arith}
 use Rattle.std.proofs.Math.Bool.{or-true}
-use Rattle.std.proofs.lemmas.List.{append-nil, append_cancel_right, length-take, take_all, take-append-le, take_min}
+use Rattle.std.proofs.lemmas.List.{append-nil, length-take, take_all, take-append-le, take_min}
 use Rattle.std.proofs.lemmas.List.Elements.{All-append, All-nil, All-cons}
-use Rattle.std.proofs.lemmas.List.Folds.{list_all-append}
 use Rattle.std.proofs.lemmas.Slice.Eq.{bytes_eq-Decides}
 use Rattle.std.specs.List.{find}
 use Rattle.std.specs.Option.{is_none}
 use Rattle.std.specs.Prelude.{is_some, nat_lt}
 use Rattle.std.specs.Fmt.{digits, decimal}
-use Rattle.mdv_engine_law.specs.Below.{refusal_text, SliceName, VolId, Refusal, BadLine, NoDatabase, NeedForce, NoSuchVolume, NameTaken, NoSuchSlice, SliceInUse, TooSmall, WrongKind, WrongState, ReplicaFull, OutOfRange, IoFault, OutOfMemory, LineTooLong, Down, Change, Newest, Command, Create, Read, Write, Volume, lacks, one_reply, refused, replies_in, said_in, unsaid, with_reply, block_text, Deed, MakeStripe}
+use Rattle.mdv_engine_law.specs.Below.{refusal_text, SliceName, VolId, Refusal, BadLine, NoDatabase, NeedForce, NoSuchVolume, NameTaken, NoSuchSlice, SliceInUse, TooSmall, TooMany, WrongKind, WrongState, ReplicaFull, OutOfRange, IoFault, OutOfMemory, LineTooLong, Down, Change, Newest, Command, Create, Read, Write, Volume, lacks, one_reply, refused, replies_in, said_in, unsaid, with_reply, Deed, MakeStripe}
 use Rattle.mdv_base.specs.Order.{order, where_so}
 use Rattle.mdv_base.proofs.Order.{first_holds}
 use Rattle.mdv_status.specs.Telling.{Said as SaidBytes}
 use Rattle.mdv_words.specs.declared.command.Command.TheVariants as command
-use Rattle.mdv_status.proofs.Lines.{is_value_line}
+use Rattle.mdv_status.proofs.Lines.{decimal_lacks}
 use Rattle.mdv_status.proofs.Pieces.{lacks_append, lacks_one, lacks_take}
-use Rattle.mdv_status.proofs.Replies.{values_are_one_reply, refusals_are_one_reply}
+use Rattle.mdv_status.proofs.Replies.{entries_are_one_reply, values_are_one_reply, refusals_are_one_reply}
 use Rattle.mdv_engine_law.specs.declared.answer.Answer.{Answer}
 use Rattle.mdv_engine_law.specs.declared.answer.Answer.TheVariants.{Said, Over}
 use Rattle.mdv_engine_law.specs.declared.answer.Ended.TheVariants as ended
 use Rattle.mdv_engine_law.specs.declared.answer.Outcome.TheVariants as outcome
 use Rattle.mdv_engine_law.specs.declared.host.Host.{Host}
 use Rattle.mdv_engine_law.specs.Line.{Ask, Nothing, ToDo, ToSee, deeds, record_room}
-use Rattle.mdv_engine_law.specs.Refusals.{Case, bytes_after, held, held_of_blocks, held_of_change, held_past, has_number, is_plain, refusal_of, size_of}
+use Rattle.mdv_engine_law.specs.Refusals.{Case, bytes_after, held, held_of_blocks, held_of_change, held_of_read, held_past, has_number, is_plain, refusal_of, size_of}
 use Rattle.mdv_name.specs.SliceIndex.{slice_at}
 use Rattle.mdv_table.specs.Change as table
 use Rattle.mdv_table.specs.Change.{is_db}
 use Rattle.mdv_table.specs.Plan.{is_in_use, used_slices}
 use Rattle.mdv_table.specs.Volumes.{has_volume}
-use Rattle.mdv_engine_law.specs.Replies.{Acks, AcksAnswer, AcksBy, AcksFront, AcksIn, IsRefusalFront, IsPlain, IsPlainAnswer, AreValues, IsReply, IsFront, IsAccepted, is_front_of, issuable, issuable_front, issuable_in, issuable_of, issued_by, text_of, refusal_line, ok_line}
+use Rattle.mdv_engine_law.specs.Replies.{Acks, AcksAnswer, AcksBy, AcksFront, AcksIn, IsRefusalFront, IsPlain, IsPlainAnswer, AreEntries, AreValues, IsReply, IsFront, IsAccepted, is_front_of, issuable, issuable_front, issuable_in, issuable_of, issued_by, text_of, refusal_line, ok_line}
 use Rattle.mdv_store_law.specs.Part.{IsPart}
 use Rattle.mdv_store_law.proofs.Parts.{part_itself}
 
@@ -40,6 +39,10 @@ plainly r one_line begins = record { one_line = one_line; begins = begins }
 pub too_long_plain : IsPlain LineTooLong
 unfolding digits
 too_long_plain = plainly LineTooLong refl refl
+
+pub too_many_plain : IsPlain TooMany
+unfolding digits
+too_many_plain = plainly TooMany refl refl
 
 pub bad_line_plain : IsPlain BadLine
 unfolding digits
@@ -52,17 +55,6 @@ fault_plain = plainly IoFault refl refl
 pub memory_plain : IsPlain OutOfMemory
 unfolding digits
 memory_plain = plainly OutOfMemory refl refl
-
--- a number is no newline
-decimal_lacks : (n : ℕ) → lacks 10 (decimal n) ≡ true
-decimal_lacks n =
-    let line = is_value_line n [] in
-    let same : line.text ≡ decimal n ++ 32 ∷ block_text [] = append_cancel_right line.text (decimal n ++ 32 ∷ block_text []) (10 ∷ []) (sym line.line) in
-    first (lacks 10 (decimal n)) (lacks 10 (32 ∷ block_text [])) (sym (list_all-append (λ (b : ℕ). not (b == 10)) (decimal n) (32 ∷ block_text [])) ∙ ap (lacks 10) (sym same) ∙ line.whole)
-  where
-    first : (x y : Bool) → x && y ≡ true → x ≡ true
-    first true y is = refl
-    first false y is = is
 
 pub numbers_plain : (bytes room : ℕ) → IsPlain (ReplicaFull bytes room)
 unfolding digits
@@ -124,9 +116,14 @@ unfolding digits
 past_plain None end = one_plain NoSuchVolume (plainly NoSuchVolume refl refl)
 past_plain (Some volume) end = where_plain (nat_lt (size_of volume.kind) end) OutOfRange (plainly OutOfRange refl refl)
 
-blocks_plain : (opened : Option Newest) (volume : VolId) (end : ℕ) → All IsPlain (held_of_blocks opened volume end)
+pub blocks_plain : (opened : Option Newest) (volume : VolId) (end : ℕ) → All IsPlain (held_of_blocks opened volume end)
 blocks_plain None volume end = no_database_plain
 blocks_plain (Some newest) volume end = past_plain (find (has_number volume) newest.table.plan.volumes) end
+
+read_plain : (opened : Option Newest) (volume : VolId) (at count : ℕ) → All IsPlain (held_of_read opened volume at count)
+unfolding digits
+read_plain opened volume at count =
+    All-append IsPlain (held_of_blocks opened volume (at + count)) (where_so (nat_lt 1024 count) TooMany) (blocks_plain opened volume (at + count)) (where_plain (nat_lt 1024 count) TooMany (plainly TooMany refl refl))
 
 held_plain : (case : Case) (command : Command) → All IsPlain (held case command)
 held_plain case (Create slice force) =
@@ -134,7 +131,7 @@ held_plain case (Create slice force) =
     let opened = is_some case.memory.opened in
     creation_plain (not (is_some at)) (is_plain at) case.memory.down (not opened && not force) opened (nat_lt case.host.home.blocks 8208)
 held_plain case (command.MakeStripe volume slice) = change_plain case.host case.memory.opened volume slice
-held_plain case (Read volume at count) = blocks_plain case.memory.opened volume (at + count)
+held_plain case (Read volume at count) = read_plain case.memory.opened volume at count
 held_plain case (Write volume at block) = blocks_plain case.memory.opened volume (at + 1)
 
 -- whatever a command is refused for
@@ -146,8 +143,9 @@ pub record Answers (text : List ℕ) : Type 0 where
   pub behind : (rest : List ℕ) → said_in (text ++ rest) ≡ with_reply text (said_in rest)
   pub before : (count : ℕ) → count < length text → said_in (take count text) ≡ unsaid (take count text)
 
-values_answer : (text : List ℕ) → AreValues text → Answers text
-values_answer text are = subst Answers (sym are.is) (record { behind = values_are_one_reply.more are.at are.blocks; before = values_are_one_reply.front are.at are.blocks })
+values_answer : (text : List ℕ) → AreValues text ⊎ AreEntries text → Answers text
+values_answer text (inl are) = subst Answers (sym are.is) (record { behind = values_are_one_reply.more are.at are.blocks; before = values_are_one_reply.front are.at are.blocks })
+values_answer text (inr are) = subst Answers (sym are.is) (record { behind = entries_are_one_reply.more are.count; before = entries_are_one_reply.front are.count })
 
 pub nothing_said : said_in [] ≡ unsaid []
 nothing_said = refusals_are_one_reply.front [] refl
@@ -169,7 +167,7 @@ front_ways text answers count = ⊎_elim
     (le_or_gt count (length text))
 
 -- what is taken of a text is a front of it
-taken_front : (text : List ℕ) (count : ℕ) → is_front_of text (take count text) ≡ true
+pub taken_front : (text : List ℕ) (count : ℕ) → is_front_of text (take count text) ≡ true
 taken_front text count = (bytes_eq-Decides (take count text) (take (length (take count text)) text)).1 (sym (ap (λ (size : ℕ). take size text) (length-take count text) ∙ take_min count text))
 
 take_none : (count : ℕ) → take {A = ℕ} count [] ≡ []
@@ -180,7 +178,7 @@ none_ways : (count : ℕ) → said_in (take count []) ≡ unsaid (take count [])
 none_ways count = subst (λ (l : List ℕ). said_in l ≡ unsaid l) (sym (take_none count)) nothing_said
 
 ok_answers : Answers ok_line
-ok_answers = values_answer ok_line (record { at = 0; blocks = []; is = refl })
+ok_answers = values_answer ok_line (inl (record { at = 0; blocks = []; is = refl }))
 
 refusal_answers : (r : Refusal) → IsPlain r → Answers (refusal_line r)
 refusal_answers r plain = record {
@@ -212,7 +210,7 @@ reply_is text answers = record { alone = alone text answers; behind = answers.be
 pub ok_reply : IsReply ok_line
 ok_reply = reply_is ok_line ok_answers
 
-pub values_are_reply : (text : List ℕ) → AreValues text → IsReply text
+pub values_are_reply : (text : List ℕ) → AreValues text ⊎ AreEntries text → IsReply text
 values_are_reply text are = reply_is text (values_answer text are)
 
 pub refusal_reply : (r : Refusal) → IsPlain r → IsReply (refusal_line r)

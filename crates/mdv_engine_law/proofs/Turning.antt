@@ -2,7 +2,7 @@
 use Rattle.std.proofs.Common.{◌≡◌, ◌≢◌, inl, inr, ℕ, Bool, true, false, List, [], ◌∷◌, ◌++◌, take, if◌then◌else◌, Option, None, Contains, refl, sym, ◌∙◌, ap, subst, arith}
 use Rattle.std.specs.Str.{bytes_eq}
 use Rattle.std.proofs.lemmas.List.{append-nil}
-use Rattle.mdv_engine_law.specs.Below.{Refusal, KeptOutside, nowhere, Moments, Ends, Tale, told, History, Deed, Created, Saw, Event}
+use Rattle.mdv_engine_law.specs.Below.{Entry, Refusal, KeptOutside, nowhere, Moments, Ends, Tale, told, History, Deed, Created, Saw, Event}
 use Rattle.mdv_store_law.specs.Part.{IsPart}
 use Rattle.mdv_store_law.proofs.Parts.{part_itself}
 use Rattle.mdv_history.proofs.Parts.{first_or_behind}
@@ -205,6 +205,18 @@ accepted_none host memory t = record {
   goes = λ h known. goes_none host [] (λ es after. IsKnownAfter host [] (Said outcome.Ok) memory after t) t h known.stands (known, tt);
   knows = λ knows. knows;
 }
+
+-- and a block of entries, of which the drive knows nothing
+pub entered_none : (host : Host) (memory : Memory) (entries : List Entry) (text : List ℕ) (t : Tale) → CarriedTo host Nothing memory (Said (outcome.Values text)) (record memory { entries = entries }) t t
+entered_none host memory entries text t = record {
+  done = [];
+  acks = refl;
+  goes = λ h known. goes_none host [] (λ es after. IsKnownAfter host [] (Said (outcome.Values text)) (record memory { entries = entries }) after t) t h known.stands (record { stands = known.stands; newest = known.newest; knows = still known.knows }, tt);
+  knows = still;
+}
+  where
+    still : Knows host memory t → Knows host (record memory { entries = entries }) t
+    still known = record { nothing = known.nothing; opened = known.opened }
 
 -- a reply that was told, where nothing else was done: a refusal, whatever the line asks, and the `ok` of one that asks nothing
 module _ (host : Host) (memory : Memory) where

@@ -11,7 +11,7 @@ pub use Rattle.mdv_base.specs.declared.place.Place.{Place}
 pub use Rattle.mdv_base.specs.declared.refusal.Refusal.{Refusal}
 pub use Rattle.mdv_base.specs.declared.refusal.Refusal.TheVariants.{BadLine, IoFault, LineTooLong, NameTaken, NeedForce, NoDatabase, NoSuchSlice}
 pub use Rattle.mdv_base.specs.declared.refusal.Refusal.TheVariants.{NoSuchVolume, OutOfMemory, OutOfRange, ReplicaFull, SliceInUse, TooSmall}
-pub use Rattle.mdv_base.specs.declared.refusal.Refusal.TheVariants.{WrongKind, WrongState}
+pub use Rattle.mdv_base.specs.declared.refusal.Refusal.TheVariants.{TooMany, WrongKind, WrongState}
 pub use Rattle.mdv_base.specs.declared.state_word.StateWord.{StateWord}
 pub use Rattle.mdv_base.specs.declared.state_word.StateWord.TheVariants.{Down}
 pub use Rattle.mdv_history.specs.History.{Acknowledges, Adds, AreAllowed, Changed, Created, Deed, Event, Extent, HasExtent, HasWoken, History}
@@ -38,12 +38,14 @@ pub use Rattle.mdv_shelf.specs.Moments.{Ends, Grew, Moments}
 pub use Rattle.mdv_shelf.specs.Settle.{IsSettled, IsSynced, Settling}
 pub use Rattle.mdv_shelf.specs.Tale.{Among, Gave, IsImage, Tale, Then, covers, last, told}
 pub use Rattle.mdv_status.specs.Telling.{Said, lacks, left_in, one_reply, refused, replies_in, said_in, unsaid, with_reply}
-pub use Rattle.mdv_status.specs.Values.{block_text, values_reply}
+pub use Rattle.mdv_status.specs.Values.{block_text, entries_reply, values_reply}
 pub use Rattle.mdv_store_law.specs.Going.{IsCreated, IsWithNewest, created_head, created_newest}
 pub use Rattle.mdv_store_law.specs.Log.{IsMade, IsNewestTellable, IsThis, Log, NoCreation, Version, is_firm}
 pub use Rattle.mdv_store_law.specs.Site.{HasTable, IsFound, IsNewestOf, IsRecordAt, IsReplica, IsTableAt, Newest, Site, area_of, sized}
 pub use Rattle.mdv_store_law.specs.Standing.{Anything, GoesFrom, GoesMaking, GoesOn, GoesOnTo, IsNewestIn, IsOpened, ShowsNothing, nothing, replica}
 pub use Rattle.mdv_store_law.specs.Steps.{IsAdopted, IsTheReplica, adopted_newest, next_newest, rewritten}
+pub use Rattle.mdv_tab.specs.Text.{IsTab}
+pub use Rattle.mdv_tab.specs.declared.entry.Entry.{Entry}
 pub use Rattle.mdv_table.specs.Slices.{HasBlock, IsSound}
 pub use Rattle.mdv_table.specs.Table.{IsComponentOn, IsKindOf, IsListsOf, IsPlaceOf, IsStripeOf, IsWholeSlice}
 pub use Rattle.mdv_table.specs.Volumes.{HasNoVolume}
@@ -56,4 +58,4 @@ pub use Rattle.mdv_table.specs.declared.volume.Volume.{Volume}
 pub use Rattle.mdv_table.specs.declared.volume.VolumeKind.{VolumeKind}
 pub use Rattle.mdv_words.specs.declared.command.Command.{Command}
 pub use Rattle.mdv_words.specs.declared.command.Command.TheVariants.{Create, Read, Write}
-pub use Rattle.mdv_words.specs.declared.command.Line.{Line}
+pub use Rattle.mdv_words.specs.Line.{Line}

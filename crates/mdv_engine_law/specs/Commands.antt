@@ -1,10 +1,12 @@
 -- What a command comes to, and a line.
-use Rattle.std.specs.Prelude.{◌≡◌, ◌+◌, ◌<◌, ◌≤◌, ◌^◌, ℕ, [], ◌∷◌, Some, None}
-use Rattle.mdv_engine_law.specs.Below.{Failures, Refusal, IoFault, OutOfMemory, values_reply, MakeStripe, Command, Create, Read, Write, Line, Newest}
+use Rattle.std.specs.Prelude.{◌≡◌, ◌+◌, ◌<◌, ◌≤◌, ◌^◌, ℕ, List, [], ◌∷◌, length, Some, None}
+use Rattle.mdv_engine_law.specs.Below.{Failures, Refusal, BadLine, IoFault, OutOfMemory, TooMany, entries_reply, values_reply, Entry, IsTab, MakeStripe, Command, Create, Read, Write, Line, Newest}
 use Rattle.mdv_store_law.specs.Standing.{IsReplicaMade}
+use Rattle.mdv_tab.specs.Text.{IsFaultOf}
+use Rattle.mdv_tab.specs.declared.read.TabFault.TheVariants as fault
 use Rattle.mdv_table.specs.Change.{table_after}
 use Rattle.mdv_words.specs.declared.command.Command.TheVariants as command
-use Rattle.mdv_words.specs.declared.command.Line.TheVariants as words
+use Rattle.mdv_words.specs.Line as words
 use Rattle.mdv_engine_law.specs.declared.answer.Answer.{Answer}
 use Rattle.mdv_engine_law.specs.declared.answer.Answer.TheVariants.{Over}
 use Rattle.mdv_engine_law.specs.declared.answer.Ended.{Ended}
@@ -12,7 +14,7 @@ use Rattle.mdv_engine_law.specs.declared.answer.Ended.TheVariants as ended
 use Rattle.mdv_engine_law.specs.declared.host.Host.{Host}
 use Rattle.mdv_engine_law.specs.Answers.{accepted, refusing, telling}
 use Rattle.mdv_engine_law.specs.Home.{site_of, identity_of}
-use Rattle.mdv_engine_law.specs.Line.{Kept, IsSameBeside, Stays, IsCreated, IsUncreated, IsUnbegun, IsCommitted, AreBlocksAt, ArePut, MayBePut, IsRebooted, IsTurnedDown, blocks_of, on_site}
+use Rattle.mdv_engine_law.specs.Line.{Kept, IsSameBeside, Stays, IsCreated, IsUncreated, IsUnbegun, IsCommitted, IsSame, AreBlocksAt, ArePut, MayBePut, IsRebooted, IsTurnedDown, blocks_of, on_site}
 use Rattle.mdv_engine_law.specs.Refusals.{Case, IsUnopposed, refusal_of}
 
 -- by what a command is judged that is carried out where this is kept
@@ -65,7 +67,21 @@ pub data CameTo (failures : Failures) (host : Host) (kept : Kept) (command : Com
   faulted : failures.some → IsAllowed (case_of host kept) command → answer ≡ refusing IoFault → Fault host kept command next → CameTo failures host kept command answer next
   over : (end : Ended) → IsAllowed (case_of host kept) command → answer ≡ Over end → GivesUp failures host kept command end next → CameTo failures host kept command answer next
 
--- what a line comes to, that is in the grammar
+-- why the lines of a `tab` block aren't kept: one begins an entry that is of no form; or they are too many bytes or entries
+abbrev pub IsTabRefusal : List ℕ → Refusal → Type 0
+IsTabRefusal lines BadLine = (number : ℕ) × IsFaultOf lines (fault.BadLine number)
+IsTabRefusal lines TooMany = IsFaultOf lines fault.TooMany
+IsTabRefusal lines other = ⊥
+
+-- What a `tab` block with these lines comes to, by which no call is made on the drive: all its entries are kept in place of those before, and their number is
+-- told; it is refused, or memory is wanting, and the entries stay that were kept before.
+pub data KeepsTab (failures : Failures) (kept : Kept) (lines : List ℕ) (answer : Answer) (next : Kept) : Type 0 where
+  entered : failures.none → (entries : List Entry) → IsTab lines entries → answer ≡ telling (entries_reply (length entries)) → next.memory ≡ record kept.memory { entries = entries } → IsSame kept.content next.content → KeepsTab failures kept lines answer next
+  unfit : failures.none → (refusal : Refusal) → IsTabRefusal lines refusal → IsTurnedDown refusal kept answer next → KeepsTab failures kept lines answer next
+  unread : failures.none → answer ≡ refusing OutOfMemory → Stays kept next → KeepsTab failures kept lines answer next
+
+-- what a line comes to, or a `tab` block
 abbrev pub ComesTo : Failures → Host → Kept → Line → Answer → Kept → Type 0
 ComesTo failures host kept words.Boot answer next = IsRebooted failures host kept answer next
-ComesTo failures host kept (words.Command command) answer next = CameTo failures host kept command answer next
+ComesTo failures host kept (words.Tab lines) answer next = KeepsTab failures kept lines answer next
+ComesTo failures host kept (words.Exec command) answer next = CameTo failures host kept command answer next

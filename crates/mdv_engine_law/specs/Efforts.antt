@@ -5,7 +5,7 @@ use Rattle.mdv_shelf.specs.Made.{Made, and_more}
 use Rattle.mdv_store_law.specs.Effort.{AdoptedBy, EmptyBy, LostBy, SpentBy, WantingBy, blocks_for}
 use Rattle.mdv_engine_law.specs.Below.{IoFault, OutOfMemory, record_text, Command, Create, Read, Write, Line, Newest}
 use Rattle.mdv_words.specs.declared.command.Command.TheVariants.{MakeStripe}
-use Rattle.mdv_words.specs.declared.command.Line.TheVariants as words
+use Rattle.mdv_words.specs.Line as words
 use Rattle.mdv_engine_law.specs.declared.answer.Answer.{Answer}
 use Rattle.mdv_engine_law.specs.declared.answer.Answer.TheVariants.{Said, Over}
 use Rattle.mdv_engine_law.specs.declared.answer.Ended.TheVariants as ended
@@ -92,10 +92,11 @@ BootCalls made host (Over (ended.Lost active listed)) memory content = LostBy ma
 BootCalls made host (Over ended.Spent) memory content = SpentBy made (site_of host) (on_site (site_of host) content)
 BootCalls made host (Over ended.Memory) memory content = WantingBy made (site_of host) (on_site (site_of host) content)
 
--- and of a line that is in the grammar
+-- and of a line, or a block of entries, which makes none
 abbrev pub LineCalls : Made → Host → Kept → Line → Answer → Kept → Type 0
 LineCalls made host kept words.Boot answer next = BootCalls made host answer next.memory kept.content
-LineCalls made host kept (words.Command command) answer next = CommandCalls made command answer next.memory.opened
+LineCalls made host kept (words.Tab lines) answer next = NoCalls made
+LineCalls made host kept (words.Exec command) answer next = CommandCalls made command answer next.memory.opened
 
 -- with the one call of its reply, where it has one
 abbrev pub replied_to : Answer → Made → Made

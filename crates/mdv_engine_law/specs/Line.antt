@@ -2,10 +2,10 @@
 use Rattle.std.specs.Prelude.{◌≡◌, ◌⊎◌, ◌+◌, ◌<◌, ◌≤◌, ◌^◌, ℕ, Bool, true, false, List, [], ◌∷◌, length, map, Option, Some, None, slice_index_or}
 use Rattle.std.specs.List.{range_with_len}
 use Rattle.mdv_shelf.specs.Everywhere.{Image}
-use Rattle.mdv_engine_law.specs.Below.{Failures, Mark, VolId, Refusal, record_text, Head, First, Second, IsSpareSlot, greatest, other_slot, room_of, shows, Tale, covers, last, MakeStripe, One, Table, Command, Create, Read, Write, Line, Site, Newest, IsReplica, IsFound, HasTable, IsNewestOf, area_of, adopted_newest, next_newest, rewritten, Deed, Created, Changed, Wrote, LiesOn}
+use Rattle.mdv_engine_law.specs.Below.{Failures, Mark, VolId, Refusal, record_text, Head, First, Second, IsSpareSlot, greatest, other_slot, room_of, shows, Tale, covers, last, MakeStripe, One, Table, Entry, Command, Create, Read, Write, Line, Site, Newest, IsReplica, IsFound, HasTable, IsNewestOf, area_of, adopted_newest, next_newest, rewritten, Deed, Created, Changed, Wrote, LiesOn}
 use Rattle.mdv_store_law.specs.Adoptable.{IsAdoptable, IsHeaded}
 use Rattle.mdv_words.specs.declared.command.Command.TheVariants as command
-use Rattle.mdv_words.specs.declared.command.Line.TheVariants as words
+use Rattle.mdv_words.specs.Line as words
 use Rattle.mdv_engine_law.specs.declared.answer.Answer.{Answer}
 use Rattle.mdv_engine_law.specs.declared.answer.Answer.TheVariants.{Over}
 use Rattle.mdv_engine_law.specs.declared.answer.Ended.TheVariants as ended
@@ -13,12 +13,13 @@ use Rattle.mdv_engine_law.specs.declared.host.Host.{Host}
 use Rattle.mdv_engine_law.specs.Answers.{accepted, refusing}
 use Rattle.mdv_engine_law.specs.Home.{site_of, identity_of}
 
--- what an engine keeps in memory: the open database, whether a call on the drive failed in the last boot, and how many
--- creations the run has begun
+-- what an engine keeps in memory: the open database, whether a call on the drive failed in the last boot, how many
+-- creations the run has begun, and the entries of the last `tab` block that was kept since that boot
 pub record Memory : Type 0 where
   pub opened : Option Newest
   pub down : Bool
   pub begun : ℕ
+  pub entries : List Entry
 
 -- what a read gives of the drives' blocks
 abbrev pub contents : Tale → Image
@@ -38,7 +39,7 @@ kept_at memory t = record { memory = memory; content = contents t }
 
 -- before a boot there is nothing in memory but how many creations were begun
 abbrev pub unbooted : ℕ → Memory
-unbooted begun = record { opened = None; down = false; begun = begun }
+unbooted begun = record { opened = None; down = false; begun = begun; entries = [] }
 
 -- each block is as it was
 abbrev pub IsSame : Image → Image → Type 0
@@ -65,7 +66,7 @@ pub record IsNew (host : Host) (newest : Newest) : Type 0 where
 pub record IsCreated (host : Host) (kept next : Kept) : Type 0 where
   pub newest : Newest
   pub new : IsNew host newest
-  pub memory : next.memory ≡ record { opened = Some newest; down = false; begun = kept.memory.begun + 1 }
+  pub memory : next.memory ≡ record { opened = Some newest; down = false; begun = kept.memory.begun + 1; entries = kept.memory.entries }
   pub head : Head
   pub identity : head.master.identity ≡ identity_of host kept.memory.begun
   pub content : IsNewestOf (site_of host) (on_site (site_of host) next.content) head newest
@@ -144,11 +145,11 @@ pub record IsUsedUp (site : Site) (content : Image) : Type 0 where
 -- were begun before. Where a call on the drive failed it is down, or lost, if there was a replica to adopt, and else neither; memory is
 -- wanting only where a head shows a table. A boot that is spent or wants memory has written nothing, and behind one that is lost each block that no replica may have reads as it did.
 pub data IsRebooted (failures : Failures) (host : Host) (kept : Kept) (answer : Answer) (next : Kept) : Type 0 where
-  adopted : failures.none → (newest : Newest) → answer ≡ accepted → next.memory ≡ record { opened = Some newest; down = false; begun = kept.memory.begun } → IsRewritten (site_of host) kept.content next.content newest
+  adopted : failures.none → (newest : Newest) → answer ≡ accepted → next.memory ≡ record { opened = Some newest; down = false; begun = kept.memory.begun; entries = [] } → IsRewritten (site_of host) kept.content next.content newest
       → IsRebooted failures host kept answer next
-  empty : failures.none → answer ≡ accepted → next.memory ≡ record { opened = None; down = false; begun = kept.memory.begun } → IsFound (site_of host) (on_site (site_of host) kept.content) None → IsSame kept.content next.content
+  empty : failures.none → answer ≡ accepted → next.memory ≡ record { opened = None; down = false; begun = kept.memory.begun; entries = [] } → IsFound (site_of host) (on_site (site_of host) kept.content) None → IsSame kept.content next.content
       → IsRebooted failures host kept answer next
-  down : failures.some → answer ≡ accepted → next.memory ≡ record { opened = None; down = true; begun = kept.memory.begun } → IsSame kept.content next.content → IsRebooted failures host kept answer next
+  down : failures.some → answer ≡ accepted → next.memory ≡ record { opened = None; down = true; begun = kept.memory.begun; entries = [] } → IsSame kept.content next.content → IsRebooted failures host kept answer next
   lost : failures.some → IsAdoptable (site_of host) (on_site (site_of host) kept.content) → answer ≡ Over (ended.Lost 0 1) → IsSameBeside (site_of host) kept.content next.content → IsRebooted failures host kept answer next
   spent : failures.none → answer ≡ Over ended.Spent → IsUsedUp (site_of host) kept.content → IsSame kept.content next.content → IsRebooted failures host kept answer next
   wanting : failures.none → IsHeaded (site_of host) (on_site (site_of host) kept.content) → answer ≡ Over ended.Memory → IsSame kept.content next.content → IsRebooted failures host kept answer next
@@ -170,23 +171,17 @@ asked_by (command.MakeStripe volume slice) = ToDo (Changed (MakeStripe volume sl
 asked_by (Read volume at count) = ToSee volume at count
 asked_by (Write volume at block) = ToDo (Wrote volume at (block ∷ []))
 
--- a boot asks nothing
+-- a boot asks nothing, nor does a block of entries
 abbrev pub asked_by_line : Line → Ask
 asked_by_line words.Boot = Nothing
-asked_by_line (words.Command command) = asked_by command
+asked_by_line (words.Tab lines) = Nothing
+asked_by_line (words.Exec command) = asked_by command
 
 -- the deeds that it may begin
 abbrev pub deeds : Ask → List Deed
 deeds Nothing = []
 deeds (ToDo deed) = deed ∷ []
 deeds (ToSee volume at count) = []
-
--- a command with what its reader made sure of
-abbrev pub IsExecuted : Command → Type 0
-IsExecuted (Create slice force) = Unit {0}
-IsExecuted (command.MakeStripe volume slice) = volume.0 < 8192
-IsExecuted (Read volume at count) = (1 ≤ count) × (count ≤ 1024)
-IsExecuted (Write volume at block) = Unit {0}
 
 -- a database is open only where the last boot read its drive
 abbrev pub IsSound : Memory → Type 0

@@ -2,7 +2,7 @@
 use Rattle.std.specs.Prelude.{◌≡◌, ℕ, Bool, false, not, ◌==◌, ◌&&◌, ◌+◌, nat_lt, List, [], ◌∷◌, ◌++◌, length, Option, None, Some, is_some}
 use Rattle.std.specs.List.{find}
 use Rattle.mdv_base.specs.Order.{first_refusal, where_so}
-use Rattle.mdv_engine_law.specs.Below.{SliceName, VolId, Refusal, NoDatabase, NeedForce, NoSuchVolume, NoSuchSlice, SliceInUse, TooSmall, WrongKind, WrongState, OutOfRange, ReplicaFull, Down, SliceAt, record_text, Change, MakeStripe, Volume, VolumeKind, Command, Create, Read, Write, Newest}
+use Rattle.mdv_engine_law.specs.Below.{SliceName, VolId, Refusal, NoDatabase, NeedForce, NoSuchVolume, NoSuchSlice, SliceInUse, TooSmall, TooMany, WrongKind, WrongState, OutOfRange, ReplicaFull, Down, SliceAt, record_text, Change, MakeStripe, Volume, VolumeKind, Command, Create, Read, Write, Newest}
 use Rattle.mdv_name.specs.SliceIndex.{slice_at}
 use Rattle.mdv_table.specs.Change as table
 use Rattle.mdv_table.specs.declared.volume.VolumeKind.TheVariants as kind
@@ -56,6 +56,10 @@ abbrev pub held_of_blocks : Option Newest → VolId → ℕ → List Refusal
 held_of_blocks None volume end = NoDatabase ∷ []
 held_of_blocks (Some newest) volume end = held_past (find (has_number volume) newest.table.plan.volumes) end
 
+-- Blocks to be read at once, 1,024 at most.
+abbrev pub held_of_read : Option Newest → VolId → ℕ → ℕ → List Refusal
+held_of_read opened volume at count = held_of_blocks opened volume (at + count) ++ where_so (nat_lt 1024 count) TooMany
+
 abbrev pub change_refusal : Host → Option Newest → Change → Option Refusal
 change_refusal host opened change = first_refusal (held_of_change host opened change)
 
@@ -66,11 +70,14 @@ IsUnopposed host memory change = (newest : Newest) × (memory.opened ≡ Some ne
 abbrev pub blocks_refusal : Option Newest → VolId → ℕ → Option Refusal
 blocks_refusal opened volume end = first_refusal (held_of_blocks opened volume end)
 
+abbrev pub read_refusal : Option Newest → VolId → ℕ → ℕ → Option Refusal
+read_refusal opened volume at count = first_refusal (held_of_read opened volume at count)
+
 -- the refusals of a command whose causes hold
 abbrev pub held : Case → Command → List Refusal
 held case (Create slice force) = held_of_creation case slice force
 held case (command.MakeStripe volume slice) = held_of_change case.host case.memory.opened (MakeStripe volume slice)
-held case (Read volume at count) = held_of_blocks case.memory.opened volume (at + count)
+held case (Read volume at count) = held_of_read case.memory.opened volume at count
 held case (Write volume at block) = held_of_blocks case.memory.opened volume (at + 1)
 
 -- why a command is refused, if it is

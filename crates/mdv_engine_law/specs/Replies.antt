@@ -5,7 +5,7 @@ use Rattle.mdv_shelf.specs.Calls.{OnDrive}
 use Rattle.mdv_shelf.specs.Shelves.{IsOneCall, MadeCalls}
 use Rattle.mdv_shelf.specs.Story.{NoFewer}
 use Rattle.mdv_shelf.specs.declared.shelf.Shelf.{Ghosts}
-use Rattle.mdv_engine_law.specs.Below.{Failures, refusal_text, VolId, Refusal, IoFault, Deed, Saw, lacks, left_in, one_reply, refused, replies_in, said_in, unsaid, with_reply, values_reply}
+use Rattle.mdv_engine_law.specs.Below.{Failures, refusal_text, VolId, Refusal, IoFault, Deed, Saw, lacks, left_in, one_reply, refused, replies_in, said_in, unsaid, with_reply, entries_reply, values_reply}
 use Rattle.mdv_engine_law.specs.declared.answer.Answer.{Answer}
 use Rattle.mdv_engine_law.specs.declared.answer.Answer.TheVariants.{Said, Over}
 use Rattle.mdv_engine_law.specs.declared.answer.Ended.{Ended}
@@ -44,9 +44,14 @@ pub record AreValues (text : List ℕ) : Type 0 where
   pub blocks : List (List ℕ)
   pub is : text ≡ values_reply at blocks
 
+-- or that to a block of so many entries
+pub record AreEntries (text : List ℕ) : Type 0 where
+  pub count : ℕ
+  pub is : text ≡ entries_reply count
+
 abbrev pub IsPlainOutcome : Outcome → Type 0
 IsPlainOutcome outcome.Ok = Unit {0}
-IsPlainOutcome (outcome.Values text) = AreValues text
+IsPlainOutcome (outcome.Values text) = AreValues text ⊎ AreEntries text
 IsPlainOutcome (outcome.Refused refusal) = IsPlain refusal
 
 abbrev pub IsPlainAnswer : Answer → Type 0

@@ -2,6 +2,7 @@
 use Rattle.std.specs.Prelude.{◌≡◌, ◌≢◌, ◌⊎◌, ℕ, ◌≤◌, false, List, [], ◌∷◌, ◌++◌, length, take, None, IfSome, Contains}
 use Rattle.mdv_engine_law.specs.Below.{Failures, Identity, KeptOutside, nowhere, range, Wrote, Tale, told, Line, area_of, ShowsNothing, IsOpened, IsNewestIn, History, Deed, Created, Event, history_after, MayHappen, Adds, HasWoken, CanTell}
 use Rattle.mdv_store_law.specs.Machine as machine
+use Rattle.mdv_words.specs.Line as words
 use Rattle.mdv_shelf.specs.Calls.{OnDrive}
 use Rattle.mdv_shelf.specs.Made.{Made}
 use Rattle.mdv_shelf.specs.Story.{FailuresBy, Moment}
@@ -14,7 +15,7 @@ use Rattle.mdv_engine_law.specs.declared.host.Host.{Host}
 use Rattle.mdv_engine_law.specs.Home.{StaysHome, site_of}
 use Rattle.mdv_engine_law.specs.Commands.{ComesTo}
 use Rattle.mdv_engine_law.specs.Efforts.{LineCalls, replied_to}
-use Rattle.mdv_engine_law.specs.Line.{Ask, AreBlocksAt, Kept, Nothing, ToDo, ToSee, Memory, IsSame, deeds, contents, kept_at}
+use Rattle.mdv_engine_law.specs.Line.{Ask, AreBlocksAt, Kept, Nothing, ToDo, ToSee, Memory, IsSame, asked_by, deeds, contents, kept_at}
 use Rattle.mdv_engine_law.specs.Replies.{Acks, AcksAnswer, AcksBy, IsReply, IsFront, IsTold, issuable, issuable_of, issued_by, text_of}
 
 -- the drive stands with the history, in which a database was made only where there is room for it
@@ -89,6 +90,12 @@ WritesOnly host Nothing memory t m = KeptOutside (area_of (site_of host)) t m
 WritesOnly host (ToDo (Wrote volume at blocks)) memory t m = KeptOutside nowhere t m ⊎ ((place : ℕ) × AreBlocksAt host memory volume at (length blocks) place × KeptOutside (range 0 place (length blocks)) t m)
 WritesOnly host (ToDo other) memory t m = KeptOutside (area_of (site_of host)) t m
 WritesOnly host (ToSee volume at count) memory t m = KeptOutside nowhere t m
+
+-- and those that a line may write, or a block of entries, which makes no call on the drive
+abbrev pub LineWrites : Host → Line → Memory → Tale → Tale → Type 0
+LineWrites host words.Boot memory t m = WritesOnly host Nothing memory t m
+LineWrites host (words.Tab lines) memory t m = KeptOutside nowhere t m
+LineWrites host (words.Exec command) memory t m = WritesOnly host (asked_by command) memory t m
 
 -- a moment while a line is carried out that asks this, with nothing told, and nothing done outside the host's blocks, nor outside those that it may write
 pub record CarryMoment (host : Host) (ask : Ask) (memory : Memory) (t m : Tale) : Type 0 where

@@ -15,7 +15,7 @@ pub enum Answer {
 pub enum Outcome {
     /// What was asked is done.
     Ok,
-    /// The whole reply to a read.
+    /// The whole reply to a read, or to a `tab` block.
     Values(ValueText),
     Refused(Refusal),
 }
@@ -34,7 +34,7 @@ pub enum Ended {
 /// How a line was replied to.
 #[derive(Clone, Copy, Debug, PartialEq, Eq)]
 pub enum Reply {
-    /// `ok` was told, or the values that a read asks for.
+    /// `ok` was told, behind the values that a read asks for, or the number of a block's entries.
     Ok,
     /// The refusal was told.
     Refused(Refusal),

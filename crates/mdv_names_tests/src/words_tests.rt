@@ -1,5 +1,6 @@
 use mdv_base::{DriveName, SliceName, VolId, ZERO_BLOCK};
 use mdv_words::*;
+use std::alloc::Global;
 
 const SLICE: SliceName = SliceName {
     drive: DriveName {
@@ -12,80 +13,118 @@ const SLICE: SliceName = SliceName {
 
 // What a line asks, of c0t1d2s7, of d12, and of its block 5.
 enum Asked {
-    Nothing,
     Boot,
+    Tab(&'static [u8]),
     Create { force: bool },
     Stripe(u16),
-    Read(u64, u32),
+    Read(u64, u64),
     Write(&'static [u8]),
 }
 
 const LINES: &[(&[u8], Asked)] = &[
     (b"boot", Asked::Boot),
+    (b"\t boot ", Asked::Boot),
+    (b"tab\n", Asked::Tab(b"")),
+    (b"tab\nd1 1 1 c0t1d2s7\n", Asked::Tab(b"d1 1 1 c0t1d2s7\n")),
+    (b"tab\n\n\x80\nboot\n", Asked::Tab(b"\n\x80\nboot\n")),
     (b"metadb -a c0t1d2s7", Asked::Create { force: false }),
-    (b"metadb -a -f c0t1d2s7", Asked::Create { force: true }),
-    (b"metainit d0 1 1 c0t1d2s7", Asked::Stripe(0)),
-    (b"metainit d8191 1 1 c0t1d2s7", Asked::Stripe(8191)),
-    (b"read d12 0 1", Asked::Read(0, 1)),
     (
-        b"read d12 18446744073709551615 1024",
-        Asked::Read(u64::MAX, 1024),
+        b" metadb\t-a  /dev/dsk/c0t1d2s7 ",
+        Asked::Create { force: false },
+    ),
+    (b"metadb -a -f c0t1d2s7", Asked::Create { force: true }),
+    (b"metadb -f -a c0t1d2s7", Asked::Create { force: true }),
+    (b"metadb -fa c0t1d2s7", Asked::Create { force: true }),
+    (b"metainit d0 1 1 c0t1d2s7", Asked::Stripe(0)),
+    (b"metainit -f d8191 1 1 c0t1d2s7", Asked::Stripe(8191)),
+    (
+        b"metainit  /dev/md/rdsk/d7 1 1\t/dev/rdsk/c0t1d2s7",
+        Asked::Stripe(7),
+    ),
+    (b"read d12 0 1", Asked::Read(0, 1)),
+    (b"read \td12  0 1025 ", Asked::Read(0, 1025)),
+    (
+        b"read d12 18446744073709551615 18446744073709551615",
+        Asked::Read(u64::MAX, u64::MAX),
     ),
     (b"write d12 5 07fF", Asked::Write(&[0x07, 0xff])),
     (
-        b"write d12 5 aBCdeF9080",
+        b"write d12  5 aBCdeF9080\t",
         Asked::Write(&[0xab, 0xcd, 0xef, 0x90, 0x80]),
     ),
-    (b"", Asked::Nothing),
-    (b"boot ", Asked::Nothing),
-    (b" boot", Asked::Nothing),
-    (b"Boot", Asked::Nothing),
-    (b"metadb -a", Asked::Nothing),
-    (b"metadb  -a c0t1d2s7", Asked::Nothing),
-    (b"metadb -a c0t1d2s7 ", Asked::Nothing),
-    (b"metadb -f -a c0t1d2s7", Asked::Nothing),
-    (b"metadb -a c0t1d2s8", Asked::Nothing),
-    (b"metadb -a /dev/dsk/c0t1d2s7", Asked::Nothing),
-    (b"metainit d8192 1 1 c0t1d2s7", Asked::Nothing),
-    (b"metainit d07 1 1 c0t1d2s7", Asked::Nothing),
-    (b"metainit blue/d7 1 1 c0t1d2s7", Asked::Nothing),
-    (b"metainit d7 1 2 c0t1d2s7", Asked::Nothing),
-    (b"metainit d7 1 1  c0t1d2s7", Asked::Nothing),
-    (b"metainit d7\t1 1 c0t1d2s7", Asked::Nothing),
-    (b"read d12 0 0", Asked::Nothing),
-    (b"read d12 0 1025", Asked::Nothing),
-    (b"read d12 0 01", Asked::Nothing),
-    (b"read d12 00 1", Asked::Nothing),
-    (b"read d12 18446744073709551616 1", Asked::Nothing),
-    (b"read d12 0 1 ", Asked::Nothing),
-    (b"read d12 0", Asked::Nothing),
-    (b"write d12 5 ", Asked::Nothing),
-    (b"write d12 5", Asked::Nothing),
-    (b"write d12 5 0", Asked::Nothing),
-    (b"write d12 5 001", Asked::Nothing),
-    (b"write d12 5 0g", Asked::Nothing),
-    (b"write d12 5 00 ", Asked::Nothing),
 ];
 
-fn command(asked: &Asked) -> Option<Command> {
-    match *asked {
-        Asked::Nothing | Asked::Boot => None,
-        Asked::Create { force } => Some(Command::Create {
-            slice: SLICE,
-            force,
-        }),
-        Asked::Stripe(number) => Some(Command::MakeStripe {
-            volume: VolId(number),
-            slice: SLICE,
-        }),
-        Asked::Read(at, count) => Some(Command::Read {
-            volume: VolId(12),
-            at,
-            count,
-        }),
-        Asked::Write(bytes) => Some(writing(bytes)),
-    }
-}
+// Lines of the grammar that aren't built, and such as are in no grammar.
+const BAD: &[&[u8]] = &[
+    b"",
+    b"# boot",
+    b"tab",
+    b"tab ",
+    b" tab\n",
+    b"tab \n",
+    b"Tab\n",
+    b"end",
+    b"Boot",
+    b"boot\n",
+    b"boot \x80",
+    b"metadb",
+    b"metadb -i",
+    b"metadb -a -c 1 c0t1d2s7",
+    b"metadb -a -f -l 8192 c0t1d2s7",
+    b"metadb -a c0t1d2s7 c0t2d2s7",
+    b"metadb -a mddb01",
+    b"metadb -d c0t1d2s7",
+    b"metadb -a",
+    b"metadb -a c0t1d2s8",
+    b"metainit -a",
+    b"metainit d7",
+    b"metainit hsp001",
+    b"metainit hsp001 c0t1d2s7",
+    b"metainit -s blue d7 1 1 c0t1d2s7",
+    b"metainit blue/d7 1 1 c0t1d2s7",
+    b"metainit d7 1 1 d8",
+    b"metainit d7 1 1 c0t1d2s7 -i 16k",
+    b"metainit d7 1 1 c0t1d2s7 -h hsp001",
+    b"metainit d7 1 2 c0t1d2s7 c0t2d2s7",
+    b"metainit d7 2 1 c0t1d2s7 1 c0t2d2s7",
+    b"metainit d7 -m d8",
+    b"metainit d7 -r c0t1d2s7 c0t2d2s7 c0t3d2s7",
+    b"metainit d7 -p c0t1d2s7 1g",
+    b"metainit d8192 1 1 c0t1d2s7",
+    b"metainit d07 1 1 c0t1d2s7",
+    b"metainit d7 1 2 c0t1d2s7",
+    b"metaclear d7",
+    b"metaclear -a",
+    b"metattach d0 d20",
+    b"metattach d1 1g",
+    b"metadetach d0 d20",
+    b"metaoffline d0 d20",
+    b"metaonline d0 d20",
+    b"metareplace -e d0 c0t1d2s7",
+    b"metareplace d0 c0t1d2s7 c0t2d2s7",
+    b"metahs -a hsp001 c0t1d2s7",
+    b"metahs -d hsp001 c0t1d2s7",
+    b"metahs -r all c0t1d2s7 c0t2d2s7",
+    b"metahs -e c0t1d2s7",
+    b"metahs -i",
+    b"metastat",
+    b"metaset",
+    b"metaset -s blue -t",
+    b"fill d12 0 1 00",
+    b"idle 1",
+    b"read blue/d12 0 1",
+    b"read d12 0 0",
+    b"read d12 0 01",
+    b"read d12 00 1",
+    b"read d12 18446744073709551616 1",
+    b"read d12 0",
+    b"write blue/d12 5 00",
+    b"write d12 5",
+    b"write d12 5 0",
+    b"write d12 5 001",
+    b"write d12 5 0g",
+    b"write d12 5 00 00",
+];
 
 fn writing(bytes: &[u8]) -> Command {
     let mut block = ZERO_BLOCK;
@@ -99,19 +138,55 @@ fn writing(bytes: &[u8]) -> Command {
     }
 }
 
-fn line(asked: &Asked) -> Option<Line> {
-    match asked {
-        Asked::Boot => Some(Line::Boot),
-        _ => Some(Line::Command(command(asked)?)),
+fn line(asked: &Asked) -> Line<'static> {
+    match *asked {
+        Asked::Boot => Line::Boot,
+        Asked::Tab(lines) => Line::Tab(lines),
+        Asked::Create { force } => Line::Command(Command::Create {
+            slice: SLICE,
+            force,
+        }),
+        Asked::Stripe(number) => Line::Command(Command::MakeStripe {
+            volume: VolId(number),
+            slice: SLICE,
+        }),
+        Asked::Read(at, count) => Line::Command(Command::Read {
+            volume: VolId(12),
+            at,
+            count,
+        }),
+        Asked::Write(bytes) => Line::Command(writing(bytes)),
+    }
+}
+
+fn is_read_as(alloc: Global, text: &[u8], asked: &Asked) -> bool {
+    match read_line(alloc, text) {
+        Ok(read) => read == line(asked),
+        Err(_) => false,
+    }
+}
+
+fn is_bad(alloc: Global, text: &[u8]) -> bool {
+    match read_line(alloc, text) {
+        Ok(_) => false,
+        Err(fault) => fault == WordsFault::BadLine,
     }
 }
 
 #[test]
-fn reads_each_command(rt: HostRuntime) {
+fn reads_what_is_built(rt: HostRuntime) {
     for (text, asked) in LINES {
-        assert!(rt; read_line(text) == line(asked), "{text:?}");
+        assert!(rt; is_read_as(rt.alloc(), text, asked), "{text:?}");
     }
     reads_one_line();
+    commands_are_in_form();
+}
+
+#[test]
+fn reads_nothing_else(rt: HostRuntime) {
+    for text in BAD {
+        assert!(rt; is_bad(rt.alloc(), text), "{text:?}");
+    }
 }
 
 // So many digits, and whether they are read.
@@ -126,11 +201,11 @@ const DIGITS: &[(usize, bool)] = &[
     (1026, false),
 ];
 
-fn is_read(digits: usize) -> bool {
+fn is_read(alloc: Global, digits: usize) -> bool {
     let mut line = [b'1'; 1038];
     line[..12].copy_from_slice(b"write d12 5 ");
     match line.get(..digits.saturating_add(12)) {
-        Some(front) => read_line(front).is_some(),
+        Some(front) => read_line(alloc, front).is_ok(),
         None => false,
     }
 }
@@ -138,6 +213,6 @@ fn is_read(digits: usize) -> bool {
 #[test]
 fn reads_up_to_512_pairs(rt: HostRuntime) {
     for (digits, want) in DIGITS {
-        assert!(rt; is_read(*digits) == *want, "{digits} digits");
+        assert!(rt; is_read(rt.alloc(), *digits) == *want, "{digits} digits");
     }
 }

@@ -7,12 +7,11 @@ use Rattle.mdv_engine_law.specs.declared.answer.Outcome.{Outcome}
 use Rattle.mdv_engine_law.specs.declared.answer.Outcome.TheVariants as outcome
 use Rattle.mdv_engine_law.specs.declared.answer.Reply.TheVariants as reply
 use Rattle.mdv_engine_law.specs.Line.{Nothing, Ask}
-use Rattle.std.proofs.Common.{◌≡◌, Option, Some, inl, inr, ℕ, List, [], refl, sym, ◌∙◌, ap, subst}
-use Rattle.mdv_run.specs.Below.{Answer, Kept, Script, line, Tale, Command, Create, MakeStripe, Read, Write, Spelled, Boot, IsCommand, IsLine, Reply, IsReplied, IsTurnedDown, Host, Memory, IsExecuted, Executed, Knows, IsAwake, Turned, Asks, RanTo, behind, kept_at}
+use Rattle.std.proofs.Common.{◌≡◌, Option, Some, inl, inr, ℕ, ◌<◌, List, [], length, take, refl, sym, ◌∙◌, subst, arith}
+use Rattle.mdv_run.specs.Below.{OutOfMemory, TooMany, Answer, IsAnswered, Kept, LinesMoment, Script, line, tab_text, told, Tale, Spelled, Boot, IsLine, Reply, IsReplied, IsTurnedDown, Host, Memory, Executed, Knows, Turned, RanTo, kept_at}
 use Rattle.mdv_run.specs.Promise.{IsUncut}
 use Rattle.mdv_run.specs.Turns.{LineAnswered}
-use Rattle.mdv_shelf.proofs.Blocks.{both_ways}
-use Rattle.mdv_words.specs.declared.command.Line.TheVariants as words
+use Rattle.mdv_words.specs.Line as words
 use Rattle.mdv_words.proofs.Lines.{one_line}
 use Rattle.mdv_engine_law.specs.Answers.{accepted, refusing}
 use Rattle.mdv_engine_law.proofs.Turning.{accepted_none, never_among, refused_none, turned}
@@ -25,55 +24,32 @@ use Rattle.mdv_shelf.specs.Made.{Made}
 use Rattle.mdv_shelf.proofs.Made.{IsToo}
 use Rattle.mdv_engine_law.proofs.Efforts.{line_too, none_too, replied_too}
 use Rattle.mdv_run_law.specs.Run.{TextCalls}
-use Rattle.mdv_engine_law.specs.Line.{Ask, asked_by_line}
-use Rattle.mdv_engine_law.specs.Standing.{TurnMoment, WritesOnly}
+use Rattle.mdv_engine_law.specs.Standing.{LineWrites, TurnMoment, WritesOnly}
 use Rattle.mdv_shelf.specs.Moments.{Moments}
 use Rattle.mdv_shelf.proofs.Moments.{moments_end, some_is}
-use Rattle.mdv_run_law.proofs.Coming.{behind_none}
-use Rattle.mdv_run_law.proofs.Turning.{line_ran, only_reply, reply_replies}
-
--- a command of a line is one that an engine executes
-pub executed_line : (text : List ℕ) (command : Command) → IsCommand text command → IsExecuted command
-executed_line text (Create slice force) is = tt
-executed_line text (MakeStripe volume slice) is = is.0
-executed_line text (Read volume at count) is = (is.2, is.3)
-executed_line text (Write volume at block) is = tt
+use Rattle.mdv_run_law.proofs.Turning.{line_moment, line_ran}
+use Rattle.mdv_run_law.proofs.Waking.{refused_entries, told_text}
+use Rattle.mdv_run_law.specs.Standing.{HasEntries, IsWanting}
+use Rattle.mdv_engine_law.proofs.Plain.{memory_plain, taken_front}
+use Rattle.mdv_engine_law.proofs.Turning.{refusal_told}
+use Rattle.mdv_engine_law.specs.Commands as came
+use Rattle.mdv_engine_law.specs.Replies.{ok_line, refusal_line}
+use Rattle.mdv_engine_law.specs.Standing.{TellMoment}
+use Rattle.std.proofs.lemmas.List.{append_cancel_left, take_all}
 
 -- its line is no `boot`
-pub no_boot : (text : List ℕ) (command : Command) → IsCommand text command → IsLine text Boot → ⊥
-no_boot text command is boot = absurd (let same = one_line text (words.Command command) Boot is boot in cc (same))
-
--- A line that is no boot, whose reply was told whole, where the last boot is known to have read the drive only where it is known of the
--- memory before.
-module _ (host : Host) (text : List ℕ) (more : Script) (ask : Ask) (asks : Asks text ask) (old new : Memory) (t u : Tale) (turned : Turned host ask old new t u) (other : IsLine text Boot → ⊥) where
-  unknown_ran : (Knows host old t → ⊥) → RanTo host (line text more) old new more t u
-  unknown_ran never = record {
-    bytes = turned.bytes;
-    is_told = turned.is_told;
-    replies = reply_replies turned.bytes turned.reply;
-    left_is = ap (behind (line text more)) (only_reply turned.bytes turned.reply) ∙ behind_none more;
-    knows = turned.knows;
-    made = λ knows told. absurd (never knows);
-    goes = λ h known. absurd (never known.knows);
-  }
-
-  pub known_ran : (Knows host old t → IsAwake new → IsAwake old) → RanTo host (line text more) old new more t u
-  known_ran awake = elim (both_ways new.down) [
-    | inl down ↦ line_ran host text ask asks more old new t u turned (λ up. absurd (cc (down, up))) other
-    | inr up ↦ elim (both_ways old.down) [
-      | inl down ↦ unknown_ran (λ knows. absurd (let before = awake knows up in cc (down, before)))
-      | inr before ↦ line_ran host text ask asks more old new t u turned (λ same. before) other
-    ]
-  ]
+pub no_boot : (text : List ℕ) (spelled : Spelled) → IsLine text spelled → (Boot ≡ spelled → ⊥) → IsLine text Boot → ⊥
+no_boot text spelled is other boot = other (one_line text Boot spelled boot is)
 
 -- a line that was carried out is answered
-pub line_executed : (text : List ℕ) (spelled : Spelled) → IsLine text spelled → (drive : Failures) (replies : Type 0) (made : Made) (host : Host) (old new : Memory) (reply : Reply) (t u : Tale) → Executed drive replies made host spelled old new reply t u → WritesOnly host (asked_by_line spelled) old t u → LineAnswered drive replies made host text old new reply t u
-line_executed text spelled is drive replies made host old new reply t u done writes = record { answer = done.answer; done = inr (spelled, is, done.carried); calls = inr (spelled, is, done.calls); writes = inr (spelled, is, writes); replied = done.replied }
+pub line_executed : (text : List ℕ) (spelled : Spelled) → IsLine text spelled → (drive : Failures) (replies : Type 0) (made : Made) (host : Host) (old new : Memory) (reply : Reply) (t u : Tale) → Executed drive replies made host spelled old new reply t u → LineWrites host spelled old t u → LineAnswered drive replies made host text old new reply t u
+line_executed text spelled is drive replies made host old new reply t u done writes = record { answer = done.answer; done = inr (inl (spelled, is, done.carried)); calls = inr (inl (spelled, is, done.calls)); writes = inr (spelled, is, writes); replied = done.replied }
 
 -- the calls of a line, told of another stretch
 text_too : (one other : Made) → IsToo one other → (host : Host) (kept next : Kept) (text : List ℕ) (answer : Answer) → TextCalls one host kept text answer next → TextCalls other host kept text answer next
 text_too one other too host kept next text answer (inl (never, none)) = inl (never, none_too one other too none)
-text_too one other too host kept next text answer (inr (spelled, is, calls)) = inr (spelled, is, line_too one other too host kept spelled answer next calls)
+text_too one other too host kept next text answer (inr (inl (spelled, is, calls))) = inr (inl (spelled, is, line_too one other too host kept spelled answer next calls))
+text_too one other too host kept next text answer (inr (inr (want, none))) = inr (inr (want, none_too one other too none))
 
 pub answered_too : {drive : Failures} {replies : Type 0} {one : Made} {host : Host} {text : List ℕ} {old new : Memory} {reply : Reply} {t u : Tale} (other : Made) → IsToo one other → LineAnswered drive replies one host text old new reply t u → LineAnswered drive replies other host text old new reply t u
 answered_too {drive} {replies} {one} {host} {text} {old} {new} {reply} {t} {u} other too done = record {
@@ -95,6 +71,14 @@ module _ (host : Host) (memory : Memory) (r : Refusal) (plain : IsPlain r) (repl
   pub refused_turned : (ask : Ask) → IsReplied reply → Turned host ask memory memory t u
   refused_turned ask on = turned host ask memory memory replies t t u refl (refusing r) plain (λ on some. absurd on) (λ on has. absurd on) (refused_none host ask memory r t) reply on given
 
+  -- whose bytes are the refusal's
+  pub refused_is : (ask : Ask) (on : IsReplied reply) → (refused_turned ask on).bytes ≡ refusal_line r
+  refused_is ask on = told_text replies (outcome.Refused r) reply given.replied.piece (refused_turned ask on).bytes t u given.replied.as_told on given.replied.is_told (refused_turned ask on).is_told
+
+  -- it leaves the entries as they were
+  pub refused_keeps : (text : List ℕ) (ask : Ask) (on : IsReplied reply) → HasEntries text (refused_turned ask on).bytes (Some memory.entries) memory.entries
+  refused_keeps text ask on = refused_entries text (refused_turned ask on).bytes r memory (refused_is ask on)
+
   pub refused_down : IsTurnedDown r (kept_at memory t) (refusing r) (kept_at memory u)
   refused_down = (refl, record { memory = refl; content = λ drive block. (given.kept drive block refl).last })
 
@@ -105,6 +89,34 @@ module _ (host : Host) (memory : Memory) (r : Refusal) (plain : IsPlain r) (repl
 pub accepted_turned : (host : Host) (memory : Memory) (replies : Type 0) (reply : Reply) (t u : Tale) → OnlyReplied replies accepted reply t u → IsReplied reply → Turned host Nothing memory memory t u
 accepted_turned host memory replies reply t u given on =
     turned host Nothing memory memory replies t t u refl accepted tt (λ on some. absurd (some refl)) (λ on has. absurd (never_among [] Created refl has)) (accepted_none host memory t) reply on given
+
+pub accepted_ok : (host : Host) (memory : Memory) (replies : Type 0) (reply : Reply) (t u : Tale) (given : OnlyReplied replies accepted reply t u) (on : IsReplied reply) → (accepted_turned host memory replies reply t u given on).bytes ≡ ok_line
+accepted_ok host memory replies reply t u given on =
+    told_text replies outcome.Ok reply given.replied.piece (accepted_turned host memory replies reply t u given on).bytes t u given.replied.as_told on given.replied.is_told (accepted_turned host memory replies reply t u given on).is_told
+
+-- what a line is refused with where memory was wanting to read it, and what it leaves
+module _ (host : Host) (text : List ℕ) (old : Memory) where
+  wanting_front : (count : ℕ) → IsWanting (take count (refusal_line OutOfMemory))
+  wanting_front count = taken_front (refusal_line OutOfMemory) count
+
+  pub unread_moment : (more : Script) (t m : Tale) → TellMoment (refusal_line OutOfMemory) t m → LinesMoment host (line text more) old t m
+  unread_moment more t m tell =
+      let turn = refusal_told host old Nothing OutOfMemory memory_plain t m tell in
+      let front : turn.bytes ≡ take tell.count (refusal_line OutOfMemory) = append_cancel_left (told t) turn.bytes (take tell.count (refusal_line OutOfMemory)) (sym turn.is_told ∙ tell.is_told) in
+      line_moment host text Nothing more old t m turn (inr (refl, subst IsWanting (sym front) (wanting_front tell.count)))
+
+  pub unread_ran : (replies : Type 0) (reply : Reply) (t u : Tale) → OnlyReplied replies (refusing OutOfMemory) reply t u → IsReplied reply → (more : Script) → RanTo host (line text more) old old more t u
+  unread_ran replies reply t u given on more =
+      let is = refused_is host old OutOfMemory memory_plain replies reply t u given Nothing on in
+      let wanting : IsWanting (refused_turned host old OutOfMemory memory_plain replies reply t u given Nothing on).bytes = subst IsWanting (sym is) whole in
+      line_ran host text Nothing more old old t u (refused_turned host old OutOfMemory memory_plain replies reply t u given Nothing on) (inr (refl, wanting)) (inr is) (λ knows. (λ up. up, refused_keeps host old OutOfMemory memory_plain replies reply t u given text Nothing on))
+    where
+      whole : IsWanting (refusal_line OutOfMemory)
+      whole = subst IsWanting (take_all (length (refusal_line OutOfMemory)) (refusal_line OutOfMemory) (omega arith)) (wanting_front (length (refusal_line OutOfMemory)))
+
+-- a `tab` block with too many bytes
+pub many_comes : (lines : List ℕ) (failures : Failures) (host : Host) (kept next : Kept) (answer : Answer) → 65536 < length lines → failures.none → IsTurnedDown TooMany kept answer next → IsAnswered failures host kept (tab_text lines) answer next
+many_comes lines failures host kept next answer many calm down = inr (inl (words.Tab lines, refl, came.unfit calm TooMany (inl many) down))
 
 -- why a line is replied to so: by what its command came to, by what was only told, or by the end of its boot
 pub command_reply : (drive : Failures) (replies : Type 0) (given : Reply) → HasCommandCause drive replies given → HasReplyCause drive.some replies given

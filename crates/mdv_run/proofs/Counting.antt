@@ -20,6 +20,7 @@ use Rattle.mdv_run.specs.Below.{Script, too_long, line, Spelled, IsLine}
 use Rattle.mdv_run.specs.Calls.{CallsLeft, OpenedTook, ScriptCalls, TextCalls, TurnTook, line_calls}
 use Rattle.mdv_run.specs.Turns.{turn_of}
 use Rattle.mdv_run_law.specs.Run.{IsNoCommand}
+use Rattle.mdv_words.specs.Line as words
 use Rattle.mdv_words.proofs.Lines.{one_line}
 
 -- a line takes what it spells
@@ -31,7 +32,17 @@ pub refused_calls : (text : List ℕ) → IsNoCommand text → (n : ℕ) → Tex
 refused_calls text never n (inl (also, one)) = one
 refused_calls text never n (inr (spelled, is, takes)) = absurd (never spelled is)
 
-wider : (old new : Option ℕ) (k n : ℕ) → k ≤ n → RoseByAtMost k old new → RoseByAtMost n old new
+-- each takes one at least
+spelled_some : (spelled : Spelled) → 1 ≤ line_calls spelled
+spelled_some words.Boot = omega arith
+spelled_some (words.Tab lines) = omega arith
+spelled_some (words.Exec command) = omega arith
+
+pub text_some : (text : List ℕ) (n : ℕ) → TextCalls text n → 1 ≤ n
+text_some text n (inl (never, one)) = omega (arith, one)
+text_some text n (inr (spelled, is, takes)) = (let some = spelled_some spelled in omega (arith, takes, some))
+
+pub wider : (old new : Option ℕ) (k n : ℕ) → k ≤ n → RoseByAtMost k old new → RoseByAtMost n old new
 wider old new k n le took = at_most_more k 0 n old new new (omega (arith, le)) took (λ m is. (m, is, omega arith))
 
 module _ (old new : Option ℕ) where

@@ -7,7 +7,7 @@ use Rattle.mdv_engine_law.specs.Efforts.{NoCalls, replied_to}
 use Rattle.mdv_shelf.specs.Area.{KeptOutside, nowhere}
 use Rattle.mdv_run.specs.Promise.{point_of}
 use Rattle.std.proofs.Common.{◌≡◌, ◌≤◌, inl, inr, ℕ, Bool, true, List, [], ◌++◌, Option, Some, refl, sym, ◌∙◌, ap, subst}
-use Rattle.mdv_run.specs.Below.{LineTooLong, Reader, Script, at_end, spent, too_long, line, asked_before, IsAskedTurn, Line, TooLong, End, Spent, Tale, told, Answer, Reply, Host, Memory, IsTold, IsReplied, Kept, IsTurnedDown, kept_at, Replied, RunStatus, Panic, ReadFault, WriteFault, NoMemory, NumbersSpent, At, Counts, NextLine, OnDrive, OnReplies, Stretch, IsAnswered, IsSame, contents}
+use Rattle.mdv_run.specs.Below.{LineTooLong, Items, Script, at_end, spent, too_long, line, asked_before, IsItem, IsItemTurn, Item, TooLong, End, Spent, Tale, told, Answer, Reply, Host, Memory, IsTold, IsReplied, Kept, IsTurnedDown, kept_at, Replied, RunStatus, Panic, ReadFault, WriteFault, NoMemory, NumbersSpent, At, Counts, NextLine, OnDrive, OnReplies, Stretch, IsAnswered, IsSame, contents}
 use Rattle.mdv_run_law.specs.Run.{AreInTime, EndsAt, FromTo, IsPassage, NextCalls, NextWrites, giving_failed, OnlyReplying, OnlyUngiven, OnlyUnread, RoseCalmly, drive_failures, Over as IsOver, broken, ended as script_ended, unread, EndsAs, EndsWith, IsSaid, refused_by}
 use Rattle.mdv_engine_law.specs.Answers.{refusing}
 use Rattle.mdv_engine_law.specs.Replies.{HasReplyCause, IsLost, outcome_text, reply_at, reply_to, text_of}
@@ -29,29 +29,29 @@ use Rattle.mdv_shelf.specs.declared.shelf.Shelf.{Ghosts}
 use Rattle.mdv_shelf.proofs.Moments.{some_is}
 
 -- the script that each answer of the reader comes from
-pub end_is : (s : Script) (new : Reader) (left : Option (List ℕ)) → IsAskedTurn s End new left → s ≡ at_end
+pub end_is : (s : Script) (new : Items) (left : Option (List ℕ)) → IsItemTurn s End new left → s ≡ at_end
 end_is at_end new left is = refl
-end_is (spent lines bytes) new left is = absurd (cc (is.0))
+end_is (spent lines bytes) new left is = absurd (cc (is))
 end_is (too_long more) new left is = absurd (cc (is.0))
 end_is (line text more) new left is = absurd (cc (is.0))
 
-pub spent_is : (s : Script) (lines bytes : ℕ) (new : Reader) (left : Option (List ℕ)) → IsAskedTurn s (Spent lines bytes) new left → s ≡ spent lines bytes
+pub spent_is : (s : Script) (lines bytes : ℕ) (new : Items) (left : Option (List ℕ)) → IsItemTurn s (Spent lines bytes) new left → s ≡ spent lines bytes
 spent_is at_end lines bytes new left is = absurd (cc (is.0))
-spent_is (spent l b) lines bytes new left is = cc (is.0)
+spent_is (spent l b) lines bytes new left is = cc (is)
 spent_is (too_long more) lines bytes new left is = absurd (cc (is.0))
 spent_is (line text more) lines bytes new left is = absurd (cc (is.0))
 
-pub long_is : (s : Script) (new : Reader) (left : Option (List ℕ)) → IsAskedTurn s TooLong new left → (more : Script) × (s ≡ too_long more) × (asked_before new left ≡ Some more)
+pub long_is : (s : Script) (new : Items) (left : Option (List ℕ)) → IsItemTurn s TooLong new left → (more : Script) × (s ≡ too_long more) × (asked_before new.reader left ≡ Some more)
 long_is at_end new left is = absurd (cc (is.0))
-long_is (spent lines bytes) new left is = absurd (cc (is.0))
+long_is (spent lines bytes) new left is = absurd (cc (is))
 long_is (too_long more) new left is = (more, refl, is.1)
 long_is (line text more) new left is = absurd (cc (is.0))
 
-pub line_is : (s : Script) (text : List ℕ) (new : Reader) (left : Option (List ℕ)) → text ≡ new.line → IsAskedTurn s Line new left → (more : Script) × (s ≡ line text more) × (asked_before new left ≡ Some more)
-line_is at_end text new left shown is = absurd (cc (is.0))
-line_is (spent lines bytes) text new left shown is = absurd (cc (is.0))
-line_is (too_long more) text new left shown is = absurd (cc (is.0))
-line_is (line other more) text new left shown is = (more, ap (λ (l : List ℕ). line l more) (sym is.1 ∙ sym shown), is.2)
+pub item_is : (s : Script) (new : Items) (left : Option (List ℕ)) → IsItemTurn s Item new left → (more : Script) × (text : List ℕ) × (s ≡ line text more) × IsItem text new.item × (asked_before new.reader left ≡ Some more)
+item_is at_end new left is = absurd (cc (is.0))
+item_is (spent lines bytes) new left is = absurd (cc (is))
+item_is (too_long more) new left is = absurd (cc (is.0))
+item_is (line text more) new left is = (more, text, refl, is.1, is.2)
 
 -- counts of which the drive's and the source's are those behind a line, and those of the giving still those before it
 abbrev carried_by : Counts → Counts → Counts

@@ -7,5 +7,4 @@ pub mod Used
 pub mod Shown
 pub mod Fronts
 pub mod Fronting
-pub mod Asking
 pub mod Counting

@@ -1,10 +1,10 @@
 -- The words of the crates below in which this crate speaks, so that a file of it needs one line of import.
 pub use Rattle.mdv_base.specs.Causes.{Rose}
-pub use Rattle.mdv_base.specs.declared.refusal.Refusal.TheVariants.{LineTooLong}
+pub use Rattle.mdv_base.specs.declared.refusal.Refusal.TheVariants.{LineTooLong, OutOfMemory, TooMany}
 pub use Rattle.mdv_engine.specs.Engine.{HasBootCause, IsWell, boot_answer}
 pub use Rattle.mdv_engine.specs.declared.engine.Engine.{Engine}
 pub use Rattle.mdv_engine_law.specs.Home.{IsReady, StaysHome}
-pub use Rattle.mdv_engine_law.specs.Line.{IsExecuted, IsRebooted, IsSame, IsTurnedDown, Kept, Memory, asked_by, contents, kept_at, unbooted}
+pub use Rattle.mdv_engine_law.specs.Line.{IsRebooted, IsSame, IsTurnedDown, Kept, Memory, asked_by, contents, kept_at, unbooted}
 pub use Rattle.mdv_engine_law.specs.Replies.{IsReplied, IsTold}
 pub use Rattle.mdv_engine_law.specs.Standing.{TellsFront, BootMoment, BootedTo, Executed, IsAwake, Knows, Replied, TurnMoment, Turned}
 pub use Rattle.mdv_engine_law.specs.declared.answer.Answer.{Answer}
@@ -17,8 +17,8 @@ pub use Rattle.mdv_home.specs.declared.geometry.Home.{Home}
 pub use Rattle.mdv_name.specs.declared.geometry.Geometry.{Geometry}
 pub use Rattle.mdv_port.specs.Reader.{Reader}
 pub use Rattle.mdv_port.specs.Script.{Script, at_end, line, spent, too_long}
-pub use Rattle.mdv_run.specs.Lines.{IsAskedTurn, asked_before, asked_of}
-pub use Rattle.mdv_port.specs.declared.reader.LineEnd.TheVariants.{End, Line, Spent, TooLong}
+pub use Rattle.mdv_items.specs.Items.{IsItem, IsItemTurn, Items, asked_before, asked_of}
+pub use Rattle.mdv_items.specs.declared.reader.ItemEnd.TheVariants.{End, Item, Spent, TooLong}
 pub use Rattle.mdv_run_law.specs.Run.{AreLast, AreShown, At, Counts, IsLastShown, IsNextFront, IsToldBy, LinesToldBy, NextFront, HasStatusCause, IsAnswered, IsLeft, IsShown, IsWholeRun, LineTold, LinesTold, NextLine, RoseTo, Runs, Stretch, counts}
 pub use Rattle.mdv_run_law.specs.Run.{drive_failed, replies_failed, source_failed, status_of}
 pub use Rattle.mdv_run_law.specs.Standing.{Asks, LinesMoment, RanTo, RunMoment, behind}
@@ -31,8 +31,6 @@ pub use Rattle.mdv_shelf.specs.Calls.{Keeps, OnDrive, OnReplies, Part}
 pub use Rattle.mdv_shelf.specs.Moments.{Ends, Moments}
 pub use Rattle.mdv_shelf.specs.Tale.{Tale, told}
 pub use Rattle.mdv_status.specs.Telling.{replies_in}
-pub use Rattle.mdv_words.specs.Line.{IsCommand, IsLine}
+pub use Rattle.mdv_words.specs.Line.{Boot, IsCommand, IsInForm, IsLine, Line as Spelled, tab_text}
 pub use Rattle.mdv_words.specs.declared.command.Command.{Command}
 pub use Rattle.mdv_words.specs.declared.command.Command.TheVariants.{Create, MakeStripe, Read, Write}
-pub use Rattle.mdv_words.specs.declared.command.Line.{Line as Spelled}
-pub use Rattle.mdv_words.specs.declared.command.Line.TheVariants.{Boot}

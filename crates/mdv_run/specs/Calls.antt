@@ -1,25 +1,31 @@
 -- How many calls on the bench a run makes at most, by its script.
-use Rattle.std.specs.Prelude.{◌≡◌, ◌⊎◌, ◌≤◌, ◌+◌, ℕ, Bool, true, false, List, Option, Some, None}
+use Rattle.std.specs.Prelude.{◌≡◌, ◌⊎◌, ◌≤◌, ◌+◌, ℕ, Bool, true, false, List, Option, Some, None, Result}
 use Rattle.mdv_shelf.specs.Made.{Made}
 use Rattle.mdv_store_law.specs.Site.{Newest}
 use Rattle.mdv_shelf.specs.Calls.{RoseByAtMost}
 use Rattle.mdv_engine_law.specs.Efforts.{calls_of}
-use Rattle.mdv_run.specs.Below.{Script, at_end, spent, too_long, line, Spelled, Boot, IsLine}
+use Rattle.mdv_items.specs.declared.gather.GatherFault.{GatherFault}
+use Rattle.mdv_run.specs.Below.{IsItem, Script, at_end, spent, too_long, line, Spelled, Boot, IsLine}
 use Rattle.mdv_run_law.specs.Run.{IsNoCommand}
-use Rattle.mdv_words.specs.declared.command.Line.TheVariants as words
+use Rattle.mdv_words.specs.Line as words
 use Rattle.mdv_run.specs.declared.session.Turn.{Turn}
 use Rattle.mdv_run.specs.declared.session.Turn.TheVariants.{On, Over}
 
--- what a line takes, its reply among it: a boot thirteen calls and one
+-- what a line takes, its reply among it: a boot thirteen calls and one, and a block of entries its reply's
 abbrev pub line_calls : Spelled → ℕ
 line_calls Boot = 14
-line_calls (words.Command command) = 1 + calls_of command
+line_calls (words.Tab lines) = 1
+line_calls (words.Exec command) = 1 + calls_of command
 
--- and a line by its text: one that isn't in the grammar is refused with one
+-- and a line by its text: one that isn't built is refused with one
 abbrev pub TextCalls : List ℕ → ℕ → Type 0
 TextCalls text n = (IsNoCommand text × (n ≡ 1)) ⊎ ((spelled : Spelled) × IsLine text spelled × (n ≡ line_calls spelled))
 
--- and the lines of a script, one behind the other
+-- and an item that a reader shows
+abbrev pub ItemCalls : Result (List ℕ) GatherFault → ℕ → Type 0
+ItemCalls shown n = (text : List ℕ) × IsItem text shown × TextCalls text n
+
+-- and the items of a script, one behind the other
 abbrev pub ScriptCalls : Script → ℕ → Type 0
 ScriptCalls at_end n = n ≡ 0
 ScriptCalls (spent lines bytes) n = n ≡ 0

@@ -1,5 +1,4 @@
 pub mod Below
-pub mod Lines
 pub use Rattle.mdv_base.specs.Causes
 pub mod Turns
 pub mod Calls

@@ -1,8 +1,7 @@
-//! The run of one host: it boots the state database from its drive, reads a script line by line, and
-//! tells a reply to each line.
+//! The run of one host: it boots the state database from its drive, reads a script item by item, and
+//! tells a reply to each.
 #![tactic(auto)]
 
-mod lines;
 mod session;
 #[cfg(test)]
 mod session_tests;

@@ -1,11 +1,10 @@
-ghost use Rattle.std.specs.Prelude.{◌≡◌, Err, IfOk, ◌<◌, ◌≤◌, ◌+◌, ◌^◌, ◌↔◌, ℕ, List, [], ◌∷◌, map, string_bytes, Some, IsTrue};
+ghost use Rattle.std.specs.Prelude.{◌≡◌, Err, IfOk, ◌<◌, ◌≤◌, ◌+◌, ◌^◌, ◌↔◌, ℕ, List, [], ◌∷◌, length, map, string_bytes, Some, IsTrue};
 ghost use Rattle.mdv_shelf.specs.Made.{made_of};
 ghost use Rattle.mdv_shelf.specs.Shelves.{AtEachTale, Kept, KeptInTime};
 ghost use Rattle.mdv_port.specs.Script.{Script, line as line_of};
-ghost use Rattle.mdv_run.specs.Lines.{asked_before};
+ghost use Rattle.mdv_items.specs.Items.{IsItem, asked_before};
 ghost use Rattle.mdv_home.specs.declared.geometry.Home.{Home};
-ghost use Rattle.mdv_words.specs.declared.command.Line.TheVariants.{Boot};
-ghost use Rattle.mdv_words.specs.Line.{IsLine};
+ghost use Rattle.mdv_words.specs.Line.{Boot, IsLine, tab_text};
 ghost use Rattle.mdv_engine_law.specs.Home.{IsReady};
 ghost use Rattle.mdv_engine_law.specs.Line.{Nothing};
 ghost use Rattle.mdv_engine_law.specs.Replies.{IsReplied};
@@ -17,27 +16,27 @@ ghost use Rattle.mdv_run_law.specs.Lives.{host_of};
 ghost use Rattle.mdv_run_law.specs.Usage.{IsUsed};
 ghost use Rattle.mdv_run_law.specs.Run.{status_at, status_of};
 ghost use Rattle.mdv_run_law.specs.Standing.{LinesMoment};
-ghost use Rattle.mdv_run.specs.Calls.{OpenedTook, TextCalls};
+ghost use Rattle.mdv_run.specs.Calls.{ItemCalls, OpenedTook, TextCalls};
 ghost use Rattle.mdv_run.specs.Promise.{BootReplies, HasRun, HaveRun, IsUncut, IsUntouched, IsUsageOf, LineEnds, LineReplies, LineStays, LineTells, OfEachUse, TurnAnswers, TurnEnds, TurnTells};
 ghost use Rattle.mdv_run.specs.Turns.{IsOn, turn_of as spec_turn_of};
 
-use crate::lines::next_asked;
 use mdv_base::{DriveNo, Failed, Refusal};
 use mdv_engine::Engine;
 use mdv_engine_law::{Ended, Host, Reply, reply_at};
 use mdv_home::{Home, home_in};
+use mdv_items::{GatherFault, ItemEnd, ItemReader};
 use mdv_name::{Geometry, GeometryFault};
-use mdv_port::{LineEnd, LineReader, Source};
+use mdv_port::Source;
 use mdv_run_law::RunStatus;
 use mdv_shelf::Bench;
-use mdv_words::{Line, read_line};
+use mdv_words::{Line, WordsFault, read_line};
 use std::alloc::Global;
 
 /// Runs one host: it boots from the drive, then answers the lines of the script one by one. The words
 /// are the host's name alone. The table of drives has that host alone and one drive, which is its own; exactly one
 /// of the slices is marked `db`, and no other overlaps it. `fresh` has to differ between runs: it is part of the
 /// identity of each database that the run makes. Memory is taken for the table of drives and by boots, without which
-/// the run ends, and by commands, which are refused without it.
+/// the run ends, and to read lines and blocks and by commands, which are refused without it.
 #[tactic(auto, using(mdv_shelf::proofs::Noted::kept_more))]
 pub fn run<B: Bench, I: Source>(
     words: &[String],
@@ -165,7 +164,7 @@ fn run_lines<B: Bench, I: Source>(
     ensures lines { HaveRun B.Shelf I.Source engine.old.host engine.old.state bench.old script.old bench.new script.new result }
     ensures kept { Kept B.Shelf bench.old bench.new }
 {
-    let mut reader = LineReader::new();
+    let mut reader = ItemReader::new(alloc);
     let mut any_refused = false;
     loop {
         match take_turn(engine, alloc, bench, script, &mut reader, any_refused) {
@@ -181,29 +180,29 @@ enum Turn {
     Over(RunStatus),
 }
 
-// One line: it is taken, carried out and answered.
+// One item: it is taken, carried out and answered.
 fn take_turn<B: Bench, I: Source>(
     engine: &mut Engine,
     alloc: Global,
     bench: &mut B,
     script: &mut I,
-    reader: &mut LineReader,
+    reader: &mut ItemReader,
     any_refused: bool,
 ) -> Turn
     requires ready { IsReady engine.old.host (B.sizes bench.old) }
     requires well { IsWell engine.old.host engine.old.state }
-    requires begun { engine.old.state.begun ≤ reader.old.lines }
-    ensures moments { (lines : Script) → asked_before reader.old (I.left script.old) ≡ Some lines → AtEachTale B.Shelf (LinesMoment engine.old.host lines engine.old.state) bench.old bench.new }
-    ensures end { TurnEnds B.Shelf I.Source engine.old engine.new bench.old bench.new script.old script.new reader.old reader.new any_refused result }
-    ensures stays { LineStays B.Shelf engine.old.host (IsOn result) (IsOn result) (TurnTells B.Shelf I.Source engine.old bench.old bench.new script.old reader.old any_refused) bench.old bench.new }
-    ensures answer { TurnAnswers B.Shelf I.Source engine.old.host engine.new bench.old bench.new script.old script.new reader.old reader.new result }
+    requires begun { engine.old.state.begun ≤ reader.old.reader.lines }
+    ensures moments { (lines : Script) → asked_before reader.old.reader (I.left script.old) ≡ Some lines → AtEachTale B.Shelf (LinesMoment engine.old.host lines engine.old.state) bench.old bench.new }
+    ensures end { TurnEnds B.Shelf I.Source engine.old engine.new bench.old bench.new script.old script.new reader.old.reader reader.new.reader any_refused result }
+    ensures stays { LineStays B.Shelf engine.old.host (IsOn result) (IsOn result) (TurnTells B.Shelf I.Source engine.old bench.old bench.new script.old reader.old.reader any_refused) bench.old bench.new }
+    ensures answer { TurnAnswers B.Shelf I.Source engine.old.host engine.new bench.old bench.new script.old script.new reader.old.reader reader.new.reader result }
     ensures kept { KeptInTime B.Shelf bench.old bench.new }
 {
-    match next_asked(reader, script) {
-        Ok(LineEnd::Line) => turn_of(answer(engine, alloc, bench, reader.line()), any_refused),
-        Ok(LineEnd::TooLong) => turn_of(engine.refuse(bench, &Refusal::LineTooLong), any_refused),
-        Ok(LineEnd::End) => Turn::Over(ended(any_refused)),
-        Ok(LineEnd::Spent { lines, bytes }) => Turn::Over(RunStatus::ScriptTooLong {
+    match reader.next(script) {
+        Ok(ItemEnd::Item) => turn_of(answer_item(engine, alloc, bench, reader), any_refused),
+        Ok(ItemEnd::TooLong) => turn_of(engine.refuse(bench, &Refusal::LineTooLong), any_refused),
+        Ok(ItemEnd::End) => Turn::Over(ended(any_refused)),
+        Ok(ItemEnd::Spent { lines, bytes }) => Turn::Over(RunStatus::ScriptTooLong {
             lines,
             bytes,
         }),
@@ -211,7 +210,30 @@ fn take_turn<B: Bench, I: Source>(
     }
 }
 
-// Carries a line out and replies to it.
+// Carries the item out that the reader shows, and replies to it. It is refused where its text isn't there.
+fn answer_item<B: Bench>(
+    engine: &mut Engine,
+    alloc: Global,
+    bench: &mut B,
+    reader: &ItemReader,
+) -> Reply
+    requires ready { IsReady engine.old.host (B.sizes bench.old) }
+    requires well { IsWell engine.old.host engine.old.state }
+    requires begun { engine.old.state.begun + 1 < 2 ^ 32 }
+    ensures moments { (text : List ℕ) → IsItem text reader.now.item → (more : Script) → AtEachTale B.Shelf (LinesMoment engine.old.host (line_of text more) engine.old.state) bench.old bench.new }
+    ensures end { (text : List ℕ) → IsItem text reader.now.item → LineEnds B.Shelf bench.old bench.new engine.old.host text engine.old.state engine.new.state result }
+    ensures stays { LineStays B.Shelf engine.old.host (IsReplied result) (IsUncut result) ((text : List ℕ) → IsItem text reader.now.item → LineTells B.Shelf engine.old text bench.old bench.new) bench.old bench.new }
+    ensures answer { LineReplies B.Shelf engine.old bench.old bench.new (ItemCalls reader.now.item) engine.new result }
+    ensures kept { KeptInTime B.Shelf bench.old bench.new }
+{
+    match reader.item() {
+        Ok(line) => answer(engine, alloc, bench, line),
+        Err(GatherFault::TooMany) => refuse_tab(engine, bench),
+        Err(GatherFault::Memory) => refuse_unread(engine, bench),
+    }
+}
+
+// Carries a line or a `tab` block out, and replies to it.
 fn answer<B: Bench>(engine: &mut Engine, alloc: Global, bench: &mut B, line: &[u8]) -> Reply
     requires ready { IsReady engine.old.host (B.sizes bench.old) }
     requires well { IsWell engine.old.host engine.old.state }
@@ -222,13 +244,37 @@ fn answer<B: Bench>(engine: &mut Engine, alloc: Global, bench: &mut B, line: &[u
     ensures answer { LineReplies B.Shelf engine.old bench.old bench.new (TextCalls line.now) engine.new result }
     ensures kept { KeptInTime B.Shelf bench.old bench.new }
 {
-    let Some(spelled) = read_line(line) else {
-        return engine.refuse(bench, &Refusal::BadLine);
-    };
-    match spelled {
-        Line::Boot => boot_anew(engine, alloc, bench),
-        Line::Command(command) => engine.exec(bench, alloc, &command),
+    match read_line(alloc, line) {
+        Ok(Line::Boot) => boot_anew(engine, alloc, bench),
+        Ok(Line::Tab(lines)) => engine.keep_tab(bench, alloc, lines),
+        Ok(Line::Command(command)) => engine.exec(bench, alloc, &command),
+        Err(WordsFault::BadLine) => engine.refuse(bench, &Refusal::BadLine),
+        Err(WordsFault::Memory) => refuse_unread(engine, bench),
     }
+}
+
+// Refuses a `tab` block with too many bytes.
+fn refuse_tab<B: Bench>(engine: &mut Engine, bench: &mut B) -> Reply
+    requires { IsWell engine.old.host engine.old.state }
+    ensures moments { (lines : List ℕ) (more : Script) → AtEachTale B.Shelf (LinesMoment engine.old.host (line_of (tab_text lines) more) engine.old.state) bench.old bench.new }
+    ensures end { (lines : List ℕ) → 65536 < length lines → LineEnds B.Shelf bench.old bench.new engine.old.host (tab_text lines) engine.old.state engine.new.state result }
+    ensures stays { LineStays B.Shelf engine.old.host (IsReplied result) (IsUncut result) ((lines : List ℕ) → 65536 < length lines → LineTells B.Shelf engine.old (tab_text lines) bench.old bench.new) bench.old bench.new }
+    ensures answer { LineReplies B.Shelf engine.old bench.old bench.new (λ n. 1 ≤ n) engine.new result }
+    ensures kept { KeptInTime B.Shelf bench.old bench.new }
+{
+    engine.refuse(bench, &Refusal::TooMany)
+}
+
+// Refuses a line or a block that memory was wanting for.
+fn refuse_unread<B: Bench>(engine: &mut Engine, bench: &mut B) -> Reply
+    requires { IsWell engine.old.host engine.old.state }
+    ensures moments { (text : List ℕ) (more : Script) → AtEachTale B.Shelf (LinesMoment engine.old.host (line_of text more) engine.old.state) bench.old bench.new }
+    ensures end { (text : List ℕ) → LineEnds B.Shelf bench.old bench.new engine.old.host text engine.old.state engine.new.state result }
+    ensures stays { LineStays B.Shelf engine.old.host (IsReplied result) (IsUncut result) ((text : List ℕ) → LineTells B.Shelf engine.old text bench.old bench.new) bench.old bench.new }
+    ensures answer { LineReplies B.Shelf engine.old bench.old bench.new (λ n. 1 ≤ n) engine.new result }
+    ensures kept { KeptInTime B.Shelf bench.old bench.new }
+{
+    engine.refuse(bench, &Refusal::OutOfMemory)
 }
 
 // Boots anew, and tells that it did.

@@ -232,14 +232,15 @@ fn answers_changes(rt: HostRuntime) -> Result<(), Fail> {
     expect_rows(&rt, WIDE, WIDE_BLOCKS, &[], &rows)
 }
 
-// Each refusal in its place: E2, E4, E22. What was written is read, behind a boot too, and no block of another volume.
+// Each refusal in its place: E2, E4, E9, E22. What was written is read, behind a boot too, and no block of another volume.
 #[test]
 fn answers_transfers(rt: HostRuntime) -> Result<(), Fail> {
-    let rows: [Row; 23] = [
-        ("read d0 1000 1", "refused E2 NoDatabase"),
+    let rows: [Row; 27] = [
+        ("read d0 1000 1025", "refused E2 NoDatabase"),
         ("write d0 1000 ab", "refused E2 NoDatabase"),
         ("metadb -a -f c0t0d0s7", "ok"),
         ("read d0 1000 1", "refused E4 NoSuchVolume"),
+        ("read d0 1000 1025", "refused E4 NoSuchVolume"),
         ("write d0 1000 ab", "refused E4 NoSuchVolume"),
         ("metainit d0 1 1 c0t0d0s0", "ok"),
         ("metainit d1 1 1 c0t0d0s1", "ok"),
@@ -250,8 +251,11 @@ fn answers_transfers(rt: HostRuntime) -> Result<(), Fail> {
             "read d0 18446744073709551615 1024",
             "refused E22 OutOfRange",
         ),
+        ("read d0 18446744073709551615 1025", "refused E9 TooMany"),
+        ("read d0 0 1025", "refused E9 TooMany"),
+        ("read d0 0 18446744073709551615", "refused E9 TooMany"),
         ("write d0 1000 ab", "refused E22 OutOfRange"),
-        ("write d0 5 ab", "ok"),
+        (" write\td0  5 \t ab ", "ok"),
         ("read d0 5 1", "5 ab\nok"),
         ("write d0 7 00F000", "ok"),
         ("read d0 4 4", "4 -\n5 ab\n6 -\n7 00f0\nok"),
@@ -295,13 +299,12 @@ fn refuses_what_the_grammar_lacks(rt: HostRuntime) -> Result<(), Fail> {
     let lines = [
         "# a comment with \u{e9}",
         "metadb",
-        "boot ",
+        "boot now",
         "metadb -a c0t0d0s8",
         "metaclear d0",
         "metainit d8192 1 1 c0t0d0s0",
         "metainit d0 1 2 c0t0d0s0",
         "read d0 0 0",
-        "read d0 0 1025",
         "read d0 0",
         "write d0 0",
         "write d0 0 a",

@@ -1,11 +1,11 @@
 -- What the events of runs begin was asked by their lines, and what they tell their replies tell, in the same order.
-use Rattle.std.proofs.Common.{◌≡◌, inl, inr, ℕ, Bool, List, [], ◌∷◌, ◌++◌, refl, sym, ◌∙◌, ap, subst}
+use Rattle.std.proofs.Common.{◌≡◌, inl, inr, ℕ, List, [], ◌∷◌, ◌++◌, Some, refl, sym, ◌∙◌, ap, subst}
 use Rattle.mdv_run_law.specs.Below.{Geometry, Script, at_end, spent, too_long, line, left_in, replies_in, Deed, Event, Host, issuable, issuable_front, issued_by, told_by}
 use Rattle.mdv_store_law.specs.Part.{IsPart}
 use Rattle.mdv_store_law.proofs.Parts.{part_more}
 use Rattle.mdv_history.specs.History as history
 use Rattle.mdv_store_law.proofs.Machine.{all_more}
-use Rattle.mdv_run_law.specs.Standing.{AreBegun, AreIdle, AreTold, ComeOf, InWork}
+use Rattle.mdv_run_law.specs.Standing.{AreBegun, AreIdle, AreTold, ComeOf, Context, InWork}
 use Rattle.mdv_run_law.specs.Lives.{Ran, AreAsked, AreOfRuns, AreSaid, host_of}
 
 -- what lines may have begun, of which these events begin a part; and what their replies tell, which is all that these events tell
@@ -35,12 +35,12 @@ idle_answers host Asked Said es none nothing idle = record { asked = []; are_ask
 none_answers : (Asked Said : List Deed → Type 0) (es : List Event) → Asked [] → Said [] → es ≡ [] → Answers Asked Said es
 none_answers Asked Said es none nothing empty = record { asked = []; are_asked = none; begins = subst (λ (l : List Event). IsPart (issued_by l) []) (sym empty) tt; said = []; are_said = nothing; tells = ap told_by empty }
 
-work_answers : (host : Host) (front : List ℕ) (down : Bool) (script : Script) (es : List Event) → InWork host front down script es → Answers (AreBegun script [] front) (AreTold script [] front) es
+work_answers : (host : Host) (front : List ℕ) (down : Context) (script : Script) (es : List Event) → InWork host front down script es → Answers (AreBegun script [] front) (AreTold script [] front) es
 work_answers host front down at_end es work = idle_answers host (AreBegun at_end [] front) (AreTold at_end [] front) es refl refl work
 work_answers host front down (spent lines bytes) es work = idle_answers host (AreBegun (spent lines bytes) [] front) (AreTold (spent lines bytes) [] front) es refl refl work
 work_answers host front down (too_long more) es work = idle_answers host (AreBegun (too_long more) [] front) (AreTold (too_long more) [] front) es refl refl work
 work_answers host front down (line text more) es (inl none) = none_answers (AreBegun (line text more) [] front) (AreTold (line text more) [] front) es (inl refl) (inl refl) none.1
-work_answers host front down (line text more) es (inr work) = record {
+work_answers host front down (line text more) es (inr (known, work)) = record {
   asked = issuable_front work.ask front;
   are_asked = inr (work.ask, work.asks, refl);
   begins = work.does.begins;
@@ -49,7 +49,7 @@ work_answers host front down (line text more) es (inr work) = record {
   tells = work.does.tells;
 }
 
-come_answers : (host : Host) (front : List ℕ) (down : Bool) (script : Script) (replies : List (List ℕ)) (es : List Event) → ComeOf host (InWork host front) down script replies es → Answers (AreBegun script replies front) (AreTold script replies front) es
+come_answers : (host : Host) (front : List ℕ) (down : Context) (script : Script) (replies : List (List ℕ)) (es : List Event) → ComeOf host (InWork host front) down script replies es → Answers (AreBegun script replies front) (AreTold script replies front) es
 come_answers host front down script [] es come = work_answers host front down script es come
 come_answers host front down at_end (reply ∷ replies) es come = idle_answers host (AreBegun at_end (reply ∷ replies) front) (AreTold at_end (reply ∷ replies) front) es refl refl come
 come_answers host front down (spent lines bytes) (reply ∷ replies) es come =
@@ -60,7 +60,7 @@ come_answers host front down (too_long more) (reply ∷ replies) es come =
     come.3.begins rest.begins come.3.tells rest.tells
 come_answers host front down (line text more) (reply ∷ replies) es come =
     let of_line = come.4 in
-    let rest = come_answers host front come.3 more replies come.1 come.5 in
+    let rest = come_answers host front come.3 more replies come.1 come.6 in
     answers_both (AreBegun (line text more) (reply ∷ replies) front) (AreTold (line text more) (reply ∷ replies) front) es come.0 come.1 (issuable of_line.ask reply) rest.asked of_line.done rest.said come.2
     (of_line.ask, of_line.asks, rest.asked, rest.are_asked, refl) (of_line.ask, of_line.asks, of_line.done, of_line.acks, rest.said, rest.are_said, refl)
     of_line.does.begins rest.begins of_line.does.tells rest.tells
@@ -71,7 +71,7 @@ runs_answer drives [] es none = none_answers (AreAsked []) (AreSaid []) es refl 
 runs_answer drives (ran ∷ before) es are =
     let old = runs_answer drives before are.0 are.3 in
     let run = are.4 in
-    let lines = come_answers (host_of drives ran.home ran.fresh) (left_in ran.bytes) run.down ran.script (replies_in ran.bytes) run.lines run.come in
+    let lines = come_answers (host_of drives ran.home ran.fresh) (left_in ran.bytes) (record { down = run.down; entries = Some [] }) ran.script (replies_in ran.bytes) run.lines run.come in
     let new : Answers (AreBegun ran.script (replies_in ran.bytes) (left_in ran.bytes)) (AreTold ran.script (replies_in ran.bytes) (left_in ran.bytes)) are.1 =
     answers_both (AreBegun ran.script (replies_in ran.bytes) (left_in ran.bytes)) (AreTold ran.script (replies_in ran.bytes) (left_in ran.bytes)) are.1 run.boot run.lines [] lines.asked [] lines.said run.both lines.are_asked lines.are_said
     run.idle.begins lines.begins run.idle.tells lines.tells in

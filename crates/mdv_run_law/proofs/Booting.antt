@@ -1,7 +1,7 @@
 -- A boot, as a line of the script and as the start of a run.
-use Rattle.std.proofs.Common.{◌≡◌, inl, inr, ℕ, true, List, [], ◌++◌, Contains, refl, sym, ◌∙◌, ap, subst, arith}
+use Rattle.std.proofs.Common.{◌≡◌, inl, inr, ℕ, true, List, [], ◌++◌, Some, Contains, refl, sym, ◌∙◌, ap, subst, arith}
 use Rattle.std.proofs.lemmas.List.{append-nil}
-use Rattle.mdv_run_law.specs.Below.{Script, line, Tale, told, Said, left_in, replies_in, Boot, IsLine, History, Deed, Created, Event, history_after_all, HasWoken, Host, site_of, Nothing, Memory, issuable, issuable_of, StandsAt, IsKnown, IsAwake, BootMoment, BootedTo, TurnMoment, Turned}
+use Rattle.mdv_run_law.specs.Below.{Entry, Script, line, ok_line, Tale, told, Said, left_in, replies_in, Boot, IsLine, History, Deed, Created, Event, history_after_all, HasWoken, Host, site_of, Nothing, Memory, issuable, issuable_of, StandsAt, IsKnown, IsAwake, BootMoment, BootedTo, TurnMoment, Turned}
 use Rattle.mdv_history.proofs.Histories.{woken_first}
 use Rattle.mdv_store_law.proofs.Machine.{after_more, course_more}
 use Rattle.mdv_run_law.specs.Below.{MayHappen, history_after}
@@ -12,7 +12,7 @@ use Rattle.mdv_engine_law.proofs.Staying.{stays_in_replica, stays_more}
 use Rattle.mdv_shelf.proofs.Frame.{kept_outside_more}
 use Rattle.mdv_store_law.specs.Site.{area_of}
 use Rattle.mdv_engine_law.specs.Standing as turn
-use Rattle.mdv_run_law.specs.Standing.{Asks, AreIdle, AreOfRun, ComeOf, InWork, IsTold, behind, LinesMoment, RanTo, RunMoment}
+use Rattle.mdv_run_law.specs.Standing.{Asks, AreIdle, AreOfRun, ComeOf, Context, InWork, IsTold, behind, LinesMoment, RanTo, RunMoment}
 use Rattle.mdv_run_law.proofs.Coming.{behind_none, told_none, in_work_none, idle_none}
 use Rattle.mdv_run_law.proofs.Turning.{none_acked, only_reply, reply_come, reply_replies, reply_told}
 
@@ -69,8 +69,8 @@ module _ (host : Host) where
         }
 
     -- and once it is
-    pub booted_ran : (text : List ℕ) (more : Script) → IsLine text Boot → (v : Tale) → Turned host Nothing new new u v → RanTo host (line text more) old new more t v
-    booted_ran text more is v turned =
+    pub booted_ran : (text : List ℕ) (more : Script) → IsLine text Boot → new.entries ≡ [] → (v : Tale) → (turned : Turned host Nothing new new u v) → turned.bytes ≡ ok_line → RanTo host (line text more) old new more t v
+    booted_ran text more is fresh v turned ok =
         let asks : Asks text Nothing = inr (Boot, is, refl) in
         record {
           bytes = turned.bytes;
@@ -78,7 +78,7 @@ module _ (host : Host) where
           replies = reply_replies turned.bytes turned.reply;
           left_is = ap (behind (line text more)) (only_reply turned.bytes turned.reply) ∙ behind_none more;
           knows = λ known. turned.knows booted.knows;
-          made = λ known told. absurd (never turned.done turned.acks (reply_told host text Nothing asks more turned.bytes turned.reply turned.done turned.acks told));
+          made = λ known told. absurd (never turned.done turned.acks (reply_told host text Nothing more turned.bytes (inl asks) turned.reply turned.done turned.acks told));
           goes = λ h known.
               let before = booted.goes h known.stands in
               let both = booted_goes (issuable Nothing turned.bytes) turned.done (λ es after. IsKnown host new after u × (IsAwake new → HasWoken es)) (λ es after. IsKnown host new after v) u v h before (λ g stands fs known. turned.goes g known.0) in
@@ -86,7 +86,7 @@ module _ (host : Host) where
               record {
                 es = both.es;
                 course = both.course;
-                come = reply_come host text Nothing asks more old new turned.bytes turned.reply turned.done turned.acks (λ some. absurd (some turned.acks)) both.es both.come (λ up. inl (is, woken up));
+                come = reply_come host text Nothing more old new turned.bytes (inl asks) turned.reply turned.done turned.acks (λ some. absurd (some turned.acks)) both.es both.come (λ up. inl (is, woken up)) (inl (is, ok, fresh));
                 stands = both.stands;
                 after = both.after.4;
               };
@@ -94,8 +94,11 @@ module _ (host : Host) where
 
   -- the boot at a run's start
   module _ (script : Script) where
-    nothing_come : ComeOf host (InWork host (left_in [])) true script (replies_in []) []
-    nothing_come = subst (λ (s : Said). ComeOf host (InWork host s.left) true script s.replies []) (sym nothing_said) (in_work_none host true script)
+    abbrev unread : Context
+    unread = record { down = true; entries = Some [] }
+
+    nothing_come : ComeOf host (InWork host (left_in [])) unread script (replies_in []) []
+    nothing_come = subst (λ (s : Said). ComeOf host (InWork host s.left) unread script s.replies []) (sym nothing_said) (in_work_none host unread script)
 
     -- events of a boot that didn't read the drive, or not yet
     only_booted : (es : List Event) → AreIdle host es → AreOfRun host script [] es
@@ -115,8 +118,8 @@ module _ (host : Host) where
     }
 
     -- the lines behind it
-    pub lines_run : (memory : Memory) (t u m : Tale) → BootedTo host memory t u → LinesMoment host script memory u m → RunMoment host script t m
-    lines_run memory t u m booted lines = record {
+    pub lines_run : (memory : Memory) (t u m : Tale) → memory.entries ≡ [] → BootedTo host memory t u → LinesMoment host script memory u m → RunMoment host script t m
+    lines_run memory t u m fresh booted lines = record {
       bytes = lines.bytes;
       is_told = lines.is_told ∙ ap (λ (l : List ℕ). l ++ lines.bytes) booted.quiet;
       made = lines.made booted.knows;
@@ -127,7 +130,7 @@ module _ (host : Host) where
           record {
             es = before.es ++ after.es;
             course = course_more history_after (MayHappen (site_of host)) h before.es after.es before.course after.course;
-            come = record { boot = before.es; lines = after.es; both = refl; idle = before.come; down = memory.down; woken = before.after.1; come = after.come };
+            come = record { boot = before.es; lines = after.es; both = refl; idle = before.come; down = memory.down; woken = before.after.1; come = subst (λ (es : List Entry). ComeOf host (InWork host (left_in lines.bytes)) (record { down = memory.down; entries = Some es }) script (replies_in lines.bytes) after.es) fresh after.come };
             stands = subst (λ (x : History). StandsAt host x m) same after.stands;
             after = tt;
           };

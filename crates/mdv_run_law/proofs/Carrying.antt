@@ -1,22 +1,23 @@
 -- Where nothing failed and memory wasn't wanting, a line comes to one answer.
-use Rattle.std.proofs.Common.{◌≡◌, inl, inr, ℕ, zero, suc, ◌+◌, ◌≤◌, ◌<◌, false, List, [], ◌∷◌, Option, Some, refl, sym, ◌∙◌, ap, subst, arith}
+use Rattle.std.proofs.Common.{◌≡◌, inl, inr, ℕ, zero, suc, ◌+◌, ◌≤◌, ◌<◌, false, List, [], ◌∷◌, length, Option, Some, refl, sym, ◌∙◌, ap, subst, arith}
 use Rattle.mdv_base.specs.Causes.{Failures}
-use Rattle.mdv_run_law.specs.Below.{Image, VolId, Refusal, IsHome, values_reply, IsSound, Change, Command, Create, Read, Write, Line, Newest, area_of, next_newest, Answer, Host, site_of, Memory, Kept, IsTurnedDown, CameTo, ComesTo, IsCreated, IsNew, IsCommitted, AreBlocksAt, ArePut, blocks_of}
+use Rattle.mdv_run_law.specs.Below.{Image, VolId, Refusal, BadLine, TooMany, Entry, IsTab, IsHome, IsSame, entries_reply, values_reply, IsSound, Change, Command, Create, Read, Write, Line, Newest, area_of, next_newest, Answer, Host, site_of, Memory, Kept, IsTurnedDown, CameTo, ComesTo, IsCreated, IsNew, IsCommitted, AreBlocksAt, ArePut, blocks_of}
 use Rattle.mdv_words.specs.declared.command.Command.TheVariants as command
-use Rattle.mdv_words.specs.declared.command.Line.TheVariants as words
+use Rattle.mdv_words.specs.Line as words
 use Rattle.mdv_words.proofs.Lines.{one_line}
 use Rattle.mdv_engine_law.specs.declared.answer.Answer.TheVariants.{Over}
 use Rattle.mdv_engine_law.specs.declared.answer.Ended.{Ended}
 use Rattle.mdv_engine_law.specs.declared.answer.Ended.TheVariants as ended
 use Rattle.mdv_engine_law.specs.Answers.{refusing, telling}
 use Rattle.mdv_engine_law.specs.Commands as came
-use Rattle.mdv_engine_law.specs.Commands.{Effect, GivesUp, IsAllowed, case_of}
+use Rattle.mdv_engine_law.specs.Commands.{Effect, GivesUp, IsAllowed, IsTabRefusal, KeepsTab, case_of}
 use Rattle.mdv_engine_law.specs.Refusals.{refusal_of}
 use Rattle.mdv_engine_law.proofs.Allowed.{allowed_room}
 use Rattle.mdv_table.specs.Change.{table_after}
 use Rattle.mdv_table.specs.declared.change.Change.TheVariants.{MakeStripe}
 use Rattle.mdv_run_law.specs.Run.{IsAnswered, IsSaid}
-use Rattle.mdv_run_law.proofs.Keeping.{IsSatisfied, Settled, held, Same, One, opening_of, stays_same, boot_same, put_same}
+use Rattle.mdv_tab.proofs.OneTab.{one_tab, never_bad, never_either, never_many}
+use Rattle.mdv_run_law.proofs.Keeping.{IsSatisfied, Settled, bare, held, stays_settled, Same, One, opening_of, stays_same, boot_same, put_same}
 use Rattle.mdv_run_law.proofs.Placing.{Opening, shut, wide, opened_twice, never_shut, one_at, at_beside}
 
 -- blocks that are the same one by one
@@ -45,6 +46,15 @@ module _ (failures : Failures) (calm : failures.some → ⊥) (host : Host) (sou
     abbrev j : Kept
     j = record { memory = memory; content = d }
 
+    -- a database that is open, with other entries
+    settled_with : {content : Image} (next : Kept) (entries : List Entry) → next.memory ≡ record memory { entries = entries } → IsSame content next.content → Settled host (record { memory = memory; content = content }) → Settled host next
+    settled_with {content} next entries is kept settled =
+        stays_settled host (record { memory = record memory { entries = entries }; content = content }) next (of_memory settled) (record { memory = is; content = kept })
+      where
+        of_memory : Settled host (record { memory = memory; content = content }) → Settled host (record { memory = record memory { entries = entries }; content = content })
+        of_memory (bare none found) = bare none found
+        of_memory (held newest opened room head is) = held newest opened room head is
+
     module _ (same : Same host k j) (sated : IsSatisfied a) (sated_too : IsSatisfied b) where
       -- both refused
       refused : (r q : Refusal) → r ≡ q → IsTurnedDown r k a n → IsTurnedDown q j b m → One host n m a b
@@ -54,7 +64,7 @@ module _ (failures : Failures) (calm : failures.some → ⊥) (host : Host) (sou
       created one other room =
           let newests = one_new host one.newest other.newest one.new other.new in
           record {
-            memory = one.memory ∙ ap (λ (x : Newest). let after : Memory = record { opened = Some x; down = false; begun = memory.begun + 1 } in after) newests ∙ sym other.memory;
+            memory = one.memory ∙ ap (λ (x : Newest). let after : Memory = record { opened = Some x; down = false; begun = memory.begun + 1; entries = memory.entries } in after) newests ∙ sym other.memory;
             beside = λ drive block out. one.beside drive block out ∙ same.beside drive block out ∙ sym (other.beside drive block out);
             one = held one.newest (ap (λ (x : Memory). x.opened) one.memory) room one.head one.content;
             other = held other.newest (ap (λ (x : Memory). x.opened) other.memory) room other.head other.content;
@@ -62,7 +72,7 @@ module _ (failures : Failures) (calm : failures.some → ⊥) (host : Host) (sou
 
       committed : (change : Change) (newest other : Newest) → newest ≡ other → 8208 ≤ host.home.blocks → IsCommitted host newest (table_after host.drives change newest.table) k n → IsCommitted host other (table_after host.drives change other.table) j m → Same host n m
       committed change newest other is room one two = record {
-        memory = one.memory ∙ (λ i. record { opened = Some (next_newest (is i) (table_after host.drives change (is i).table)); down = memory.down; begun = memory.begun }) ∙ sym two.memory;
+        memory = one.memory ∙ (λ i. record { opened = Some (next_newest (is i) (table_after host.drives change (is i).table)); down = memory.down; begun = memory.begun; entries = memory.entries }) ∙ sym two.memory;
         beside = λ drive block out. one.beside drive block out ∙ same.beside drive block out ∙ sym (two.beside drive block out);
         one = held (next_newest newest (table_after host.drives change newest.table)) (ap (λ (x : Memory). x.opened) one.memory) room one.head one.content;
         other = held (next_newest other (table_after host.drives change other.table)) (ap (λ (x : Memory). x.opened) two.memory) room two.head two.content;
@@ -138,9 +148,42 @@ module _ (failures : Failures) (calm : failures.some → ⊥) (host : Host) (sou
       came_same cmd first (came.wanting quiet is left) = absurd (sated_too.not_refused is)
       came_same cmd first (came.faulted so free is fault) = absurd (calm so)
 
+      -- a block is read in one way
+      one_refusal : (lines : List ℕ) (r q : Refusal) → IsTabRefusal lines r → IsTabRefusal lines q → r ≡ q
+      one_refusal lines BadLine BadLine one other = refl
+      one_refusal lines BadLine TooMany one other = absurd (never_either lines one.0 one.1 other)
+      one_refusal lines TooMany BadLine one other = absurd (never_either lines other.0 other.1 one)
+      one_refusal lines TooMany TooMany one other = refl
+      one_refusal lines BadLine other_one one other = absurd other
+      one_refusal lines TooMany other_one one other = absurd other
+      one_refusal lines other_one q one other = absurd one
+
+      never_entered : (lines : List ℕ) (entries : List Entry) (r : Refusal) → IsTab lines entries → IsTabRefusal lines r → ⊥
+      never_entered lines entries BadLine tab why = never_bad lines entries why.0 tab why.1
+      never_entered lines entries TooMany tab why = never_many lines entries tab why
+      never_entered lines entries other_one tab why = why
+
+      keeps_same : (lines : List ℕ) → KeepsTab failures k lines a n → KeepsTab failures j lines b m → One host n m a b
+      keeps_same lines (came.entered quiet entries tab is memory_is kept) (came.entered quiet_too others tab_too also memory_too kept_too) =
+          let same_entries = one_tab lines entries others tab tab_too in (
+            is ∙ ap (λ (es : List Entry). telling (entries_reply (length es))) same_entries ∙ sym also,
+            λ said. record {
+              memory = memory_is ∙ ap (λ (es : List Entry). let after : Memory = record memory { entries = es } in after) same_entries ∙ sym memory_too;
+              beside = λ drive block out. kept drive block ∙ same.beside drive block out ∙ sym (kept_too drive block);
+              one = settled_with n entries memory_is kept same.one;
+              other = settled_with m others memory_too kept_too same.other;
+            },
+          )
+      keeps_same lines (came.unfit quiet r why left) (came.unfit quiet_too q why_too left_too) = refused r q (one_refusal lines r q why why_too) left left_too
+      keeps_same lines (came.entered quiet entries tab is memory_is kept) (came.unfit quiet_too q why left) = absurd (never_entered lines entries q tab why)
+      keeps_same lines (came.unfit quiet r why left) (came.entered quiet_too entries tab is memory_is kept) = absurd (never_entered lines entries r tab why)
+      keeps_same lines (came.unread quiet is left) second = absurd (sated.not_refused is)
+      keeps_same lines first (came.unread quiet is left) = absurd (sated_too.not_refused is)
+
       comes : (spelled : Line) → ComesTo failures host k spelled a n → ComesTo failures host j spelled b m → One host n m a b
+      comes (words.Tab lines) first second = keeps_same lines first second
       comes words.Boot first second = boot_same host sound failures calm k j n m a b same sated sated_too first second
-      comes (words.Command cmd) first second = came_same cmd first second
+      comes (words.Exec cmd) first second = came_same cmd first second
 
   -- a line comes to the same from what is kept in common
   one_carried : (spelled : Line) (k j n m : Kept) (a b : Answer) → Same host k j → IsSatisfied a → IsSatisfied b → ComesTo failures host k spelled a n → ComesTo failures host j spelled b m → One host n m a b
@@ -152,7 +195,9 @@ module _ (failures : Failures) (calm : failures.some → ⊥) (host : Host) (sou
   -- and so does a line
   pub one_answer : (text : List ℕ) (k j n m : Kept) (a b : Answer) → Same host k j → IsSatisfied a → IsSatisfied b → IsAnswered failures host k text a n → IsAnswered failures host j text b m → One host n m a b
   one_answer text k j n m a b same sated sated_too (inl first) (inl second) = (first.2.0 ∙ sym second.2.0, λ said. stays_same host k j n m same first.2.1 second.2.1)
-  one_answer text k j n m a b same sated sated_too (inl first) (inr second) = absurd (first.0 second.0 second.1)
-  one_answer text k j n m a b same sated sated_too (inr first) (inl second) = absurd (second.0 first.0 first.1)
-  one_answer text k j n m a b same sated sated_too (inr first) (inr second) =
+  one_answer text k j n m a b same sated sated_too (inl first) (inr (inl second)) = absurd (first.0 second.0 second.1)
+  one_answer text k j n m a b same sated sated_too (inr (inl first)) (inl second) = absurd (second.0 first.0 first.1)
+  one_answer text k j n m a b same sated sated_too (inr (inr first)) second = absurd (sated.not_refused first.1.0)
+  one_answer text k j n m a b same sated sated_too first (inr (inr second)) = absurd (sated_too.not_refused second.1.0)
+  one_answer text k j n m a b same sated sated_too (inr (inl first)) (inr (inl second)) =
       one_carried first.0 k j n m a b same sated sated_too first.2 (subst (λ (x : Line). ComesTo failures host j x b m) (one_line text second.0 first.0 second.1 first.1) second.2)

@@ -1,14 +1,17 @@
 -- The events that come of a script's lines, and what its replies tell.
-use Rattle.std.proofs.Common.{◌≡◌, ◌⊎◌, inl, inr, ⊎_elim, ℕ, Bool, List, [], ◌∷◌, ◌++◌, refl, sym, ◌∙◌, ap, subst, append_assoc, Contains, arith}
+use Rattle.std.proofs.Common.{◌≡◌, ◌≢◌, ◌⊎◌, inl, inr, ⊎_elim, ℕ, Bool, true, false, cond, List, [], ◌∷◌, ◌++◌, refl, sym, ◌∙◌, ap, subst, append_assoc, Contains, arith}
 use Rattle.std.proofs.lemmas.List.{append-nil}
+use Rattle.std.proofs.lemmas.Slice.Eq.{bytes_eq-Decides}
+use Rattle.std.specs.Fmt.{digits}
+use Rattle.std.specs.Str.{bytes_eq}
 use Rattle.std.proofs.lemmas.List.Elements.{Contains-append_left, Contains-append_right}
-use Rattle.mdv_run_law.specs.Below.{Script, at_end, spent, too_long, line, Deed, Created, Changed, Saw, Event, told_by, Host, Ask, Nothing, ToDo, ToSee, asked_by_line, AcksBy}
+use Rattle.mdv_run_law.specs.Below.{Script, at_end, spent, too_long, line, Deed, Created, Changed, Saw, Event, told_by, Host, Ask, Nothing, ToDo, ToSee, asked_by_line, AcksBy, ok_line}
 use Rattle.mdv_history.specs.History.{Wrote}
 use Rattle.mdv_history.proofs.Parts.{first_or_behind}
 use Rattle.mdv_words.proofs.Lines.{one_line}
 use Rattle.mdv_history.specs.History.{tells}
 use Rattle.mdv_store_law.proofs.Machine.{all_more}
-use Rattle.mdv_run_law.specs.Standing.{Asks, AreIdle, AreOfLine, ComeOf, InWork, NothingLeft, IsTold, behind}
+use Rattle.mdv_run_law.specs.Standing.{Asks, AsksBy, AreIdle, AreOfLine, ComeOf, Context, IsSettled, InWork, IsWanting, NothingLeft, IsTold, behind}
 
 -- a line asks one thing
 pub one_asked : (text : List ℕ) (a b : Ask) → Asks text a → Asks text b → a ≡ b
@@ -33,6 +36,29 @@ acked_once (ToSee volume at count) reply a b deed done (inr one) other has = eli
   | inl same ↦ absurd (subst IsDone (sym same) done)
   | inr none ↦ absurd (omega (arith, none.1))
 ]
+
+-- the reply that memory was wanting acknowledges none
+no_ok : (reply : List ℕ) → IsWanting reply → bytes_eq reply ok_line ≡ true → ⊥
+unfolding digits
+no_ok reply wanting ok = absurd (cc (subst IsWanting ((bytes_eq-Decides reply ok_line).0 ok) wanting))
+
+wanting_acks : (ask : Ask) (reply : List ℕ) (done : List Deed) (deed : Deed) → IsDone deed → IsWanting reply → AcksBy ask reply done → Contains done deed → ⊥
+wanting_acks Nothing reply done deed is wanting acks has = absurd (let none : Contains [] deed = subst (λ (l : List Deed). Contains l deed) acks has in omega (arith, none.1))
+wanting_acks (ToDo asked) reply done deed is wanting acks has = by (bytes_eq reply ok_line) refl acks where
+  by : (ok : Bool) → bytes_eq reply ok_line ≡ ok → done ≡ cond ok (asked ∷ []) [] → ⊥
+  by true same acks = no_ok reply wanting same
+  by false same acks = absurd (let none : Contains [] deed = subst (λ (l : List Deed). Contains l deed) acks has in omega (arith, none.1))
+wanting_acks (ToSee volume at count) reply done deed is wanting (inl acks) has = absurd (let none : Contains [] deed = subst (λ (l : List Deed). Contains l deed) acks.1 has in omega (arith, none.1))
+wanting_acks (ToSee volume at count) reply done deed is wanting (inr acks) has = elim (first_or_behind (Saw volume at acks.blocks) deed [] (subst (λ (l : List Deed). Contains l deed) acks.seen has)) [
+  | inl same ↦ absurd (subst IsDone (sym same) is)
+  | inr none ↦ absurd (omega (arith, none.1))
+]
+
+-- what a reply acknowledges of a line it acknowledges whatever is known of what the line asks
+pub acked_by : (text reply : List ℕ) (deed : Deed) → IsDone deed → (ask : Ask) → Asks text ask → (told : List Deed) → AcksBy ask reply told → Contains told deed → (also : Ask) → AsksBy text reply also → (done : List Deed) → AcksBy also reply done → Contains done deed
+acked_by text reply deed is ask asks told acks has also (inl same) done acks_too =
+    acked_once also reply told done deed is (subst (λ (a : Ask). AcksBy a reply told) (one_asked text ask also asks same) acks) acks_too has
+acked_by text reply deed is ask asks told acks has also (inr (nothing, wanting)) done acks_too = absurd (wanting_acks ask reply told deed is wanting acks has)
 
 pub behind_none : (script : Script) → behind script [] ≡ script
 behind_none at_end = refl
@@ -72,65 +98,69 @@ module _ (host : Host) where
   pub idle_none : AreIdle host []
   idle_none = record { tells = refl; issues = tt; begins = tt }
 
-  pub in_work_none : (down : Bool) (script : Script) → InWork host [] down script []
+  pub in_work_none : (down : Context) (script : Script) → InWork host [] down script []
   in_work_none down at_end = idle_none
   in_work_none down (spent lines bytes) = idle_none
   in_work_none down (too_long more) = idle_none
   in_work_none down (line text more) = inl (refl, refl)
 
-  module _ (Left : Bool → Script → List Event → Type 0) where
-    at_end_left : (down : Bool) (replies : List (List ℕ)) (es : List Event) → ComeOf host Left down at_end replies es → Left down at_end es
+  module _ (Left : Context → Script → List Event → Type 0) where
+    at_end_left : (down : Context) (replies : List (List ℕ)) (es : List Event) → ComeOf host Left down at_end replies es → Left down at_end es
     at_end_left down [] es come = come
     at_end_left down (reply ∷ replies) es come = come
 
-    spent_left : (down : Bool) (lines bytes : ℕ) (replies : List (List ℕ)) (es : List Event) → ComeOf host Left down (spent lines bytes) replies es → Left down (spent lines bytes) es
+    spent_left : (down : Context) (lines bytes : ℕ) (replies : List (List ℕ)) (es : List Event) → ComeOf host Left down (spent lines bytes) replies es → Left down (spent lines bytes) es
     spent_left down lines bytes [] es come = come
     spent_left down lines bytes (reply ∷ replies) es come = come
 
     -- what is left where no events came
-    left_behind : (now down : Bool) (script : Script) (es fs : List Event) → NothingLeft now down script es → (P : Bool → List Event → Type 0) → P now fs → P down (es ++ fs)
-    left_behind now down script es fs none P come = subst (λ (d : Bool). P d (es ++ fs)) (sym none.1) (subst (P now) (sym (nothing_front es fs none.0)) come)
+    left_behind : (now down : Context) (script : Script) (es fs : List Event) → NothingLeft now down script es → (P : Context → List Event → Type 0) → P now fs → P down (es ++ fs)
+    left_behind now down script es fs none P come = subst (λ (d : Context). P d (es ++ fs)) (sym none.1) (subst (P now) (sym (nothing_front es fs none.0)) come)
+
+    -- what a line settled is known, where all that came behind it is settled
+    then_settled : (now after : Context) (more : Script) (a : List (List ℕ)) (es : List Event) → IsSettled now → (a ≢ [] → IsSettled after) → ComeOf host (NothingLeft now) after more a es → IsSettled after
+    then_settled now after more [] es known some none = subst IsSettled (sym none.1) known
+    then_settled now after more (reply ∷ a) es known some come = some (λ is. absurd (cc (is)))
 
     -- those of some replies, and those of the ones behind them
-    pub come_more : (now down : Bool) (script : Script) (a b : List (List ℕ)) (es fs : List Event) → ComeOf host (NothingLeft now) down script a es → ComeOf host Left now (behind script a) b fs → ComeOf host Left down script (a ++ b) (es ++ fs)
-    come_more now down script [] b es fs none come =
+    pub come_more : (now down : Context) (script : Script) (a b : List (List ℕ)) (es fs : List Event) → IsSettled now → ComeOf host (NothingLeft now) down script a es → ComeOf host Left now (behind script a) b fs → ComeOf host Left down script (a ++ b) (es ++ fs)
+    come_more now down script [] b es fs known none come =
         left_behind now down script es fs none (λ d l. ComeOf host Left d script b l) (subst (λ (s : Script). ComeOf host Left now s b fs) (behind_none script) come)
-    come_more now down at_end (reply ∷ a) b es fs none come = left_behind now down at_end es fs none (λ d l. Left d at_end l) (at_end_left now b fs come)
-    come_more now down (spent lines bytes) (reply ∷ a) b es fs none come = left_behind now down (spent lines bytes) es fs none (λ d l. Left d (spent lines bytes) l) (spent_left now lines bytes b fs come)
-    come_more now down (too_long more) (reply ∷ a) b es fs first come = (
+    come_more now down at_end (reply ∷ a) b es fs known none come = left_behind now down at_end es fs none (λ d l. Left d at_end l) (at_end_left now b fs come)
+    come_more now down (spent lines bytes) (reply ∷ a) b es fs known none come = left_behind now down (spent lines bytes) es fs none (λ d l. Left d (spent lines bytes) l) (spent_left now lines bytes b fs come)
+    come_more now down (too_long more) (reply ∷ a) b es fs known first come = (
       first.0,
       first.1 ++ fs,
       ap (λ (l : List Event). l ++ fs) first.2 ∙ append_assoc first.0 first.1 fs,
       first.3,
-      come_more now down more a b first.1 fs first.4 come,
+      come_more now down more a b first.1 fs known first.4 come,
     )
-    come_more now down (line text more) (reply ∷ a) b es fs first come = (
+    come_more now down (line text more) (reply ∷ a) b es fs known first come = (
       first.0,
       first.1 ++ fs,
       ap (λ (l : List Event). l ++ fs) first.2 ∙ append_assoc first.0 first.1 fs,
       first.3,
       first.4,
-      come_more now first.3 more a b first.1 fs first.5 come,
+      λ some. then_settled now first.3 more a first.1 known first.5 first.6,
+      come_more now first.3 more a b first.1 fs known first.6 come,
     )
 
     -- what the replies tell, the events tell
-    pub come_told : (down : Bool) (script : Script) (replies : List (List ℕ)) (es : List Event) (deed : Deed) → IsDone deed → ComeOf host Left down script replies es → IsTold script replies deed → Contains (told_by es) deed
+    pub come_told : (down : Context) (script : Script) (replies : List (List ℕ)) (es : List Event) (deed : Deed) → IsDone deed → ComeOf host Left down script replies es → IsTold script replies deed → Contains (told_by es) deed
     come_told down script [] es deed done come is = absurd (told_none script deed is)
     come_told down at_end (reply ∷ replies) es deed done come is = absurd is
     come_told down (spent lines bytes) (reply ∷ replies) es deed done come is = absurd is
     come_told down (too_long more) (reply ∷ replies) es deed done come is =
         subst (λ (l : List Deed). Contains l deed) (sym (ap told_by come.2 ∙ all_more tells come.0 come.1)) (Contains-append_right (told_by come.0) (told_by come.1) deed (come_told down more replies come.1 deed done come.4 is))
     come_told down (line text more) (reply ∷ replies) es deed done come (inl here) =
-        let same = one_asked text here.0 come.4.ask here.1 come.4.asks in
-        let acks : AcksBy come.4.ask reply here.2 = subst (λ (ask : Ask). AcksBy ask reply here.2) same here.3 in
-        let told : Contains (told_by come.0) deed = subst (λ (l : List Deed). Contains l deed) (sym come.4.does.tells) (acked_once come.4.ask reply here.2 come.4.done deed done acks come.4.acks here.4) in
+        let told : Contains (told_by come.0) deed = subst (λ (l : List Deed). Contains l deed) (sym come.4.does.tells) (acked_by text reply deed done here.0 here.1 here.2 here.3 here.4 come.4.ask come.4.asks come.4.done come.4.acks) in
         subst (λ (l : List Deed). Contains l deed) (sym (ap told_by come.2 ∙ all_more tells come.0 come.1)) (Contains-append_left (told_by come.0) (told_by come.1) deed told)
     come_told down (line text more) (reply ∷ replies) es deed done come (inr is) =
-        subst (λ (l : List Deed). Contains l deed) (sym (ap told_by come.2 ∙ all_more tells come.0 come.1)) (Contains-append_right (told_by come.0) (told_by come.1) deed (come_told come.3 more replies come.1 deed done come.5 is))
+        subst (λ (l : List Deed). Contains l deed) (sym (ap told_by come.2 ∙ all_more tells come.0 come.1)) (Contains-append_right (told_by come.0) (told_by come.1) deed (come_told come.3 more replies come.1 deed done come.6 is))
 
   -- those of one line, told by its one reply
-  pub come_line : (Left : Bool → Script → List Event → Type 0) (down then : Bool) (text : List ℕ) (more : Script) (reply : List ℕ) (es : List Event) → AreOfLine host text down reply es then → Left then more [] → ComeOf host Left down (line text more) (reply ∷ []) es
-  come_line Left down then text more reply es of_line left = (es, [], sym (append-nil es), then, of_line, left)
+  pub come_line : (Left : Context → Script → List Event → Type 0) (down then : Context) (text : List ℕ) (more : Script) (reply : List ℕ) (es : List Event) → AreOfLine host text down reply es then → Left then more [] → ComeOf host Left down (line text more) (reply ∷ []) es
+  come_line Left down then text more reply es of_line left = (es, [], sym (append-nil es), then, of_line, (λ some. absurd (some refl)), left)
 
-  pub come_long : (Left : Bool → Script → List Event → Type 0) (down : Bool) (more : Script) (reply : List ℕ) (es : List Event) → AreIdle host es → Left down more [] → ComeOf host Left down (too_long more) (reply ∷ []) es
+  pub come_long : (Left : Context → Script → List Event → Type 0) (down : Context) (more : Script) (reply : List ℕ) (es : List Event) → AreIdle host es → Left down more [] → ComeOf host Left down (too_long more) (reply ∷ []) es
   come_long Left down more reply es idle left = (es, [], sym (append-nil es), idle, left)

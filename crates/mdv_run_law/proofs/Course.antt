@@ -3,20 +3,20 @@ use Rattle.std.proofs.Common.{◌≡◌, inl, inr, ℕ, Bool, List, [], ◌∷�
 use Rattle.std.proofs.lemmas.List.Elements.{Contains-append_right}
 use Rattle.mdv_base.specs.Causes.{Failures}
 use Rattle.mdv_base.proofs.Causes.{IsWithin, rose_of_once, rose_within}
-use Rattle.mdv_run_law.specs.Below.{Image, Refusal, BadLine, OutOfMemory, Script, at_end, spent, too_long, line, replies_in, Command, Create, MakeStripe, Read, Write, Boot, Line, Answer, Host, site_of, Kept, CameTo, ComesTo, IsRebooted, adopted, empty, down, lost, wanting, IsPlain, IsPlainAnswer, IsReply, refusal_line}
-use Rattle.mdv_words.specs.declared.command.Line.TheVariants as words
+use Rattle.mdv_run_law.specs.Below.{Image, Refusal, BadLine, OutOfMemory, TooMany, Script, at_end, spent, too_long, line, replies_in, Command, Create, MakeStripe, Read, Write, Boot, Line, Answer, Host, site_of, Kept, CameTo, ComesTo, IsRebooted, adopted, empty, down, lost, wanting, IsPlain, IsPlainAnswer, IsReply, refusal_line}
+use Rattle.mdv_words.specs.Line as words
 use Rattle.mdv_engine_law.specs.declared.answer.Answer.TheVariants.{Said, Over as Ends}
 use Rattle.mdv_engine_law.specs.declared.answer.Ended.{Ended}
 use Rattle.mdv_engine_law.specs.declared.answer.Ended.TheVariants as ended
 use Rattle.mdv_engine_law.specs.declared.answer.Outcome.TheVariants as outcome
 use Rattle.mdv_engine_law.specs.Answers.{accepted, refusing}
 use Rattle.mdv_engine_law.specs.Commands as came
-use Rattle.mdv_engine_law.specs.Commands.{Effect, case_of}
+use Rattle.mdv_engine_law.specs.Commands.{Effect, IsTabRefusal, KeepsTab, case_of}
 use Rattle.mdv_engine_law.specs.Line as boot
 use Rattle.mdv_status.specs.Telling.{Said as SaidBytes}
 use Rattle.mdv_engine_law.specs.Replies.{text_of}
 use Rattle.mdv_engine_law.proofs.Executing.{comes_more, rebooted_more}
-use Rattle.mdv_engine_law.proofs.Plain.{bad_line_plain, too_long_plain, memory_plain, refusal_plain, ok_reply, values_are_reply, refusal_reply}
+use Rattle.mdv_engine_law.proofs.Plain.{bad_line_plain, too_long_plain, too_many_plain, memory_plain, refusal_plain, ok_reply, values_are_reply, refusal_reply}
 use Rattle.mdv_run_law.specs.declared.status.RunStatus.{RunStatus}
 use Rattle.mdv_run_law.specs.declared.status.RunStatus.TheVariants.{NoMemory}
 use Rattle.mdv_run_law.specs.Run.{Counts, RoseTo, RoseCalmly, OnlyReplying, IsUndisturbed, IsSated, Stops, At, NextLine, IsSaid, refused_by, LineTold, LinesTold, Stretch, no_line, one_more, EndsAs, EndsAt, EndsWith, Over, unread, ended as script_ended, broken, Runs, RunsFrom, behind_boot, Progress, IsAnswered, IsLostStatus, IsSameEnd, HasHome, OneCourse, started, drive_failures, giving_failed, status_at}
@@ -43,7 +43,7 @@ module _ (failures : Failures) (calm : failures.some → ⊥) (host : Host) (kep
   effect_plain : (command : Command) → Effect host kept command answer next → IsPlainAnswer answer
   effect_plain (Create slice force) is = ok_plain is.0
   effect_plain (MakeStripe volume slice) is = ok_plain is.0
-  effect_plain (Read volume at count) is = subst IsPlainAnswer (sym is.2) (record { at = at; blocks = _; is = refl })
+  effect_plain (Read volume at count) is = subst IsPlainAnswer (sym is.2) (inl (record { at = at; blocks = _; is = refl }))
   effect_plain (Write volume at block) is = ok_plain is.2
 
   came_plain : (command : Command) → CameTo failures host kept command answer next → IsPlainAnswer answer
@@ -53,18 +53,31 @@ module _ (failures : Failures) (calm : failures.some → ⊥) (host : Host) (kep
   came_plain command (came.faulted so free is fault) = absurd (calm so)
   came_plain command (came.over end free is gives) = subst IsPlainAnswer (sym is) tt
 
+  tab_plain : (lines : List ℕ) (r : Refusal) → IsTabRefusal lines r → IsPlain r
+  tab_plain lines BadLine why = bad_line_plain
+  tab_plain lines TooMany why = too_many_plain
+  tab_plain lines other why = absurd why
+
+  keeps_plain : (lines : List ℕ) → KeepsTab failures kept lines answer next → IsPlainAnswer answer
+  keeps_plain lines (came.entered quiet entries tab is memory same) = subst IsPlainAnswer (sym is) (inr (record { count = length entries; is = refl }))
+  keeps_plain lines (came.unfit quiet r why left) = refused_plain r (tab_plain lines r why) left.0
+  keeps_plain lines (came.unread quiet is left) = refused_plain OutOfMemory memory_plain is
+
   line_plain : (spelled : Line) → ComesTo failures host kept spelled answer next → IsPlainAnswer answer
   line_plain Boot is = booted_plain is
-  line_plain (words.Command command) is = came_plain command is
+  line_plain (words.Tab lines) is = keeps_plain lines is
+  line_plain (words.Exec command) is = came_plain command is
 
   answer_plain : (text : List ℕ) → IsAnswered failures host kept text answer next → IsPlainAnswer answer
   answer_plain text (inl (none, quiet, refused)) = refused_plain BadLine bad_line_plain refused.0
-  answer_plain text (inr (spelled, is, comes)) = line_plain spelled comes
+  answer_plain text (inr (inl (spelled, is, comes))) = line_plain spelled comes
+  answer_plain text (inr (inr (quiet, refused))) = refused_plain OutOfMemory memory_plain refused.0
 
 -- what a line came to may be told of a longer stretch
 pub answered_more : (failures more : Failures) (host : Host) (kept next : Kept) (text : List ℕ) (answer : Answer) → IsWithin failures more → IsAnswered failures host kept text answer next → IsAnswered more host kept text answer next
 answered_more failures more host kept next text answer cause (inl (none, quiet, refused)) = inl (none, cause.none quiet, refused)
-answered_more failures more host kept next text answer cause (inr (spelled, is, done)) = inr (spelled, is, comes_more failures more cause host kept next answer spelled done)
+answered_more failures more host kept next text answer cause (inr (inl (spelled, is, done))) = inr (inl (spelled, is, comes_more failures more cause host kept next answer spelled done))
+answered_more failures more host kept next text answer cause (inr (inr (quiet, refused))) = inr (inr (cause.none quiet, refused))
 
 -- calls of which none failed
 abbrev unfailing : Failures

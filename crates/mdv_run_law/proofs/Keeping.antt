@@ -40,7 +40,7 @@ module _ (host : Host) where
   opening_of kept (bare none found) = shut none
   opening_of kept (held newest opened room head is) = wide newest opened is.has.is.of_geometry room
 
-  stays_settled : (kept next : Kept) → Settled kept → Stays kept next → Settled next
+  pub stays_settled : (kept next : Kept) → Settled kept → Stays kept next → Settled next
   stays_settled kept next (bare none found) stays = bare (ap (λ (m : Memory). m.opened) stays.memory ∙ none) (none_there (site_of host) (kept.content 0) (next.content 0) (λ block from to. stays.content 0 block) found)
   stays_settled kept next (held newest opened room head is) stays =
       held newest (ap (λ (m : Memory). m.opened) stays.memory ∙ opened) room head (newest_there (site_of host) (kept.content 0) (next.content 0) head (λ block from to. stays.content 0 block) newest is)
@@ -70,8 +70,8 @@ module _ (host : Host) where
     module _ (failures : Failures) (calm : failures.some → ⊥) (k j n m : Kept) (a b : Answer) (alike : Alike (site_of host) sound k.content j.content) (begun : k.memory.begun ≡ j.memory.begun)
         (beside : (drive block : ℕ) → area_of (site_of host) drive block ≡ false → k.content drive block ≡ j.content drive block)
         (room : (head : Head) → IsReplica (site_of host) (k.content 0) head → shows head ≡ true → 8208 ≤ host.home.blocks) (sated : IsSatisfied a) (sated_too : IsSatisfied b) where
-      booted_memory : (opened : Option Newest) → n.memory ≡ record { opened = opened; down = false; begun = k.memory.begun } → m.memory ≡ record { opened = opened; down = false; begun = j.memory.begun } → n.memory ≡ m.memory
-      booted_memory opened one other = one ∙ ap (λ (b : ℕ). let memory : Memory = record { opened = opened; down = false; begun = b } in memory) begun ∙ sym other
+      booted_memory : (opened : Option Newest) → n.memory ≡ record { opened = opened; down = false; begun = k.memory.begun; entries = [] } → m.memory ≡ record { opened = opened; down = false; begun = j.memory.begun; entries = [] } → n.memory ≡ m.memory
+      booted_memory opened one other = one ∙ ap (λ (b : ℕ). let memory : Memory = record { opened = opened; down = false; begun = b; entries = [] } in memory) begun ∙ sym other
 
       never_both : (x y : Head) → IsReplica (site_of host) (k.content 0) x → shows x ≡ true → IsReplica (site_of host) (j.content 0) y → shows y ≡ true → greatest x + 1 < 2 ^ 63 → 2 ^ 63 ≤ greatest y + 1 → ⊥
       never_both x y has_x shows_x has_y shows_y low high = (let same = same_number (site_of host) sound k.content j.content alike x y has_x shows_x has_y shows_y in absurd (omega (arith, same, low, high)))
@@ -84,7 +84,7 @@ module _ (host : Host) where
           let newests = same_adopted (site_of host) sound k.content j.content alike n.content m.content newest other is is_too in (
             ok ∙ sym also,
             λ heard. record {
-              memory = booted_memory (Some other) (memory ∙ ap (λ (x : Newest). let after : Memory = record { opened = Some x; down = false; begun = k.memory.begun } in after) newests) memory_too;
+              memory = booted_memory (Some other) (memory ∙ ap (λ (x : Newest). let after : Memory = record { opened = Some x; down = false; begun = k.memory.begun; entries = [] } in after) newests) memory_too;
               beside = λ drive block out. is.beside drive block out ∙ beside drive block out ∙ sym (is_too.beside drive block out);
               one = held newest (ap (λ (x : Memory). x.opened) memory) (room is.head is.replica is.shown) _ is.written;
               other = held other (ap (λ (x : Memory). x.opened) memory_too) (room is.head is.replica is.shown) _ is_too.written;

@@ -1,11 +1,11 @@
 -- How the moments of the lines add up.
-use Rattle.std.proofs.Common.{◌≡◌, ◌⊎◌, inl, inr, ⊎_elim, ℕ, Bool, List, [], ◌++◌, refl, sym, ◌∙◌, ap, subst, append_assoc}
+use Rattle.std.proofs.Common.{◌≡◌, ◌⊎◌, inl, inr, ⊎_elim, ℕ, List, [], ◌++◌, refl, sym, ◌∙◌, ap, subst, append_assoc}
 use Rattle.std.proofs.lemmas.List.{append-nil}
 use Rattle.mdv_run_law.specs.Below.{Script, Tale, told, Said, left_in, replies_in, History, Deed, Created, Event, history_after_all, Host, site_of, Memory, StandsAt, Reached, IsKnown}
 use Rattle.mdv_store_law.proofs.Machine.{goes_more}
 use Rattle.mdv_run_law.specs.Below.{MayHappen, history_after}
 use Rattle.mdv_engine_law.proofs.Plain.{nothing_answers, nothing_said}
-use Rattle.mdv_run_law.specs.Standing.{ComeOf, InWork, NothingLeft, IsTold, Goes, behind, AreReplies, LinesMoment, RanTo}
+use Rattle.mdv_run_law.specs.Standing.{ComeOf, Context, IsSettled, context_of, InWork, NothingLeft, IsTold, Goes, behind, AreReplies, LinesMoment, RanTo}
 use Rattle.mdv_run_law.proofs.Coming.{behind_none, behind_more, told_none, told_either, in_work_none, come_more}
 use Rattle.mdv_run_law.proofs.Made.{ours_stays, shows_made}
 
@@ -19,11 +19,11 @@ module _ (script left : Script) (a b : List ℕ) (replies : AreReplies a) (left_
   told_behind deed is = ⊎_elim (λ first. inl first) (λ second. inr (subst (λ (s : Script). IsTold s (replies_in b) deed) left_is second))
       (told_either script (replies_in a) (replies_in b) deed (subst (λ (l : List (List ℕ)). IsTold script l deed) (replies.replies b) is))
 
-  pub come_behind : (host : Host) (Left : Bool → Script → List Event → Type 0) (now down : Bool) (es fs : List Event) → ComeOf host (NothingLeft now) down script (replies_in a) es → ComeOf host Left now left (replies_in b) fs
+  pub come_behind : (host : Host) (Left : Context → Script → List Event → Type 0) (now down : Context) (es fs : List Event) → IsSettled now → ComeOf host (NothingLeft now) down script (replies_in a) es → ComeOf host Left now left (replies_in b) fs
       → ComeOf host Left down script (replies_in (a ++ b)) (es ++ fs)
-  come_behind host Left now down es fs first second =
+  come_behind host Left now down es fs known first second =
       subst (λ (l : List (List ℕ)). ComeOf host Left down script l (es ++ fs)) (sym (replies.replies b))
-      (come_more host Left now down script (replies_in a) (replies_in b) es fs first (subst (λ (s : Script). ComeOf host Left now s (replies_in b) fs) (sym left_is) second))
+      (come_more host Left now down script (replies_in a) (replies_in b) es fs known first (subst (λ (s : Script). ComeOf host Left now s (replies_in b) fs) (sym left_is) second))
 
   pub replies_more : AreReplies b → AreReplies (a ++ b)
   replies_more other = record {
@@ -48,8 +48,8 @@ module _ (host : Host) (script : Script) (first : Memory) (t : Tale) where
     bytes = [];
     is_told = sym (append-nil (told t));
     made = λ knows is. absurd (nothing_told Created is);
-    goes = λ h known. goes_nothing host (ComeOf host (InWork host (left_in [])) first.down script (replies_in [])) Reached t h
-        (subst (λ (s : Said). ComeOf host (InWork host s.left) first.down script s.replies []) (sym nothing_said) (in_work_none host first.down script)) known.stands tt;
+    goes = λ h known. goes_nothing host (ComeOf host (InWork host (left_in [])) (context_of first) script (replies_in [])) Reached t h
+        (subst (λ (s : Said). ComeOf host (InWork host s.left) (context_of first) script s.replies []) (sym nothing_said) (in_work_none host (context_of first) script)) known.stands tt;
   }
 
   pub ran_start : RanTo host script first first script t t
@@ -60,8 +60,8 @@ module _ (host : Host) (script : Script) (first : Memory) (t : Tale) where
     left_is = ap (behind script) nothing_answers ∙ behind_none script;
     knows = λ knows. knows;
     made = λ knows is. absurd (nothing_told Created is);
-    goes = λ h known. goes_nothing host (ComeOf host (NothingLeft first.down) first.down script (replies_in [])) (λ es after. IsKnown host first after t) t h
-        (subst (λ (l : List (List ℕ)). ComeOf host (NothingLeft first.down) first.down script l []) (sym nothing_answers) (refl, refl)) known.stands known;
+    goes = λ h known. goes_nothing host (ComeOf host (NothingLeft (context_of first)) (context_of first) script (replies_in [])) (λ es after. IsKnown host first after t) t h
+        (subst (λ (l : List (List ℕ)). ComeOf host (NothingLeft (context_of first)) (context_of first) script l []) (sym nothing_answers) (refl, refl)) known.stands known;
   }
 
   module _ (now : Memory) (left : Script) (u : Tale) (ran : RanTo host script first now left t u) where
@@ -69,12 +69,12 @@ module _ (host : Host) (script : Script) (first : Memory) (t : Tale) where
     is_told_both m bytes more = more ∙ ap (λ (l : List ℕ). l ++ bytes) ran.is_told ∙ append_assoc (told t) ran.bytes bytes
 
     -- the events of this stretch, and those of one behind it
-    lines_goes : (Left : Bool → Script → List Event → Type 0) (m : Tale) (bytes : List ℕ) (After : History → Type 0) (h : History) → Goes host (ComeOf host (NothingLeft now.down) first.down script (replies_in ran.bytes)) (λ es after. IsKnown host now after u) u h
-        → ((g : History) → IsKnown host now g u → Goes host (ComeOf host Left now.down left (replies_in bytes)) (λ es after. After after) m g) → Goes host (ComeOf host Left first.down script (replies_in (ran.bytes ++ bytes))) (λ es after. After after) m h
+    lines_goes : (Left : Context → Script → List Event → Type 0) (m : Tale) (bytes : List ℕ) (After : History → Type 0) (h : History) → Goes host (ComeOf host (NothingLeft (context_of now)) (context_of first) script (replies_in ran.bytes)) (λ es after. IsKnown host now after u) u h
+        → ((g : History) → IsKnown host now g u → Goes host (ComeOf host Left (context_of now) left (replies_in bytes)) (λ es after. After after) m g) → Goes host (ComeOf host Left (context_of first) script (replies_in (ran.bytes ++ bytes))) (λ es after. After after) m h
     lines_goes Left m bytes After h before behind_goes =
-        goes_more history_after (MayHappen (site_of host)) (ComeOf host (NothingLeft now.down) first.down script (replies_in ran.bytes)) (ComeOf host Left now.down left (replies_in bytes)) (ComeOf host Left first.down script (replies_in (ran.bytes ++ bytes)))
+        goes_more history_after (MayHappen (site_of host)) (ComeOf host (NothingLeft (context_of now)) (context_of first) script (replies_in ran.bytes)) (ComeOf host Left (context_of now) left (replies_in bytes)) (ComeOf host Left (context_of first) script (replies_in (ran.bytes ++ bytes)))
         (λ g. StandsAt host g u) (λ g. StandsAt host g m) (λ es after. IsKnown host now after u) (λ es after. After after) h
-        (λ es fs one other. come_behind script left ran.bytes bytes ran.replies ran.left_is host Left now.down first.down es fs one other) before (λ es g stands known. behind_goes g known)
+        (λ es fs one other. come_behind script left ran.bytes bytes ran.replies ran.left_is host Left (context_of now) (context_of first) es fs (now.entries, refl) one other) before (λ es g stands known. behind_goes g known)
 
     -- one stretch more, at each of its moments and once it is over
     pub lines_more_moment : (m : Tale) → LinesMoment host left now u m → LinesMoment host script first t m
@@ -88,7 +88,7 @@ module _ (host : Host) (script : Script) (first : Memory) (t : Tale) where
           shows_made host has.number (history_after_all has.history after.es) m (ours_stays host has.number has.history after.es after.course (record { issued = has.issued; firm = has.firm })) after.stands)
           (λ here. lines.made (ran.knows knows) here)
           (told_behind script left ran.bytes lines.bytes ran.replies ran.left_is Created is);
-      goes = λ h known. subst (λ (l : List ℕ). Goes host (ComeOf host (InWork host l) first.down script (replies_in (ran.bytes ++ lines.bytes))) Reached m h) (sym (ran.replies.left lines.bytes))
+      goes = λ h known. subst (λ (l : List ℕ). Goes host (ComeOf host (InWork host l) (context_of first) script (replies_in (ran.bytes ++ lines.bytes))) Reached m h) (sym (ran.replies.left lines.bytes))
           (lines_goes (InWork host (left_in lines.bytes)) m lines.bytes (λ g. Unit {0}) h (ran.goes h known) (λ g after. lines.goes g after));
     }
 
@@ -107,5 +107,5 @@ module _ (host : Host) (script : Script) (first : Memory) (t : Tale) where
           record { history = history_after_all has.history after.es; known = after.after; number = has.number; issued = ours.issued; firm = ours.firm })
           (λ here. more.made (ran.knows knows) here)
           (told_behind script left ran.bytes more.bytes ran.replies ran.left_is Created is);
-      goes = λ h known. lines_goes (NothingLeft new.down) v more.bytes (λ after. IsKnown host new after v) h (ran.goes h known) (λ g after. more.goes g after);
+      goes = λ h known. lines_goes (NothingLeft (context_of new)) v more.bytes (λ after. IsKnown host new after v) h (ran.goes h known) (λ g after. more.goes g after);
     }

@@ -41,7 +41,7 @@ module _ (drives : Geometry) (home : Home) where
   said_told [] es deed done are said = absurd said
   said_told (run ∷ before) es deed done are (inl is) =
       let of_run = are.4 in
-      let here = come_told (host_of drives run.home run.fresh) (InWork (host_of drives run.home run.fresh) (left_in run.bytes)) of_run.down run.script (replies_in run.bytes) of_run.lines deed done of_run.come is in
+      let here = come_told (host_of drives run.home run.fresh) (InWork (host_of drives run.home run.fresh) (left_in run.bytes)) (record { down = of_run.down; entries = Some [] }) run.script (replies_in run.bytes) of_run.lines deed done of_run.come is in
       let behind = Contains-append_right (told_by of_run.boot) (told_by of_run.lines) deed here in
       let rest : Contains (told_by are.1) deed = subst (λ (l : List Deed). Contains l deed) (sym (ap told_by of_run.both ∙ all_more tells of_run.boot of_run.lines)) behind in
       subst (λ (l : List Deed). Contains l deed) (sym (ap told_by are.2 ∙ all_more tells are.0 are.1)) (Contains-append_right (told_by are.0) (told_by are.1) deed rest)

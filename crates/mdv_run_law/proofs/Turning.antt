@@ -1,11 +1,12 @@
 -- One turn, told by the script before it.
-use Rattle.std.proofs.Common.{◌≡◌, ◌≢◌, ◌⊎◌, inl, inr, ℕ, Bool, true, false, ◌||◌, cond, List, [], ◌∷◌, ◌++◌, None, Contains, refl, sym, ◌∙◌, ap, subst, arith}
+use Rattle.std.proofs.Common.{◌≡◌, ◌≢◌, ◌⊎◌, inl, inr, ℕ, Bool, true, false, ◌||◌, cond, List, [], ◌∷◌, ◌++◌, Some, None, Contains, refl, sym, ◌∙◌, ap, subst, arith}
 use Rattle.std.specs.Str.{bytes_eq}
 use Rattle.mdv_base.specs.declared.refusal.Refusal.TheVariants.{IoFault}
-use Rattle.mdv_run_law.specs.Below.{Script, too_long, line, Tale, Said, left_in, replies_in, Boot, IsLine, History, Deed, Created, Event, history_after_all, HasWoken, Host, Ask, Nothing, Memory, IsFront, IsReply, Acks, AcksBy, AcksFront, AcksIn, is_front_of, issuable, issuable_front, issuable_in, issuable_of, ok_line, refusal_line, StandsAt, Does, Knows, IsKnown, IsAwake, TurnMoment, Turned}
+use Rattle.mdv_run_law.specs.Below.{OutOfMemory, Script, too_long, line, Tale, Said, left_in, replies_in, Boot, IsLine, History, Deed, Created, Event, history_after_all, HasWoken, Host, Ask, Nothing, Memory, IsFront, IsReply, Acks, AcksBy, AcksFront, AcksIn, is_front_of, issuable, issuable_front, issuable_in, issuable_of, ok_line, refusal_line, StandsAt, Does, Knows, IsKnown, IsAwake, TurnMoment, Turned}
 use Rattle.mdv_engine_law.specs.Standing as turn
-use Rattle.mdv_run_law.specs.Standing.{Asks, AreIdle, AreOfLine, ComeOf, InWork, NothingLeft, IsTold, AreReplies, behind, LinesMoment, RanTo}
-use Rattle.mdv_run_law.proofs.Coming.{one_asked, acked_once, behind_none, told_none, in_work_none, come_line, come_long}
+use Rattle.mdv_run_law.specs.Standing.{AsksBy, AreIdle, AreOfLine, ComeOf, Context, context_of, HasEntries, InWork, NothingLeft, IsTold, AreReplies, behind, LinesMoment, RanTo}
+use Rattle.mdv_run_law.proofs.Coming.{acked_by, behind_none, told_none, in_work_none, come_line, come_long}
+use Rattle.mdv_shelf.proofs.Moments.{some_is}
 use Rattle.mdv_run_law.proofs.Made.{IsOurs, began, began_known, made_ours, shows_made}
 
 -- the first deed in a list is none of nothing
@@ -37,7 +38,7 @@ module _ (host : Host) (script : Script) (ask : Ask) (old : Memory) (t : Tale) w
         made_ours host may done t m went.es went.course went.come has went.stands,
       )
 
-  pub turn_lines : (m : Tale) (moment : TurnMoment host ask old t m) → ((es : List Event) → Does host (issuable_of ask moment.bytes) moment.done es → ComeOf host (InWork host (left_in moment.bytes)) old.down script (replies_in moment.bytes) es)
+  pub turn_lines : (m : Tale) (moment : TurnMoment host ask old t m) → ((es : List Event) → Does host (issuable_of ask moment.bytes) moment.done es → ComeOf host (InWork host (left_in moment.bytes)) (context_of old) script (replies_in moment.bytes) es)
       → (IsTold script (replies_in moment.bytes) Created → Contains moment.done Created) → LinesMoment host script old t m
   turn_lines m moment come is_acked = record {
     bytes = moment.bytes;
@@ -51,7 +52,7 @@ module _ (host : Host) (script : Script) (ask : Ask) (old : Memory) (t : Tale) w
   }
 
   pub turn_ran : (new : Memory) (left : Script) (u : Tale) (turned : Turned host ask old new t u)
-      → ((es : List Event) → Does host (issuable ask turned.bytes) turned.done es → ComeOf host (NothingLeft new.down) old.down script (replies_in turned.bytes) es)
+      → (Knows host old t → (es : List Event) → Does host (issuable ask turned.bytes) turned.done es → ComeOf host (NothingLeft (context_of new)) (context_of old) script (replies_in turned.bytes) es)
       → (IsTold script (replies_in turned.bytes) Created → Contains turned.done Created) → behind script (replies_in turned.bytes) ≡ left → RanTo host script old new left t u
   turn_ran new left u turned come is_acked left_is = record {
     bytes = turned.bytes;
@@ -64,56 +65,75 @@ module _ (host : Host) (script : Script) (ask : Ask) (old : Memory) (t : Tale) w
         record { history = made.0; known = made.2.1; number = made.3.0; issued = made.3.1.issued; firm = made.3.1.firm };
     goes = λ h known.
         let went = turned.goes h known in
-        record { es = went.es; course = went.course; come = come went.es went.come; stands = went.stands; after = went.after };
+        record { es = went.es; course = went.course; come = come known.knows went.es went.come; stands = went.stands; after = went.after };
   }
 
--- a front of a reply to a line, and a whole one
-module _ (host : Host) (text : List ℕ) (ask : Ask) (asks : Asks text ask) (more : Script) where
-  of_line : (old : Memory) (then : Bool) (reply : List ℕ) (done : List Deed) → AcksBy ask reply done → (done ≢ [] → IsAwake old) → (es : List Event) → Does host (issuable ask reply) done es
-      → (then ≡ false → (IsLine text Boot × HasWoken es) ⊎ (IsAwake old × (IsLine text Boot → ⊥))) → AreOfLine host text old.down reply es then
-  of_line old then reply done acks awake es does up = record { ask = ask; asks = asks; done = done; acks = acks; does = does; awake = awake; up = up }
+-- what stands behind a reply of which nothing is known yet
+abbrev unsettled : Context
+unsettled = record { down = true; entries = None }
 
-  pub front_come : (old : Memory) (bytes : List ℕ) → IsFront bytes → (done : List Deed) → Acks ask bytes done → (done ≢ [] → IsAwake old) → (es : List Event) → Does host (issuable_of ask bytes) done es
-      → ComeOf host (InWork host (left_in bytes)) old.down (line text more) (replies_in bytes) es
-  front_come old bytes (inl none) done acks awake es does =
+-- a front of a reply to a line, and a whole one
+module _ (host : Host) (text : List ℕ) (ask : Ask) (more : Script) where
+  pub front_come : (old : Memory) (bytes : List ℕ) → AsksBy text bytes ask → IsFront bytes → (done : List Deed) → Acks ask bytes done → (done ≢ [] → IsAwake old) → (es : List Event) → Does host (issuable_of ask bytes) done es
+      → ComeOf host (InWork host (left_in bytes)) (context_of old) (line text more) (replies_in bytes) es
+  front_come old bytes asks (inl none) done acks awake es does =
       let front : AcksFront ask bytes done = subst (λ (s : Said). AcksIn ask s.replies s.left done) none acks in
       let does_so : Does host (issuable_front ask bytes) done es = subst (λ (s : Said). Does host (issuable_in ask s.replies s.left) done es) none does in
-      subst (λ (s : Said). ComeOf host (InWork host s.left) old.down (line text more) s.replies es) (sym none) (inr (record { ask = ask; asks = asks; done = done; acks = front; does = does_so; awake = awake }))
-  front_come old bytes (inr one) done acks awake es does =
+      subst (λ (s : Said). ComeOf host (InWork host s.left) (context_of old) (line text more) s.replies es) (sym none) (inr ((old.entries, refl), record { ask = ask; asks = asks; done = done; acks = front; does = does_so; awake = awake }))
+  front_come old bytes asks (inr one) done acks awake es does =
       let by : AcksBy ask bytes done = subst (λ (s : Said). AcksIn ask s.replies s.left done) one acks in
-      let here = of_line old true bytes done by awake es (subst (λ (s : Said). Does host (issuable_in ask s.replies s.left) done es) one does) (λ is. absurd (cc (is))) in
-      subst (λ (s : Said). ComeOf host (InWork host s.left) old.down (line text more) s.replies es) (sym one) (come_line host (InWork host []) old.down true text more bytes es here (in_work_none host true more))
+      let here : AreOfLine host text (context_of old) bytes es unsettled = record {
+        ask = ask;
+        asks = asks;
+        done = done;
+        acks = by;
+        does = subst (λ (s : Said). Does host (issuable_in ask s.replies s.left) done es) one does;
+        awake = awake;
+        up = λ is. absurd (cc (is));
+        kept = λ entries is. absurd (cc (is));
+      } in
+      subst (λ (s : Said). ComeOf host (InWork host s.left) (context_of old) (line text more) s.replies es) (sym one) (come_line host (InWork host []) (context_of old) unsettled text more bytes es here (in_work_none host unsettled more))
 
   -- a creation that the reply tells is among what it acknowledges
-  one_told : (reply : List ℕ) (done : List Deed) → AcksBy ask reply done → IsTold (line text more) (reply ∷ []) Created → Contains done Created
-  one_told reply done acks (inl here) =
-      let same = one_asked text here.0 ask here.1 asks in
-      acked_once ask reply here.2 done Created tt (subst (λ (a : Ask). AcksBy a reply here.2) same here.3) acks here.4
-  one_told reply done acks (inr is) = absurd (told_none more Created is)
+  one_told : (reply : List ℕ) → AsksBy text reply ask → (done : List Deed) → AcksBy ask reply done → IsTold (line text more) (reply ∷ []) Created → Contains done Created
+  one_told reply asks done acks (inl here) = acked_by text reply Created tt here.0 here.1 here.2 here.3 here.4 ask asks done acks
+  one_told reply asks done acks (inr is) = absurd (told_none more Created is)
 
-  pub front_told : (bytes : List ℕ) → IsFront bytes → (done : List Deed) → Acks ask bytes done → IsTold (line text more) (replies_in bytes) Created → Contains done Created
-  front_told bytes (inl none) done acks is = absurd (told_none (line text more) Created (subst (λ (s : Said). IsTold (line text more) s.replies Created) none is))
-  front_told bytes (inr one) done acks is =
-      one_told bytes done (subst (λ (s : Said). AcksIn ask s.replies s.left done) one acks) (subst (λ (s : Said). IsTold (line text more) s.replies Created) one is)
+  pub front_told : (bytes : List ℕ) → AsksBy text bytes ask → IsFront bytes → (done : List Deed) → Acks ask bytes done → IsTold (line text more) (replies_in bytes) Created → Contains done Created
+  front_told bytes asks (inl none) done acks is = absurd (told_none (line text more) Created (subst (λ (s : Said). IsTold (line text more) s.replies Created) none is))
+  front_told bytes asks (inr one) done acks is =
+      one_told bytes asks done (subst (λ (s : Said). AcksIn ask s.replies s.left done) one acks) (subst (λ (s : Said). IsTold (line text more) s.replies Created) one is)
 
-  pub reply_told : (bytes : List ℕ) → IsReply bytes → (done : List Deed) → AcksBy ask bytes done → IsTold (line text more) (replies_in bytes) Created → Contains done Created
-  reply_told bytes is done acks told = one_told bytes done acks (subst (λ (s : Said). IsTold (line text more) s.replies Created) is.alone told)
+  pub reply_told : (bytes : List ℕ) → AsksBy text bytes ask → IsReply bytes → (done : List Deed) → AcksBy ask bytes done → IsTold (line text more) (replies_in bytes) Created → Contains done Created
+  reply_told bytes asks is done acks told = one_told bytes asks done acks (subst (λ (s : Said). IsTold (line text more) s.replies Created) is.alone told)
 
   -- a turn of a line, and one whose reply was told whole
-  pub line_moment : (old : Memory) (t m : Tale) → TurnMoment host ask old t m → LinesMoment host (line text more) old t m
-  line_moment old t m moment = turn_lines host (line text more) ask old t m moment (front_come old moment.bytes moment.front moment.done moment.acks moment.awake) (front_told moment.bytes moment.front moment.done moment.acks)
+  pub line_moment : (old : Memory) (t m : Tale) (moment : TurnMoment host ask old t m) → AsksBy text moment.bytes ask → LinesMoment host (line text more) old t m
+  line_moment old t m moment asks =
+      turn_lines host (line text more) ask old t m moment (front_come old moment.bytes asks moment.front moment.done moment.acks moment.awake) (front_told moment.bytes asks moment.front moment.done moment.acks)
 
-  pub reply_come : (old new : Memory) (bytes : List ℕ) (is : IsReply bytes) (done : List Deed) → AcksBy ask bytes done → (done ≢ [] → IsAwake old) → (es : List Event) → Does host (issuable ask bytes) done es
-      → (IsAwake new → (IsLine text Boot × HasWoken es) ⊎ (IsAwake old × (IsLine text Boot → ⊥))) → ComeOf host (NothingLeft new.down) old.down (line text more) (replies_in bytes) es
-  reply_come old new bytes is done acks awake es does up =
-      let here = of_line old new.down bytes done acks awake es does up in
-      subst (λ (l : List (List ℕ)). ComeOf host (NothingLeft new.down) old.down (line text more) l es) (sym (only_reply bytes is)) (come_line host (NothingLeft new.down) old.down new.down text more bytes es here (refl, refl))
+  pub reply_come : (old new : Memory) (bytes : List ℕ) → AsksBy text bytes ask → (is : IsReply bytes) (done : List Deed) → AcksBy ask bytes done → (done ≢ [] → IsAwake old) → (es : List Event) → Does host (issuable ask bytes) done es
+      → (IsAwake new → (IsLine text Boot × HasWoken es) ⊎ (IsAwake old × ((IsLine text Boot → ⊥) ⊎ (bytes ≡ refusal_line OutOfMemory)))) → HasEntries text bytes (Some old.entries) new.entries → ComeOf host (NothingLeft (context_of new)) (context_of old) (line text more) (replies_in bytes) es
+  reply_come old new bytes asks is done acks awake es does up entries =
+      let here : AreOfLine host text (context_of old) bytes es (context_of new) = record {
+        ask = ask;
+        asks = asks;
+        done = done;
+        acks = acks;
+        does = does;
+        awake = awake;
+        up = up;
+        kept = λ es is. subst (HasEntries text bytes (Some old.entries)) (some_is (Some new.entries) new.entries es refl is) entries;
+      } in
+      subst (λ (l : List (List ℕ)). ComeOf host (NothingLeft (context_of new)) (context_of old) (line text more) l es) (sym (only_reply bytes is)) (come_line host (NothingLeft (context_of new)) (context_of old) (context_of new) text more bytes es here (refl, refl))
 
-  -- a line that is no boot
-  pub line_ran : (old new : Memory) (t u : Tale) → Turned host ask old new t u → (IsAwake new → IsAwake old) → (IsLine text Boot → ⊥) → RanTo host (line text more) old new more t u
-  line_ran old new t u turned awake other =
-      turn_ran host (line text more) ask old t new more u turned (λ es does. reply_come old new turned.bytes turned.reply turned.done turned.acks turned.awake es does (λ up. inr (awake up, other)))
-      (reply_told turned.bytes turned.reply turned.done turned.acks) (ap (behind (line text more)) (only_reply turned.bytes turned.reply) ∙ behind_none more)
+  -- A line that is no boot, or that memory was wanting to read. What it leaves in memory may be known only where the drive is.
+  pub line_ran : (old new : Memory) (t u : Tale) (turned : Turned host ask old new t u) → AsksBy text turned.bytes ask → (IsLine text Boot → ⊥) ⊎ (turned.bytes ≡ refusal_line OutOfMemory)
+      → (Knows host old t → (IsAwake new → IsAwake old) × HasEntries text turned.bytes (Some old.entries) new.entries) → RanTo host (line text more) old new more t u
+  line_ran old new t u turned asks other leaves =
+      turn_ran host (line text more) ask old t new more u turned
+      (λ knows es does. (let left = leaves knows in reply_come old new turned.bytes asks turned.reply turned.done turned.acks turned.awake es does (λ up. inr (left.0 up, other)) left.1))
+      (reply_told turned.bytes asks turned.reply turned.done turned.acks) (ap (behind (line text more)) (only_reply turned.bytes turned.reply) ∙ behind_none more)
 
 -- where nothing is asked nothing is acknowledged
 pub none_acked : (bytes : List ℕ) (done : List Deed) → Acks Nothing bytes done → done ≡ []
@@ -141,11 +161,11 @@ module _ (host : Host) (more : Script) (old : Memory) where
   idle : (may done : List Deed) → may ≡ [] → done ≡ [] → (es : List Event) → Does host may done es → AreIdle host es
   idle may done nothing none es does = subst (λ (l : List Deed). Does host [] l es) none (subst (λ (l : List Deed). Does host l done es) nothing does)
 
-  long_come : (bytes : List ℕ) → IsFront bytes → (done : List Deed) → Acks Nothing bytes done → (es : List Event) → Does host (issuable_of Nothing bytes) done es → ComeOf host (InWork host (left_in bytes)) old.down (too_long more) (replies_in bytes) es
+  long_come : (bytes : List ℕ) → IsFront bytes → (done : List Deed) → Acks Nothing bytes done → (es : List Event) → Does host (issuable_of Nothing bytes) done es → ComeOf host (InWork host (left_in bytes)) (context_of old) (too_long more) (replies_in bytes) es
   long_come bytes front done acks es does = by front (idle (issuable_of Nothing bytes) done (none_issuable bytes) (none_acked bytes done acks) es does) where
-    by : IsFront bytes → AreIdle host es → ComeOf host (InWork host (left_in bytes)) old.down (too_long more) (replies_in bytes) es
-    by (inl none) quiet = subst (λ (s : Said). ComeOf host (InWork host s.left) old.down (too_long more) s.replies es) (sym none) quiet
-    by (inr one) quiet = subst (λ (s : Said). ComeOf host (InWork host s.left) old.down (too_long more) s.replies es) (sym one) (come_long host (InWork host []) old.down more bytes es quiet (in_work_none host old.down more))
+    by : IsFront bytes → AreIdle host es → ComeOf host (InWork host (left_in bytes)) (context_of old) (too_long more) (replies_in bytes) es
+    by (inl none) quiet = subst (λ (s : Said). ComeOf host (InWork host s.left) (context_of old) (too_long more) s.replies es) (sym none) quiet
+    by (inr one) quiet = subst (λ (s : Said). ComeOf host (InWork host s.left) (context_of old) (too_long more) s.replies es) (sym one) (come_long host (InWork host []) (context_of old) more bytes es quiet (in_work_none host (context_of old) more))
 
   long_told : (bytes : List ℕ) (deed : Deed) → IsFront bytes → IsTold (too_long more) (replies_in bytes) deed → ⊥
   long_told bytes deed (inl none) is = told_none (too_long more) deed (subst (λ (s : Said). IsTold (too_long more) s.replies deed) none is)
@@ -157,7 +177,7 @@ module _ (host : Host) (more : Script) (old : Memory) where
   pub long_ran : (t u : Tale) → Turned host Nothing old old t u → RanTo host (too_long more) old old more t u
   long_ran t u turned =
       turn_ran host (too_long more) Nothing old t old more u turned
-      (λ es does. subst (λ (l : List (List ℕ)). ComeOf host (NothingLeft old.down) old.down (too_long more) l es) (sym (only_reply turned.bytes turned.reply))
-      (come_long host (NothingLeft old.down) old.down more turned.bytes es (idle (issuable Nothing turned.bytes) turned.done (none_issuable_by turned.bytes) turned.acks es does) (refl, refl)))
+      (λ knows es does. subst (λ (l : List (List ℕ)). ComeOf host (NothingLeft (context_of old)) (context_of old) (too_long more) l es) (sym (only_reply turned.bytes turned.reply))
+      (come_long host (NothingLeft (context_of old)) (context_of old) more turned.bytes es (idle (issuable Nothing turned.bytes) turned.done (none_issuable_by turned.bytes) turned.acks es does) (refl, refl)))
       (λ told. absurd (long_told turned.bytes Created (inr turned.reply.alone) told))
       (ap (behind (too_long more)) (only_reply turned.bytes turned.reply) ∙ behind_none more)

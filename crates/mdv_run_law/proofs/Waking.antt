@@ -1,13 +1,19 @@
--- A line that isn't `boot` leaves it as it was whether the last boot read the drive.
-use Rattle.std.proofs.Common.{◌≡◌, ℕ, List, sym, ◌∙◌, ap, subst}
+-- A line that isn't `boot` leaves it as it was whether the last boot read the drive, and a command the entries that are kept.
+use Rattle.std.proofs.Common.{◌≡◌, inl, inr, ℕ, List, ◌++◌, length, Some, refl, sym, ◌∙◌, ap, subst}
+use Rattle.std.proofs.lemmas.List.{append_cancel_left}
 use Rattle.mdv_base.specs.Causes.{Failures}
-use Rattle.mdv_run_law.specs.Below.{Command, Create, MakeStripe, Read, Write, Tale, Answer, Reply, Host, Memory, Kept, kept_at, CameTo, IsExecuted, IsTold, IsReplied, Executed, IsAwake}
-use Rattle.mdv_words.specs.declared.command.Line.TheVariants as words
+use Rattle.mdv_run_law.specs.Below.{Refusal, OutOfMemory, IsLine, entries_reply, refusal_line, told, Command, Create, MakeStripe, Read, Write, Tale, Answer, Reply, Host, Memory, Kept, kept_at, CameTo, IsTold, IsReplied, Executed, IsAwake}
+use Rattle.mdv_words.specs.Line as words
 use Rattle.mdv_engine_law.specs.declared.answer.Answer.TheVariants.{Said, Over}
 use Rattle.mdv_engine_law.specs.Commands as came
-use Rattle.mdv_engine_law.specs.Commands.{Effect, Fault, Wanting, IsAllowed, case_of}
+use Rattle.mdv_engine_law.specs.Commands.{Effect, Fault, KeepsTab, Wanting, IsAllowed, case_of}
 use Rattle.mdv_engine_law.proofs.Allowed.{allowed_up}
 use Rattle.mdv_engine_law.proofs.Longer.{never_ended}
+use Rattle.mdv_words.proofs.Lines.{one_line}
+use Rattle.mdv_engine_law.specs.declared.answer.Outcome.{Outcome}
+use Rattle.mdv_engine_law.specs.declared.answer.Outcome.TheVariants as outcome
+use Rattle.mdv_engine_law.specs.Replies.{outcome_text}
+use Rattle.mdv_run_law.specs.Standing.{HasEntries}
 use Rattle.mdv_run_law.specs.Run.{IsSaid}
 use Rattle.mdv_shelf.specs.Made.{Made}
 
@@ -46,6 +52,81 @@ module _ (failures : Failures) (host : Host) (kept next : Kept) (answer : Answer
   carried_awake command (came.over end free is gives) said = absurd (let never : ⊥ = subst IsSaid is said in never)
 
 -- a command that was executed and replied to
-pub executed_awake : (drive : Failures) (replies : Type 0) (made : Made) (host : Host) (command : Command) (old new : Memory) (r : Reply) (t u : Tale) → Executed drive replies made host (words.Command command) old new r t u → IsExecuted command → IsReplied r → IsAwake new → IsAwake old
-executed_awake drive replies made host command old new r t u is executed replied up =
+pub executed_awake : (drive : Failures) (replies : Type 0) (made : Made) (host : Host) (command : Command) (old new : Memory) (r : Reply) (t u : Tale) → Executed drive replies made host (words.Exec command) old new r t u → IsReplied r → IsAwake new → IsAwake old
+executed_awake drive replies made host command old new r t u is replied up =
     carried_awake drive host (kept_at old t) (kept_at new u) is.answer up command is.carried (said_whole replies is.answer r is.replied.piece is.replied.as_told replied)
+
+-- the entries stay as they were
+module _ (failures : Failures) (host : Host) (kept next : Kept) (answer : Answer) where
+  entries_same : next.memory ≡ kept.memory → next.memory.entries ≡ kept.memory.entries
+  entries_same same = ap (λ (m : Memory). m.entries) same
+
+  effect_entries : (command : Command) → Effect host kept command answer next → next.memory.entries ≡ kept.memory.entries
+  effect_entries (Create slice force) is = ap (λ (m : Memory). m.entries) is.1.memory
+  effect_entries (MakeStripe volume slice) is = ap (λ (m : Memory). m.entries) is.4.memory
+  effect_entries (Read volume at count) is = entries_same is.3.memory
+  effect_entries (Write volume at block) is = entries_same is.3
+
+  fault_entries : (command : Command) → Fault host kept command next → next.memory.entries ≡ kept.memory.entries
+  fault_entries (Create slice force) is = ap (λ (m : Memory). m.entries) is.memory
+  fault_entries (MakeStripe volume slice) is = absurd is
+  fault_entries (Read volume at count) is = entries_same is.memory
+  fault_entries (Write volume at block) is = entries_same is.2
+
+  wanting_entries : (command : Command) → Wanting host kept command next → next.memory.entries ≡ kept.memory.entries
+  wanting_entries (Create slice force) is = ap (λ (m : Memory). m.entries) is.1.memory
+  wanting_entries (MakeStripe volume slice) is = entries_same is.1.memory
+  wanting_entries (Read volume at count) is = entries_same is.1.memory
+  wanting_entries (Write volume at block) is = absurd is
+
+  came_entries : (command : Command) → CameTo failures host kept command answer next → IsSaid answer → next.memory.entries ≡ kept.memory.entries
+  came_entries command (came.refused quiet refusal is left) said = entries_same left.1.memory
+  came_entries command (came.wanting quiet is left) said = wanting_entries command left
+  came_entries command (came.done quiet free effect) said = effect_entries command effect
+  came_entries command (came.faulted so free is fault) said = fault_entries command fault
+  came_entries command (came.over end free is gives) said = absurd (let never : ⊥ = subst IsSaid is said in never)
+
+-- the bytes that were told of it are its text
+pub told_text : (failed : Type 0) (this : Outcome) (r : Reply) (piece bytes : List ℕ) (t u : Tale) → IsTold failed (Said this) r piece → IsReplied r → told u ≡ told t ++ piece → told u ≡ told t ++ bytes → bytes ≡ outcome_text this
+told_text failed this r piece bytes t u (inl whole) replied is also = append_cancel_left (told t) bytes piece (sym also ∙ is) ∙ whole.1
+told_text failed this r piece bytes t u (inr cut) replied is also = absurd (let never : ⊥ = subst IsReplied cut.given_is replied in never)
+
+text_told : (failed : Type 0) (answer : Answer) (this : Outcome) → answer ≡ Said this → (r : Reply) (piece bytes : List ℕ) (t u : Tale) → IsTold failed answer r piece → IsReplied r → told u ≡ told t ++ piece → told u ≡ told t ++ bytes → bytes ≡ outcome_text this
+text_told failed answer this is r piece bytes t u as_told = told_text failed this r piece bytes t u (subst (λ (a : Answer). IsTold failed a r piece) is as_told)
+
+-- What is kept of entries behind a line that was executed and replied to.
+module _ (drive : Failures) (replies : Type 0) (made : Made) (host : Host) (old new : Memory) (r : Reply) (t u : Tale) (text bytes : List ℕ) (more : told u ≡ told t ++ bytes) where
+  pub command_entries : (command : Command) → IsLine text (words.Exec command) → Executed drive replies made host (words.Exec command) old new r t u → IsReplied r → HasEntries text bytes (Some old.entries) new.entries
+  command_entries command spelled is replied = inr (inr (
+    λ boot. absurd (let never : words.Boot ≡ words.Exec command = one_line text words.Boot (words.Exec command) boot spelled in cc (never)),
+    λ lines tab. absurd (let never : words.Tab lines ≡ words.Exec command = one_line text (words.Tab lines) (words.Exec command) tab spelled in cc (never)),
+    ap Some (sym (came_entries drive host (kept_at old t) (kept_at new u) is.answer command is.carried (said_whole replies is.answer r is.replied.piece is.replied.as_told replied))),
+  ))
+
+  keeps_entries : (lines : List ℕ) → IsLine text (words.Tab lines) → (answer : Answer) (piece : List ℕ) → KeepsTab drive (kept_at old t) lines answer (kept_at new u) → told u ≡ told t ++ piece → IsTold replies answer r piece → IsReplied r → HasEntries text bytes (Some old.entries) new.entries
+  keeps_entries lines spelled answer piece (came.entered quiet entries tab is memory same) so as_told replied =
+      let now : new.entries ≡ entries = ap (λ (m : Memory). m.entries) memory in
+      let text_is = text_told replies answer (outcome.Values (entries_reply (length entries))) is r piece bytes t u as_told replied so more in
+      subst (HasEntries text bytes (Some old.entries)) (sym now) (inr (inl (lines, spelled, tab, text_is)))
+  keeps_entries lines spelled answer piece (came.unfit quiet refusal why left) so as_told replied =
+      let text_is = text_told replies answer (outcome.Refused refusal) left.0 r piece bytes t u as_told replied so more in
+      inr (inr (λ boot. (refusal, text_is), λ others tab. (refusal, text_is), ap (λ (m : Memory). Some m.entries) (sym left.1.memory)))
+  keeps_entries lines spelled answer piece (came.unread quiet is left) so as_told replied =
+      let text_is = text_told replies answer (outcome.Refused OutOfMemory) is r piece bytes t u as_told replied so more in
+      inr (inr (λ boot. (OutOfMemory, text_is), λ others tab. (OutOfMemory, text_is), ap (λ (m : Memory). Some m.entries) (sym left.memory)))
+
+  pub tab_entries : (lines : List ℕ) → IsLine text (words.Tab lines) → Executed drive replies made host (words.Tab lines) old new r t u → IsReplied r → HasEntries text bytes (Some old.entries) new.entries
+  tab_entries lines spelled is replied = keeps_entries lines spelled is.answer is.replied.piece is.carried is.replied.is_told is.replied.as_told replied
+
+-- and behind one that was only refused
+pub refused_entries : (text bytes : List ℕ) (refusal : Refusal) (memory : Memory) → bytes ≡ refusal_line refusal → HasEntries text bytes (Some memory.entries) memory.entries
+refused_entries text bytes refusal memory is = inr (inr (λ boot. (refusal, is), λ lines tab. (refusal, is), refl))
+
+-- a block of entries leaves it as it was whether the last boot read the drive
+keeps_awake : (failures : Failures) (kept next : Kept) (lines : List ℕ) (answer : Answer) → KeepsTab failures kept lines answer next → IsAwake next.memory → IsAwake kept.memory
+keeps_awake failures kept next lines answer (came.entered quiet entries tab is memory same) up = sym (ap (λ (m : Memory). m.down) memory) ∙ up
+keeps_awake failures kept next lines answer (came.unfit quiet refusal why left) up = sym (ap (λ (m : Memory). m.down) left.1.memory) ∙ up
+keeps_awake failures kept next lines answer (came.unread quiet is left) up = sym (ap (λ (m : Memory). m.down) left.memory) ∙ up
+
+pub tab_awake : (drive : Failures) (replies : Type 0) (made : Made) (host : Host) (lines : List ℕ) (old new : Memory) (r : Reply) (t u : Tale) → Executed drive replies made host (words.Tab lines) old new r t u → IsAwake new → IsAwake old
+tab_awake drive replies made host lines old new r t u is up = keeps_awake drive (kept_at old t) (kept_at new u) lines is.answer is.carried up

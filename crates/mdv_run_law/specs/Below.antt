@@ -8,17 +8,17 @@ pub use Rattle.mdv_base.specs.declared.name.VolId.{VolId}
 pub use Rattle.mdv_base.specs.declared.refusal.Refusal.{Refusal}
 pub use Rattle.mdv_base.specs.declared.refusal.Refusal.TheVariants.{BadLine, LineTooLong, NeedForce, NoDatabase, NoSuchSlice, NoSuchVolume}
 pub use Rattle.mdv_base.specs.declared.refusal.Refusal.TheVariants.{OutOfMemory, OutOfRange, ReplicaFull, SliceInUse, TooSmall, WrongKind}
-pub use Rattle.mdv_base.specs.declared.refusal.Refusal.TheVariants.{WrongState}
+pub use Rattle.mdv_base.specs.declared.refusal.Refusal.TheVariants.{TooMany, WrongState}
 pub use Rattle.mdv_base.specs.declared.state_word.StateWord.{StateWord}
 pub use Rattle.mdv_engine_law.specs.Home.{identity_of, site_of}
 pub use Rattle.mdv_engine_law.specs.Commands.{CameTo, ComesTo}
 pub use Rattle.mdv_engine_law.specs.Line.{AreBlocksAt, ArePut, HasVolumeOn}
-pub use Rattle.mdv_engine_law.specs.Line.{IsCommitted, IsCreated, IsExecuted, IsNew}
+pub use Rattle.mdv_engine_law.specs.Line.{IsCommitted, IsCreated, IsNew}
 pub use Rattle.mdv_engine_law.specs.Line.{IsRebooted, IsRewritten, IsSame, IsSameBeside, IsTurnedDown, Kept}
 pub use Rattle.mdv_engine_law.specs.Line.{Ask, Memory, Nothing, Stays, ToDo, ToSee, adopted, asked_by, asked_by_line, blocks_of, down, contents, on_site}
 pub use Rattle.mdv_engine_law.specs.Line.{empty, kept_at, lost, record_room}
 pub use Rattle.mdv_engine_law.specs.Line.{unbooted, wanting}
-pub use Rattle.mdv_engine_law.specs.Replies.{Acks, AcksBy, AcksFront, AcksIn, IsFront, IsPlain, IsPlainAnswer, IsReplied, IsReply, IsTold, is_front_of, issuable, issuable_front, issuable_in, issuable_of}
+pub use Rattle.mdv_engine_law.specs.Replies.{Acks, AcksBy, AcksFront, AcksIn, IsFront, IsPlain, IsRefusal, IsPlainAnswer, IsReplied, IsReply, IsTold, is_front_of, issuable, issuable_front, issuable_in, issuable_of}
 pub use Rattle.mdv_engine_law.specs.Replies.{ok_line, refusal_line}
 pub use Rattle.mdv_engine_law.specs.Standing.{BootMoment, BootedTo, Does, Executed, IsAwake, IsKnown, IsOfRun, Knows, Reached}
 pub use Rattle.mdv_engine_law.specs.Standing.{StandsAt, TurnMoment, Turned}
@@ -48,12 +48,14 @@ pub use Rattle.mdv_shelf.specs.Calls.{OnDrive, OnReplies, Part}
 pub use Rattle.mdv_shelf.specs.Everywhere.{Everywhere, Image}
 pub use Rattle.mdv_shelf.specs.Tale.{Among, IsImage, MayLeave, Tale, covers, last, told, values}
 pub use Rattle.mdv_status.specs.Telling.{Said, left_in, one_reply, replies_in, said_in, unsaid}
-pub use Rattle.mdv_status.specs.Values.{values_reply}
+pub use Rattle.mdv_status.specs.Values.{entries_reply, values_reply}
 pub use Rattle.mdv_store_law.specs.Laws.{restarted}
 pub use Rattle.mdv_store_law.specs.Log.{AreMade, Extends, IsLog, Log, Version, answered, empty_log, is_firm, with_asked}
 pub use Rattle.mdv_store_law.specs.Site.{HasTable, IsFound, IsNewestOf, IsReplica, Newest, Site, area_of, sized}
 pub use Rattle.mdv_store_law.specs.Standing.{IsNewestIn, IsOpened, nothing, replica}
 pub use Rattle.mdv_store_law.specs.Steps.{adopted_newest, next_newest}
+pub use Rattle.mdv_tab.specs.Text.{IsTab}
+pub use Rattle.mdv_tab.specs.declared.entry.Entry.{Entry}
 pub use Rattle.mdv_table.specs.Slices.{HasBlock, IsSound}
 pub use Rattle.mdv_table.specs.Table.{IsComponentOn, IsKindOf, IsPlanOf, IsWholeSlice}
 pub use Rattle.mdv_table.specs.Volume.{stripe_on}
@@ -67,8 +69,6 @@ pub use Rattle.mdv_table.specs.declared.volume.Component.{Component}
 pub use Rattle.mdv_table.specs.declared.volume.Volume.{Volume}
 pub use Rattle.mdv_table.specs.declared.volume.VolumeKind.{VolumeKind}
 pub use Rattle.mdv_table.specs.declared.volume.VolumeKind.TheVariants.{Stripe}
-pub use Rattle.mdv_words.specs.Line.{IsCommand, IsLine}
+pub use Rattle.mdv_words.specs.Line.{Boot, IsCommand, IsInForm, IsLine, Line, Tab}
 pub use Rattle.mdv_words.specs.declared.command.Command.{Command}
 pub use Rattle.mdv_words.specs.declared.command.Command.TheVariants.{Create, MakeStripe, Read, Write}
-pub use Rattle.mdv_words.specs.declared.command.Line.{Line}
-pub use Rattle.mdv_words.specs.declared.command.Line.TheVariants.{Boot}

@@ -9,9 +9,9 @@ use Rattle.mdv_engine_law.specs.declared.answer.Answer.TheVariants.{Said, Over a
 use Rattle.mdv_engine_law.specs.declared.answer.Ended.{Ended}
 use Rattle.mdv_engine_law.specs.declared.answer.Ended.TheVariants as stop
 use Rattle.mdv_engine_law.specs.declared.answer.Outcome.TheVariants as outcome
-use Rattle.mdv_engine_law.specs.Answers.{accepted}
-use Rattle.mdv_engine_law.specs.Line.{Memory, asked_by_line}
-use Rattle.mdv_engine_law.specs.Standing.{WritesOnly}
+use Rattle.mdv_engine_law.specs.Answers.{accepted, refusing}
+use Rattle.mdv_engine_law.specs.Line.{Memory}
+use Rattle.mdv_engine_law.specs.Standing.{LineWrites}
 use Rattle.mdv_shelf.specs.Area.{KeptOutside, nowhere}
 use Rattle.mdv_store_law.specs.Site.{area_of}
 use Rattle.mdv_engine_law.specs.Efforts.{BootCalls, LineCalls, NoCalls, replied_to}
@@ -70,14 +70,18 @@ replies_failed now later = Rose now.replies later.replies
 abbrev pub giving_failed : Counts → Counts → Type 0
 giving_failed now later = RoseOnce now.replies later.replies
 
--- nothing that the grammar has
+-- no item that is built: the grammar doesn't have the line, or it isn't carried out yet
 abbrev pub IsNoCommand : List ℕ → Type 0
 IsNoCommand text = (spelled : Line) → IsLine text spelled → ⊥
 
--- what a line comes to: one that isn't in the grammar is refused, and another comes to what it asks
+-- nothing is done, for memory was wanting to read it
+abbrev pub IsUnread : Failures → Kept → Answer → Kept → Type 0
+IsUnread failures kept answer next = failures.none × IsTurnedDown OutOfMemory kept answer next
+
+-- What a line comes to, or a block: one that isn't built is refused, and another comes to what it asks; or memory was wanting to read it.
 abbrev pub IsAnswered : Failures → Host → Kept → List ℕ → Answer → Kept → Type 0
 IsAnswered failures host kept text answer next =
-    (IsNoCommand text × failures.none × IsTurnedDown BadLine kept answer next) ⊎ ((spelled : Line) × IsLine text spelled × ComesTo failures host kept spelled answer next)
+    (IsNoCommand text × failures.none × IsTurnedDown BadLine kept answer next) ⊎ (((spelled : Line) × IsLine text spelled × ComesTo failures host kept spelled answer next) ⊎ IsUnread failures kept answer next)
 
 -- the run is over for want of places, numbers or memory: what a crash leaves then isn't said
 abbrev pub IsLostStatus : RunStatus → Type 0
@@ -114,9 +118,9 @@ NextLine host now kept (spent lines bytes) answer later next more = ⊥
 NextLine host now kept (too_long rest) answer later next more = (more ≡ rest) × RoseCalmly now later × (drive_failures now later).none × IsTurnedDown LineTooLong kept answer next
 NextLine host now kept (line text rest) answer later next more = (more ≡ rest) × RoseCalmly now later × IsAnswered (drive_failures now later) host kept text answer next
 
--- the calls of a line by its text: none of one that isn't in the grammar
+-- the calls of a line by its text: none of one that isn't built, nor where memory was wanting to read it
 abbrev pub TextCalls : Made → Host → Kept → List ℕ → Answer → Kept → Type 0
-TextCalls made host kept text answer next = (IsNoCommand text × NoCalls made) ⊎ ((spelled : Line) × IsLine text spelled × LineCalls made host kept spelled answer next)
+TextCalls made host kept text answer next = (IsNoCommand text × NoCalls made) ⊎ (((spelled : Line) × IsLine text spelled × LineCalls made host kept spelled answer next) ⊎ ((answer ≡ refusing OutOfMemory) × NoCalls made))
 
 -- and of the next line of a script
 abbrev pub NextCalls : Made → Host → Kept → Script → Answer → Kept → Type 0
@@ -125,9 +129,9 @@ NextCalls made host kept (spent lines bytes) answer next = ⊥
 NextCalls made host kept (too_long rest) answer next = NoCalls made
 NextCalls made host kept (line text rest) answer next = TextCalls made host kept text answer next
 
--- the blocks that a line may write, by its text, where this is in memory: all others are kept, and each where the line isn't in the grammar
+-- The blocks that a line may write, by its text, where this is in memory: all others are kept, and each where the line isn't built. A line may write none at all.
 abbrev pub TextWrites : Host → Memory → List ℕ → Tale → Tale → Type 0
-TextWrites host memory text t u = (IsNoCommand text × KeptOutside nowhere t u) ⊎ ((spelled : Line) × IsLine text spelled × WritesOnly host (asked_by_line spelled) memory t u)
+TextWrites host memory text t u = KeptOutside nowhere t u ⊎ ((spelled : Line) × IsLine text spelled × LineWrites host spelled memory t u)
 
 -- and the next line of a script
 abbrev pub NextWrites : Host → Memory → Script → Tale → Tale → Type 0

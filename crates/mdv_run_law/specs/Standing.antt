@@ -1,12 +1,40 @@
 -- How the drive stands with its history at each moment of a run.
-use Rattle.std.specs.Prelude.{◌≡◌, ◌≢◌, ◌⊎◌, ℕ, Bool, true, false, List, [], ◌∷◌, ◌++◌, Some, Contains}
-use Rattle.mdv_run_law.specs.Below.{Script, at_end, spent, too_long, line, Head, shows, Tale, told, Everywhere, left_in, replies_in, Line, Boot, IsLine, is_firm, IsReplica, History, Deed, Created, Event, HasWoken, history_after, MayHappen, Host, site_of, identity_of, Ask, Nothing, Memory, asked_by_line, AcksBy, AcksFront, issuable, issuable_front, StandsAt, Does, Reached, Knows, IsKnown}
+use Rattle.std.specs.Prelude.{◌≡◌, ◌≢◌, ◌⊎◌, ℕ, Bool, true, false, List, [], ◌∷◌, ◌++◌, length, Option, Some, Contains}
+use Rattle.mdv_run_law.specs.Below.{OutOfMemory, Entry, IsTab, Tab, IsRefusal, is_front_of, refusal_line, ok_line, entries_reply, Script, at_end, spent, too_long, line, Head, shows, Tale, told, Everywhere, left_in, replies_in, Line, Boot, IsLine, is_firm, IsReplica, History, Deed, Created, Event, HasWoken, history_after, MayHappen, Host, site_of, identity_of, Ask, Nothing, Memory, asked_by_line, AcksBy, AcksFront, issuable, issuable_front, StandsAt, Does, Reached, Knows, IsKnown}
 use Rattle.mdv_store_law.specs.Machine as machine
 use Rattle.mdv_run_law.specs.Run.{IsNoCommand}
 
--- what a line asks: nothing, where the grammar doesn't have the line
+-- What the boot and the lines so far have settled for those to come: whether a call on the drive failed in the last boot, and the entries that are kept. While
+-- the last reply is only just told, nothing needs to be known of them.
+pub record Context : Type 0 where
+  pub down : Bool
+  pub entries : Option (List Entry)
+
+abbrev pub IsSettled : Context → Type 0
+IsSettled context = (entries : List Entry) × (context.entries ≡ Some entries)
+
+abbrev pub context_of : Memory → Context
+context_of memory = record { down = memory.down; entries = Some memory.entries }
+
+-- what a line asks: nothing, where it isn't built
 abbrev pub Asks : List ℕ → Ask → Type 0
 Asks text ask = (IsNoCommand text × (ask ≡ Nothing)) ⊎ ((spelled : Line) × IsLine text spelled × (ask ≡ asked_by_line spelled))
+
+-- the bytes begin as the reply does that memory was wanting
+abbrev pub IsWanting : List ℕ → Type 0
+IsWanting bytes = is_front_of (refusal_line OutOfMemory) bytes ≡ true
+
+-- What a line asks, of whose reply these bytes were told; nothing, where memory may have been wanting to read it.
+abbrev pub AsksBy : List ℕ → List ℕ → Ask → Type 0
+AsksBy text bytes ask = Asks text ask ⊎ ((ask ≡ Nothing) × IsWanting bytes)
+
+-- The entries that are kept behind a line with this reply: none behind a boot that was told; those of a `tab` block that was read, whose number is told; and
+-- those before, where a boot or a block was refused, and behind any other line.
+abbrev pub HasEntries : List ℕ → List ℕ → Option (List Entry) → List Entry → Type 0
+HasEntries text reply before entries =
+    (IsLine text Boot × (reply ≡ ok_line) × (entries ≡ []))
+    ⊎ (((lines : List ℕ) × IsLine text (Tab lines) × IsTab lines entries × (reply ≡ entries_reply (length entries)))
+    ⊎ ((IsLine text Boot → IsRefusal reply) × ((lines : List ℕ) → IsLine text (Tab lines) → IsRefusal reply) × (before ≡ Some entries)))
 
 -- events by which nothing is asked and nothing is told
 abbrev pub AreIdle : Host → List Event → Type 0
@@ -15,49 +43,52 @@ AreIdle host es = Does host [] [] es
 -- Events of a line that was answered by this reply: they begin what it asks only where the reply is `ok`, or tells that a call on
 -- a drive failed, and else nothing; they tell exactly what the reply acknowledges, which is something only where the last boot has read the
 -- drive: the deed where it is `ok`, and of a read the values that the reply tells.
--- Behind it the last boot has read the drive only where the line is a boot that did, or where it had and the line is none.
-pub record AreOfLine (host : Host) (text : List ℕ) (down : Bool) (reply : List ℕ) (es : List Event) (then : Bool) : Type 0 where
+-- Behind it the last boot has read the drive only where the line is a boot that did, or where it had and the line is none, or was told that memory was
+-- wanting to read it.
+-- And the entries that are kept then are those that the line leaves.
+pub record AreOfLine (host : Host) (text : List ℕ) (now : Context) (reply : List ℕ) (es : List Event) (then : Context) : Type 0 where
   pub ask : Ask
-  pub asks : Asks text ask
+  pub asks : AsksBy text reply ask
   pub done : List Deed
   pub acks : AcksBy ask reply done
   pub does : Does host (issuable ask reply) done es
-  pub awake : done ≢ [] → down ≡ false
-  pub up : then ≡ false → (IsLine text Boot × HasWoken es) ⊎ ((down ≡ false) × (IsLine text Boot → ⊥))
+  pub awake : done ≢ [] → now.down ≡ false
+  pub up : then.down ≡ false → (IsLine text Boot × HasWoken es) ⊎ ((now.down ≡ false) × ((IsLine text Boot → ⊥) ⊎ (reply ≡ refusal_line OutOfMemory)))
+  pub kept : (entries : List Entry) → then.entries ≡ Some entries → HasEntries text reply now.entries entries
 
 -- Events of the line in work, by the front of its reply that was told: they begin what it asks only where that is a front of `ok`, or of the reply
 -- that a call on a drive failed, as it is before the first byte, and else nothing; and they tell what this front acknowledges.
-pub record LineInWork (host : Host) (front : List ℕ) (down : Bool) (text : List ℕ) (es : List Event) : Type 0 where
+pub record LineInWork (host : Host) (front : List ℕ) (now : Context) (text : List ℕ) (es : List Event) : Type 0 where
   pub ask : Ask
-  pub asks : Asks text ask
+  pub asks : AsksBy text front ask
   pub done : List Deed
   pub acks : AcksFront ask front done
   pub does : Does host (issuable_front ask front) done es
-  pub awake : done ≢ [] → down ≡ false
+  pub awake : done ≢ [] → now.down ≡ false
 
--- Events that come, in order, of the lines of the script that these replies answer, one for each, where the last boot
--- before them has read the drive, or was down; behind them come events of what is left of the script.
-abbrev pub ComeOf : Host → (Bool → Script → List Event → Type 0) → Bool → Script → List (List ℕ) → List Event → Type 0
-ComeOf host Left down script [] es = Left down script es
-ComeOf host Left down at_end (reply ∷ replies) es = Left down at_end es
-ComeOf host Left down (spent lines bytes) (reply ∷ replies) es = Left down (spent lines bytes) es
-ComeOf host Left down (too_long more) (reply ∷ replies) es =
-    (first : List Event) × (rest : List Event) × (es ≡ first ++ rest) × AreIdle host first × ComeOf host Left down more replies rest
-ComeOf host Left down (line text more) (reply ∷ replies) es =
-    (first : List Event) × (rest : List Event) × (es ≡ first ++ rest) × (then : Bool) × AreOfLine host text down reply first then × ComeOf host Left then more replies rest
+-- Events that come, in order, of the lines and blocks of the script that these replies answer, one for each, where the boot and the lines before them
+-- have settled this; behind them come events of what is left of the script. What a line settles is known wherever another reply came behind it.
+abbrev pub ComeOf : Host → (Context → Script → List Event → Type 0) → Context → Script → List (List ℕ) → List Event → Type 0
+ComeOf host Left now script [] es = Left now script es
+ComeOf host Left now at_end (reply ∷ replies) es = Left now at_end es
+ComeOf host Left now (spent lines bytes) (reply ∷ replies) es = Left now (spent lines bytes) es
+ComeOf host Left now (too_long more) (reply ∷ replies) es =
+    (first : List Event) × (rest : List Event) × (es ≡ first ++ rest) × AreIdle host first × ComeOf host Left now more replies rest
+ComeOf host Left now (line text more) (reply ∷ replies) es =
+    (first : List Event) × (rest : List Event) × (es ≡ first ++ rest) × (then : Context) × AreOfLine host text now reply first then × (replies ≢ [] → IsSettled then) × ComeOf host Left then more replies rest
 
--- Of the line in work, of which these bytes were told, that are no reply yet: nothing came and nothing was told; or they begin what it asks only where the
+-- Of the line in work, of which these bytes were told, that are no reply yet: nothing came and nothing was told; or all before it is settled, and they begin what it asks only where the
 -- bytes are a front of `ok`, or of the reply that a call failed, and tell what this front of its reply acknowledges, which of a read is its values from the
 -- first byte on.
-abbrev pub InWork : Host → List ℕ → Bool → Script → List Event → Type 0
-InWork host front down at_end es = AreIdle host es
-InWork host front down (spent lines bytes) es = AreIdle host es
-InWork host front down (too_long more) es = AreIdle host es
-InWork host front down (line text more) es = ((front ≡ []) × (es ≡ [])) ⊎ LineInWork host front down text es
+abbrev pub InWork : Host → List ℕ → Context → Script → List Event → Type 0
+InWork host front now at_end es = AreIdle host es
+InWork host front now (spent lines bytes) es = AreIdle host es
+InWork host front now (too_long more) es = AreIdle host es
+InWork host front now (line text more) es = ((front ≡ []) × (es ≡ [])) ⊎ (IsSettled now × LineInWork host front now text es)
 
--- none, and the last boot has read the drive, or not
-abbrev pub NothingLeft : Bool → Bool → Script → List Event → Type 0
-NothingLeft now down script es = (es ≡ []) × (down ≡ now)
+-- none, and this is settled
+abbrev pub NothingLeft : Context → Context → Script → List Event → Type 0
+NothingLeft last now script es = (es ≡ []) × (now ≡ last)
 
 -- the deed was told by these replies to the script: its line's reply acknowledges it
 abbrev pub IsTold : Script → List (List ℕ) → Deed → Type 0
@@ -74,8 +105,8 @@ AreTold at_end replies front told = told ≡ []
 AreTold (spent lines bytes) replies front told = told ≡ []
 AreTold (too_long more) [] front told = told ≡ []
 AreTold (too_long more) (reply ∷ replies) front told = AreTold more replies front told
-AreTold (line text more) [] front told = (told ≡ []) ⊎ ((ask : Ask) × Asks text ask × AcksFront ask front told)
-AreTold (line text more) (reply ∷ replies) front told = (ask : Ask) × Asks text ask × (done : List Deed) × AcksBy ask reply done × (rest : List Deed) × AreTold more replies front rest × (told ≡ done ++ rest)
+AreTold (line text more) [] front told = (told ≡ []) ⊎ ((ask : Ask) × AsksBy text front ask × AcksFront ask front told)
+AreTold (line text more) (reply ∷ replies) front told = (ask : Ask) × AsksBy text reply ask × (done : List Deed) × AcksBy ask reply done × (rest : List Deed) × AreTold more replies front rest × (told ≡ done ++ rest)
 
 -- What the lines may have begun, in their order: each what it asks, where its reply is `ok` or tells that a call failed; and the next
 -- one, of whose reply this front was told, where that is a front of one of these, as it is before the first byte.
@@ -84,8 +115,8 @@ AreBegun at_end replies front begun = begun ≡ []
 AreBegun (spent lines bytes) replies front begun = begun ≡ []
 AreBegun (too_long more) [] front begun = begun ≡ []
 AreBegun (too_long more) (reply ∷ replies) front begun = AreBegun more replies front begun
-AreBegun (line text more) [] front begun = (begun ≡ []) ⊎ ((ask : Ask) × Asks text ask × (begun ≡ issuable_front ask front))
-AreBegun (line text more) (reply ∷ replies) front begun = (ask : Ask) × Asks text ask × (rest : List Deed) × AreBegun more replies front rest × (begun ≡ issuable ask reply ++ rest)
+AreBegun (line text more) [] front begun = (begun ≡ []) ⊎ ((ask : Ask) × AsksBy text front ask × (begun ≡ issuable_front ask front))
+AreBegun (line text more) (reply ∷ replies) front begun = (ask : Ask) × AsksBy text reply ask × (rest : List Deed) × AreBegun more replies front rest × (begun ≡ issuable ask reply ++ rest)
 
 -- the events of a run, of which these bytes were told: those of its boot, and those of the lines so far
 pub record AreOfRun (host : Host) (script : Script) (bytes : List ℕ) (es : List Event) : Type 0 where
@@ -95,7 +126,7 @@ pub record AreOfRun (host : Host) (script : Script) (bytes : List ℕ) (es : Lis
   pub idle : AreIdle host boot
   pub down : Bool
   pub woken : down ≡ false → HasWoken boot
-  pub come : ComeOf host (InWork host (left_in bytes)) down script (replies_in bytes) lines
+  pub come : ComeOf host (InWork host (left_in bytes)) (record { down = down; entries = Some [] }) script (replies_in bytes) lines
 
 -- from a history by some events of such a kind to one that the drive stands with, of which more is known
 abbrev pub Goes : Host → (List Event → Type 0) → (List Event → History → Type 0) → Tale → History → Type 0
@@ -137,7 +168,7 @@ pub record LinesMoment (host : Host) (script : Script) (first : Memory) (t m : T
   pub bytes : List ℕ
   pub is_told : told m ≡ told t ++ bytes
   pub made : Knows host first t → IsTold script (replies_in bytes) Created → ShowsMade host m
-  pub goes : (h : History) → IsKnown host first h t → Goes host (ComeOf host (InWork host (left_in bytes)) first.down script (replies_in bytes)) Reached m h
+  pub goes : (h : History) → IsKnown host first h t → Goes host (ComeOf host (InWork host (left_in bytes)) (context_of first) script (replies_in bytes)) Reached m h
 
 -- a history that has the database that a creation of this run made
 pub record HasMade (host : Host) (memory : Memory) (t : Tale) : Type 0 where
@@ -155,4 +186,4 @@ pub record RanTo (host : Host) (script : Script) (first now : Memory) (left : Sc
   pub left_is : behind script (replies_in bytes) ≡ left
   pub knows : Knows host first t → Knows host now u
   pub made : Knows host first t → IsTold script (replies_in bytes) Created → HasMade host now u
-  pub goes : (h : History) → IsKnown host first h t → Goes host (ComeOf host (NothingLeft now.down) first.down script (replies_in bytes)) (λ es after. IsKnown host now after u) u h
+  pub goes : (h : History) → IsKnown host first h t → Goes host (ComeOf host (NothingLeft (context_of now)) (context_of first) script (replies_in bytes)) (λ es after. IsKnown host now after u) u h

@@ -1,11 +1,11 @@
--- The lines of values.
+-- The lines of values, and that of a number of entries.
 use Rattle.std.proofs.Common.{◌≡◌, ℕ, zero, suc, ◌+◌, ◌/◌, ◌%◌, ◌<◌, Bool, true, false, cond, ◌==◌, nat_lt, List, [], ◌∷◌, ◌++◌, codes, refl, sym, ◌∙◌, ap, append_assoc, arith, ne_eqb, lt-ltb}
 use Rattle.std.specs.Char.{is_ascii_digit}
 use Rattle.std.specs.Fmt.{digit_glyph, digits_onto, digits, decimal}
 use Rattle.std.specs.List.{flat_map}
 use Rattle.std.proofs.lemmas.Bool.Decides.{nat_tests}
 use Rattle.mdv_port.specs.Script.{pieces}
-use Rattle.mdv_status.specs.Values.{hex_byte, significant, hex_text, block_text, value_line, values_text, values_reply, ok_line}
+use Rattle.mdv_status.specs.Values.{hex_byte, significant, hex_text, block_text, value_line, values_text, values_reply, entries_line, ok_line}
 use Rattle.mdv_status.specs.Telling.{lacks, begins_with_digit, IsValueLine, AreValueLines, value_lines}
 use Rattle.mdv_status.proofs.Pieces.{lacks_one, lacks_append, pieces_line}
 
@@ -61,6 +61,9 @@ decimal_plain : (n : ℕ) → IsPlain (decimal n)
 unfolding digits
 decimal_plain n = some_digits 63 n
 
+pub decimal_lacks : (n : ℕ) → lacks 10 (decimal n) ≡ true
+decimal_lacks n = (decimal_plain n).whole
+
 begins_append : (a b : List ℕ) → begins_with_digit a ≡ true → begins_with_digit (a ++ b) ≡ true
 begins_append [] b is = absurd (cc (is))
 begins_append (x ∷ a) b is = is
@@ -80,7 +83,19 @@ pub are_value_lines : (at : ℕ) (blocks : List (List ℕ)) → AreValueLines (v
 are_value_lines at [] = tt
 are_value_lines at (block ∷ blocks) = (is_value_line at block, are_value_lines (at + 1) blocks)
 
-pub line_cut : (bytes rest : List ℕ) → IsValueLine bytes → pieces (bytes ++ rest) ≡ bytes ∷ pieces rest
+-- a text without a newline, and a newline
+pub record IsOneLine (bytes : List ℕ) : Type 0 where
+  pub text : List ℕ
+  pub line : bytes ≡ text ++ 10 ∷ []
+  pub whole : lacks 10 text ≡ true
+
+pub value_one_line : (bytes : List ℕ) → IsValueLine bytes → IsOneLine bytes
+value_one_line bytes is = record { text = is.text; line = is.line; whole = is.whole }
+
+pub entries_one_line : (n : ℕ) → IsOneLine (entries_line n)
+entries_one_line n = record { text = codes "entries " ++ decimal n; line = refl; whole = lacks_append (codes "entries ") (decimal n) refl (decimal_lacks n) }
+
+pub line_cut : (bytes rest : List ℕ) → IsOneLine bytes → pieces (bytes ++ rest) ≡ bytes ∷ pieces rest
 line_cut bytes rest is =
     ap (λ (l : List ℕ). pieces (l ++ rest)) is.line ∙ ap pieces (append_assoc is.text (10 ∷ []) rest) ∙ pieces_line is.text rest is.whole
     ∙ ap (λ (l : List ℕ). l ∷ pieces rest) (sym is.line)
@@ -91,5 +106,5 @@ reply_cut at (block ∷ blocks) rest =
     let line : List ℕ = value_line at block in
     let more : List ℕ = values_text (at + 1) blocks in
     ap (λ (l : List ℕ). pieces (l ++ rest)) (append_assoc line more ok_line) ∙ ap pieces (append_assoc line (more ++ ok_line) rest)
-    ∙ line_cut line ((more ++ ok_line) ++ rest) (is_value_line at block)
+    ∙ line_cut line ((more ++ ok_line) ++ rest) (value_one_line line (is_value_line at block))
     ∙ ap (λ (l : List (List ℕ)). line ∷ l) (reply_cut (at + 1) blocks rest)

@@ -7,10 +7,10 @@ use Rattle.std.proofs.lemmas.Bool.Decides.{nat_tests}
 use Rattle.std.proofs.lemmas.List.{append-nil, take-append-le, length-take}
 use Rattle.std.proofs.Math.Seq.{take-append-add}
 use Rattle.mdv_port.specs.Script.{pieces}
-use Rattle.mdv_status.specs.Values.{value_line, values_text, values_reply, ok_line}
-use Rattle.mdv_status.specs.Telling.{lacks, begins_with_digit, refused, ends_reply, gathered, said_in, unsaid, with_reply, value_lines, IsValueLine, ValuesAreLines, ValuesAreOneReply, RefusalsAreOneReply}
+use Rattle.mdv_status.specs.Values.{value_line, values_text, values_reply, entries_line, entries_reply, ok_line}
+use Rattle.mdv_status.specs.Telling.{lacks, begins_with_digit, refused, ends_reply, gathered, said_in, unsaid, with_reply, value_lines, IsValueLine, ValuesAreLines, ValuesAreOneReply, EntriesAreOneReply, RefusalsAreOneReply}
 use Rattle.mdv_status.proofs.Pieces.{lacks_take, has_newline, pieces_none, pieces_line, pieces_front}
-use Rattle.mdv_status.proofs.Lines.{is_value_line, are_value_lines, reply_cut, line_cut}
+use Rattle.mdv_status.proofs.Lines.{IsOneLine, is_value_line, are_value_lines, value_one_line, entries_one_line, reply_cut, line_cut}
 
 -- no line that begins with a digit ends a reply
 neither : (x y a b c : Bool) → x ≡ false → y ≡ false → (x && a) || b && (y && c) ≡ false
@@ -30,6 +30,13 @@ begun_ends_not (d ∷ text) rest is = digit_ends_not d (text ++ rest) is
 
 value_ends_not : (bytes : List ℕ) → IsValueLine bytes → ends_reply bytes ≡ false
 value_ends_not bytes is = ap ends_reply is.line ∙ begun_ends_not is.text (10 ∷ []) is.digit
+
+-- nor does one that tells a number of entries
+entries_ends_not : (n : ℕ) → ends_reply (entries_line n) ≡ false
+entries_ends_not n = and_false (not (lacks 10 (entries_line n))) where
+  and_false : (x : Bool) → x && false ≡ false
+  and_false true = refl
+  and_false false = refl
 
 -- nor does one that lacks its newline
 open_ends_not : (text : List ℕ) → lacks 10 text ≡ true → ends_reply text ≡ false
@@ -98,10 +105,10 @@ IsUnsaid before bytes = gathered before (pieces bytes) ≡ unsaid (before ++ byt
 short_front : (before text : List ℕ) (count : ℕ) → count ≤ length text → (rest : List ℕ) → lacks 10 text ≡ true → IsUnsaid before (take count (text ++ rest))
 short_front before text count short rest is = subst (IsUnsaid before) (sym (take-append-le count text rest short)) (open_gathered before (take count text) (lacks_take count text is))
 
--- a front of a line of values and of what is told behind it
-line_front : (before bytes rest : List ℕ) (count : ℕ) → IsValueLine bytes → count < length (bytes ++ rest)
+-- a front of a line that ends no reply and of what is told behind it
+line_front : (before bytes rest : List ℕ) (count : ℕ) → IsOneLine bytes → ends_reply bytes ≡ false → count < length (bytes ++ rest)
     → ((left : ℕ) → left < length rest → IsUnsaid (before ++ bytes) (take left rest)) → IsUnsaid before (take count (bytes ++ rest))
-line_front before bytes rest count is below behind = ⊎_elim
+line_front before bytes rest count is ends below behind = ⊎_elim
     (λ (short : count ≤ length is.text). (
     let same : bytes ++ rest ≡ is.text ++ 10 ∷ rest = ap (λ (l : List ℕ). l ++ rest) is.line ∙ append_assoc is.text (10 ∷ []) rest in
     subst (λ (l : List ℕ). IsUnsaid before (take count l)) (sym same) (short_front before is.text count short (10 ∷ rest) is.whole)))
@@ -111,7 +118,7 @@ line_front before bytes rest count is below behind = ⊎_elim
     let left : List ℕ = take (count - length bytes) rest in
     let same : take count (bytes ++ rest) ≡ bytes ++ left = ap (λ (n : ℕ). take n (bytes ++ rest)) split ∙ take-append-add bytes rest (count - length bytes) in
     subst (IsUnsaid before) (sym same) (
-    ap (gathered before) (line_cut bytes left is) ∙ on before bytes (pieces left) (value_ends_not bytes is)
+    ap (gathered before) (line_cut bytes left is) ∙ on before bytes (pieces left) ends
     ∙ behind (count - length bytes) (let all = length-append bytes rest in omega arith) ∙ ap unsaid (append_assoc before bytes left))))
     (le_or_gt count (length is.text))
 
@@ -122,11 +129,25 @@ values_front before at (block ∷ blocks) count below =
     let more : List ℕ = values_reply (at + 1) blocks in
     let same : values_reply at (block ∷ blocks) ≡ line ++ more = reply_of at block blocks in
     subst (λ (l : List ℕ). IsUnsaid before (take count l)) (sym same)
-    (line_front before line more count (is_value_line at block) (let size = ap length same in omega arith) (values_front (before ++ line) (at + 1) blocks))
+    (line_front before line more count (value_one_line line (is_value_line at block)) (value_ends_not line (is_value_line at block)) (let size = ap length same in omega arith) (values_front (before ++ line) (at + 1) blocks))
 
 front_is_none : (at : ℕ) (blocks : List (List ℕ)) (count : ℕ) → count < length (values_reply at blocks) → said_in (take count (values_reply at blocks)) ≡ unsaid (take count (values_reply at blocks))
 unfolding said_in
 front_is_none at blocks count below = values_front [] at blocks count below
+
+entries_more : (n : ℕ) (rest : List ℕ) → said_in (entries_reply n ++ rest) ≡ with_reply (entries_reply n) (said_in rest)
+unfolding said_in
+entries_more n rest =
+    let line : List ℕ = entries_line n in
+    ap (λ (l : List ℕ). gathered [] (pieces l)) (append_assoc line ok_line rest) ∙ ap (gathered []) (line_cut line (ok_line ++ rest) (entries_one_line n))
+    ∙ on [] line (pieces (ok_line ++ rest)) (entries_ends_not n)
+    ∙ ap (gathered line) (pieces_line (codes "ok") rest refl)
+
+entries_front : (n count : ℕ) → count < length (entries_reply n) → said_in (take count (entries_reply n)) ≡ unsaid (take count (entries_reply n))
+unfolding said_in
+entries_front n count below =
+    let line : List ℕ = entries_line n in
+    line_front [] line ok_line count (entries_one_line n) (entries_ends_not n) below (λ left short. short_front line (codes "ok") left (omega arith) (10 ∷ []) refl)
 
 pub values_are_lines : ValuesAreLines
 values_are_lines = record { lines = are_value_lines; cut = reply_cut }
@@ -136,3 +157,6 @@ values_are_one_reply = record { more = values_more; front = front_is_none }
 
 pub refusals_are_one_reply : RefusalsAreOneReply
 refusals_are_one_reply = record { more = refusal_more; front = open_front }
+
+pub entries_are_one_reply : EntriesAreOneReply
+entries_are_one_reply = record { more = entries_more; front = entries_front }

@@ -1,10 +1,10 @@
--- How replies lie among the bytes that are told: a reply to a read is its lines of values and the line `ok`.
+-- How replies lie among the bytes that are told: a reply to a read is its lines of values and the line `ok`, one to a block of entries their number and this line.
 use Rattle.std.specs.Prelude.{◌≡◌, ℕ, Bool, true, false, not, ◌&&◌, ◌||◌, ◌==◌, ◌+◌, ◌<◌, List, [], ◌∷◌, ◌++◌, length, map, take, All, codes, if◌then◌else◌}
 use Rattle.std.specs.Char.{is_ascii_digit}
 use Rattle.std.specs.List.{list_all}
 use Rattle.std.specs.Str.{bytes_eq}
 use Rattle.mdv_port.specs.Script.{pieces}
-use Rattle.mdv_status.specs.Values.{significant, value_line, values_reply, ok_line}
+use Rattle.mdv_status.specs.Values.{significant, value_line, values_reply, entries_reply, ok_line}
 
 -- the byte isn't in the text
 abbrev pub lacks : ℕ → List ℕ → Bool
@@ -77,6 +77,11 @@ pub record ValuesAreLines : Type 0 where
 pub record ValuesAreOneReply : Type 0 where
   pub more : (at : ℕ) (blocks : List (List ℕ)) (rest : List ℕ) → said_in (values_reply at blocks ++ rest) ≡ with_reply (values_reply at blocks) (said_in rest)
   pub front : (at : ℕ) (blocks : List (List ℕ)) (count : ℕ) → count < length (values_reply at blocks) → said_in (take count (values_reply at blocks)) ≡ unsaid (take count (values_reply at blocks))
+
+-- So is a reply to a block of entries.
+pub record EntriesAreOneReply : Type 0 where
+  pub more : (n : ℕ) (rest : List ℕ) → said_in (entries_reply n ++ rest) ≡ with_reply (entries_reply n) (said_in rest)
+  pub front : (n count : ℕ) → count < length (entries_reply n) → said_in (take count (entries_reply n)) ≡ unsaid (take count (entries_reply n))
 
 -- So is a line that tells a refusal; and bytes without a newline are no reply.
 pub record RefusalsAreOneReply : Type 0 where

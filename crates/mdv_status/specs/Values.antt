@@ -1,4 +1,4 @@
--- What a read tells: a line for each block, and `ok` behind them.
+-- What a read tells, a line for each block, and what a block of entries tells, their number; `ok` stands behind them.
 use Rattle.std.specs.Prelude.{ℕ, zero, false, List, [], ◌∷◌, ◌++◌, ◌+◌, ◌/◌, ◌%◌, codes, decimal, flat_map}
 use Rattle.std.specs.Fmt.{digit_glyph}
 
@@ -40,3 +40,11 @@ ok_line = codes "ok" ++ 10 ∷ []
 -- the whole reply
 abbrev pub values_reply : ℕ → List (List ℕ) → List ℕ
 values_reply at blocks = values_text at blocks ++ ok_line
+
+-- how many entries were read
+abbrev pub entries_line : ℕ → List ℕ
+entries_line n = codes "entries " ++ decimal n ++ 10 ∷ []
+
+-- the whole reply to a block of entries
+abbrev pub entries_reply : ℕ → List ℕ
+entries_reply n = entries_line n ++ ok_line

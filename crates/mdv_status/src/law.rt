@@ -1,4 +1,4 @@
-ghost use Rattle.mdv_status.specs.Telling.{ValuesAreLines, ValuesAreOneReply, ValuesAreTold, RefusalsAreOneReply};
+ghost use Rattle.mdv_status.specs.Telling.{ValuesAreLines, ValuesAreOneReply, ValuesAreTold, EntriesAreOneReply, RefusalsAreOneReply};
 
 /// The reply to a read is one line for each block, which begins with a digit, and the line `ok`, and bytes
 /// behind it change none of them.
@@ -10,6 +10,11 @@ pub fn values_are_lines()
 /// byte is told.
 pub fn values_are_one_reply()
     ensures { ValuesAreOneReply }
+{}
+
+/// So is the reply to a block of entries.
+pub fn entries_are_one_reply()
+    ensures { EntriesAreOneReply }
 {}
 
 /// Two lists of blocks of one length whose replies are the same are the same.

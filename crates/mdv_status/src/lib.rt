@@ -1,8 +1,11 @@
-//! What a volume is told of as text: the reply to a read of its blocks.
+//! What is told as text: the reply to a read of a volume's blocks, and to a block of entries.
 #![tactic(auto)]
 
 mod law;
 mod values;
 
-pub use law::{refusals_are_one_reply, values_are_lines, values_are_one_reply, values_are_told};
+pub use law::{
+    entries_are_one_reply, refusals_are_one_reply, values_are_lines, values_are_one_reply,
+    values_are_told,
+};
 pub use values::ValueText;

@@ -1,6 +1,6 @@
 ghost use Rattle.std.specs.Prelude.{◌≡◌, ◌↔◌, false, ◌+◌, ◌<◌, ◌^◌, ◌∷◌, [], ◌++◌, length, decimal, flat_map, IsTrue, IfOk, OnOk};
 ghost use Rattle.std.specs.Fmt.{digit_glyph};
-ghost use Rattle.mdv_status.specs.Values.{hex_byte, significant as spec_significant, block_text, value_line, values_text, values_reply};
+ghost use Rattle.mdv_status.specs.Values.{hex_byte, significant as spec_significant, block_text, value_line, values_text, values_reply, entries_reply};
 
 use itoa::Buffer;
 use mdv_base::Block;
@@ -9,10 +9,12 @@ use std::marker::Model;
 
 const OK: &[u8] = b"ok\n";
 
+const ENTRIES: &[u8] = b"entries ";
+
 // So many bytes at the end of a block are looked at together.
 const CHUNK: usize = 64;
 
-/// The whole reply to a read, as it is told at once.
+/// The whole reply to a read or to a block of entries, as it is told at once.
 #[derive(Drop)]
 pub struct ValueText {
     text: Vec<u8>,
@@ -35,6 +37,19 @@ impl ValueText {
     {
         let mut text = Vec::new(alloc);
         push_lines(&mut text, at, blocks)?;
+        text.extend_from_slice(OK)?;
+        Ok(ValueText { text })
+    }
+
+    /// The reply that tells how many entries a block has. It fails only where memory is refused.
+    pub fn of_entries(alloc: Global, count: u32) -> Result<ValueText, AllocError>
+        ensures { IfOk result (λ text. text ≡ entries_reply count) }
+    {
+        let mut number = Buffer::new();
+        let mut text = Vec::new(alloc);
+        text.extend_from_slice(ENTRIES)?;
+        text.extend_from_slice(number.format(count).as_bytes())?;
+        text.push(b'\n')?;
         text.extend_from_slice(OK)?;
         Ok(ValueText { text })
     }

@@ -1,2 +1,4 @@
-pub mod Fronts
+pub mod Entries
+pub mod Asked
+pub mod Form
 pub mod Lines

@@ -1,28 +1,97 @@
--- What a line spells: `boot`, or a command.
-use Rattle.std.specs.Prelude.{◌≡◌, ◌<◌, ◌≤◌, ◌^◌, true, false, ℕ, List, [], ◌∷◌, ◌++◌, codes, decimal}
-use Rattle.mdv_name.specs.Drive.{IsSliceName, slice_text}
-use Rattle.mdv_name.specs.Volume.{number_text}
+-- What an item of a script is, which is one line or a `tab` block: `boot`, a block's lines, or a line that is built.
+use Rattle.std.specs.Prelude.{◌≡◌, ◌<◌, ◌≤◌, ℕ, Bool, Option, None, Some, List, [], ◌∷◌, ◌++◌, codes}
+use Rattle.mdv_base.specs.declared.drive.SliceName.{SliceName}
+use Rattle.mdv_base.specs.declared.name.PoolId.{PoolId}
+use Rattle.mdv_base.specs.declared.name.VolId.{VolId}
+use Rattle.mdv_name.specs.declared.volume.VolName.{VolName}
+use Rattle.mdv_parts.specs.declared.component.Component.{Component}
+use Rattle.mdv_parts.specs.declared.component.Component.TheVariants.{Slice}
+use Rattle.mdv_tab.specs.declared.entry.Entry.TheVariants.{Stripe}
+use Rattle.mdv_tab.specs.declared.entry.Row.{Row}
+use Rattle.mdv_command.specs.declared.command.Command.{Command as Wanted}
+use Rattle.mdv_command.specs.declared.command.Command.TheVariants as wanted
+use Rattle.mdv_grammar.specs.Line.{IsLine as IsAsked}
+use Rattle.mdv_grammar.specs.declared.line.Line.TheVariants as grammar
+use Rattle.mdv_grammar.specs.declared.line.WordsFault.{WordsFault}
+use Rattle.mdv_grammar.specs.declared.line.WordsFault.TheVariants.{BadLine, Memory}
 use Rattle.mdv_words.specs.declared.command.Command.{Command}
 use Rattle.mdv_words.specs.declared.command.Command.TheVariants.{Create, MakeStripe, Read, Write}
-use Rattle.mdv_words.specs.declared.command.Line.{Line}
-use Rattle.mdv_words.specs.declared.command.Line.TheVariants as words
-use Rattle.mdv_text.specs.Hex.{SpellsBlock}
+use Rattle.mdv_words.specs.declared.line.Line.{Line as ReadLine}
+use Rattle.mdv_words.specs.declared.line.Line.TheVariants as read
 
--- the words, parted by exactly one blank
-abbrev pub spaced : List (List ℕ) → List ℕ
-spaced [] = []
-spaced (w ∷ []) = w
-spaced (w ∷ v ∷ ws) = w ++ 32 ∷ spaced (v ∷ ws)
+-- `boot`, the lines of a block, or a command that an engine carries out
+pub data Line : Type 0 where
+  Boot : Line
+  Tab : List ℕ → Line
+  Exec : Command → Line
 
--- each command by its words, with its numbers and names in range
-abbrev pub IsCommand : List ℕ → Command → Type 0
-IsCommand text (Create slice true) = IsSliceName slice × (text ≡ spaced (codes "metadb" ∷ codes "-a" ∷ codes "-f" ∷ slice_text slice ∷ []))
-IsCommand text (Create slice false) = IsSliceName slice × (text ≡ spaced (codes "metadb" ∷ codes "-a" ∷ slice_text slice ∷ []))
-IsCommand text (MakeStripe volume slice) = (volume.0 < 8192) × IsSliceName slice × (text ≡ spaced (codes "metainit" ∷ number_text volume.0 ∷ codes "1" ∷ codes "1" ∷ slice_text slice ∷ []))
-IsCommand text (Read volume at count) = (volume.0 < 8192) × (at < 2 ^ 64) × (1 ≤ count) × (count ≤ 1024) × (text ≡ spaced (codes "read" ∷ number_text volume.0 ∷ decimal at ∷ decimal count ∷ []))
-IsCommand text (Write volume at block) = (hex : List ℕ) × (volume.0 < 8192) × (at < 2 ^ 64) × SpellsBlock hex block × (text ≡ spaced (codes "write" ∷ number_text volume.0 ∷ decimal at ∷ hex ∷ []))
+-- what the code's line says
+abbrev pub line_of : ReadLine → Line
+line_of read.Boot = Boot
+line_of (read.Tab lines) = Tab lines.now
+line_of (read.Command command) = Exec command
 
--- `boot`, or one of these
+-- a block, by its lines, each with its newline
+abbrev pub tab_text : List ℕ → List ℕ
+tab_text lines = codes "tab" ++ 10 ∷ lines
+
+-- the text is no block
+abbrev pub IsAlone : List ℕ → Type 0
+IsAlone text = (lines : List ℕ) → text ≡ tab_text lines → ⊥
+
+-- one slice, with no number of replicas and no length
+abbrev pub creation_of : List SliceName → Option ℕ → Option ℕ → Bool → Option Command
+creation_of (slice ∷ []) None None force = Some (Create slice force)
+creation_of slices count blocks force = None
+
+-- a row of one slice, with no interlace
+abbrev pub slice_of_row : List Component → Option ℕ → Option SliceName
+slice_of_row (Slice slice ∷ []) None = Some slice
+slice_of_row components interlace = None
+
+-- a volume of the local database on the slice
+abbrev pub volume_on : Option (List ℕ) → VolId → Option SliceName → Option Command
+volume_on None volume (Some slice) = Some (MakeStripe volume slice)
+volume_on set volume slice = None
+
+-- one row, with no pool of spares
+abbrev pub stripe_of : VolName → List Row → Option PoolId → Option Command
+stripe_of name (row ∷ []) None = volume_on name.set name.volume (slice_of_row row.components row.interlace)
+stripe_of name rows spares = None
+
+-- blocks of a volume of the local database
+abbrev pub on_local : Option (List ℕ) → Command → Option Command
+on_local None command = Some command
+on_local (Some set) command = None
+
+-- The commands that are built, among all that a line may ask: `metadb -a [-f] SLICE`, `metainit [-f] dN 1 1 SLICE`, whose `-f` changes nothing, `read`
+-- and `write`.
+abbrev pub built_of : Wanted → Option Command
+built_of (wanted.AddReplicas slices options force) = creation_of slices options.count options.blocks force
+built_of (wanted.Make (Stripe name rows spares) force) = stripe_of name rows spares
+built_of (wanted.Read volume at count) = on_local volume.set (Read volume.volume at count)
+built_of (wanted.Write volume at block) = on_local volume.set (Write volume.volume at block)
+built_of _ = None
+
+-- the line asks for a command that is built
+pub record IsCommand (text : List ℕ) (command : Command) : Type 0 where
+  pub asked : Wanted
+  pub line : IsAsked text (grammar.Command asked)
+  pub built : built_of asked ≡ Some command
+
 abbrev pub IsLine : List ℕ → Line → Type 0
-IsLine text words.Boot = text ≡ codes "boot"
-IsLine text (words.Command command) = IsCommand text command
+IsLine text Boot = IsAlone text × IsAsked text grammar.Boot
+IsLine text (Tab lines) = text ≡ tab_text lines
+IsLine text (Exec command) = IsAlone text × IsCommand text command
+
+-- the text is none of these, or memory is wanting
+abbrev pub IsFaultOf : List ℕ → WordsFault → Type 0
+IsFaultOf text BadLine = (line : Line) → IsLine text line → ⊥
+IsFaultOf text Memory = Unit {0}
+
+-- what each command of a line keeps
+abbrev pub IsInForm : Command → Type 0
+IsInForm (Create slice force) = Unit {0}
+IsInForm (MakeStripe volume slice) = volume.0 < 8192
+IsInForm (Read volume at count) = 1 ≤ count
+IsInForm (Write volume at block) = Unit {0}

@@ -1,27 +1,11 @@
-ghost use Rattle.std.specs.Prelude.{◌≡◌, ℕ, Bool, List, IfSome, IfNone};
-ghost use Rattle.mdv_base.specs.declared.drive.SliceName.{SliceName};
-ghost use Rattle.mdv_base.specs.declared.name.VolId.{VolId};
-ghost use Rattle.mdv_words.specs.declared.command.Command.{Command};
-ghost use Rattle.mdv_words.specs.declared.command.Line.{Line};
-ghost use Rattle.mdv_words.specs.Line.{IsCommand, IsLine};
+ghost use Rattle.std.specs.Prelude.{◌≡◌};
+ghost use Rattle.mdv_words.specs.Line.{creation_of, slice_of_row, stripe_of, on_local, built_of};
 
-use crate::fields::{split_address, split_volume, strip};
-use mdv_base::{Block, SliceName, VolId};
-use mdv_name::parse_plain_slice;
-use mdv_text::{number, read_block};
-
-const BOOT: &[u8] = b"boot";
-
-/// The most blocks that one line reads.
-pub const MAX_READ: u64 = 1024;
-
-/// A line of a script. The host boots itself; an engine carries the commands out.
-#[derive(Clone, Copy, Debug, PartialEq, Eq)]
-pub enum Line {
-    /// `boot`
-    Boot,
-    Command(Command),
-}
+use mdv_base::{Block, PoolId, SliceName, VolId};
+use mdv_command::Command as Asked;
+use mdv_name::VolName;
+use mdv_parts::{Component, ReplicaOptions};
+use mdv_tab::{Entry, Row};
 
 /// What a line asks an engine for.
 #[derive(Clone, Copy, Debug, PartialEq, Eq)]
@@ -31,16 +15,16 @@ pub enum Command {
         slice: SliceName,
         force: bool,
     },
-    /// `metainit dN 1 1 SLICE`
+    /// `metainit dN 1 1 SLICE`, or with `-f`
     MakeStripe {
         volume: VolId,
         slice: SliceName,
     },
-    /// `read dN AT COUNT`: COUNT blocks from block AT of the volume on, 1 to 1024
+    /// `read dN AT COUNT`: COUNT blocks from block AT of the volume on, 1 or more
     Read {
         volume: VolId,
         at: u64,
-        count: u32,
+        count: u64,
     },
     /// `write dN AT HEX`: one block; HEX is 1 to 512 pairs of digits, the rest of the block is zeros
     Write {
@@ -50,88 +34,90 @@ pub enum Command {
     },
 }
 
-/// What a line spells; None for a line that isn't in the grammar.
-pub fn read_line(text: &[u8]) -> Option<Line>
-    ensures value { IfSome result (IsLine text.now) }
-    ensures none { IfNone result ((line : Line) → IsLine text.now line → ⊥) }
+fn creation(slices: &[SliceName], options: &ReplicaOptions, force: bool) -> Option<Command>
+    ensures { result ≡ creation_of slices.now options.now.count options.now.blocks force }
 {
-    if text == BOOT {
-        return Some(Line::Boot);
-    }
-    let command = read_command(text)?;
-    Some(Line::Command(command))
-}
-
-fn read_command(text: &[u8]) -> Option<Command>
-    ensures value { IfSome result (IsCommand text.now) }
-    ensures none { IfNone result ((c : Command) → IsCommand text.now c → ⊥) }
-{
-    if let Some(command) = creation(text) {
-        return Some(command);
-    }
-    if let Some(command) = stripe(text) {
-        return Some(command);
-    }
-    if let Some(command) = reading(text) {
-        return Some(command);
-    }
-    writing(text)
-}
-
-fn creation(text: &[u8]) -> Option<Command>
-    ensures value { IfSome result (λ c. IsCommand text.now c) }
-    ensures none { IfNone result ((slice : SliceName) (force : Bool) →
-        IsCommand text.now (Command.Create slice force) → ⊥) }
-{
-    let rest = strip(b"metadb -a ", text)?;
-    match strip(b"-f ", rest) {
-        Some(name) => {
-            let slice = parse_plain_slice(name)?;
-            Some(Command::Create { slice, force: true })
-        }
-        None => {
-            let slice = parse_plain_slice(rest)?;
-            Some(Command::Create {
-                slice,
-                force: false,
-            })
-        }
-    }
-}
-
-fn stripe(text: &[u8]) -> Option<Command>
-    ensures value { IfSome result (λ c. IsCommand text.now c) }
-    ensures none { IfNone result ((volume : VolId) (slice : SliceName) →
-        IsCommand text.now (Command.MakeStripe volume slice) → ⊥) }
-{
-    let (volume, rest) = split_volume(strip(b"metainit ", text)?)?;
-    let slice = parse_plain_slice(strip(b"1 1 ", rest)?)?;
-    Some(Command::MakeStripe { volume, slice })
-}
-
-fn reading(text: &[u8]) -> Option<Command>
-    ensures value { IfSome result (λ c. IsCommand text.now c) }
-    ensures none { IfNone result ((volume : VolId) (at count : ℕ) →
-        IsCommand text.now (Command.Read volume at count) → ⊥) }
-{
-    let (volume, at, rest) = split_address(strip(b"read ", text)?)?;
-    let count = number(rest)?;
-    if count == 0 || count > MAX_READ {
+    let [slice] = slices else {
+        return None;
+    };
+    if options.count.is_some() || options.blocks.is_some() {
         return None;
     }
-    Some(Command::Read {
-        volume,
-        at,
-        count: count as u32,
+    Some(Command::Create {
+        slice: *slice,
+        force,
     })
 }
 
-fn writing(text: &[u8]) -> Option<Command>
-    ensures value { IfSome result (λ c. IsCommand text.now c) }
-    ensures none { IfNone result ((volume : VolId) (at : ℕ) (block : List ℕ) →
-        IsCommand text.now (Command.Write volume at block) → ⊥) }
+// The slice of a row of one.
+fn slice_of(row: &Row) -> Option<SliceName>
+    ensures { result ≡ slice_of_row row.now.components row.now.interlace }
 {
-    let (volume, at, hex) = split_address(strip(b"write ", text)?)?;
-    let block = read_block(hex)?;
-    Some(Command::Write { volume, at, block })
+    if row.interlace.is_some() {
+        return None;
+    }
+    match row.components.as_slice() {
+        [Component::Slice(slice)] => Some(*slice),
+        _ => None,
+    }
+}
+
+fn stripe(name: &VolName, rows: &[Row], spares: &Option<PoolId>) -> Option<Command>
+    ensures { result ≡ stripe_of name.now rows.now spares.now }
+{
+    let [row] = rows else {
+        return None;
+    };
+    if spares.is_some() || name.set.is_some() {
+        return None;
+    }
+    let slice = slice_of(row)?;
+    Some(Command::MakeStripe {
+        volume: name.volume,
+        slice,
+    })
+}
+
+// The command where its volume is of the local database.
+fn local(volume: &VolName, command: Command) -> Option<Command>
+    ensures { result ≡ on_local volume.now.set command }
+{
+    match volume.set {
+        None => Some(command),
+        Some(_) => None,
+    }
+}
+
+// What is built of all that a line may ask.
+pub(crate) fn built(asked: &Asked) -> Option<Command>
+    ensures { result ≡ built_of asked.now }
+{
+    match asked {
+        Asked::AddReplicas {
+            slices,
+            options,
+            force,
+        } => creation(slices.as_slice(), options, *force),
+        Asked::Make {
+            entry: Entry::Stripe { name, rows, spares },
+            ..
+        } => stripe(name, rows.as_slice(), spares),
+        Asked::Read { volume, at, count } => local(
+            volume,
+            Command::Read {
+                volume: volume.volume,
+                at: *at,
+                count: *count,
+            },
+        ),
+        Asked::Write { volume, at, block } => local(
+            volume,
+            Command::Write {
+                volume: volume.volume,
+                at: *at,
+                block: *block,
+            },
+        ),
+        _ => None,
+    }
 }

@@ -1,9 +1,11 @@
-//! A line of a script, read as the command that it spells.
+//! An item of a script, a line or a `tab` block, read as what an engine carries out.
 #![tactic(auto)]
 
 mod command;
-mod fields;
 mod law;
+mod line;
 
-pub use command::{Command, Line, MAX_READ, read_line};
-pub use law::reads_one_line;
+pub use command::Command;
+pub use law::{commands_are_in_form, reads_one_line};
+pub use line::{Line, read_line};
+pub use mdv_grammar::WordsFault;

@@ -1,8 +1,8 @@
-use Rattle.std.proofs.Common.{◌≡◌, true, false, sym, subst, refl}
+use Rattle.std.proofs.Common.{◌≡◌, true, false, [], sym, subst, refl}
 use Rattle.mdv_engine_law.specs.declared.answer.Ended.TheVariants as ended
 use Rattle.mdv_database.specs.declared.database.BootEnd.TheVariants as found
 use Rattle.mdv_shelf.specs.Shelves.{DriveFailures}
-use Rattle.mdv_engine.specs.Engine.{HasUpCause}
+use Rattle.mdv_engine.specs.Engine.{HasUpCause, IsWell}
 use Rattle.mdv_engine.specs.Below.{Failures, PlaceAt, Memory, lost, spent, wanting, unbooted}
 use Rattle.mdv_engine_law.proofs.Keeping.{same_content}
 use Rattle.mdv_engine.proofs.Ending.{answered_ends, closed_well, unanswered_ends}
@@ -36,10 +36,10 @@ returns-in-Memory-clause-moments g c = boot_moments c.args.host.now (g.S.Shelf.s
 
 pub returns-in-Adopted-clause-end : goal.returns-in-Adopted-clause-end
 returns-in-Adopted-clause-end g c =
-    answered_ends _ _ c.args.host.now (unbooted c.args.begun) _ _ _ _ refl
+    answered_ends _ _ c.args.host.now (unbooted c.args.begun) _ _ _ _ c.with_database.ensures
     (λ t start.
     let end = adopted_rebooted c.args.host.now (g.S.Shelf.sizes c.args.shelf.now) c.requires c.place_at.result c.place_at.ensures c.args.begun c.in-Adopted.database _ _ _ (subst (λ (p : PlaceAt). (DriveFailures g.S.Shelf c.args.shelf.now c.boot.new.shelf p.drive.0).none) c.place_at.ensures c.in-Adopted.ensures.answer.cause) (boot_quiet _ _ _ c.boot.ensures.moments) (shown _ _ _ _ _ _ c.in-Adopted.ensures.end) (adopted_there _ _ _ _ _ _ c.in-Adopted.ensures.end) t start in
-    (end.0, end.1, end.2 (unbooted c.args.begun) _ refl refl))
+    (end.0, end.1, end.2 (unbooted c.args.begun) _ refl c.with_database.ensures))
     (adopted_booted c.args.host.now (g.S.Shelf.sizes c.args.shelf.now) c.requires c.place_at.result c.place_at.ensures c.args.begun c.in-Adopted.database _ _ (boot_quiet _ _ _ c.boot.ensures.moments) (adopted_there _ _ _ _ _ _ c.in-Adopted.ensures.end) (synced _ _ _ _ _ _ c.in-Adopted.ensures.end tt) (goes_to _ _ _ _ _ _ c.in-Adopted.ensures.end))
     (λ t start. by_here c.args.host.now (g.S.Shelf.sizes c.args.shelf.now) c.requires c.place_at.result c.place_at.ensures _ (found.Adopted c.in-Adopted.database) t (booted_by _ _ _ _ _ _ c.in-Adopted.ensures.end t start))
 
@@ -89,7 +89,7 @@ unread_so : (failures : Failures) (memory after : Memory) → memory ≡ after �
 unread_so failures memory after is cause = subst (λ (m : Memory). HasUpCause failures m.down) (sym is) cause
 
 pub returns-in-Adopted-clause-answer : goal.returns-in-Adopted-clause-answer
-returns-in-Adopted-clause-answer g c = record { cause = (subst (λ (p : PlaceAt). (DriveFailures g.S.Shelf c.args.shelf.now c.boot.new.shelf p.drive.0).none) c.place_at.ensures c.in-Adopted.ensures.answer.cause); well = adopted_well c.args.host.now c.args.begun c.in-Adopted.database c.place_at.result c.place_at.ensures c.in-Adopted.ensures.answer.table }
+returns-in-Adopted-clause-answer g c = record { cause = unread_so _ _ _ c.with_database.ensures (subst (λ (p : PlaceAt). (DriveFailures g.S.Shelf c.args.shelf.now c.boot.new.shelf p.drive.0).none) c.place_at.ensures c.in-Adopted.ensures.answer.cause); well = subst (λ (m : Memory). IsWell c.args.host.now m × (m.begun ≡ c.args.begun) × (m.entries ≡ [])) (sym c.with_database.ensures) (adopted_well c.args.host.now c.args.begun c.in-Adopted.database c.place_at.result c.place_at.ensures c.in-Adopted.ensures.answer.table) }
 
 pub returns-in-Empty-clause-answer : goal.returns-in-Empty-clause-answer
 returns-in-Empty-clause-answer g c = record { cause = unread_so _ _ _ c.without_database.ensures (subst (λ (p : PlaceAt). (DriveFailures g.S.Shelf c.args.shelf.now c.boot.new.shelf p.drive.0).none) c.place_at.ensures c.in-Empty.ensures.answer.cause); well = closed_well c.args.host.now _ false c.args.begun c.without_database.ensures }
@@ -101,7 +101,8 @@ pub returns-in-Lost-clause-answer : goal.returns-in-Lost-clause-answer
 returns-in-Lost-clause-answer g c = record { cause = ((subst (λ (p : PlaceAt). (DriveFailures g.S.Shelf c.args.shelf.now c.boot.new.shelf p.drive.0).some) c.place_at.ensures c.in-Lost.ensures.answer.cause), refl, refl); well = tt }
 
 pub returns-in-Adopted-clause-counted : goal.returns-in-Adopted-clause-counted
-returns-in-Adopted-clause-counted g c = c.in-Adopted.ensures.counted
+returns-in-Adopted-clause-counted g c =
+    subst (IsUpCounted g.S.Shelf.calls g.S.Shelf.written _ _) (sym c.with_database.ensures) c.in-Adopted.ensures.counted
 
 pub returns-in-Empty-clause-counted : goal.returns-in-Empty-clause-counted
 returns-in-Empty-clause-counted g c =

@@ -7,7 +7,7 @@ use Rattle.std.proofs.lemmas.List.{append-nil}
 use Rattle.mdv_shelf.specs.Shelves.{DriveFailures, GivingFailed}
 use Rattle.mdv_run.specs.Below.{OnDrive, OnReplies, Moments, Ends, told, Boot, Host, StaysHome, BootMoment, BootedTo, TurnMoment, Engine, IsWell, Knows, IsRebooted, Tale, kept_at}
 use Rattle.mdv_run.specs.Promise.{LineEnd}
-use Rattle.mdv_run.proofs.Answering.{uncut_replied, line_executed, accepted_turned, ended_reply, reply_more, told_reply, turn_writes}
+use Rattle.mdv_run.proofs.Answering.{uncut_replied, line_executed, accepted_ok, accepted_turned, ended_reply, reply_more, told_reply, turn_writes}
 use Rattle.std.specs.Option.{option_map}
 use Rattle.mdv_shelf.specs.Shelves.{AtEachMoment}
 use Rattle.mdv_shelf.specs.Story.{OfTales, Story, tale_of}
@@ -68,7 +68,7 @@ returns-in-Ok-clause-end g c = λ text boots.
             (ap told (some_is _ up.0 quiet.0 up.1 quiet.1) ∙ quiet.2.quiet) up.2.rebooted end.2
             (boot_too (made_of g.B.Shelf c.args.bench.now c.reboot.new.shelf) (and_more 1 made) (with_more g.B.Shelf.calls g.B.Shelf.written _ _ _ 1 c.accept.ensures.counted.once) host accepted new (contents t) up.2.calls))
             (turn_writes host Nothing old _ _ (returns-in-Ok-clause-moments g c) t end.0 is end.1);
-        ran = λ on more. booted_ran host old new t up.0 (up.2.booted refl) text more boots end.0 (accepted_turned host new _ c.accept.result up.0 end.0 end.2 on);
+        ran = λ on more. booted_ran host old new t up.0 (up.2.booted refl) text more boots c.in-Ok.ensures.answer.fresh end.0 (accepted_turned host new _ c.accept.result up.0 end.0 end.2 on) (accepted_ok host new _ c.accept.result up.0 end.0 end.2 on);
         knows = λ kept known. knows_kept host up.0 end.0 end.2.kept new (up.2.booted refl).knows;
       },
     )))
@@ -106,8 +106,8 @@ returns-in-Err-clause-end g c = λ text boots t is.
       record {
         answered = λ knows. record {
           answer = Over c.in-Err.end;
-          done = inr (Boot, boots, done.2.rebooted);
-          calls = inr (Boot, boots, done.2.calls);
+          done = inr (inl (Boot, boots, done.2.rebooted));
+          calls = inr (inl (Boot, boots, done.2.calls));
           writes = inr (Boot, boots, subst (KeptOutside (area_of (site_of host)) t) (some_is _ quiet.0 done.0 quiet.1 done.1) quiet.2.kept);
           replied = record { piece = []; is_told = ap told (some_is _ done.0 quiet.0 done.1 quiet.1) ∙ quiet.2.quiet ∙ sym (append-nil (told t)); as_told = (c.reply_at.ensures, refl) };
         };

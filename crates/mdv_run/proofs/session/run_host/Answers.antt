@@ -47,7 +47,7 @@ returns-in-Ok-clause-has_run g c = record {
       moments_of_tales g.B.Shelf g.met.B.Shelf.telling _ _ (RunMoment host (asked_of input)) (kept_more (kept_of_on c.boot.ensures.kept) c.run_lines.ensures.kept).goes
       (moments_after (BootMoment host) (BootedTo host c.in-Ok.engine.state) (LinesMoment host (asked_of input) c.in-Ok.engine.state) (RunMoment host (asked_of input)) _ _ _
       (λ t m moment. boot_run host (asked_of input) t m moment)
-      (λ t u m booted lines. lines_run host (asked_of input) c.in-Ok.engine.state t u m booted lines)
+      (λ t u m booted lines. lines_run host (asked_of input) c.in-Ok.engine.state t u m c.in-Ok.ensures.answer.engine.3 booted lines)
       c.boot.ensures.moments (λ t is. (let up = c.in-Ok.ensures.end t is in (up.0, up.1, up.2.booted refl)))
       (subst (λ (h : Host). Moments (LinesMoment h (asked_of input) c.in-Ok.engine.state) (g.B.Shelf.tale c.boot.new.shelf) (g.B.Shelf.tale c.run_lines.new.bench)) c.in-Ok.ensures.answer.engine.0 (c.run_lines.ensures.lines.moments input left)));
   tells = λ input left. fronts_whole g.B.Shelf g.met.B.Shelf.telling c.args.host (counts (g.B.Shelf.faults c.args.bench.now) (g.I.Source.faults c.args.script.now)) (asked_of input) _ _ _ c.in-Ok.engine.state c.boot.ensures.kept

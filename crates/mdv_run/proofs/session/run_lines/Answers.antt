@@ -49,7 +49,7 @@ loop-refused-preserved g c =
           (before.fronts input left) here.went (λ t is. (let ran = here.ran t is in (ran.0, ran.1, ran.2.knows))) (c.in-On.ensures.stays.tells here.left here.comes));
       so_far = λ input left.
           let here = before.so_far input left in
-          subst (λ (h : Host). SoFar h (between g.B.Shelf c.args.bench.now c.take_turn.new.bench) (point_at g.B.Shelf g.I.Source c.args.bench.now c.args.script.now) (point_at g.B.Shelf g.I.Source c.take_turn.new.bench c.take_turn.new.script) c.args.engine.now.state c.take_turn.new.engine.state c.in-On.refused input (asked_before c.take_turn.new.reader (g.I.Source.left c.take_turn.new.script)) (g.B.Shelf.tale c.args.bench.now) (g.B.Shelf.tale c.take_turn.new.bench)) (sym answer.same)
+          subst (λ (h : Host). SoFar h (between g.B.Shelf c.args.bench.now c.take_turn.new.bench) (point_at g.B.Shelf g.I.Source c.args.bench.now c.args.script.now) (point_at g.B.Shelf g.I.Source c.take_turn.new.bench c.take_turn.new.script) c.args.engine.now.state c.take_turn.new.engine.state c.in-On.refused input (asked_before c.take_turn.new.reader.reader (g.I.Source.left c.take_turn.new.script)) (g.B.Shelf.tale c.args.bench.now) (g.B.Shelf.tale c.take_turn.new.bench)) (sym answer.same)
           (so_far_more c.loop-refused.engine.host c.args.engine.now.state input (point_at g.B.Shelf g.I.Source c.args.bench.now c.args.script.now) (point_at g.B.Shelf g.I.Source c.loop-refused.bench c.loop-refused.script) (point_at g.B.Shelf g.I.Source c.take_turn.new.bench c.take_turn.new.script) c.loop-refused.engine.state c.take_turn.new.engine.state c.loop-refused.any_refused _ _ _ _ _ _ here
           (between g.B.Shelf c.args.bench.now c.take_turn.new.bench) c.in-On.refused (record {
             still = λ t u is_t is_u bytes piece shown some le seen. shown_later g.B.Shelf g.met.B.Shelf.telling _ _ _ before.kept.goes c.in-On.ensures.kept.goes bytes piece shown t u some is_t is_u le seen;
@@ -77,7 +77,7 @@ returns-in-Over-clause-lines g c =
       moments = λ input left.
           let here = before.so_far input left in
           subst (λ (h : Host). Moments (LinesMoment h (asked_of input) c.args.engine.now.state) (g.B.Shelf.tale c.args.bench.now) (g.B.Shelf.tale c.take_turn.new.bench)) before.host
-          (moments_over c.loop-refused.engine.host c.args.engine.now.state input (point_at g.B.Shelf g.I.Source c.args.bench.now c.args.script.now) (point_at g.B.Shelf g.I.Source c.loop-refused.bench c.loop-refused.script) (point_at g.B.Shelf g.I.Source c.take_turn.new.bench c.take_turn.new.script) c.loop-refused.engine.state c.take_turn.new.engine.state c.loop-refused.any_refused _ (asked_before c.take_turn.new.reader (g.I.Source.left c.take_turn.new.script)) _ _ _ _ here
+          (moments_over c.loop-refused.engine.host c.args.engine.now.state input (point_at g.B.Shelf g.I.Source c.args.bench.now c.args.script.now) (point_at g.B.Shelf g.I.Source c.loop-refused.bench c.loop-refused.script) (point_at g.B.Shelf g.I.Source c.take_turn.new.bench c.take_turn.new.script) c.loop-refused.engine.state c.take_turn.new.engine.state c.loop-refused.any_refused _ (asked_before c.take_turn.new.reader.reader (g.I.Source.left c.take_turn.new.script)) _ _ _ _ here
           c.in-Over.ensures.moments);
       home = both_stay c.args.engine.now.host _ _ _ before.home
           (subst (λ (h : Host). Moments (StaysHome h) (g.B.Shelf.tale c.loop-refused.bench) (g.B.Shelf.tale c.take_turn.new.bench)) before.host c.in-Over.ensures.stays.home);

@@ -7,7 +7,7 @@ use Rattle.mdv_shelf.proofs.Made.{by_efforts}
 use Rattle.mdv_engine_law.specs.declared.answer.Outcome.TheVariants as outcome
 use Rattle.std.proofs.Common.{◌≡◌, ◌≤◌, ℕ, refl, sym, ap, subst, arith}
 use Rattle.mdv_engine_law.specs.Line.{Nothing}
-use Rattle.mdv_run.specs.Below.{Script, Engine, IsReplied, line, too_long, asked_before, IsAskedTurn, Line, TooLong, End, Spent, Moments, TurnMoment, IsWell, OnDrive, OnReplies, ScriptTooLong, counts, told, LinesMoment, RanTo}
+use Rattle.mdv_run.specs.Below.{Script, Engine, IsReplied, line, too_long, asked_before, IsItemTurn, Item, TooLong, End, Spent, Moments, TurnMoment, IsWell, OnDrive, OnReplies, ScriptTooLong, counts, told, LinesMoment, RanTo}
 use Rattle.mdv_run_law.specs.Run.{EndsAs}
 use Rattle.mdv_shelf.proofs.Stories.{moment}
 use Rattle.mdv_shelf.proofs.Telling.{each_within, rests_quiet}
@@ -21,7 +21,7 @@ use Rattle.mdv_run.specs.Promise.{TurnEnd, point_at}
 use Rattle.mdv_run.specs.Turns.{HasTurnCause}
 use Rattle.mdv_run_law.proofs.Lining.{lines_start}
 use Rattle.mdv_run_law.proofs.Turning.{long_moment, long_ran}
-use Rattle.mdv_run.proofs.Leading.{passes_in_time, end_is, spent_is, long_is, line_is, leads_line, leads_long, on_replied, lost_reply, ended_turn, unread_turn, same_left, turn_cause}
+use Rattle.mdv_run.proofs.Leading.{passes_in_time, end_is, spent_is, long_is, item_is, leads_line, leads_long, on_replied, lost_reply, ended_turn, unread_turn, same_left, turn_cause}
 use Rattle.mdv_engine_law.proofs.Staying.{nothing_stays, turn_stays}
 use Rattle.mdv_base.specs.declared.refusal.Refusal.TheVariants.{LineTooLong}
 use Rattle.mdv_run.proofs.Answering.{answered_too, uncut_replied, told_reply, refused_turned, refused_down, refused_knows}
@@ -32,67 +32,67 @@ pub refuse-requires : goal.refuse-requires
 refuse-requires g c = too_long_plain
 
 -- a line
-pub returns-in-Ok-Line-clause-moments : goal.returns-in-Ok-Line-clause-moments
-returns-in-Ok-Line-clause-moments g c = λ lines before.
+pub returns-in-Ok-Item-clause-moments : goal.returns-in-Ok-Item-clause-moments
+returns-in-Ok-Item-clause-moments g c = λ lines before.
     let host = c.args.engine.now.host in
     let old = c.args.engine.now.state in
-    let reads : IsAskedTurn lines Line c.next_asked.new.reader (g.I.Source.left c.next_asked.new.source) = rw c.in-Ok-Line.field-0-is at (c.in-Ok-Line.ensures.reads lines before) in
-    let script = line_is lines c.line.result.now c.next_asked.new.reader (g.I.Source.left c.next_asked.new.source) c.line.ensures.value reads in
-    subst (λ (s : Script). Moments (LinesMoment host s old) (g.B.Shelf.tale c.args.bench.now) (g.B.Shelf.tale c.answer.new.bench)) (sym script.1) (c.answer.ensures.moments script.0)
+    let reads : IsItemTurn lines Item c.next.new.self (g.I.Source.left c.next.new.source) = rw c.in-Ok-Item.field-0-is at (c.in-Ok-Item.ensures.reads lines before) in
+    let script = item_is lines c.next.new.self (g.I.Source.left c.next.new.source) reads in
+    subst (λ (s : Script). Moments (LinesMoment host s old) (g.B.Shelf.tale c.args.bench.now) (g.B.Shelf.tale c.answer_item.new.bench)) (sym script.2) (c.answer_item.ensures.moments script.1 script.3 script.0)
 
-pub returns-in-Ok-Line-clause-end : goal.returns-in-Ok-Line-clause-end
-returns-in-Ok-Line-clause-end g c = λ lines before t told.
+pub returns-in-Ok-Item-clause-end : goal.returns-in-Ok-Item-clause-end
+returns-in-Ok-Item-clause-end g c = λ lines before t told.
     let host = c.args.engine.now.host in
     let old = c.args.engine.now.state in
-    let new = c.answer.new.engine.state in
+    let new = c.answer_item.new.engine.state in
     let now = point_at g.B.Shelf g.I.Source c.args.bench.now c.args.script.now in
-    let last = point_at g.B.Shelf g.I.Source c.answer.new.bench c.next_asked.new.source in
-    let rest = asked_before c.next_asked.new.reader (g.I.Source.left c.next_asked.new.source) in
-    let reads : IsAskedTurn lines Line c.next_asked.new.reader (g.I.Source.left c.next_asked.new.source) = rw c.in-Ok-Line.field-0-is at (c.in-Ok-Line.ensures.reads lines before) in
-    let script = line_is lines c.line.result.now c.next_asked.new.reader (g.I.Source.left c.next_asked.new.source) c.line.ensures.value reads in
-    let end = c.answer.ensures.end t told in (
+    let last = point_at g.B.Shelf g.I.Source c.answer_item.new.bench c.next.new.source in
+    let rest = asked_before c.next.new.self.reader (g.I.Source.left c.next.new.source) in
+    let reads : IsItemTurn lines Item c.next.new.self (g.I.Source.left c.next.new.source) = rw c.in-Ok-Item.field-0-is at (c.in-Ok-Item.ensures.reads lines before) in
+    let script = item_is lines c.next.new.self (g.I.Source.left c.next.new.source) reads in
+    let end = c.answer_item.ensures.end script.1 script.3 t told in (
       end.0,
       end.1,
       subst (λ (turn : Turn). TurnEnd host now last old new c.args.any_refused lines rest turn t end.0) (sym c.turn_of.ensures)
           (record {
-            turns = λ knows. leads_line now last c.answer.result (record { drive = c.answer.ensures.kept.keeps.no_fewer_faults (OnDrive 0); source = c.in-Ok-Line.ensures.cause.calm; replies = c.answer.ensures.kept.keeps.no_fewer_faults OnReplies; given = c.answer.ensures.stays.given })
-                host old new c.args.any_refused lines script.0 c.line.result.now rest t end.0 (passes_in_time g.B.Shelf g.met.B.Shelf.telling _ _ _ _ t end.0 c.answer.ensures.kept told end.1) script.1 script.2 (answered_too (made_between now.effort last.effort) (by_efforts g.B.Shelf c.args.bench.now c.answer.new.bench) (end.2.answered knows));
-            ran = λ on left is. subst (λ (s : Script). RanTo host s old new left t end.0) (sym script.1)
-                (subst (λ (s : Script). RanTo host (line c.line.result.now s) old new left t end.0) (sym (same_left left script.0 is script.2)) (end.2.ran (on_replied c.answer.result c.args.any_refused _ refl on) left));
-            knows = λ kept. end.2.knows (λ lost. kept (lost_reply c.answer.result c.args.any_refused lost));
+            turns = λ knows. leads_line now last c.answer_item.result (record { drive = c.answer_item.ensures.kept.keeps.no_fewer_faults (OnDrive 0); source = c.in-Ok-Item.ensures.cause.calm; replies = c.answer_item.ensures.kept.keeps.no_fewer_faults OnReplies; given = c.answer_item.ensures.stays.given })
+                host old new c.args.any_refused lines script.0 script.1 rest t end.0 (passes_in_time g.B.Shelf g.met.B.Shelf.telling _ _ _ _ t end.0 c.answer_item.ensures.kept told end.1) script.2 script.4 (answered_too (made_between now.effort last.effort) (by_efforts g.B.Shelf c.args.bench.now c.answer_item.new.bench) (end.2.answered knows));
+            ran = λ on left is. subst (λ (s : Script). RanTo host s old new left t end.0) (sym script.2)
+                (subst (λ (s : Script). RanTo host (line script.1 s) old new left t end.0) (sym (same_left left script.0 is script.4)) (end.2.ran (on_replied c.answer_item.result c.args.any_refused _ refl on) left));
+            knows = λ kept. end.2.knows (λ lost. kept (lost_reply c.answer_item.result c.args.any_refused lost));
           }),
     )
 
-pub returns-in-Ok-Line-clause-answer : goal.returns-in-Ok-Line-clause-answer
-returns-in-Ok-Line-clause-answer g c = record {
-  cause = subst (HasTurnCause (counts (g.B.Shelf.faults c.args.bench.now) (g.I.Source.faults c.args.script.now)) (counts (g.B.Shelf.faults c.answer.new.bench) (g.I.Source.faults c.next_asked.new.source))) (sym c.turn_of.ensures) (turn_cause (counts (g.B.Shelf.faults c.args.bench.now) (g.I.Source.faults c.args.script.now)) (counts (g.B.Shelf.faults c.answer.new.bench) (g.I.Source.faults c.next_asked.new.source)) c.answer.result c.args.any_refused c.answer.ensures.answer.cause);
-  source = c.next_asked.ensures.cause.later;
-  same = c.answer.ensures.answer.same;
-  well = c.answer.ensures.answer.well;
-  begun = let up = (rw c.in-Ok-Line.field-0-is at c.in-Ok-Line.ensures.passed).lines in let more = c.answer.ensures.answer.begun in let before = c.requires.begun in omega arith;
-  on = λ on. (let up = (rw c.in-Ok-Line.field-0-is at c.in-Ok-Line.ensures.passed).lines in omega arith, (rw c.in-Ok-Line.field-0-is at c.in-Ok-Line.ensures.passed).limit);
+pub returns-in-Ok-Item-clause-answer : goal.returns-in-Ok-Item-clause-answer
+returns-in-Ok-Item-clause-answer g c = record {
+  cause = subst (HasTurnCause (counts (g.B.Shelf.faults c.args.bench.now) (g.I.Source.faults c.args.script.now)) (counts (g.B.Shelf.faults c.answer_item.new.bench) (g.I.Source.faults c.next.new.source))) (sym c.turn_of.ensures) (turn_cause (counts (g.B.Shelf.faults c.args.bench.now) (g.I.Source.faults c.args.script.now)) (counts (g.B.Shelf.faults c.answer_item.new.bench) (g.I.Source.faults c.next.new.source)) c.answer_item.result c.args.any_refused c.answer_item.ensures.answer.cause);
+  source = c.next.ensures.cause.later;
+  same = c.answer_item.ensures.answer.same;
+  well = c.answer_item.ensures.answer.well;
+  begun = let up = (rw c.in-Ok-Item.field-0-is at c.in-Ok-Item.ensures.passed).lines in let more = c.answer_item.ensures.answer.begun in let before = c.requires.begun in omega arith;
+  on = λ on. (let up = (rw c.in-Ok-Item.field-0-is at c.in-Ok-Item.ensures.passed).lines in omega arith, (rw c.in-Ok-Item.field-0-is at c.in-Ok-Item.ensures.passed).limit);
   counted = λ lines before n calls.
-      let reads : IsAskedTurn lines Line c.next_asked.new.reader (g.I.Source.left c.next_asked.new.source) = rw c.in-Ok-Line.field-0-is at (c.in-Ok-Line.ensures.reads lines before) in
-      let script = line_is lines c.line.result.now c.next_asked.new.reader (g.I.Source.left c.next_asked.new.source) c.line.ensures.value reads in
-      subst (λ (turn : Turn). TurnTook turn (asked_before c.next_asked.new.reader (g.I.Source.left c.next_asked.new.source)) (g.B.Shelf.calls c.args.bench.now) (g.B.Shelf.calls c.answer.new.bench) n) (sym c.turn_of.ensures)
-      (line_took _ _ lines _ c.line.result.now script.0 script.1 script.2 c.answer.ensures.answer.counted n calls c.answer.result c.args.any_refused);
+      let reads : IsItemTurn lines Item c.next.new.self (g.I.Source.left c.next.new.source) = rw c.in-Ok-Item.field-0-is at (c.in-Ok-Item.ensures.reads lines before) in
+      let script = item_is lines c.next.new.self (g.I.Source.left c.next.new.source) reads in
+      subst (λ (turn : Turn). TurnTook turn (asked_before c.next.new.self.reader (g.I.Source.left c.next.new.source)) (g.B.Shelf.calls c.args.bench.now) (g.B.Shelf.calls c.answer_item.new.bench) n) (sym c.turn_of.ensures)
+      (line_took _ _ lines _ script.1 script.0 script.2 script.4 (λ k takes. c.answer_item.ensures.answer.counted k (script.1, script.3, takes)) n calls c.answer_item.result c.args.any_refused);
   goes_on = λ on lines before.
-      let reads : IsAskedTurn lines Line c.next_asked.new.reader (g.I.Source.left c.next_asked.new.source) = rw c.in-Ok-Line.field-0-is at (c.in-Ok-Line.ensures.reads lines before) in
-      let script = line_is lines c.line.result.now c.next_asked.new.reader (g.I.Source.left c.next_asked.new.source) c.line.ensures.value reads in
-      (script.0, script.2);
+      let reads : IsItemTurn lines Item c.next.new.self (g.I.Source.left c.next.new.source) = rw c.in-Ok-Item.field-0-is at (c.in-Ok-Item.ensures.reads lines before) in
+      let script = item_is lines c.next.new.self (g.I.Source.left c.next.new.source) reads in
+      (script.0, script.4);
 }
 
-pub returns-in-Ok-Line-clause-stays : goal.returns-in-Ok-Line-clause-stays
-returns-in-Ok-Line-clause-stays g c = record {
-  home = c.answer.ensures.stays.home;
-  told = λ on. c.answer.ensures.stays.told (on_replied c.answer.result c.args.any_refused _ c.turn_of.ensures on);
-  given = λ on. c.answer.ensures.stays.given (λ is. subst IsReplied is (on_replied c.answer.result c.args.any_refused _ c.turn_of.ensures on));
-  rests = c.answer.ensures.stays.rests;
+pub returns-in-Ok-Item-clause-stays : goal.returns-in-Ok-Item-clause-stays
+returns-in-Ok-Item-clause-stays g c = record {
+  home = c.answer_item.ensures.stays.home;
+  told = λ on. c.answer_item.ensures.stays.told (on_replied c.answer_item.result c.args.any_refused _ c.turn_of.ensures on);
+  given = λ on. c.answer_item.ensures.stays.given (λ is. subst IsReplied is (on_replied c.answer_item.result c.args.any_refused _ c.turn_of.ensures on));
+  rests = c.answer_item.ensures.stays.rests;
   tells = λ lines before.
-      let reads : IsAskedTurn lines Line c.next_asked.new.reader (g.I.Source.left c.next_asked.new.source) = rw c.in-Ok-Line.field-0-is at (c.in-Ok-Line.ensures.reads lines before) in
-      let script = line_is lines c.line.result.now c.next_asked.new.reader (g.I.Source.left c.next_asked.new.source) c.line.ensures.value reads in
-      each_within (LineFront c.args.engine.now.host c.line.result.now c.args.engine.now.state) (ScriptFront c.args.engine.now.host (point_at g.B.Shelf g.I.Source c.args.bench.now c.args.script.now) c.args.engine.now.state c.args.any_refused lines) _ _ _ _
-      (λ s u first last m there here within known. line_front c.args.engine.now.host c.args.engine.now.state (point_at g.B.Shelf g.I.Source c.args.bench.now c.args.script.now) c.args.any_refused (moment s _) m refl within.counts.0 lines script.0 c.line.result.now script.1 (here known)) c.answer.ensures.stays.tells;
+      let reads : IsItemTurn lines Item c.next.new.self (g.I.Source.left c.next.new.source) = rw c.in-Ok-Item.field-0-is at (c.in-Ok-Item.ensures.reads lines before) in
+      let script = item_is lines c.next.new.self (g.I.Source.left c.next.new.source) reads in
+      each_within (LineFront c.args.engine.now.host script.1 c.args.engine.now.state) (ScriptFront c.args.engine.now.host (point_at g.B.Shelf g.I.Source c.args.bench.now c.args.script.now) c.args.engine.now.state c.args.any_refused lines) _ _ _ _
+      (λ s u first last m there here within known. line_front c.args.engine.now.host c.args.engine.now.state (point_at g.B.Shelf g.I.Source c.args.bench.now c.args.script.now) c.args.any_refused (moment s _) m refl within.counts.0 lines script.0 script.1 script.2 (here known)) (c.answer_item.ensures.stays.tells script.1 script.3);
 }
 
 -- a line that was too long
@@ -100,20 +100,20 @@ pub returns-in-Ok-TooLong-clause-moments : goal.returns-in-Ok-TooLong-clause-mom
 returns-in-Ok-TooLong-clause-moments g c = λ lines before.
     let host = c.args.engine.now.host in
     let old = c.args.engine.now.state in
-    let reads : IsAskedTurn lines TooLong c.next_asked.new.reader (g.I.Source.left c.next_asked.new.source) = rw c.in-Ok-TooLong.field-0-is at (c.in-Ok-TooLong.ensures.reads lines before) in
-    let script = long_is lines c.next_asked.new.reader (g.I.Source.left c.next_asked.new.source) reads in
+    let reads : IsItemTurn lines TooLong c.next.new.self (g.I.Source.left c.next.new.source) = rw c.in-Ok-TooLong.field-0-is at (c.in-Ok-TooLong.ensures.reads lines before) in
+    let script = long_is lines c.next.new.self (g.I.Source.left c.next.new.source) reads in
     moments_weaker (TurnMoment host Nothing old) (LinesMoment host lines old) _ _
-    (λ t m turn. subst (λ (s : Script). LinesMoment host s old t m) (sym script.1) (long_moment host script.0 old t m turn)) (c.refuse.ensures.moments Nothing).each
+    (λ t m turn. subst (λ (s : Script). LinesMoment host s old t m) (sym script.1) (long_moment host script.0 old t m turn)) (c.refuse.ensures.moments.line Nothing).each
 
 pub returns-in-Ok-TooLong-clause-end : goal.returns-in-Ok-TooLong-clause-end
 returns-in-Ok-TooLong-clause-end g c = λ lines before t told.
     let host = c.args.engine.now.host in
     let old = c.args.engine.now.state in
     let now = point_at g.B.Shelf g.I.Source c.args.bench.now c.args.script.now in
-    let last = point_at g.B.Shelf g.I.Source c.refuse.new.bench c.next_asked.new.source in
-    let rest = asked_before c.next_asked.new.reader (g.I.Source.left c.next_asked.new.source) in
-    let reads : IsAskedTurn lines TooLong c.next_asked.new.reader (g.I.Source.left c.next_asked.new.source) = rw c.in-Ok-TooLong.field-0-is at (c.in-Ok-TooLong.ensures.reads lines before) in
-    let script = long_is lines c.next_asked.new.reader (g.I.Source.left c.next_asked.new.source) reads in
+    let last = point_at g.B.Shelf g.I.Source c.refuse.new.bench c.next.new.source in
+    let rest = asked_before c.next.new.self.reader (g.I.Source.left c.next.new.source) in
+    let reads : IsItemTurn lines TooLong c.next.new.self (g.I.Source.left c.next.new.source) = rw c.in-Ok-TooLong.field-0-is at (c.in-Ok-TooLong.ensures.reads lines before) in
+    let script = long_is lines c.next.new.self (g.I.Source.left c.next.new.source) reads in
     let end = c.refuse.ensures.end t told in (
       end.0,
       end.1,
@@ -133,34 +133,34 @@ returns-in-Ok-TooLong-clause-end g c = λ lines before t told.
 
 pub returns-in-Ok-TooLong-clause-answer : goal.returns-in-Ok-TooLong-clause-answer
 returns-in-Ok-TooLong-clause-answer g c = record {
-  cause = subst (HasTurnCause (counts (g.B.Shelf.faults c.args.bench.now) (g.I.Source.faults c.args.script.now)) (counts (g.B.Shelf.faults c.refuse.new.bench) (g.I.Source.faults c.next_asked.new.source))) (sym c.turn_of-in-Ok-TooLong.ensures) (turn_cause (counts (g.B.Shelf.faults c.args.bench.now) (g.I.Source.faults c.args.script.now)) (counts (g.B.Shelf.faults c.refuse.new.bench) (g.I.Source.faults c.next_asked.new.source)) c.refuse.result c.args.any_refused (told_reply _ _ (outcome.Refused LineTooLong) c.refuse.result c.refuse.ensures.answer.cause));
-  source = c.next_asked.ensures.cause.later;
+  cause = subst (HasTurnCause (counts (g.B.Shelf.faults c.args.bench.now) (g.I.Source.faults c.args.script.now)) (counts (g.B.Shelf.faults c.refuse.new.bench) (g.I.Source.faults c.next.new.source))) (sym c.turn_of-in-Ok-TooLong.ensures) (turn_cause (counts (g.B.Shelf.faults c.args.bench.now) (g.I.Source.faults c.args.script.now)) (counts (g.B.Shelf.faults c.refuse.new.bench) (g.I.Source.faults c.next.new.source)) c.refuse.result c.args.any_refused (told_reply _ _ (outcome.Refused LineTooLong) c.refuse.result c.refuse.ensures.answer.cause));
+  source = c.next.ensures.cause.later;
   same = ap (λ (e : Engine). e.host) c.refuse.ensures.answer.same;
   well = subst (λ (e : Engine). IsWell c.args.engine.now.host e.state) (sym c.refuse.ensures.answer.same) c.requires.well;
-  begun = subst (λ (e : Engine). e.state.begun ≤ c.next_asked.new.reader.lines) (sym c.refuse.ensures.answer.same) (let up = (rw c.in-Ok-TooLong.field-0-is at c.in-Ok-TooLong.ensures.passed).lines in let before = c.requires.begun in omega arith);
+  begun = subst (λ (e : Engine). e.state.begun ≤ c.next.new.self.reader.lines) (sym c.refuse.ensures.answer.same) (let up = (rw c.in-Ok-TooLong.field-0-is at c.in-Ok-TooLong.ensures.passed).lines in let before = c.requires.begun in omega arith);
   on = λ on. (let up = (rw c.in-Ok-TooLong.field-0-is at c.in-Ok-TooLong.ensures.passed).lines in omega arith, (rw c.in-Ok-TooLong.field-0-is at c.in-Ok-TooLong.ensures.passed).limit);
   counted = λ lines before n calls.
-      let reads : IsAskedTurn lines TooLong c.next_asked.new.reader (g.I.Source.left c.next_asked.new.source) = rw c.in-Ok-TooLong.field-0-is at (c.in-Ok-TooLong.ensures.reads lines before) in
-      let script = long_is lines c.next_asked.new.reader (g.I.Source.left c.next_asked.new.source) reads in
-      subst (λ (turn : Turn). TurnTook turn (asked_before c.next_asked.new.reader (g.I.Source.left c.next_asked.new.source)) (g.B.Shelf.calls c.args.bench.now) (g.B.Shelf.calls c.refuse.new.bench) n) (sym c.turn_of-in-Ok-TooLong.ensures)
+      let reads : IsItemTurn lines TooLong c.next.new.self (g.I.Source.left c.next.new.source) = rw c.in-Ok-TooLong.field-0-is at (c.in-Ok-TooLong.ensures.reads lines before) in
+      let script = long_is lines c.next.new.self (g.I.Source.left c.next.new.source) reads in
+      subst (λ (turn : Turn). TurnTook turn (asked_before c.next.new.self.reader (g.I.Source.left c.next.new.source)) (g.B.Shelf.calls c.args.bench.now) (g.B.Shelf.calls c.refuse.new.bench) n) (sym c.turn_of-in-Ok-TooLong.ensures)
       (long_took _ _ lines _ script.0 script.1 script.2 (rose_at_most 1 1 _ _ (omega arith) c.refuse.ensures.counted.once.in_calls) n calls c.refuse.result c.args.any_refused);
   goes_on = λ on lines before.
-      let reads : IsAskedTurn lines TooLong c.next_asked.new.reader (g.I.Source.left c.next_asked.new.source) = rw c.in-Ok-TooLong.field-0-is at (c.in-Ok-TooLong.ensures.reads lines before) in
-      let script = long_is lines c.next_asked.new.reader (g.I.Source.left c.next_asked.new.source) reads in
+      let reads : IsItemTurn lines TooLong c.next.new.self (g.I.Source.left c.next.new.source) = rw c.in-Ok-TooLong.field-0-is at (c.in-Ok-TooLong.ensures.reads lines before) in
+      let script = long_is lines c.next.new.self (g.I.Source.left c.next.new.source) reads in
       (script.0, script.2);
 }
 
 pub returns-in-Ok-TooLong-clause-stays : goal.returns-in-Ok-TooLong-clause-stays
 returns-in-Ok-TooLong-clause-stays g c = record {
-  home = turn_stays c.args.engine.now.host Nothing c.args.engine.now.state _ _ (c.refuse.ensures.moments Nothing).each;
+  home = turn_stays c.args.engine.now.host Nothing c.args.engine.now.state _ _ (c.refuse.ensures.moments.line Nothing).each;
   told = λ on. c.refuse.ensures.counted.told (on_replied c.refuse.result c.args.any_refused _ c.turn_of-in-Ok-TooLong.ensures on);
   given = λ on. c.refuse.ensures.counted.given (on_replied c.refuse.result c.args.any_refused _ c.turn_of-in-Ok-TooLong.ensures on);
-  rests = (c.refuse.ensures.moments Nothing).rests;
+  rests = (c.refuse.ensures.moments.line Nothing).rests;
   tells = λ lines before.
-      let reads : IsAskedTurn lines TooLong c.next_asked.new.reader (g.I.Source.left c.next_asked.new.source) = rw c.in-Ok-TooLong.field-0-is at (c.in-Ok-TooLong.ensures.reads lines before) in
-      let script = long_is lines c.next_asked.new.reader (g.I.Source.left c.next_asked.new.source) reads in
+      let reads : IsItemTurn lines TooLong c.next.new.self (g.I.Source.left c.next.new.source) = rw c.in-Ok-TooLong.field-0-is at (c.in-Ok-TooLong.ensures.reads lines before) in
+      let script = long_is lines c.next.new.self (g.I.Source.left c.next.new.source) reads in
       each_within (AnswerFront c.args.engine.now.host (refusing LineTooLong) c.args.engine.now.state) (ScriptFront c.args.engine.now.host (point_at g.B.Shelf g.I.Source c.args.bench.now c.args.script.now) c.args.engine.now.state c.args.any_refused lines) _ _ _ _
-      (λ s u first last m there here within known. long_front c.args.engine.now.host c.args.engine.now.state (point_at g.B.Shelf g.I.Source c.args.bench.now c.args.script.now) c.args.any_refused (moment s _) m refl within.counts.0 lines script.0 script.1 (here known)) (c.refuse.ensures.moments Nothing).fronts;
+      (λ s u first last m there here within known. long_front c.args.engine.now.host c.args.engine.now.state (point_at g.B.Shelf g.I.Source c.args.bench.now c.args.script.now) c.args.any_refused (moment s _) m refl within.counts.0 lines script.0 script.1 (here known)) (c.refuse.ensures.moments.line Nothing).fronts;
 }
 
 -- the end of the script, a limit, and a source that failed
@@ -177,8 +177,8 @@ pub returns-in-Ok-End-clause-end : goal.returns-in-Ok-End-clause-end
 returns-in-Ok-End-clause-end g c = λ lines before t told.
     let host = c.args.engine.now.host in
     let state = c.args.engine.now.state in
-    let reads : IsAskedTurn lines End c.next_asked.new.reader (g.I.Source.left c.next_asked.new.source) = rw c.in-Ok-End.field-0-is at (c.in-Ok-End.ensures.reads lines before) in
-    let script = end_is lines c.next_asked.new.reader (g.I.Source.left c.next_asked.new.source) reads in (
+    let reads : IsItemTurn lines End c.next.new.self (g.I.Source.left c.next.new.source) = rw c.in-Ok-End.field-0-is at (c.in-Ok-End.ensures.reads lines before) in
+    let script = end_is lines c.next.new.self (g.I.Source.left c.next.new.source) reads in (
       t,
       told,
       record {
@@ -194,8 +194,8 @@ returns-in-Ok-Spent-clause-end g c = λ lines before t told.
     let host = c.args.engine.now.host in
     let state = c.args.engine.now.state in
     let status = ScriptTooLong c.in-Ok-Spent.lines c.in-Ok-Spent.bytes in
-    let reads : IsAskedTurn lines (Spent c.in-Ok-Spent.lines c.in-Ok-Spent.bytes) c.next_asked.new.reader (g.I.Source.left c.next_asked.new.source) = rw c.in-Ok-Spent.field-0-is at (c.in-Ok-Spent.ensures.reads lines before) in
-    let script = spent_is lines c.in-Ok-Spent.lines c.in-Ok-Spent.bytes c.next_asked.new.reader (g.I.Source.left c.next_asked.new.source) reads in (
+    let reads : IsItemTurn lines (Spent c.in-Ok-Spent.lines c.in-Ok-Spent.bytes) c.next.new.self (g.I.Source.left c.next.new.source) = rw c.in-Ok-Spent.field-0-is at (c.in-Ok-Spent.ensures.reads lines before) in
+    let script = spent_is lines c.in-Ok-Spent.lines c.in-Ok-Spent.bytes c.next.new.self (g.I.Source.left c.next.new.source) reads in (
       t,
       told,
       record {
@@ -210,7 +210,7 @@ returns-in-Err-clause-end g c = λ lines before t told. (
   t,
   told,
   record {
-    turns = λ knows. unread_turn c.args.engine.now.host _ _ (record { drive = refl; source = c.in-Err.ensures.cause.failed; no_fewer = c.next_asked.ensures.cause.later; replies = refl }) refl refl c.args.engine.now.state c.args.any_refused lines _ t;
+    turns = λ knows. unread_turn c.args.engine.now.host _ _ (record { drive = refl; source = c.in-Err.ensures.cause.failed; no_fewer = c.next.ensures.cause.later; replies = refl }) refl refl c.args.engine.now.state c.args.any_refused lines _ t;
     ran = λ on. absurd on;
     knows = λ kept known. known;
   },

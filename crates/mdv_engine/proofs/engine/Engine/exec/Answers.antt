@@ -4,7 +4,7 @@ use Rattle.mdv_shelf.proofs.Moments.{moments_after, moments_end, moments_weaker,
 use Rattle.mdv_shelf.proofs.Telling.{rests_behind, told_behind, told_once}
 use Rattle.mdv_shelf.proofs.InTime.{in_time_both}
 use Rattle.mdv_shelf.proofs.Counts.{at_most_then}
-use Rattle.mdv_words.specs.declared.command.Line.TheVariants as words
+use Rattle.mdv_words.specs.Line as words
 use Rattle.mdv_engine_law.proofs.Executing.{came_more, command_cause, executed}
 use Rattle.mdv_base.proofs.Causes.{calm_before, within_calm}
 use Rattle.mdv_engine_law.proofs.Longer.{replied_more}
@@ -56,7 +56,7 @@ returns-clause-end g c = λ t is.
       end.0,
       end.1,
       record {
-        answered = λ known. executed _ _ _ _ _ host (words.Command c.args.command.now) old new answer c.tell.result t done.0 end.0
+        answered = λ known. executed _ _ _ _ _ host (words.Exec c.args.command.now) old new answer c.tell.result t done.0 end.0
             (within_calm _ _ _ (c.tell.ensures.counted.drives 0))
             (calm_before _ _ _ (c.carry_out-answer.ensures.kept.others OnReplies (λ is. absurd (cc (is))))).some
             quiet (done.2.carry.answered known) end.2

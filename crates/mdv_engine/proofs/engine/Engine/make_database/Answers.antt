@@ -76,7 +76,7 @@ module _ (sizes : List ℕ) (e v : Engine) (is : e ≡ v) (readied : IsReady v.h
 
   module _ (newest : Newest) (new : newest ≡ first_newest at) (safe : OnEach (λ drives. Ends (λ t u. IsSafe (site drives) (identity_of e.host e.state.begun) u) a b)) where
     abbrev next : Memory
-    next = record { opened = Some newest; down = e.state.down; begun = e.state.begun + 1 }
+    next = record { opened = Some newest; down = e.state.down; begun = e.state.begun + 1; entries = e.state.entries }
 
     next_is : next ≡ with_new e.host e.state
     next_is = new_memory e.host sizes ready at at_is e.state room none up a b quiet newest new

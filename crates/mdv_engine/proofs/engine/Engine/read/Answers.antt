@@ -1,4 +1,4 @@
-use Rattle.std.proofs.Common.{◌∙◌, ap, refl, arith}
+use Rattle.std.proofs.Common.{inl, ◌∙◌, ap, refl, arith}
 use Rattle.mdv_engine_law.specs.Commands as came
 use Rattle.mdv_engine_law.specs.Line.{ToSee}
 use Rattle.mdv_words.specs.declared.command.Command.TheVariants as command
@@ -18,16 +18,15 @@ returns-in-Ok-clause-moments g c = moments_still c.args.self.now.host (ToSee c.a
 pub returns-in-Ok-clause-end : goal.returns-in-Ok-clause-end
 returns-in-Ok-clause-end g c =
     let read = c.in-Ok.ensures.ok in
-    let least = c.requires.count.least in
     command_ends _ c.args.self.now (command.Read c.args.volume c.args.at c.args.count) (outcome.Values c.in-Ok.text) c.args.self.now _ _
     (λ t start. (t, c.values.ensures.same ∙ start, λ known. came.done read.calm read.allowed (read.block, read.there, ap telling (read.as_told ∙ ap (values_reply c.args.at) (read.as_there t start)), record { memory = refl; content = λ drive block. refl })))
     (λ t start. (t, c.values.ensures.same ∙ start, saw c.args.self.now.host (g.S.Shelf.sizes c.args.shelf.now) c.requires.ready c.args.self.now.state c.args.volume c.args.at c.args.count read.block (omega arith) read.there t c.in-Ok.text (read.as_told ∙ ap (values_reply c.args.at) (read.as_there t start))))
 
 pub returns-in-Ok-clause-answer : goal.returns-in-Ok-clause-answer
 returns-in-Ok-clause-answer g c = record {
-  plain = record { at = c.args.at; blocks = c.in-Ok.ensures.ok.blocks; is = c.in-Ok.ensures.ok.as_told };
+  plain = inl (record { at = c.args.at; blocks = c.in-Ok.ensures.ok.blocks; is = c.in-Ok.ensures.ok.as_told });
   cause = c.in-Ok.ensures.ok.calm;
-  awake = λ on. awake_blocks c.args.self.now.host c.args.self.now.state c.args.volume c.args.at c.args.count c.requires.well.sound (c.in-Ok.ensures.ok.block, c.in-Ok.ensures.ok.there, c.in-Ok.ensures.ok.allowed);
+  awake = λ on. awake_blocks c.args.self.now.host c.args.self.now.state c.args.volume c.args.at c.args.count c.requires.well.sound c.in-Ok.ensures.ok.block c.in-Ok.ensures.ok.there;
   free = λ on has. absurd (omega (arith, has.1));
   host = refl;
   well = c.requires.well;

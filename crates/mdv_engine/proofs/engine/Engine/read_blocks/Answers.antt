@@ -1,6 +1,7 @@
-use Rattle.std.proofs.Common.{◌≡◌, ◌+◌, None, sym, subst, ℕ, refl}
+use Rattle.std.proofs.Common.{◌≡◌, None, length, sym, subst, ℕ, refl, ◌∙◌}
 use Rattle.mdv_base.specs.declared.refusal.Refusal.TheVariants.{IoFault}
-use Rattle.mdv_engine_law.specs.Refusals.{blocks_refusal}
+use Rattle.mdv_engine_law.specs.Refusals.{read_refusal}
+use Rattle.mdv_engine.proofs.ReadJudging.{few_is}
 use Rattle.mdv_engine.proofs.Judged.{blocks_judged}
 use Rattle.mdv_shelf.proofs.Between.{between_one}
 use Rattle.mdv_shelf.proofs.Counts.{took_one}
@@ -14,7 +15,7 @@ pub returns-in-Ok-clause-ok : goal.returns-in-Ok-clause-ok
 returns-in-Ok-clause-ok g c = record {
   block = c.in_ok-first.first;
   there = subst (λ (n : ℕ). AreBlocksAt c.args.self.now.host c.args.self.now.state c.args.volume c.args.at n c.in_ok-first.first) (sym c.read.auto.out) c.in_ok-first.ensures.ok;
-  allowed = subst (λ (n : ℕ). blocks_refusal c.args.self.now.state.opened c.args.volume (c.args.at + n) ≡ None) (sym c.read.auto.out) c.in_ok-first.ensures.free;
+  allowed = subst (λ (n : ℕ). read_refusal c.args.self.now.state.opened c.args.volume c.args.at n ≡ None) (sym c.read.auto.out) (few_is c.args.self.now.state.opened c.args.volume c.args.at (length c.args.out.now) c.requires.count.most ∙ c.in_ok-first.ensures.free);
   blocks = c.read.new.out;
   as_told = refl;
   calm = c.in-Ok.ensures.cause.own.calm;

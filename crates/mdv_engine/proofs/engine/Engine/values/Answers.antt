@@ -1,18 +1,19 @@
-use Rattle.std.proofs.Common.{◌≡◌, ◌∙◌, ◌+◌, None, Err, inl, ℕ, length, take, ◌++◌, drop, sym, subst, ap, arith}
+use Rattle.std.proofs.Common.{◌≡◌, ◌∙◌, None, Err, ℕ, length, take, ◌++◌, drop, sym, subst, ap, arith}
 use Rattle.std.proofs.Math.Seq.{take-append_seam}
 use Rattle.mdv_shelf.specs.Shelves.{DriveFailures}
 use Rattle.mdv_engine.specs.Below.{Read, last, values_reply, AreBlocksAt, blocks_of}
 use Rattle.mdv_engine.specs.Engine.{HasBlocksCause}
-use Rattle.mdv_engine_law.specs.Refusals.{blocks_refusal}
+use Rattle.mdv_engine_law.specs.Refusals.{read_refusal}
 use Rattle.mdv_shelf.proofs.Between.{between_of}
 use Rattle.mdv_engine.proofs.Counting.{blocks_counted}
+use Rattle.mdv_engine.proofs.ReadJudging.{cause_is}
 use Rattle.mdv_engine.proofs.engine.Engine.values.Goals as goal
 
 pub returns-in-Err-clause-err : goal.returns-in-Err-clause-err
 returns-in-Err-clause-err g c =
     let counted : length c.read_blocks.new.out ≡ c.args.count = c.read_blocks.auto.out ∙ ap length c.as_mut_slice.ensures.value ∙ c.in_ok-blocks.ensures.ok in
     let failures = DriveFailures g.S.Shelf c.args.shelf.now c.read_blocks.new.shelf 0 in
-    inl
+    cause_is failures c.args.self.now.host c.args.self.now.state c.args.volume c.args.at c.args.count c.in-Err.refusal c.in_ok-_first.ensures.few c.in_ok-_first.ensures.free
     (subst (λ (n : ℕ). HasBlocksCause failures c.args.self.now.host c.args.self.now.state c.args.volume c.args.at n c.in-Err.refusal) counted c.in-Err.ensures.err)
 
 pub returns-in-Ok-new-clause-ok : goal.returns-in-Ok-new-clause-ok
@@ -24,7 +25,7 @@ returns-in-Ok-new-clause-ok g c =
     let read = c.in-Ok.ensures.ok in record {
       block = read.block;
       there = subst (λ (n : ℕ). AreBlocksAt c.args.self.now.host c.args.self.now.state c.args.volume c.args.at n read.block) counted read.there;
-      allowed = subst (λ (n : ℕ). blocks_refusal c.args.self.now.state.opened c.args.volume (c.args.at + n) ≡ None) counted read.allowed;
+      allowed = subst (λ (n : ℕ). read_refusal c.args.self.now.state.opened c.args.volume c.args.at n ≡ None) counted read.allowed;
       blocks = c.read_blocks.new.out;
       as_told = c.in-Ok-new.ensures ∙ ap (values_reply c.args.at) all;
       calm = read.calm;

@@ -21,7 +21,7 @@ pub returns-in-Ok-clause-answer : goal.returns-in-Ok-clause-answer
 returns-in-Ok-clause-answer g c = rw (c.write_blocks.ensures.same) (record {
   plain = tt;
   cause = c.in-Ok.ensures.put.calm;
-  awake = λ on. awake_blocks c.args.self.now.host c.args.self.now.state c.args.volume c.args.at 1 c.requires.well.sound (c.in-Ok.ensures.put.putting.block, c.in-Ok.ensures.put.putting.there, c.in-Ok.ensures.put.putting.allowed);
+  awake = λ on. awake_blocks c.args.self.now.host c.args.self.now.state c.args.volume c.args.at 1 c.requires.well.sound c.in-Ok.ensures.put.putting.block c.in-Ok.ensures.put.putting.there;
   free = λ on has. absurd (no_creation (Wrote c.args.volume c.args.at (c.args.block.now ∷ [])) (λ is. absurd (cc (is))) has);
   host = refl;
   well = c.requires.well;

@@ -1,0 +1,73 @@
+use Rattle.std.proofs.Common.{◌≤◌, ◌+◌, refl, inl, inr, ap, subst, sym, arith}
+use Rattle.mdv_base.specs.declared.refusal.Refusal.TheVariants.{OutOfMemory}
+use Rattle.mdv_shelf.proofs.Between.{between_of}
+use Rattle.mdv_shelf.proofs.Counts.{rose_at_most}
+use Rattle.mdv_shelf.proofs.Moments.{moments_weaker}
+use Rattle.mdv_shelf.proofs.Noted.{moment_weaker}
+use Rattle.mdv_shelf.specs.Made.{made_of}
+use Rattle.mdv_shelf.specs.Shelves.{DriveFailures, GivingFailed}
+use Rattle.mdv_engine_law.specs.Answers.{refusing}
+use Rattle.mdv_engine_law.specs.Line.{Nothing}
+use Rattle.mdv_engine_law.specs.Replies.{text_of}
+use Rattle.mdv_engine_law.specs.Standing.{TellMoment}
+use Rattle.mdv_engine_law.specs.declared.answer.Outcome.TheVariants as outcome
+use Rattle.mdv_engine_law.proofs.Plain.{memory_plain}
+use Rattle.mdv_engine_law.proofs.Staying.{turn_stays}
+use Rattle.mdv_engine.specs.Ends.{OnlyAnswers}
+use Rattle.mdv_run.specs.Below.{line, Ends, Engine, IsAnswered, IsWell, LinesMoment}
+use Rattle.mdv_run.specs.Promise.{LineEnd}
+use Rattle.mdv_run.proofs.Answering.{refused_down, refused_knows, told_reply, uncut_replied, unread_moment, unread_ran}
+use Rattle.mdv_run.proofs.Counting.{wider}
+use Rattle.mdv_run.proofs.Fronts.{AnswerFront, LineFront, front_of, only_refused}
+use Rattle.mdv_run.proofs.session.refuse_unread.Goals as goal
+
+pub refuse-requires : goal.refuse-requires
+refuse-requires g c = memory_plain
+
+pub returns-clause-moments : goal.returns-clause-moments
+returns-clause-moments g c = λ text more.
+    moments_weaker (TellMoment (text_of (refusing OutOfMemory))) (LinesMoment c.args.engine.now.host (line text more) c.args.engine.now.state) _ _ (unread_moment c.args.engine.now.host text c.args.engine.now.state more) c.refuse.ensures.moments.tells
+
+pub returns-clause-end : goal.returns-clause-end
+returns-clause-end g c = λ text.
+    let host = c.args.engine.now.host in
+    let old = c.args.engine.now.state in
+    let drive = DriveFailures g.B.Shelf c.args.bench.now c.refuse.new.bench 0 in
+    let replies = GivingFailed g.B.Shelf c.args.bench.now c.refuse.new.bench in
+    let made = made_of g.B.Shelf c.args.bench.now c.refuse.new.bench in
+    subst (λ (e : Engine). Ends (LineEnd drive replies made host text old e.state c.refuse.result) (g.B.Shelf.tale c.args.bench.now) (g.B.Shelf.tale c.refuse.new.bench)) (sym c.refuse.ensures.answer.same)
+    (λ t told. (
+    let end = c.refuse.ensures.end t told in (
+      end.0,
+      end.1,
+      record {
+        answered = λ knows. record {
+          answer = refusing OutOfMemory;
+          done = inr (inr (c.refuse.ensures.answer.calm, refused_down host old OutOfMemory memory_plain replies c.refuse.result t end.0 end.2));
+          calls = inr (inr (refl, between_of g.B.Shelf.calls g.B.Shelf.written _ _ 1 0 1 1 0 (omega arith) (omega arith) (omega arith) c.refuse.ensures.counted.once));
+          writes = inl end.2.kept;
+          replied = end.2.replied;
+        };
+        ran = λ on more. unread_ran host text old replies c.refuse.result t end.0 end.2 on more;
+        knows = λ kept. refused_knows host old OutOfMemory memory_plain replies c.refuse.result t end.0 end.2;
+      },
+    )))
+
+pub returns-clause-stays : goal.returns-clause-stays
+returns-clause-stays g c = record {
+  home = turn_stays c.args.engine.now.host Nothing c.args.engine.now.state _ _ (c.refuse.ensures.moments.line Nothing).each;
+  told = c.refuse.ensures.counted.told;
+  given = λ uncut. c.refuse.ensures.counted.given (uncut_replied _ (outcome.Refused OutOfMemory) c.refuse.result c.refuse.ensures.answer.cause uncut);
+  rests = (c.refuse.ensures.moments.line Nothing).rests;
+  tells = λ text. moment_weaker g.B.Shelf (AnswerFront c.args.engine.now.host (refusing OutOfMemory) c.args.engine.now.state) (LineFront c.args.engine.now.host text c.args.engine.now.state) _ _
+      (λ t m up down here known. front_of (OnlyAnswers (refusing OutOfMemory)) (λ failures kept answer next. IsAnswered failures c.args.engine.now.host kept text answer next) c.args.engine.now.state t m (λ failures kept answer next is. inr (inr (is.0, only_refused OutOfMemory failures kept answer next is))) (here known)) (c.refuse.ensures.moments.line Nothing).fronts;
+}
+
+pub returns-clause-answer : goal.returns-clause-answer
+returns-clause-answer g c = record {
+  cause = told_reply _ _ (outcome.Refused OutOfMemory) c.refuse.result c.refuse.ensures.answer.cause;
+  same = ap (λ (e : Engine). e.host) c.refuse.ensures.answer.same;
+  well = subst (λ (e : Engine). IsWell c.args.engine.now.host e.state) (sym c.refuse.ensures.answer.same) c.requires;
+  begun = subst (λ (e : Engine). e.state.begun ≤ c.args.engine.now.state.begun + 1) (sym c.refuse.ensures.answer.same) (omega arith);
+  counted = λ n some. wider (g.B.Shelf.calls c.args.bench.now) (g.B.Shelf.calls c.refuse.new.bench) 1 n some (rose_at_most 1 1 (g.B.Shelf.calls c.args.bench.now) (g.B.Shelf.calls c.refuse.new.bench) (omega arith) c.refuse.ensures.counted.once.in_calls);
+}

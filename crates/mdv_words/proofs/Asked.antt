@@ -1,0 +1,175 @@
+-- What a line of the grammar asks keeps the numbers of volumes and of blocks.
+use Rattle.std.proofs.Common.{ℕ, ◌≤◌, Bool, true, false, cond, Option, None, Some, sym, subst, List, [], ◌∷◌, codes}
+use Rattle.std.specs.Prelude.{IfSome, nat_le}
+use Rattle.mdv_name.specs.declared.volume.VolName.{VolName}
+use Rattle.mdv_parts.specs.declared.component.Component.{Component}
+use Rattle.mdv_parts.specs.declared.part.Part.{Part}
+use Rattle.mdv_parts.specs.declared.part.Part.TheVariants.{Pool, Replicas, Slice, Volume}
+use Rattle.mdv_parts.specs.Runs.{behind, component_of, front, pool_of}
+use Rattle.mdv_tab.specs.declared.entry.Entry.{Entry}
+use Rattle.mdv_tab.specs.Form.{entry_of}
+use Rattle.mdv_tab.specs.Options.{late_interlace, on_some}
+use Rattle.mdv_command.specs.declared.command.Command.{Command}
+use Rattle.mdv_command.specs.declared.command.Pools.{Pools}
+use Rattle.mdv_command.specs.declared.given.Given.{Given}
+use Rattle.mdv_command.specs.Given.{count_given, has, interlace_given, length_given, only}
+use Rattle.mdv_command.specs.Spares.{added_spares_of, deleted_spares_of, enabled_spares_of, listed_pools_of, metahs_of, pools_of, replaced_spare_of}
+use Rattle.mdv_command.specs.Volumes.{added_of, all_cleared_of, all_made_of, all_of, deleted_of, ends_attach, enabled_of, listed_of, made_of, metaclear_of, metadb_of, metainit_of, metareplace_of, metattach_of, named_of, only_size, replaced_of, sized_of, some_of, some_slices, submirror_of}
+use Rattle.mdv_grammar.specs.declared.sets.SetForm.{SetForm}
+use Rattle.mdv_grammar.specs.declared.sets.SetForm.TheVariants.{Show, Change}
+use Rattle.mdv_grammar.specs.declared.verb.Head.{Head}
+use Rattle.mdv_grammar.specs.declared.verb.Head.TheVariants.{OfVerb, OfSets, OfRead, OfWrite, OfFill, OfIdle}
+use Rattle.mdv_grammar.specs.declared.verb.Verb.{Verb}
+use Rattle.mdv_grammar.specs.declared.verb.Verb.TheVariants.{Metadb, Metainit, Metaclear, Metattach, Metadetach, Metaoffline, Metaonline, Metareplace, Metahs, Metastat}
+use Rattle.mdv_grammar.specs.Line.{AsksBehind, IsCommand}
+use Rattle.mdv_grammar.specs.Operands.{command_of, plain_of, scope_of}
+use Rattle.mdv_command.specs.Given.{set_given}
+use Rattle.mdv_grammar.specs.Sets.{AsksSets}
+use Rattle.mdv_words.proofs.Entries.{BeginsSmall, Kept, KeepsEntry, begins_small, entry_keeps, if_either, if_then}
+
+abbrev pub Keeps : Command → Type 0
+Keeps (Command.Make entry force) = KeepsEntry entry
+Keeps (Command.Read volume at count) = 1 ≤ count
+Keeps _ = Unit {0}
+
+abbrev Holds : Option Command → Type 0
+Holds command = IfSome command Keeps
+
+either : (b : Bool) (x y : Option Command) → Holds x → Holds y → Holds (cond b x y)
+either b x y first second = if_either Keeps b x y first second
+
+-- where the test is passed, and nothing else
+passed : (b : Bool) (x : Option Command) → Holds x → Holds (cond b x None)
+passed b x holds = either b x None holds tt
+
+behind_it : {B : Type 0} (o : Option B) (next : B → Option Command) → ((b : B) → Holds (next b)) → Holds (on_some o next)
+behind_it o next holds = if_then Keeps o next holds
+
+added_keeps : (gs : List Given) (ps : List Part) → Holds (added_of gs ps)
+added_keeps gs (Replicas n ∷ []) = passed (only (codes "af") gs) (Some (Command.AddListed n (has 102 gs))) tt
+added_keeps gs ps = behind_it (some_slices ps) (λ ss. Some (Command.AddReplicas ss (record { count = count_given gs; blocks = length_given gs }) (has 102 gs))) (λ ss. tt)
+
+listed_keeps : (gs : List Given) (set : Option (List ℕ)) (ps : List Part) → Holds (listed_of gs set ps)
+listed_keeps gs set [] = tt
+listed_keeps gs set (p ∷ ps) = tt
+
+metadb_keeps : (gs : List Given) (set : Option (List ℕ)) (ps : List Part) → Holds (metadb_of gs set ps)
+metadb_keeps gs set ps =
+    either (has 97 gs) _ _ (passed (only (codes "afcl") gs) (added_of gs ps) (added_keeps gs ps)) (
+    either (has 100 gs) _ _ (passed (only (codes "df") gs) (deleted_of gs ps) (behind_it (some_slices ps) _ (λ ss. tt))) (
+    passed (only (codes "is") gs) (listed_of gs set ps) (listed_keeps gs set ps)))
+
+make_keeps : (force : Bool) (entry : Option Entry) → Kept entry → Holds (on_some entry (λ e. Some (Command.Make e force)))
+make_keeps force None kept = tt
+make_keeps force (Some e) kept = kept
+
+made_keeps : (force : Bool) (set : Option (List ℕ)) (ps : List Part) → BeginsSmall ps → Holds (made_of force set ps)
+made_keeps force set (Volume v ∷ []) small = tt
+made_keeps force set (Pool p ∷ []) small = tt
+made_keeps force set (Replicas n ∷ ps) small = tt
+made_keeps force set ps small = make_keeps force (entry_of set ps) (entry_keeps set ps small)
+
+all_made_keeps : (ps : List Part) → Holds (all_made_of ps)
+all_made_keeps [] = tt
+all_made_keeps (p ∷ ps) = tt
+
+metainit_keeps : (gs : List Given) (set : Option (List ℕ)) (ps : List Part) → BeginsSmall ps → Holds (metainit_of gs set ps)
+metainit_keeps gs set ps small = either (has 97 gs) _ _ (passed (only (codes "a") gs) (all_made_of ps) (all_made_keeps ps)) (made_keeps (has 102 gs) set ps small)
+
+all_cleared_keeps : (set : Option (List ℕ)) (ps : List Part) → Holds (all_cleared_of set ps)
+all_cleared_keeps set [] = tt
+all_cleared_keeps set (p ∷ ps) = tt
+
+metaclear_keeps : (gs : List Given) (set : Option (List ℕ)) (ps : List Part) → Holds (metaclear_of gs set ps)
+metaclear_keeps gs set ps =
+    either (has 97 gs) _ _ (passed (only (codes "afs") gs) (all_cleared_of set ps) (all_cleared_keeps set ps)) (behind_it (some_of (front named_of ps) (behind named_of ps)) _ (λ ns. tt))
+
+attached_keeps : (name : VolName) (cs : List Component) (read : Option (Option ℕ × List Part)) → Holds (ends_attach name cs read)
+attached_keeps name [] read = tt
+attached_keeps name (c ∷ cs) None = tt
+attached_keeps name (c ∷ cs) (Some (interlace, [])) = tt
+attached_keeps name (c ∷ cs) (Some (interlace, p ∷ ps)) = tt
+
+sized_keeps : (name : VolName) (gs : List Given) (ps : List Part) (size : Option ℕ) → Holds (sized_of name gs ps size)
+sized_keeps name gs ps None = attached_keeps name (front component_of ps) (late_interlace (interlace_given gs) (behind component_of ps))
+sized_keeps name gs ps (Some blocks) = passed (only (codes "s") gs) _ (passed (nat_le 1 blocks) (Some (Command.Grow name blocks)) tt)
+
+metattach_keeps : (gs : List Given) (set : Option (List ℕ)) (ps : List Part) → Holds (metattach_of gs set ps)
+metattach_keeps gs set (Volume v ∷ ps) = sized_keeps (record { set = set; volume = v }) gs ps (only_size ps)
+metattach_keeps gs set _ = tt
+
+enabled_keeps : (set : Option (List ℕ)) (ps : List Part) → Holds (enabled_of set ps)
+enabled_keeps set (Volume v ∷ p ∷ []) = behind_it (component_of p) _ (λ c. tt)
+enabled_keeps set _ = tt
+
+replaced_keeps : (set : Option (List ℕ)) (ps : List Part) → Holds (replaced_of set ps)
+replaced_keeps set (Volume v ∷ p ∷ q ∷ []) = behind_it (component_of p) _ (λ old. behind_it (component_of q) _ (λ new. tt))
+replaced_keeps set _ = tt
+
+metareplace_keeps : (gs : List Given) (set : Option (List ℕ)) (ps : List Part) → Holds (metareplace_of gs set ps)
+metareplace_keeps gs set ps = either (has 101 gs) (enabled_of set ps) (replaced_of set ps) (enabled_keeps set ps) (replaced_keeps set ps)
+
+added_spares_keep : (set : Option (List ℕ)) (read : Option (Pools × List Part)) → Holds (added_spares_of set read)
+added_spares_keep set None = tt
+added_spares_keep set (Some (pools, ps)) = behind_it (some_slices ps) _ (λ ss. tt)
+
+deleted_spares_keep : (set : Option (List ℕ)) (read : Option (Pools × List Part)) → Holds (deleted_spares_of set read)
+deleted_spares_keep set None = tt
+deleted_spares_keep set (Some (pools, ps)) = behind_it (some_slices ps) _ (λ ss. tt)
+
+replaced_spare_keeps : (set : Option (List ℕ)) (read : Option (Pools × List Part)) → Holds (replaced_spare_of set read)
+replaced_spare_keeps set (Some (pools, Slice old ∷ Slice new ∷ [])) = tt
+replaced_spare_keeps set _ = tt
+
+enabled_spares_keep : (set : Option (List ℕ)) (all : Bool) (ps : List Part) → Holds (enabled_spares_of set all ps)
+enabled_spares_keep set true ps = tt
+enabled_spares_keep set false ps = behind_it (some_slices ps) _ (λ ss. tt)
+
+listed_pools_keep : (set : Option (List ℕ)) (all : Bool) (ps : List Part) → Holds (listed_pools_of set all ps)
+listed_pools_keep set true ps = tt
+listed_pools_keep set false ps = behind_it (all_of (front pool_of ps) (behind pool_of ps)) _ (λ pools. tt)
+
+metahs_keeps : (gs : List Given) (set : Option (List ℕ)) (all : Bool) (ps : List Part) → Holds (metahs_of gs set all ps)
+metahs_keeps gs set all ps =
+    either (has 97 gs) _ _ (passed (only (codes "as") gs) _ (added_spares_keep set (pools_of all ps))) (
+    either (has 100 gs) _ _ (passed (only (codes "ds") gs) _ (deleted_spares_keep set (pools_of all ps))) (
+    either (has 114 gs) _ _ (passed (only (codes "rs") gs) _ (replaced_spare_keeps set (pools_of all ps))) (
+    either (has 101 gs) _ _ (passed (only (codes "es") gs) _ (enabled_spares_keep set all ps)) (
+    passed (has 105 gs) _ (passed (only (codes "is") gs) _ (listed_pools_keep set all ps))))))
+
+plain_keeps : (verb : Verb) (gs : List Given) (set : Option (List ℕ)) (ps : List Part) → BeginsSmall ps → Holds (plain_of verb gs set ps)
+plain_keeps Metadb gs set ps small = metadb_keeps gs set ps
+plain_keeps Metainit gs set ps small = metainit_keeps gs set ps small
+plain_keeps Metaclear gs set ps small = metaclear_keeps gs set ps
+plain_keeps Metattach gs set ps small = metattach_keeps gs set ps
+plain_keeps Metadetach gs set ps small = behind_it (submirror_of set ps) _ (λ p. tt)
+plain_keeps Metaoffline gs set ps small = behind_it (submirror_of set ps) _ (λ p. tt)
+plain_keeps Metaonline gs set ps small = behind_it (submirror_of set ps) _ (λ p. tt)
+plain_keeps Metareplace gs set ps small = metareplace_keeps gs set ps
+plain_keeps Metahs gs set ps small = metahs_keeps gs set false ps
+plain_keeps Metastat gs set ps small = behind_it (all_of (front named_of ps) (behind named_of ps)) _ (λ ns. tt)
+
+verb_keeps : (verb : Verb) (gs : List Given) (set : Option (List ℕ)) (all : Bool) (ps : List Part) → BeginsSmall ps → Holds (command_of verb gs set all ps)
+verb_keeps verb gs set false ps small = plain_keeps verb gs set ps small
+verb_keeps Metahs gs set true ps small = metahs_keeps gs set true ps
+verb_keeps _ gs set true ps small = tt
+
+sets_keep : (form : SetForm) (gs : List Given) (ws : List (List ℕ)) (c : Command) → AsksSets form gs ws c → Keeps c
+sets_keep Show gs ws c asks = subst Keeps (sym asks.1) tt
+sets_keep (Change form) gs ws c asks = subst Keeps (sym asks.4) tt
+
+-- what a line asks behind its first word
+asked_keeps : (head : Head) (ws : List (List ℕ)) (c : Command) → AsksBehind head ws c → Keeps c
+asked_keeps (OfVerb verb) ws c asks =
+    let parts = asks.asks in
+    let small = begins_small (scope_of (set_given asks.given) parts.set) parts.names parts.parts parts.spelled in
+    subst (λ (o : Option Command). Holds o) parts.form (verb_keeps verb asks.given parts.set parts.all parts.parts small)
+asked_keeps OfSets ws c asks = sets_keep asks.form asks.given asks.operands c asks.asks
+asked_keeps OfRead ws c asks = subst Keeps (sym asks.is) asks.counted.some
+asked_keeps OfWrite ws c asks = subst Keeps (sym asks.is) tt
+asked_keeps OfFill ws c asks = subst Keeps (sym asks.is) tt
+asked_keeps OfIdle ws c asks = subst Keeps (sym asks.is) tt
+
+pub command_keeps : (ws : List (List ℕ)) (c : Command) → IsCommand ws c → Keeps c
+command_keeps [] c is = absurd is
+command_keeps (w ∷ ws) c is = asked_keeps is.0 ws c is.2
