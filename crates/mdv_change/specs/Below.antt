@@ -17,6 +17,7 @@ pub use Rattle.mdv_base.specs.declared.state_word.StateWord.TheVariants.{Absent}
 pub use Rattle.mdv_copies.specs.Leaving.{detach_condition, offline_condition, online_condition, without_sub}
 pub use Rattle.mdv_copies.specs.States.{detach_states, online_states, online_word, sub_word, switched}
 pub use Rattle.mdv_keys.specs.Keys.{kept}
+pub use Rattle.mdv_keys.specs.Marks.{pool_key, volume_key}
 pub use Rattle.mdv_name.specs.Code.{slice_code}
 pub use Rattle.mdv_name.specs.declared.geometry.Geometry.{Geometry}
 pub use Rattle.mdv_plan.specs.Named.{kind_below}

@@ -2,7 +2,7 @@
 use Rattle.std.specs.Prelude.{ℕ, Bool, false, not, ◌==◌, ◌&&◌, ◌||◌, List, [], ◌∷◌, map, Option, None, Some, is_some, if◌then◌else◌}
 use Rattle.std.specs.List.{find, fold, flat_map, list_any}
 use Rattle.mdv_change.specs.Below.{VolId, PoolId, SliceName, Plan, Pool, Spare, Status, Table, OneVolume, VolumeKind, VolumeStatus, KindStatus, PartStatus, SpareStatus, SpareUse}
-use Rattle.mdv_change.specs.Below.{volume_of, pool_of, names_volume, names_pool, same_slice, slice_code, changed, kept, Cause}
+use Rattle.mdv_change.specs.Below.{volume_of, pool_of, names_volume, names_pool, pool_key, same_slice, slice_code, volume_key, changed, kept, Cause}
 use Rattle.mdv_components.specs.declared.cause.Cause.TheVariants.{NoSuchVolume, NoSuchPool, HasParent}
 use Rattle.mdv_plan.specs.declared.status.KindStatus.TheVariants.{Stripe, Mirror, Raid, Soft}
 use Rattle.mdv_plan.specs.declared.status.SpareState.TheVariants.{Available}
@@ -91,12 +91,6 @@ lost_of p pools q = lost_in p pools (pool_of p q)
 -- the spares of the pools that go which no other pool has, each by its number
 abbrev pub lost_spares : Plan → List PoolId → List ℕ
 lost_spares p pools = flat_map (lost_of p pools) pools
-
-abbrev pub volume_key : VolId → ℕ
-volume_key v = v.0
-
-abbrev pub pool_key : PoolId → ℕ
-pool_key q = q.0
 
 -- The volumes and pools are gone, and their states with them. A spare that a component of theirs had is Available again, and one that no pool has
 -- any more has no state.

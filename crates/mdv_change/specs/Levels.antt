@@ -1,5 +1,5 @@
 -- The volumes that lie below others, level by level.
-use Rattle.std.specs.Prelude.{Bool, not, ◌&&◌, is_some, List, [], ◌++◌, filter, Option, None, Some}
+use Rattle.std.specs.Prelude.{Bool, false, not, ◌&&◌, slice_index_or, is_some, List, [], ◌++◌, filter, Option, None, Some}
 use Rattle.std.specs.List.{flat_map, list_any}
 use Rattle.mdv_change.specs.Below.{VolId, Plan, OneVolume, kind_below, volume_of, names_volume}
 use Rattle.mdv_change.specs.Clear.{is_named}
@@ -21,6 +21,10 @@ is_used_beside p volumes v = list_any (uses_beside volumes v) p.volumes
 -- it isn't one of them, and only they use it
 abbrev pub falls : Plan → List VolId → VolId → Bool
 falls p volumes v = is_some (volume_of p v) && (not (is_named volumes v) && not (is_used_beside p volumes v))
+
+-- it is there, and has neither mark
+abbrev pub falls_by : Plan → List Bool → List Bool → VolId → Bool
+falls_by p named used v = is_some (volume_of p v) && (not (slice_index_or named v.0 false) && not (slice_index_or used v.0 false))
 
 -- with those right below them that nothing else uses
 abbrev pub with_level : Plan → List VolId → List VolId

@@ -1,37 +1,45 @@
 //! The clearing of volumes and pools: what refuses it, and what is left.
-ghost use Rattle.std.specs.Prelude.{◌≡◌, ◌++◌, map, IfOk, OnOk, OnErr};
+ghost use Rattle.std.specs.Prelude.{◌≡◌, ◌++◌, false, slice_index_or, IfOk, OnOk, OnErr};
 ghost use Rattle.std.specs.List.{flat_map, list_any};
-ghost use Rattle.mdv_change.specs.Below.{first_of, names_pool, names_volume, order};
+ghost use Rattle.mdv_change.specs.Below.{first_of, order};
 ghost use Rattle.mdv_change.specs.Clear.{clear_condition, is_no_volume as spec_is_no_volume, is_no_pool as spec_is_no_pool};
-ghost use Rattle.mdv_change.specs.Clear.{is_named as spec_is_named, is_named_pool as spec_is_named_pool, uses_one as spec_uses_one, is_left_with as spec_is_left_with};
+ghost use Rattle.mdv_change.specs.Clear.{is_named_pool as spec_is_named_pool, is_left_with as spec_is_left_with};
 ghost use Rattle.mdv_change.specs.Clear.{part_spare, parts_of as spec_parts_of, used_spares as spec_used_spares, available as spec_available, given_back};
 ghost use Rattle.mdv_change.specs.Clear.{has_spare as spec_has_spare, is_kept_with as spec_is_kept_with, is_kept_spare as spec_is_kept_spare};
 ghost use Rattle.mdv_change.specs.Clear.{lost_spare as spec_lost_spare, lost_of as spec_lost_of, lost_spares as spec_lost_spares, spares_under as spec_spares_under};
-ghost use Rattle.mdv_change.specs.Clear.{volume_key, pool_key, cleared, emptied};
+ghost use Rattle.mdv_change.specs.Clear.{cleared, emptied};
 
 use mdv_base::{PoolId, SliceName, VolId};
 use mdv_components::{Cause, pool_of, volume_of};
-use mdv_keys::remove_all;
+use mdv_keys::{
+    PoolMarks, VolumeMarks, pools_beside, pools_marked, remove_all, remove_marked, used_beside,
+    volumes_marked,
+};
 use mdv_plan::{
     Keyed, KindStatus, PartStatus, Plan, Pool, Sorted, Spare, SpareState, SpareStatus, Status,
-    Table, Volume, VolumeKind, names_pool, names_volume, same_slice,
+    Table, same_slice,
 };
 use std::alloc::{AllocError, Global};
 
 /// The first cause for which the volumes and pools can't be cleared.
-pub(crate) fn refuse_clear(plan: &Plan, volumes: &[VolId], pools: &[PoolId]) -> Option<Cause>
-    ensures { result ≡ first_of (clear_condition plan.now volumes.now pools.now) order }
+pub(crate) fn refuse_clear(
+    alloc: Global,
+    plan: &Plan,
+    volumes: &[VolId],
+    pools: &[PoolId],
+) -> Result<Option<Cause>, AllocError>
+    ensures { IfOk result (λ cause. cause ≡ first_of (clear_condition plan.now volumes.now pools.now) order) }
 {
     if has_no_volume(plan, volumes) {
-        return Some(Cause::NoSuchVolume);
+        return Ok(Some(Cause::NoSuchVolume));
     }
     if has_no_pool(plan, pools) {
-        return Some(Cause::NoSuchPool);
+        return Ok(Some(Cause::NoSuchPool));
     }
-    if has_user(plan, volumes, pools) {
-        return Some(Cause::HasParent);
+    if has_user(alloc, plan, volumes, pools)? {
+        return Ok(Some(Cause::HasParent));
     }
-    None
+    Ok(None)
 }
 
 fn is_no_volume(plan: &Plan, volume: VolId) -> bool
@@ -58,47 +66,41 @@ fn has_no_pool(plan: &Plan, pools: &[PoolId]) -> bool
     pools.iter().any(|pool| is_no_pool(plan, *pool))
 }
 
-pub(crate) fn is_named(volumes: &[VolId], volume: VolId) -> bool
-    ensures { result ≡ spec_is_named volumes.now volume }
-{
-    volumes.iter().any(|named| named.0 == volume.0)
-}
-
 fn is_named_pool(pools: &[PoolId], pool: PoolId) -> bool
     ensures { result ≡ spec_is_named_pool pools.now pool }
 {
     pools.iter().any(|named| named.0 == pool.0)
 }
 
-fn names_any(kind: &VolumeKind, volumes: &[VolId]) -> bool
-    ensures { result ≡ list_any (λ v. names_volume v kind.now) volumes.now }
+fn has_marked(marks: &VolumeMarks, volumes: &[VolId]) -> bool
+    ensures { result ≡ list_any (λ v. slice_index_or marks.now v.0 false) volumes.now }
 {
-    volumes.iter().any(|volume| names_volume(kind, *volume))
+    volumes.iter().any(|volume| marks.has(volume.0))
 }
 
-fn names_any_pool(kind: &VolumeKind, pools: &[PoolId]) -> bool
-    ensures { result ≡ list_any (λ q. names_pool q kind.now) pools.now }
+fn has_marked_pool(marks: &PoolMarks, pools: &[PoolId]) -> bool
+    ensures { result ≡ list_any (λ q. slice_index_or marks.now q.0 false) pools.now }
 {
-    pools.iter().any(|pool| names_pool(kind, *pool))
+    pools.iter().any(|pool| marks.has(pool.0))
 }
 
-fn uses_one(kind: &VolumeKind, volumes: &[VolId], pools: &[PoolId]) -> bool
-    ensures { result ≡ spec_uses_one volumes.now pools.now kind.now }
+// Whether a volume that stays uses one of them. All that such volumes use is marked, so that each is looked at once.
+fn has_user(
+    alloc: Global,
+    plan: &Plan,
+    volumes: &[VolId],
+    pools: &[PoolId],
+) -> Result<bool, AllocError>
+    requires volumes { list_any (spec_is_no_volume plan.now) volumes.now ≡ false }
+    requires pools { list_any (spec_is_no_pool plan.now) pools.now ≡ false }
+    ensures { IfOk result (λ has. has ≡ list_any (spec_is_left_with volumes.now pools.now) plan.now.volumes) }
 {
-    names_any(kind, volumes) || names_any_pool(kind, pools)
-}
-
-fn is_left_with(volumes: &[VolId], pools: &[PoolId], user: &Volume) -> bool
-    ensures { result ≡ spec_is_left_with volumes.now pools.now user.now }
-{
-    !is_named(volumes, user.number) && uses_one(&user.kind, volumes, pools)
-}
-
-fn has_user(plan: &Plan, volumes: &[VolId], pools: &[PoolId]) -> bool
-    ensures { result ≡ list_any (spec_is_left_with volumes.now pools.now) plan.now.volumes }
-{
+    let named = volumes_marked(alloc, volumes)?;
     let users = plan.volumes.as_slice();
-    users.iter().any(|user| is_left_with(volumes, pools, user))
+    let _pools = plan.pools.as_slice();
+    let used = used_beside(alloc, users, &named)?;
+    let used_pools = pools_beside(alloc, users, &named)?;
+    Ok(has_marked(&used, volumes) || has_marked_pool(&used_pools, pools))
 }
 
 /// Takes out the volumes and pools, with their states.
@@ -111,13 +113,13 @@ pub(crate) fn clear(
     ensures ok { OnOk result (table.new ≡ cleared volumes.now pools.now table.old) }
     ensures err { OnErr result (table.new ≡ table.old) }
 {
-    let volume_keys = volume_keys(alloc, volumes)?;
-    let pool_keys = pool_keys(alloc, pools)?;
+    let named = volumes_marked(alloc, volumes)?;
+    let named_pools = pools_marked(alloc, pools)?;
     let used = used_spares(alloc, &table.status, volumes)?;
     let lost = lost_spares(alloc, &table.plan, pools)?;
-    remove_all(&mut table.plan.volumes, volume_keys.as_slice());
-    remove_all(&mut table.plan.pools, pool_keys.as_slice());
-    remove_all(&mut table.status.volumes, volume_keys.as_slice());
+    remove_marked(&mut table.plan.volumes, &named);
+    remove_marked(&mut table.plan.pools, &named_pools);
+    remove_marked(&mut table.status.volumes, &named);
     give_back(&mut table.status.spares, used.as_slice());
     remove_all(&mut table.status.spares, lost.as_slice());
     Ok(())
@@ -133,26 +135,6 @@ pub(crate) fn clear_all(alloc: Global, table: &mut Table)
         volumes: Sorted::new(alloc),
         spares: Sorted::new(alloc),
     };
-}
-
-fn volume_keys(alloc: Global, volumes: &[VolId]) -> Result<Vec<u32>, AllocError>
-    ensures { IfOk result (λ keys. keys.items ≡ map volume_key volumes.now) }
-{
-    let mut keys = Vec::new(alloc);
-    for volume in volumes {
-        keys.push(u32::from(volume.0))?;
-    }
-    Ok(keys)
-}
-
-fn pool_keys(alloc: Global, pools: &[PoolId]) -> Result<Vec<u32>, AllocError>
-    ensures { IfOk result (λ keys. keys.items ≡ map pool_key pools.now) }
-{
-    let mut keys = Vec::new(alloc);
-    for pool in pools {
-        keys.push(u32::from(pool.0))?;
-    }
-    Ok(keys)
 }
 
 fn parts_of(kind: &KindStatus) -> &[PartStatus]

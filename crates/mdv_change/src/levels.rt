@@ -1,13 +1,12 @@
 //! The volumes that lie below others, level by level.
 ghost use Rattle.std.specs.Prelude.{◌≡◌, ◌++◌, filter, IfOk, OnOk};
 ghost use Rattle.std.specs.List.{flat_map};
-ghost use Rattle.mdv_change.specs.Levels.{below_of, uses_beside as spec_uses_beside, is_used_beside as spec_is_used_beside};
-ghost use Rattle.mdv_change.specs.Levels.{falls as spec_falls, with_level as spec_with_level, with_levels as spec_with_levels};
+ghost use Rattle.mdv_change.specs.Levels.{below_of, falls_by, falls as spec_falls, with_level as spec_with_level, with_levels as spec_with_levels};
 
-use crate::clearing::is_named;
 use mdv_base::VolId;
 use mdv_components::volume_of;
-use mdv_plan::{Plan, Volume, add_named, names_volume};
+use mdv_keys::{VolumeMarks, used_beside, volumes_marked};
+use mdv_plan::{Plan, add_named};
 use std::alloc::{AllocError, Global};
 
 fn add_below(list: &mut Vec<VolId>, plan: &Plan, volume: VolId) -> Result<(), AllocError>
@@ -29,36 +28,49 @@ fn all_below(alloc: Global, plan: &Plan, volumes: &[VolId]) -> Result<Vec<VolId>
     Ok(list)
 }
 
-fn uses_beside(volumes: &[VolId], volume: VolId, user: &Volume) -> bool
-    ensures { result ≡ spec_uses_beside volumes.now volume user.now }
+// Whether it is there and has neither mark.
+fn falls(plan: &Plan, named: &VolumeMarks, used: &VolumeMarks, volume: VolId) -> bool
+    ensures { result ≡ falls_by plan.now named.now used.now volume }
 {
-    !is_named(volumes, user.number) && names_volume(&user.kind, volume)
+    volume_of(plan, volume).is_some() && (!named.has(volume.0) && !used.has(volume.0))
 }
 
-fn is_used_beside(plan: &Plan, volumes: &[VolId], volume: VolId) -> bool
-    ensures { result ≡ spec_is_used_beside plan.now volumes.now volume }
+// Those of the list that fall by these marks.
+fn unmarked(
+    alloc: Global,
+    plan: &Plan,
+    named: &VolumeMarks,
+    used: &VolumeMarks,
+    list: &[VolId],
+) -> Result<Vec<VolId>, AllocError>
+    ensures { IfOk result (λ fall. fall.items ≡ filter (falls_by plan.now named.now used.now) list.now) }
 {
-    let users = plan.volumes.as_slice();
-    users.iter().any(|user| uses_beside(volumes, volume, user))
+    list.iter()
+        .copied()
+        .filter(|volume| falls(plan, named, used, *volume))
+        .collect(alloc)
 }
 
-// Whether it isn't one of them, and only they use it.
-fn falls(plan: &Plan, volumes: &[VolId], volume: VolId) -> bool
-    ensures { result ≡ spec_falls plan.now volumes.now volume }
+// Those of the list that aren't among the volumes, and that only they use.
+fn falling(
+    alloc: Global,
+    plan: &Plan,
+    volumes: &[VolId],
+    list: &[VolId],
+) -> Result<Vec<VolId>, AllocError>
+    ensures { IfOk result (λ fall. fall.items ≡ filter (spec_falls plan.now volumes.now) list.now) }
 {
-    volume_of(plan, volume).is_some()
-        && (!is_named(volumes, volume) && !is_used_beside(plan, volumes, volume))
+    let named = volumes_marked(alloc, volumes)?;
+    let used = used_beside(alloc, plan.volumes.as_slice(), &named)?;
+    let fall = unmarked(alloc, plan, &named, &used, list)?;
+    Ok(fall)
 }
 
 fn with_level(alloc: Global, plan: &Plan, volumes: &[VolId]) -> Result<Vec<VolId>, AllocError>
     ensures { IfOk result (λ list. list.items ≡ spec_with_level plan.now volumes.now) }
 {
     let below = all_below(alloc, plan, volumes)?;
-    let level: Vec<VolId> = below
-        .iter()
-        .copied()
-        .filter(|volume| falls(plan, volumes, *volume))
-        .collect(alloc)?;
+    let level = falling(alloc, plan, volumes, below.as_slice())?;
     let mut list = Vec::from_slice(alloc, volumes)?;
     list.extend_from_slice(level.as_slice())?;
     Ok(list)

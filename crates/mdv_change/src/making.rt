@@ -331,7 +331,7 @@ fn clear_named(
 ) -> Result<(), ApplyFault>
     ensures { (g : Geometry) (drives : List DriveNo) → IsApplied g drives (clear_change volumes.now pools.now) table.old table.new result }
 {
-    if let Some(cause) = refuse_clear(&table.plan, volumes, pools) {
+    if let Some(cause) = refuse_clear(alloc, &table.plan, volumes, pools)? {
         return Err(ApplyFault::Refused(cause.refusal(Carried::nothing())));
     }
     clear(alloc, table, volumes, pools)?;
@@ -347,7 +347,7 @@ fn clear_below(
     ensures { (g : Geometry) (drives : List DriveNo) → IsApplied g drives (below_change volumes.now pools.now) table.old table.new result }
 {
     let all = with_levels(alloc, &table.plan, volumes)?;
-    if let Some(cause) = refuse_clear(&table.plan, all.as_slice(), pools) {
+    if let Some(cause) = refuse_clear(alloc, &table.plan, all.as_slice(), pools)? {
         return Err(ApplyFault::Refused(cause.refusal(Carried::nothing())));
     }
     clear(alloc, table, all.as_slice(), pools)?;

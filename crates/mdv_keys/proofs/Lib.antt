@@ -1,2 +1,5 @@
+pub mod Any
 mod Kept
+pub mod Marking
 mod Replaced
+pub mod Users

@@ -1,5 +1,5 @@
 -- Lists in ascending order of a key.
-use Rattle.std.proofs.Common.{true, false, ◌≡◌, ◌<◌, ◌≤◌, ◌==◌, ℕ, zero, suc, refl, sym, ap, subst, List, [], ◌∷◌, length, get_or, cond, Some, None, Result, Ok, Err, IfOk, IfErr, inl, inr, arith}
+use Rattle.std.proofs.Common.{Bool, true, false, ◌≡◌, ◌<◌, ◌≤◌, ◌==◌, ℕ, zero, suc, refl, sym, ap, subst, List, [], ◌∷◌, length, get_or, cond, Some, None, Result, Ok, Err, IfOk, IfErr, inl, inr, arith}
 use Rattle.std.specs.Prelude.{All, nat_lt}
 use Rattle.std.specs.List.{find, insert, remove}
 use Rattle.std.proofs.Math.ListN.{set}
@@ -11,7 +11,7 @@ use Rattle.std.proofs.lemmas.Bool.{cases_lt}
 use Rattle.std.proofs.lemmas.Bool.Decides.{nat_tests}
 use Rattle.std.proofs.lemmas.Cmp.{ranked}
 use Rattle.std.proofs.lemmas.List.Elements.{All-nil, All-cons, All-head, All-tail}
-use Rattle.mdv_plan.specs.Sorted.{IsAscending, IsSorted, IsAt, IsGapFor, with_item, with_put, without, changed}
+use Rattle.mdv_plan.specs.Sorted.{IsAscending, IsSorted, IsAt, IsGapFor, with_item, with_put, without, unmarked, changed}
 use Rattle.mdv_plan.proofs.Pairs.{AllPairs-cons, AllPairs-first, AllPairs-rest}
 
 -- the key at a place is at least the place
@@ -183,6 +183,12 @@ without_at key xs k place gap = sym (without_none key k xs (gap_differs key xs k
 
 pub without_sorted : {T : Type 0} (key : T → ℕ) (limit k : ℕ) (xs : List T) → IsSorted key limit xs → IsSorted key limit (without key k xs)
 without_sorted key limit k xs is = record {
+  ascending = AllPairs-filter (λ a b. key a < key b) _ xs is.ascending;
+  keys = All-filter _ (λ x. key x < limit) xs is.keys;
+}
+
+pub unmarked_sorted : {T : Type 0} (key : T → ℕ) (limit : ℕ) (marks : List Bool) (xs : List T) → IsSorted key limit xs → IsSorted key limit (unmarked key marks xs)
+unmarked_sorted key limit marks xs is = record {
   ascending = AllPairs-filter (λ a b. key a < key b) _ xs is.ascending;
   keys = All-filter _ (λ x. key x < limit) xs is.keys;
 }

@@ -1,4 +1,5 @@
 -- The words of the crates below in which this crate speaks, so that a file of it needs one line of import.
+pub use Rattle.mdv_base.specs.declared.drive.DriveName.{DriveName}
 pub use Rattle.mdv_base.specs.declared.drive.SliceName.{SliceName}
 pub use Rattle.mdv_base.specs.declared.name.PoolId.{PoolId}
 pub use Rattle.mdv_base.specs.declared.name.VolId.{VolId}

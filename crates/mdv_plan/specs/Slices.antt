@@ -1,7 +1,7 @@
 -- What a table of drives says of its slices, and which new uses of a slice clash with those that there are.
-use Rattle.std.specs.Prelude.{◌+◌, ◌==◌, ◌&&◌, ℕ, Bool, true, false, not, nat_lt, List, Option, None, Some, if◌then◌else◌}
+use Rattle.std.specs.Prelude.{◌≡◌, ◌<◌, ◌+◌, ◌==◌, ◌&&◌, ℕ, Bool, true, false, not, nat_lt, List, length, slice_index_or, Option, None, Some, if◌then◌else◌}
 use Rattle.std.specs.List.{list_any}
-use Rattle.mdv_plan.specs.Below.{SliceName, Geometry, SliceAt, SliceLine}
+use Rattle.mdv_plan.specs.Below.{DriveName, SliceName, Geometry, SliceAt, SliceLine}
 use Rattle.mdv_plan.specs.Uses.{same_slice}
 use Rattle.mdv_plan.specs.declared.clash.Asked.{Asked}
 use Rattle.mdv_plan.specs.declared.clash.Asked.TheVariants.{ReplicasTo, OneComponent, Extents, OneSpare}
@@ -23,6 +23,18 @@ overlap_at None b = false
 -- the slices of these names share a block
 abbrev pub overlap : Geometry → SliceName → SliceName → Bool
 overlap g m n = overlap_at (slice_at g.slices m) (slice_at g.slices n)
+
+abbrev pub same_drive : DriveName → DriveName → Bool
+same_drive a b = (a.controller == b.controller && a.target == b.target) && a.disk == b.disk
+
+-- the slice of this number on the same drive
+abbrev pub beside : SliceName → ℕ → SliceName
+beside name number = record { drive = name.drive; slice = number }
+
+-- for each number of a slice, whether that one of its drive shares a block with the slice
+pub record AreNeighbours (g : Geometry) (name : SliceName) (marks : List Bool) : Type 0 where
+  pub size : length marks ≡ 8
+  pub marked : (i : ℕ) → i < 8 → slice_index_or marks i false ≡ overlap g (beside name i) name
 
 -- What may stand beside a use of the same slice: other uses behind replicas, several soft partitions, and one spare in several pools. Replicas may be
 -- put in front of another use where they end at its start or before.

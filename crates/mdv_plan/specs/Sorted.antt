@@ -1,5 +1,5 @@
 -- Lists in ascending order of a key.
-use Rattle.std.specs.Prelude.{◌≡◌, ◌<◌, ◌≤◌, ◌==◌, ℕ, not, List, [], ◌∷◌, length, nat_lt, if◌then◌else◌, All, AllPairs, filter, map}
+use Rattle.std.specs.Prelude.{◌≡◌, ◌<◌, ◌≤◌, ◌==◌, ℕ, Bool, false, not, slice_index_or, List, [], ◌∷◌, length, nat_lt, if◌then◌else◌, All, AllPairs, filter, map}
 use Rattle.std.specs.List.{AllWithin, HoldsAt}
 
 -- each key is below those behind it
@@ -24,6 +24,10 @@ with_put key x (y ∷ ys) = if nat_lt (key x) (key y) then x ∷ y ∷ ys else (
 -- the values of other keys
 abbrev pub without : {T : Type 0} → (T → ℕ) → ℕ → List T → List T
 without key k xs = filter (λ x. not (key x == k)) xs
+
+-- the values whose keys aren't marked, each key at its number
+abbrev pub unmarked : {T : Type 0} → (T → ℕ) → List Bool → List T → List T
+unmarked key marks xs = filter (λ x. not (slice_index_or marks (key x) false)) xs
 
 -- one value in the place of that of its key
 abbrev pub changed : {T : Type 0} → (T → ℕ) → T → List T → List T

@@ -3,10 +3,14 @@ ghost use Rattle.std.specs.Prelude.{◌≡◌, ◌≤◌, ◌+◌, ◌^◌, not,
 ghost use Rattle.mdv_plan.specs.Slices.{IsSound, IsSoundSlice, slice_at as spec_slice_at, share_a_block as spec_share_a_block, overlap as spec_overlap};
 ghost use Rattle.mdv_plan.specs.Slices.{can_share as spec_can_share, clashes_with as spec_clashes_with, clashes as spec_clashes};
 ghost use Rattle.mdv_plan.specs.Slices.{is_other_db as spec_is_other_db, meets_db as spec_meets_db};
+ghost use Rattle.mdv_plan.specs.Slices.{same_drive as spec_same_drive, beside as spec_beside, AreNeighbours};
 
 use crate::uses::{SliceUse, User, Uses, same_slice};
-use mdv_base::SliceName;
+use mdv_base::{DriveName, SliceName};
 use mdv_name::{Geometry, SliceAt, SliceLine};
+
+// A drive has at most so many slices, numbered from 0 on.
+const SLICES: usize = 8;
 
 /// A use of a slice that is asked for.
 #[derive(Clone, Copy, Debug, PartialEq, Eq)]
@@ -22,14 +26,15 @@ pub enum Asked {
 
 impl Uses {
     /// Whether one of the uses stands in the way of the one that is asked for. The work is linear in the
-    /// number of uses.
+    /// number of uses, none of which is looked up in the table of drives.
     pub fn clash(&self, geometry: &Geometry, asked: Asked, slice: SliceName) -> bool
         requires { IsSound geometry.now }
         ensures { result ≡ spec_clashes geometry.now asked slice self.now }
     {
+        let marks = neighbours(geometry, slice);
         let uses = self.as_slice();
         uses.iter()
-            .any(|one| clashes_with(geometry, asked, slice, one))
+            .any(|one| clashes_with(geometry, &marks, asked, slice, one))
     }
 }
 
@@ -50,14 +55,48 @@ fn is_other_db(geometry: &Geometry, slice: SliceName, line: &SliceLine) -> bool
     (line.at.db && !same_slice(line.name, slice)) && overlap(geometry, line.name, slice)
 }
 
-fn clashes_with(geometry: &Geometry, asked: Asked, slice: SliceName, one: &SliceUse) -> bool
+// The slice of this number on the same drive.
+fn beside(slice: SliceName, number: u8) -> SliceName
+    ensures { result ≡ spec_beside slice number }
+{
+    SliceName {
+        drive: slice.drive,
+        slice: number,
+    }
+}
+
+// Which slices of its drive share a block with the slice, by their numbers.
+fn neighbours(geometry: &Geometry, slice: SliceName) -> [bool; SLICES]
     requires { IsSound geometry.now }
+    ensures { AreNeighbours geometry.now slice result }
+{
+    let mut marks = [false; SLICES];
+    for number in 0..8u8 {
+        marks[usize::from(number)] = overlap(geometry, beside(slice, number), slice);
+    }
+    marks
+}
+
+fn clashes_with(
+    geometry: &Geometry,
+    marks: &[bool],
+    asked: Asked,
+    slice: SliceName,
+    one: &SliceUse,
+) -> bool
+    requires sound { IsSound geometry.now }
+    requires marks { AreNeighbours geometry.now slice marks.now }
     ensures { result ≡ spec_clashes_with geometry.now asked slice one.now }
 {
-    if same_slice(one.slice, slice) {
-        !can_share(asked, one.by, one.start)
-    } else {
-        overlap(geometry, one.slice, slice)
+    if !same_drive(one.slice.drive, slice.drive) {
+        return false;
+    }
+    if one.slice.slice == slice.slice {
+        return !can_share(asked, one.by, one.start);
+    }
+    match marks.get(usize::from(one.slice.slice)) {
+        Some(mark) => *mark,
+        None => overlap(geometry, one.slice, slice),
     }
 }
 
@@ -73,12 +112,21 @@ fn can_share(asked: Asked, by: User, start: u64) -> bool
     }
 }
 
+fn same_drive(a: DriveName, b: DriveName) -> bool
+    ensures { result ≡ spec_same_drive a b }
+{
+    (a.controller == b.controller && a.target == b.target) && a.disk == b.disk
+}
+
 /// Whether the slices share a block. A slice overlaps itself, and nothing where there is no slice of
-/// the name.
+/// the name. Only slices of one drive are looked up.
 pub fn overlap(geometry: &Geometry, m: SliceName, n: SliceName) -> bool
     requires { IsSound geometry.now }
     ensures { result ≡ spec_overlap geometry.now m n }
 {
+    if !same_drive(m.drive, n.drive) {
+        return false;
+    }
     match (slice_at(geometry, m), slice_at(geometry, n)) {
         (Some(a), Some(b)) => share_a_block(a, b),
         _ => false,

@@ -36,6 +36,14 @@ impl<T: Drop, const MOST: usize> Listed<T, MOST> {
         }
     }
 
+    /// No values yet, and memory for so many.
+    pub fn with_capacity(alloc: Global, count: usize) -> Result<Self, AllocError>
+        ensures { IfOk result (λ list. list ≡ []) }
+    {
+        let items = Vec::with_capacity(alloc, count)?;
+        Ok(Listed { items })
+    }
+
     pub fn as_slice(&self) -> &[T]
         ensures value { result.now ≡ self.now }
         ensures few { length self.now ≤ MOST }

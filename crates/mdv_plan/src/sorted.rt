@@ -1,7 +1,7 @@
-ghost use Rattle.std.specs.Prelude.{◌≡◌, ◌≤◌, ◌<◌, ◌==◌, ℕ, [], ◌∷◌, ◌++◌, length, None, All, IfOk, IfErr, OnOk, OnErr};
+ghost use Rattle.std.specs.Prelude.{◌≡◌, ◌≤◌, ◌<◌, ◌==◌, ℕ, false, [], ◌∷◌, ◌++◌, length, slice_index_or, None, All, IfOk, IfErr, OnOk, OnErr};
 ghost use Rattle.std.specs.List.{find};
 ghost use Rattle.std.specs.Option.{option_copied};
-ghost use Rattle.mdv_plan.specs.Sorted.{IsAscending, IsAt, IsGapFor, with_item, with_put, without, changed};
+ghost use Rattle.mdv_plan.specs.Sorted.{IsAscending, IsSorted, IsAt, IsGapFor, with_item, with_put, without, unmarked, changed};
 
 use crate::listed::{Copied, copy_all};
 use std::alloc::{AllocError, Global};
@@ -40,6 +40,14 @@ impl<T: Keyed + Drop, const LIMIT: usize> Sorted<T, LIMIT> {
         Sorted {
             items: Vec::new(alloc),
         }
+    }
+
+    /// The list of values whose keys ascend.
+    pub fn from_ascending(items: Vec<T>) -> Self
+        requires { IsSorted T.key LIMIT items.items }
+        ensures { result ≡ items.items }
+    {
+        Sorted { items }
     }
 
     pub fn as_slice(&self) -> &[T]
@@ -104,6 +112,13 @@ impl<T: Keyed + Drop, const LIMIT: usize> Sorted<T, LIMIT> {
         }
     }
 
+    /// Takes out the values whose keys are marked. The work is linear.
+    pub fn remove_marked(&mut self, marks: &[bool])
+        ensures { self.new ≡ unmarked T.key marks.now self.old }
+    {
+        self.items.retain(|item| !is_marked(marks, item.key()));
+    }
+
     /// Puts the value in for the one of its key, where there is one.
     pub fn replace(&mut self, item: T)
         ensures { self.new ≡ changed T.key item self.old }
@@ -130,6 +145,15 @@ impl<T: Keyed + Drop, const LIMIT: usize> Sorted<T, LIMIT> {
         ensures absent { IfErr result (IsGapFor T.key self.now key) }
     {
         self.items.binary_search_by_key(&key, |item| item.key())
+    }
+}
+
+fn is_marked(marks: &[bool], key: u32) -> bool
+    ensures { result ≡ slice_index_or marks.now key false }
+{
+    match marks.get(key as usize) {
+        Some(mark) => *mark,
+        None => false,
     }
 }
 

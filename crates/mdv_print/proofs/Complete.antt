@@ -13,9 +13,11 @@ use Rattle.mdv_plan.specs.declared.volume.Volume.{Volume as OneVolume}
 use Rattle.mdv_print.specs.Layers.{AreAllVolumes, IsLayered}
 use Rattle.mdv_plan.specs.Named.{kind_below}
 use Rattle.mdv_print.specs.Order.{first_or, go_on, is_among, next_of, untold, uppermost, volume_of, walk, with_below}
-use Rattle.mdv_print.proofs.Marking.{among_more}
+use Rattle.mdv_keys.proofs.Marking.{any_more}
+use Rattle.mdv_keys.proofs.Users.{kind_among}
+use Rattle.mdv_keys.specs.Marks.{volume_key}
 use Rattle.mdv_print.proofs.Printed.{walk_holds}
-use Rattle.mdv_print.proofs.Walking.{found_holds, found_number, has_number, kind_among}
+use Rattle.mdv_print.proofs.Walking.{found_holds, found_number, has_number}
 
 -- the volume is the plan's of its number
 abbrev pub IsOwn : Plan → OneVolume → Type 0
@@ -73,7 +75,7 @@ one_fewer false false r s not_b is_c is = cc
 one_fewer false true r s not_b is_c is = omega arith
 
 keeps_among : (told : List VolId) (v u : VolId) → is_among told u ≡ true → is_among (told ++ v ∷ []) u ≡ true
-keeps_among told v u is = among_more told v u ∙ or_left (is_among told u) (v.0 == u.0) is
+keeps_among told v u is = any_more volume_key told v u.0 ∙ or_left (is_among told u) (v.0 == u.0) is
 
 rem_more : (told : List VolId) (v : VolId) (xs : List OneVolume) → rem (told ++ v ∷ []) xs ≤ rem told xs
 rem_more told v [] = omega arith
@@ -90,7 +92,7 @@ rem_less told n w (x ∷ xs) found fresh =
     let yes : P true =
     λ is.
     let e : x ≡ w = same_volume x w is in
-    let here : is_among more x.number ≡ true = among_more told w.number x.number ∙ or_right (is_among told x.number) (w.number.0 == x.number.0) (ap (λ (y : OneVolume). w.number.0 == y.number.0) e ∙ same_number w.number.0) in
+    let here : is_among more x.number ≡ true = any_more volume_key told w.number x.number.0 ∙ or_right (is_among told x.number) (w.number.0 == x.number.0) (ap (λ (y : OneVolume). w.number.0 == y.number.0) e ∙ same_number w.number.0) in
     let new : is_among told x.number ≡ false = ap (λ (y : OneVolume). is_among told y.number) e ∙ fresh in
     one_fewer (is_among told x.number) (is_among more x.number) (rem told xs) (rem more xs) new here (rem_more told w.number xs)
     in
@@ -333,7 +335,7 @@ none_fresh told = record { fresh = All-nil (IsFresh told); once = λ i j d befor
 
 fresh_step : (told : List VolId) (w : OneVolume) (xs : List OneVolume) → IsFresh told w → AreFresh (told ++ w.number ∷ []) xs → AreFresh told (w ∷ xs)
 fresh_step told w xs new far =
-    let split : (x : OneVolume) → IsFresh (told ++ w.number ∷ []) x → (is_among told x.number ≡ false) × ((w.number.0 == x.number.0) ≡ false) = λ x is. neither (is_among told x.number) (w.number.0 == x.number.0) (sym (among_more told w.number x.number) ∙ is) in
+    let split : (x : OneVolume) → IsFresh (told ++ w.number ∷ []) x → (is_among told x.number ≡ false) × ((w.number.0 == x.number.0) ≡ false) = λ x is. neither (is_among told x.number) (w.number.0 == x.number.0) (sym (any_more volume_key told w.number x.number.0) ∙ is) in
     record {
       fresh = All-cons (IsFresh told) w xs new (All-weaker (IsFresh (told ++ w.number ∷ [])) (IsFresh told) (λ x is. (split x is).0) xs far.fresh);
       once = AllPairs-cons Differ w xs (All-weaker (IsFresh (told ++ w.number ∷ [])) (Differ w) (λ x is. differ w.number.0 x.number.0 (split x is).1) xs far.fresh) far.once;

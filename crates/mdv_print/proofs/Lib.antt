@@ -1,7 +1,6 @@
 mod Complete
 mod Forms
 mod Lines
-mod Marking
 mod Needs
 mod Printed
 mod Spelled

@@ -25,7 +25,7 @@ use Rattle.mdv_plan.specs.Named.{base_below, component_below, kind_below, row_be
 use Rattle.mdv_print.specs.Order.{is_among, uppermost, with_below}
 use Rattle.mdv_print.proofs.Complete.{IsOwn, or_left, or_right, own_at, same_number}
 use Rattle.mdv_print.proofs.Printed.{walk_holds}
-use Rattle.mdv_print.proofs.Walking.{kind_among}
+use Rattle.mdv_keys.proofs.Users.{kind_among}
 
 -- how high what is named stands: pools lowest
 abbrev rank_of : (ℕ → ℕ) → Named → ℕ

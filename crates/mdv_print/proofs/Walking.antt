@@ -1,26 +1,20 @@
 -- What a walk finds, and which volumes no volume uses.
-use Rattle.std.proofs.Common.{◌≡◌, ◌<◌, ◌+◌, ◌==◌, ◌||◌, ℕ, Bool, true, false, cond, not, Option, None, Some, refl, sym, ◌∙◌, ap, subst, List, [], ◌∷◌, ◌++◌, length, get_or, take, map, zero, suc, replicate, slice_set, append_assoc, append-nil, reverse, arith}
+use Rattle.std.proofs.Common.{◌≡◌, ◌<◌, ◌==◌, ℕ, Bool, true, false, cond, not, Option, None, Some, refl, sym, ◌∙◌, ap, subst, List, [], ◌∷◌, ◌++◌, length, get_or, map, zero, suc, replicate, slice_set, append_assoc, append-nil, reverse, arith}
 use Rattle.std.proofs.lemmas.Bool.Decides.{nat_tests}
-use Rattle.std.proofs.lemmas.Grind.{flat_map-append}
-use Rattle.std.proofs.lemmas.List.{reverse-append, reverse-reverse, take_more}
+use Rattle.std.proofs.lemmas.List.{reverse-append, reverse-reverse}
 use Rattle.std.proofs.lemmas.List.Elements.{All-head, All-tail, All-weaker}
-use Rattle.std.proofs.lemmas.List.Folds.{list_any-append}
-use Rattle.std.specs.List.{All, filter, find, flat_map, list_any}
+use Rattle.std.specs.List.{All, filter, find, flat_map}
 use Rattle.mdv_base.specs.declared.name.VolId.{VolId}
-use Rattle.mdv_plan.specs.Parents.{has_parent, is_component, is_in_row, is_volume, names_volume}
+use Rattle.mdv_plan.specs.Parents.{has_parent}
 use Rattle.mdv_plan.specs.declared.plan.Plan.{Plan}
-use Rattle.mdv_plan.specs.declared.volume.Base.{Base}
-use Rattle.mdv_plan.specs.declared.volume.Base.TheVariants.{Slice, Volume}
-use Rattle.mdv_plan.specs.declared.volume.Component.{Component}
-use Rattle.mdv_plan.specs.declared.volume.Row.{Row}
 use Rattle.mdv_plan.specs.declared.volume.Volume.{Volume as OneVolume}
-use Rattle.mdv_plan.specs.declared.volume.VolumeKind.{VolumeKind}
-use Rattle.mdv_plan.specs.declared.volume.VolumeKind.TheVariants.{Stripe, Mirror, Raid, Soft}
-use Rattle.mdv_print.specs.Marks.{AreMarks, unmarked_of}
-use Rattle.mdv_plan.specs.Named.{base_below, component_below, row_below, kind_below}
+use Rattle.mdv_keys.specs.Marks.{AreMarked, below_it, volume_key}
+use Rattle.mdv_print.specs.Marks.{unmarked_of}
+use Rattle.mdv_plan.specs.Named.{kind_below}
 use Rattle.mdv_print.specs.Order.{go_on, is_among, next_of, untold, uppermost, volume_of, walk}
 use Rattle.mdv_print.specs.Text.{volume_line, volumes_text}
-use Rattle.mdv_print.proofs.Marking.{marks_more, marks_none}
+use Rattle.mdv_keys.proofs.Marking.{marks_more, marks_none}
+use Rattle.mdv_keys.proofs.Users.{volumes_among}
 
 abbrev pub has_number : ℕ → OneVolume → Bool
 has_number n x = x.number.0 == n
@@ -46,44 +40,15 @@ found_holds P q (x ∷ xs) w all is =
     let no : R false = λ same. found_holds P q xs w (All-tail P x xs all) same in
     (elim (q x) as R [ true ↦ yes | false ↦ no ]) is
 
-pub untold_is : (p : Plan) (marks : List Bool) (vs : List VolId) (v : VolId) (n : ℕ) (w : OneVolume) → All IsSmall p.volumes → n ≡ v.0 → find (has_number n) p.volumes ≡ Some w → get_or marks v.0 false ≡ false → AreMarks marks vs → Some w ≡ untold p vs v
+pub untold_is : (p : Plan) (marks : List Bool) (vs : List VolId) (v : VolId) (n : ℕ) (w : OneVolume) → All IsSmall p.volumes → n ≡ v.0 → find (has_number n) p.volumes ≡ Some w → get_or marks v.0 false ≡ false → AreMarked marks vs → Some w ≡ untold p vs v
 untold_is p marks vs v n w small same found unmarked are =
     let at : find (has_number v.0) p.volumes ≡ Some w = ap (λ (k : ℕ). find (has_number k) p.volumes) (sym same) ∙ found in
     let within : v.0 < 8192 = subst (λ (k : ℕ). k < 8192) (found_number v.0 p.volumes w at) (found_holds IsSmall (has_number v.0) p.volumes w small at) in
-    let among : is_among vs v ≡ false = sym (are.marked v within) ∙ unmarked in
+    let among : is_among vs v ≡ false = sym (are.marked v.0 within) ∙ unmarked in
     sym (ap (λ (b : Bool). cond b None (volume_of p v)) among ∙ at)
 
--- of each of several lists
-any_flat : {X : Type 0} (below : X → List VolId) (test : X → Bool) (v : VolId) → ((x : X) → test x ≡ is_among (below x) v) → (xs : List X) → list_any test xs ≡ is_among (flat_map below xs) v
-any_flat below test v each [] = refl
-any_flat below test v each (x ∷ xs) =
-    ap (λ (b : Bool). b || list_any test xs) (each x) ∙ ap (λ (b : Bool). is_among (below x) v || b) (any_flat below test v each xs) ∙ sym (list_any-append (λ (w : VolId). w.0 == v.0) (below x) (flat_map below xs))
-
-pub or_false : (b : Bool) → (b || false) ≡ b
-or_false true = refl
-or_false false = refl
-
-base_among : (v : VolId) (b : Base) → is_volume v b ≡ is_among (base_below b) v
-base_among v (Slice s) = refl
-base_among v (Volume w) = sym (or_false (w.0 == v.0))
-
-component_among : (v : VolId) (c : Component) → is_component v c ≡ is_among (component_below c) v
-component_among v c = base_among v c.on
-
-row_among : (v : VolId) (row : Row) → is_in_row v row ≡ is_among (row_below row) v
-row_among v row = any_flat component_below (is_component v) v (component_among v) row.components
-
-pub kind_among : (v : VolId) (kind : VolumeKind) → names_volume v kind ≡ is_among (kind_below kind) v
-kind_among v (Stripe s) = any_flat row_below (is_in_row v) v (row_among v) s.rows
-kind_among v (Mirror m) = refl
-kind_among v (Raid r) = any_flat component_below (is_component v) v (component_among v) r.columns
-kind_among v (Soft s) = base_among v s.base
-
-abbrev pub below_it : OneVolume → List VolId
-below_it w = kind_below w.kind
-
 parent_is : (p : Plan) (v : VolId) → has_parent p v ≡ is_among (flat_map below_it p.volumes) v
-parent_is p v = any_flat below_it (λ (w : OneVolume). names_volume v w.kind) v (λ w. kind_among v w.kind) p.volumes
+parent_is p v = volumes_among v p.volumes
 
 filter_where : (p q : VolId → Bool) (xs : List OneVolume) → All (λ (w : OneVolume). p w.number ≡ q w.number) xs → filter p (map (λ (w : OneVolume). w.number) xs) ≡ filter q (map (λ (w : OneVolume). w.number) xs)
 filter_where p q [] all = refl
@@ -92,36 +57,31 @@ filter_where p q (x ∷ xs) all =
     ap (λ (b : Bool). cond b (x.number ∷ filter p (map (λ (w : OneVolume). w.number) xs)) (filter p (map (λ (w : OneVolume). w.number) xs))) (All-head (λ (w : OneVolume). p w.number ≡ q w.number) x xs all)
     ∙ ap (λ (l : List VolId). cond (q x.number) (x.number ∷ l) l) rest
 
-pub uppermost_is : (p : Plan) (marks : List Bool) → All IsSmall p.volumes → AreMarks marks (flat_map below_it p.volumes) → unmarked_of marks p.volumes ≡ uppermost p
+pub uppermost_is : (p : Plan) (marks : List Bool) → All IsSmall p.volumes → AreMarked marks (flat_map below_it p.volumes) → unmarked_of marks p.volumes ≡ uppermost p
 uppermost_is p marks small are =
     let kept : VolId → Bool = λ v. not (get_or marks v.0 false) in
     let free : VolId → Bool = λ v. not (has_parent p v) in
     let same : All (λ (w : OneVolume). kept w.number ≡ free w.number) p.volumes =
-    All-weaker IsSmall (λ (w : OneVolume). kept w.number ≡ free w.number) (λ w within. ap not (are.marked w.number within ∙ sym (parent_is p w.number))) p.volumes small
+    All-weaker IsSmall (λ (w : OneVolume). kept w.number ≡ free w.number) (λ w within. ap not (are.marked w.number.0 within ∙ sym (parent_is p w.number))) p.volumes small
     in
     filter_where kept free p.volumes same
-
-pub below_more : (ws : List OneVolume) (i : ℕ) (d : OneVolume) (ls : List VolId) → i < length ws → ls ≡ kind_below (get_or ws i d).kind → flat_map below_it (take i ws) ++ ls ≡ flat_map below_it (take (i + 1) ws)
-below_more ws i d ls lt is =
-    let w = get_or ws i d in
-    ap (λ (l : List VolId). flat_map below_it (take i ws) ++ l) (is ∙ sym (append-nil (below_it w))) ∙ sym (flat_map-append below_it (take i ws) (w ∷ [])) ∙ ap (flat_map below_it) (sym (take_more ws i d lt))
 
 -- how far the lines of a walk have come: the marked volumes are told, and the rest follows from what is left
 pub record WalkSoFar (set : Option (List ℕ)) (p : Plan) (all text : List ℕ) (marks : List Bool) (left : List VolId) (n : ℕ) : Type 0 where
   pub told : List VolId
-  pub marked : AreMarks marks told
+  pub marked : AreMarked marks told
   pub rest : all ≡ text ++ flat_map (volume_line set) (walk n p told (reverse left))
 
 pub walk_begins : (set : Option (List ℕ)) (p : Plan) (text : List ℕ) (volumes left : List VolId) (marks : List Bool) → left ≡ reverse volumes → marks ≡ replicate 8192 false → WalkSoFar set p (text ++ volumes_text set p volumes) text marks left (length p.volumes)
 walk_begins set p text volumes left marks is none =
     record {
       told = [];
-      marked = subst (λ (m : List Bool). AreMarks m []) (sym none) marks_none;
+      marked = subst (λ (m : List Bool). AreMarked m []) (sym none) (marks_none volume_key 8192);
       rest = ap (λ (l : List VolId). text ++ flat_map (volume_line set) (walk (length p.volumes) p [] l)) (sym (ap reverse is ∙ reverse-reverse volumes));
     }
 
 pub walk_goes_on : (set : Option (List ℕ)) (p : Plan) (all text grown : List ℕ) (marks new : List Bool) (left later next : List VolId) (n : ℕ) (w : OneVolume) →
-    ((vs : List VolId) → AreMarks marks vs → next_of p vs (reverse left) ≡ Some (w, reverse later)) → grown ≡ text ++ volume_line set w → new ≡ slice_set marks w.number.0 true → next ≡ later ++ reverse (kind_below w.kind) →
+    ((vs : List VolId) → AreMarked marks vs → next_of p vs (reverse left) ≡ Some (w, reverse later)) → grown ≡ text ++ volume_line set w → new ≡ slice_set marks w.number.0 true → next ≡ later ++ reverse (kind_below w.kind) →
     WalkSoFar set p all text marks left (suc n) → WalkSoFar set p all grown new next n
 walk_goes_on set p all text grown marks new left later next n w found line mark below far =
     let vs = far.told in
@@ -129,7 +89,7 @@ walk_goes_on set p all text grown marks new left later next n w found line mark 
     let later_text : List VolId → List ℕ = λ l. flat_map (volume_line set) (walk n p (vs ++ w.number ∷ []) l) in
     record {
       told = vs ++ w.number ∷ [];
-      marked = subst (λ (m : List Bool). AreMarks m (vs ++ w.number ∷ [])) (sym mark) (marks_more marks vs w.number far.marked);
+      marked = subst (λ (m : List Bool). AreMarked m (vs ++ w.number ∷ [])) (sym mark) (marks_more volume_key 8192 marks vs w.number far.marked);
       rest = far.rest
           ∙ ap (λ (o : Option (OneVolume × List VolId)). text ++ flat_map (volume_line set) (go_on o (λ x l. walk n p (vs ++ x.number ∷ []) (kind_below x.kind ++ l)))) (found vs far.marked)
           ∙ sym (append_assoc text (volume_line set w) (later_text (kind_below w.kind ++ reverse later)))
@@ -141,7 +101,7 @@ nothing_left : (set : Option (List ℕ)) (p : Plan) (vs later : List VolId) (n :
 nothing_left set p vs later zero none = refl
 nothing_left set p vs later (suc n) none = ap (λ (o : Option (OneVolume × List VolId)). flat_map (volume_line set) (go_on o (λ x l. walk n p (vs ++ x.number ∷ []) (kind_below x.kind ++ l)))) none
 
-pub walk_ends : (set : Option (List ℕ)) (p : Plan) (all text : List ℕ) (marks : List Bool) (left : List VolId) (n : ℕ) → ((vs : List VolId) → AreMarks marks vs → next_of p vs (reverse left) ≡ None) → WalkSoFar set p all text marks left n → text ≡ all
+pub walk_ends : (set : Option (List ℕ)) (p : Plan) (all text : List ℕ) (marks : List Bool) (left : List VolId) (n : ℕ) → ((vs : List VolId) → AreMarked marks vs → next_of p vs (reverse left) ≡ None) → WalkSoFar set p all text marks left n → text ≡ all
 walk_ends set p all text marks left n none far =
     sym (far.rest ∙ ap (λ (l : List ℕ). text ++ l) (nothing_left set p far.told (reverse left) n (none far.told far.marked)) ∙ append-nil text)
 

@@ -3,7 +3,6 @@
 
 mod law;
 mod line;
-mod marks;
 mod print;
 mod walk;
 mod word;

@@ -2,15 +2,16 @@
 ghost use Rattle.std.specs.Prelude.{◌≡◌, ◌++◌, ℕ, List, reverse, IfOk, OnOk};
 ghost use Rattle.std.specs.List.{flat_map};
 ghost use Rattle.mdv_print.specs.Below.{VolId};
-ghost use Rattle.mdv_print.specs.Marks.{AreMarks, IsNext, unmarked_of};
+ghost use Rattle.mdv_keys.specs.Marks.{AreMarked, below_it};
+ghost use Rattle.mdv_print.specs.Marks.{IsNext, unmarked_of};
 ghost use Rattle.std.specs.Option.{option_copied};
 ghost use Rattle.mdv_plan.specs.Named.{kind_below};
 ghost use Rattle.mdv_print.specs.Order.{next_of, untold, uppermost as spec_uppermost};
 ghost use Rattle.mdv_print.specs.Text.{volumes_text};
 
 use crate::line::add_volume;
-use crate::marks::Marks;
 use mdv_base::{Name, VolId};
+use mdv_keys::{Marks, VolumeMarks, mark_named};
 use mdv_plan::{Plan, Volume, VolumeKind, add_named};
 use std::alloc::{AllocError, Global};
 
@@ -34,20 +35,20 @@ fn add_reversed(list: &mut Vec<VolId>, mut volumes: Vec<VolId>) -> Result<(), Al
 }
 
 // The volume of this number, where it is there and isn't told yet.
-fn find_untold<'p>(plan: &'p Plan, told: &Marks, volume: VolId) -> Option<&'p Volume>
-    ensures { (vs : List VolId) → AreMarks told.now vs → option_copied result ≡ untold plan.now vs volume }
+fn find_untold<'p>(plan: &'p Plan, told: &VolumeMarks, volume: VolId) -> Option<&'p Volume>
+    ensures { (vs : List VolId) → AreMarked told.now vs → option_copied result ≡ untold plan.now vs volume }
 {
     let _keys = plan.volumes.as_slice();
     let found = plan.volumes.find(u32::from(volume.0))?;
-    if told.has(volume) {
+    if told.has(volume.0) {
         return None;
     }
     Some(found)
 }
 
 // Takes the volumes from the end of the list, up to the first that is there and isn't told yet.
-fn take_next<'p>(plan: &'p Plan, told: &Marks, left: &mut Vec<VolId>) -> Option<&'p Volume>
-    ensures { (vs : List VolId) → AreMarks told.now vs →
+fn take_next<'p>(plan: &'p Plan, told: &VolumeMarks, left: &mut Vec<VolId>) -> Option<&'p Volume>
+    ensures { (vs : List VolId) → AreMarked told.now vs →
         IsNext (next_of plan.now vs (reverse left.old.items)) (option_copied result) (reverse left.new.items) }
 {
     while let Some(volume) = left.pop() {
@@ -77,39 +78,34 @@ pub(crate) fn add_volumes(
             return Ok(());
         };
         add_volume(text, set, volume)?;
-        told.add(volume.number);
+        told.add(volume.number.0);
         add_reversed(&mut left, below(alloc, &volume.kind)?)?;
     }
     Ok(())
 }
 
-fn mark_all(marks: &mut Marks, volumes: &[VolId])
-    ensures { (vs : List VolId) → AreMarks marks.old vs → AreMarks marks.new (vs ++ volumes.now) }
-{
-    for volume in volumes {
-        marks.add(*volume);
-    }
-}
-
 // The volumes that volumes name.
-fn used(alloc: Global, volumes: &[Volume]) -> Result<Marks, AllocError>
-    ensures { IfOk result (λ marks. AreMarks marks (flat_map (λ w. kind_below w.kind) volumes.now)) }
+fn used(alloc: Global, volumes: &[Volume]) -> Result<VolumeMarks, AllocError>
+    ensures { IfOk result (λ marks. AreMarked marks (flat_map below_it volumes.now)) }
 {
     let mut marks = Marks::new(alloc)?;
     for volume in volumes {
-        let below = below(alloc, &volume.kind)?;
-        mark_all(&mut marks, below.as_slice());
+        mark_named(alloc, &mut marks, &volume.kind)?;
     }
     Ok(marks)
 }
 
 // The volumes that aren't marked.
-fn unmarked(alloc: Global, volumes: &[Volume], marks: &Marks) -> Result<Vec<VolId>, AllocError>
+fn unmarked(
+    alloc: Global,
+    volumes: &[Volume],
+    marks: &VolumeMarks,
+) -> Result<Vec<VolId>, AllocError>
     ensures { IfOk result (λ list. list.items ≡ unmarked_of marks.now volumes.now) }
 {
     let mut list = Vec::new(alloc);
     for volume in volumes {
-        if !marks.has(volume.number) {
+        if !marks.has(volume.number.0) {
             list.push(volume.number)?;
         }
     }

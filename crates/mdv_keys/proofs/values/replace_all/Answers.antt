@@ -1,5 +1,5 @@
 use Rattle.mdv_keys.proofs.Replaced.{replaced_next}
-use Rattle.mdv_keys.proofs.replace_all.Goals as goal
+use Rattle.mdv_keys.proofs.values.replace_all.Goals as goal
 
 pub loop-item-preserved : goal.loop-item-preserved
 loop-item-preserved g c =

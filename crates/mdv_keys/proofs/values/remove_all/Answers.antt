@@ -1,7 +1,7 @@
 use Rattle.std.proofs.Common.{◌≡◌, sym, ◌∙◌, ap, get_or}
 use Rattle.mdv_plan.specs.Sorted.{without}
 use Rattle.mdv_keys.proofs.Kept.{kept_all, kept_more}
-use Rattle.mdv_keys.proofs.remove_all.Goals as goal
+use Rattle.mdv_keys.proofs.values.remove_all.Goals as goal
 
 pub loop-key-init : goal.loop-key-init
 loop-key-init g c = sym (kept_all g.T.Keyed.key c.args.values.now)
