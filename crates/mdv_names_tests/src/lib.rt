@@ -4,6 +4,8 @@
 #[cfg(test)]
 mod base_tests;
 #[cfg(test)]
+mod drawn_tests;
+#[cfg(test)]
 mod drives_tests;
 #[cfg(test)]
 mod grammar_tests;

@@ -2,6 +2,7 @@
 // three calls and one for each open slot, and adopts with eight. A creation formats a place with six and
 // writes its first table with six, and so many has a change of the table. A block is written with two and read with
 // one, and each reply is told with one.
+use crate::blocks::Block;
 use crate::spots::{Spots, Value};
 use crate::writes::{Broken, adopted, changed, made, newest, volume_in};
 use crate::{Shown, ShownVolume};
@@ -18,7 +19,7 @@ pub const PANIC: RunStatus = RunStatus::Panic {
     listed: 1,
 };
 
-/// A line of a script, by its kind.
+/// A line of a script, by its kind, or a `tab` block.
 #[derive(Clone, Copy, Debug, PartialEq, Eq)]
 pub enum Line {
     /// A creation with `-f`.
@@ -30,6 +31,8 @@ pub enum Line {
     Write(u8, u64, Value),
     /// A read of one.
     Read(u8, u64),
+    /// The block of that number.
+    Tab(u64),
 }
 
 /// What goes wrong in a run. Calls are counted from 0 at the run's start.
@@ -114,6 +117,7 @@ impl Line {
             Line::Read(n, at) => {
                 script.push_str(format!(in alloc; "read d{n} {at} 1\n")?.as_str())
             }
+            Line::Tab(number) => Block(number).push_to(script),
         }
     }
 }
@@ -215,8 +219,17 @@ impl Course {
     }
 
     fn line(&mut self, line: Line) -> Result<(), AllocError> {
+        if self.standing == Standing::Over {
+            return Ok(());
+        }
+        match line {
+            Line::Tab(number) => self.tab(number),
+            _ => self.command(line),
+        }
+    }
+
+    fn command(&mut self, line: Line) -> Result<(), AllocError> {
         match (self.standing, line) {
-            (Standing::Over, _) => Ok(()),
             (_, Line::Boot) => self.boot_line(),
             (Standing::Empty, Line::Forced) => self.creation(),
             (Standing::InUse, Line::Forced) => self.refuse("refused E7 SliceInUse\n"),
@@ -234,6 +247,16 @@ impl Course {
         if self.standing != Standing::Over {
             self.tell(OK)?;
         }
+        Ok(())
+    }
+
+    // A block is read in memory alone.
+    fn tab(&mut self, number: u64) -> Result<(), AllocError> {
+        let Some(entries) = Block(number).entries() else {
+            return self.refuse("refused E1 BadLine\n");
+        };
+        let text = format!(in self.alloc; "entries {entries}\nok\n")?;
+        self.tell(text.as_str())?;
         Ok(())
     }
 

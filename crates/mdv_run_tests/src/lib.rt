@@ -3,6 +3,8 @@
 #![tactic(auto)]
 
 #[cfg(test)]
+mod blocks;
+#[cfg(test)]
 mod course;
 #[cfg(test)]
 mod life;
@@ -14,6 +16,8 @@ mod reading_tests;
 mod shown;
 #[cfg(test)]
 mod spots;
+#[cfg(test)]
+mod tab_tests;
 #[cfg(test)]
 mod trouble_tests;
 #[cfg(test)]

@@ -17,8 +17,8 @@ use std::test::Fail;
 /// many blocks they have.
 #[derive(Clone, Copy)]
 pub struct Ground {
-    table: &'static str,
-    blocks: u64,
+    pub table: &'static str,
+    pub blocks: u64,
     head: u64,
     starts: [u64; 2],
     sizes: [u64; 2],

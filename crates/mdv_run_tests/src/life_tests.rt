@@ -9,7 +9,7 @@ use std::test::Fail;
 fn drawn_line(state: u64) -> Line {
     let volume = ((state >> 48) % 2) as u8;
     let at = (state >> 52) % 9;
-    match (state >> 33) % 16 {
+    match (state >> 33) % 18 {
         0..=2 => Line::Forced,
         3..=5 => Line::Boot,
         6 | 7 => Line::Volume(volume),
@@ -17,6 +17,7 @@ fn drawn_line(state: u64) -> Line {
         12 => Line::Write(volume, at, Value::Zeros),
         13 => Line::Write(volume, at, Value::Ab),
         14 => Line::Write(volume, at, Value::Cd),
+        15 | 16 => Line::Tab(state >> 40),
         _ => Line::Write(volume, at, Value::Long),
     }
 }
