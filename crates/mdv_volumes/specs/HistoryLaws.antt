@@ -1,6 +1,7 @@
 -- Laws of histories: of each volume, of databases and of deeds, over crashes, boots, writes and reads.
-use Rattle.std.specs.Prelude.{◌≡◌, ◌⊎◌, ◌+◌, ◌<◌, ◌≤◌, ℕ, List, [], ◌∷◌, ◌++◌, length, slice_index_or, if◌then◌else◌, map, Option, Some, None, All, Contains}
-use Rattle.mdv_volumes.specs.Below.{AllOnDisk, AllRead, Among, AreApart, AreDisjoint, Change, Follows, Identity, Image, Key, KeptOutside, Map, Rewriting, Site, Table, Tale, VolId, area_of, nowhere, only, opening, restarted}
+use Rattle.std.specs.Prelude.{◌≡◌, ◌⊎◌, ◌+◌, ◌<◌, ◌≤◌, ℕ, true, List, [], ◌∷◌, ◌++◌, length, slice_index_or, if◌then◌else◌, map, Option, Some, None, All, Contains}
+use Rattle.mdv_volumes.specs.Below.{AllOnDisk, AllRead, Among, AreApart, AreDisjoint, Change, Follows, HasDriveBlock, Identity, Image, IsOfGeometry, Key, KeptOutside, Map, Rewriting, Site, Table, Tale, Version, VolId, area_of, nowhere, only, opening, restarted}
+use Rattle.mdv_shelf.specs.Settle.{IsSynced}
 use Rattle.mdv_store_law.specs.Log as log
 use Rattle.mdv_store_law.specs.Machine.{all_of}
 use Rattle.mdv_store_law.specs.Site.{IsFound}
@@ -175,26 +176,44 @@ pub record IsTold (sites : Sites) (h : History) (deed : Deed) (t : Tale) : Type 
 abbrev pub TellsGo : Type 0
 TellsGo = (sites : Sites) (h : History) (deed : Deed) (t : Tale) → AreSitesApart sites → CanTell sites deed h → Stands sites h t → IsTold sites h deed t
 
--- A boot finds one value of each block of volumes: of those with these numbers, each with so many blocks and this content.
-abbrev pub wakings : Key → (VolId → ℕ) → (VolId → ℕ → List ℕ) → List VolId → List Event
-wakings key count content [] = []
-wakings key count content (volume ∷ volumes) = OfVolume key volume (Woke (count volume) (content volume)) ∷ wakings key count content volumes
+-- a boot finds one value of each block of a volume: of so many blocks, this one
+pub record Waking : Type 0 where
+  pub volume : VolId
+  pub count : ℕ
+  pub content : ℕ → List ℕ
+
+abbrev pub wakings : Key → List Waking → List Event
+wakings key [] = []
+wakings key (w ∷ ws) = OfVolume key w.volume (Woke w.count w.content) ∷ wakings key ws
 
 -- the volume is there, so long, and has that one value in each block, on the disk
-pub record IsFoundBy (sites : Sites) (h : History) (key : Key) (t : Tale) (count : ℕ) (content : ℕ → List ℕ) (volume : VolId) : Type 0 where
+pub record IsFoundBy (sites : Sites) (databases : List Database) (key : Key) (t : Tale) (w : Waking) : Type 0 where
   pub map : Map
-  pub there : IsThere sites h.databases key volume map
-  pub long : count ≡ map.blocks
-  pub one : HaveOneValue map content t
+  pub there : IsThere sites databases key w.volume map
+  pub long : w.count ≡ map.blocks
+  pub one : HaveOneValue map w.content t
 
-pub record IsAwake (sites : Sites) (h : History) (key : Key) (count : VolId → ℕ) (content : VolId → ℕ → List ℕ) (volumes : List VolId) (t : Tale) : Type 0 where
-  pub happens : Happens sites h (wakings key count content volumes) [] [] t
-  pub woken : (volume : VolId) → Contains volumes volume → (history_after_all h (wakings key count content volumes)).woken key volume ≡ count volume
-  pub databases : (history_after_all h (wakings key count content volumes)).databases ≡ h.databases
+pub record AreAwake (sites : Sites) (h : History) (key : Key) (ws : List Waking) (t : Tale) : Type 0 where
+  pub happens : Happens sites h (wakings key ws) [] [] t
+  pub woken : (w : Waking) → Contains ws w → (history_after_all h (wakings key ws)).woken key w.volume ≡ w.count
+  pub databases : (history_after_all h (wakings key ws)).databases ≡ h.databases
 
-abbrev pub BootsGo : Type 0
-BootsGo = (sites : Sites) (h : History) (key : Key) (count : VolId → ℕ) (content : VolId → ℕ → List ℕ) (volumes : List VolId) (t : Tale) → All (λ volume. IsFoundBy sites h key t (count volume) (content volume) volume) volumes → Stands sites h t
-    → IsAwake sites h key count content volumes t
+-- the newest table of a key was written and is one of the geometry, and the drives on which its volumes lie are synced
+pub record IsBooted (sites : Sites) (databases : List Database) (key : Key) (newest : Version) (t : Tale) : Type 0 where
+  pub site : Site
+  pub is_site : IsSite sites key site
+  pub older : List Version
+  pub family : (log_of databases key).family ≡ newest ∷ older
+  pub written : newest.is_written ≡ true
+  pub of_geometry : IsOfGeometry site.drives newest.table
+  pub synced : (volume : VolId) (v : Map) (b drive block : ℕ) → IsMapOf site.drives newest.table volume v → b < v.blocks → HasDriveBlock (v.copies b) drive block → IsSynced drive t
+
+-- boots wake volumes
+pub record BootsGo : Type 0 where
+  pub awake : (sites : Sites) (h : History) (key : Key) (ws : List Waking) (t : Tale) → All (IsFoundBy sites h.databases key t) ws → Stands sites h t → AreAwake sites h key ws t
+  -- all of a table that a boot adopted
+  pub all : (sites : Sites) (databases : List Database) (key : Key) (newest : Version) (t : Tale) → IsBooted sites databases key newest t
+      → (ws : List Waking) × All (IsFoundBy sites databases key t) ws × (map (λ w. w.volume) ws ≡ map (λ of. of.number) newest.table.plan.volumes)
 
 pub record IsBegun (sites : Sites) (h : History) (key : Key) (volume : VolId) (from : ℕ) (v : Map) (t : Tale) : Type 0 where
   pub happens : Happens sites h (OfVolume key volume (Begins from (opening v t)) ∷ []) [] [] t
