@@ -26,7 +26,8 @@ pub enum Change {
         volume: VolId,
         mirror: MirrorAsked,
     },
-    /// `metainit d40 -p c0t0d0s0 400b`: a soft partition, whose blocks come from the free ones of its base.
+    /// `metainit d40 -p c0t0d0s0 400b`: a soft partition, whose blocks come from the free ones of its base; or
+    /// `metainit d40 -p c0t0d0s0 -o 1 -b 400`, with these extents.
     MakeSoft {
         volume: VolId,
         soft: SoftAsked,

@@ -71,7 +71,7 @@ pub fn apply(
         }
         Change::MakeMirror { volume, mirror } => make_mirror(alloc, table, *volume, mirror),
         Change::MakeSoft { volume, soft } => {
-            make_soft(alloc, geometry, drives, table, *volume, *soft)
+            make_soft(alloc, geometry, drives, table, *volume, soft)
         }
         Change::Attach { mirror, sub } => attach(alloc, table, *mirror, *sub),
         Change::Detach { mirror, sub, force } => detach(alloc, table, *mirror, *sub, *force),
@@ -193,11 +193,11 @@ fn make_soft(
     drives: &[DriveNo],
     table: &mut Table,
     volume: VolId,
-    soft: SoftAsked,
+    soft: &SoftAsked,
 ) -> Result<(), ApplyFault>
     requires sound { IsSound geometry.now }
     requires number { volume.0 < 8192 }
-    ensures { IsApplied geometry.now drives.now (soft_change volume soft) table.old table.new result }
+    ensures { IsApplied geometry.now drives.now (soft_change volume soft.now) table.old table.new result }
 {
     if let Some(refusal) = refuse_soft_name(geometry, drives, table, volume, soft) {
         return Err(ApplyFault::Refused(refusal));
@@ -217,10 +217,10 @@ fn refuse_soft_name(
     drives: &[DriveNo],
     table: &Table,
     volume: VolId,
-    soft: SoftAsked,
+    soft: &SoftAsked,
 ) -> Option<Refusal>
     requires { IsSound geometry.now }
-    ensures { IfSome result (λ refusal. refusal_of geometry.now drives.now table.now (soft_change volume soft) ≡ Some refusal) }
+    ensures { IfSome result (λ refusal. refusal_of geometry.now drives.now table.now (soft_change volume soft.now) ≡ Some refusal) }
 {
     if is_missing(&table.plan, soft.base) {
         return Some(Refusal::NoSuchVolume);

@@ -7,3 +7,4 @@ pub mod Releasing
 pub mod Allotting
 pub mod Taking
 pub mod Standing
+pub mod Testing

@@ -1,5 +1,5 @@
 -- What stays used and what is free once extents are given out.
-use Rattle.std.proofs.Common.{◌≡◌, ◌≤◌, ◌<◌, ◌&&◌, ◌||◌, ℕ, Bool, true, false, not, ltb, List, [], ◌∷◌, ◌++◌, map, refl, sym, ◌∙◌, ap, arith, All, Ok}
+use Rattle.std.proofs.Common.{◌≡◌, ◌≤◌, ◌<◌, ◌&&◌, ◌||◌, ℕ, Bool, true, false, not, ltb, List, [], ◌∷◌, ◌++◌, length, map, refl, sym, ◌∙◌, ap, arith, All, Ok}
 use Rattle.std.proofs.lemmas.List.Elements.{All-cons, All-tail, All-nil, All-append}
 use Rattle.std.proofs.lemmas.Bool.{or_parts, or_from, and_parts, not-true, false≢true, false_from_ne_true}
 use Rattle.mdv_extent.specs.declared.run.Run.{Run}
@@ -54,16 +54,38 @@ less_taken true true t = refl
 less_taken true false t = refl
 less_taken false u t = refl
 
+-- extents of the base that have no block that was used are taken, and all others stay
+pub taken_where_apart : (blocks : ℕ) (used taken : List Run) → length taken ≤ 16 → LieApart blocks taken → ((k : ℕ) → takes taken k ≡ true → takes used k ≡ false) → IsTaken blocks used taken
+taken_where_apart blocks used taken few on_base unused = record {
+  extents = record { few = few; on_base = on_base };
+  unused = unused;
+  together = λ before. record { lie = All-append (IsExtent blocks) used taken before.lie on_base.lie; apart = apart-append used taken before.apart on_base.apart unused };
+  rest = λ k. covers-free_of blocks (used ++ taken) k ∙ ap (λ (b : Bool). ltb k blocks && not b) (takes-append used taken k) ∙ less_taken (ltb k blocks) (takes used k) (takes taken k) ∙ ap (λ (b : Bool). b && not (takes taken k)) (sym (covers-free_of blocks used k));
+}
+
 pub taken_from_free : (blocks need : ℕ) (used taken : List Run) → 1 ≤ need → allotted (free_of blocks used) need ≡ Ok taken → IsTaken blocks used taken
 taken_from_free blocks need used taken some is =
     let lies : IsAllotment 0 blocks (free_of blocks used) need taken =
     allotted_lie_free 0 blocks need (free_of blocks used) taken (order_of_free blocks blocks used (free_of blocks used) (free_of_is_free blocks used) (omega arith)) some is in
-    let on_base : LieApart blocks taken = record { lie = lie_in_order 0 blocks taken lies.whole lies.order; apart = apart_in_order 0 blocks taken lies.order } in
-    let unused : (k : ℕ) → takes taken k ≡ true → takes used k ≡ false =
-    λ k on. not-true (takes used k) (and_parts (ltb k blocks) (not (takes used k)) (sym (covers-free_of blocks used k) ∙ lies.free_before k on)).1 in
-    record {
-      extents = record { few = lies.few; on_base = on_base };
-      unused = unused;
-      together = λ before. record { lie = All-append (IsExtent blocks) used taken before.lie on_base.lie; apart = apart-append used taken before.apart on_base.apart unused };
-      rest = λ k. covers-free_of blocks (used ++ taken) k ∙ ap (λ (b : Bool). ltb k blocks && not b) (takes-append used taken k) ∙ less_taken (ltb k blocks) (takes used k) (takes taken k) ∙ ap (λ (b : Bool). b && not (takes taken k)) (sym (covers-free_of blocks used k));
-    }
+    taken_where_apart blocks used taken lies.few
+    (record { lie = lie_in_order 0 blocks taken lies.whole lies.order; apart = apart_in_order 0 blocks taken lies.order })
+    (λ k on. not-true (takes used k) (and_parts (ltb k blocks) (not (takes used k)) (sym (covers-free_of blocks used k) ∙ lies.free_before k on)).1)
+
+-- those behind others that all lie apart
+all_behind : (blocks : ℕ) (xs ys : List Run) → All (IsExtent blocks) (xs ++ ys) → All (IsExtent blocks) ys
+all_behind blocks [] ys lie = lie
+all_behind blocks (r ∷ xs) ys lie = all_behind blocks xs ys (All-tail (IsExtent blocks) r (xs ++ ys) lie)
+
+apart_behind : (xs ys : List Run) → IsApart (xs ++ ys) → IsApart ys
+apart_behind [] ys apart = apart
+apart_behind (r ∷ xs) ys apart = apart_behind xs ys apart.1
+
+none_before_them : (xs ys : List Run) (k : ℕ) → IsApart (xs ++ ys) → takes ys k ≡ true → takes xs k ≡ false
+none_before_them [] ys k apart is = refl
+none_before_them (r ∷ xs) ys k apart is =
+    let away : has (with_header r) k ≡ false = false_from_ne_true (has (with_header r) k) (λ here. false≢true (sym (or_parts (takes xs k) (takes ys k) (sym (takes-append xs ys k) ∙ apart.0 k here)).1 ∙ is)) in
+    or_from (has (with_header r) k) (takes xs k) away (none_before_them xs ys k apart.1 is)
+
+pub given_are_taken : (blocks : ℕ) (used given : List Run) → length given ≤ 16 → LieApart blocks (used ++ given) → IsTaken blocks used given
+given_are_taken blocks used given few lie =
+    taken_where_apart blocks used given few (record { lie = all_behind blocks used given lie.lie; apart = apart_behind used given lie.apart }) (λ k is. none_before_them used given k lie.apart is)

@@ -1,10 +1,10 @@
 -- What the free runs, extents that are given and extents that are given back come to, block by block.
-use Rattle.std.specs.Prelude.{◌≡◌, ◌≤◌, ◌&&◌, ◌||◌, ℕ, true, false, not, nat_lt, List, ◌++◌, All, Ok}
+use Rattle.std.specs.Prelude.{◌≡◌, ◌≤◌, ◌&&◌, ◌||◌, ℕ, true, false, not, nat_lt, List, ◌++◌, length, All, Ok}
 use Rattle.mdv_extent.specs.declared.run.Run.{Run}
 use Rattle.mdv_extent.specs.Runs.{covers, takes, released, is_one_of, IsInOrder}
 use Rattle.mdv_extent.specs.Free.{IsFree, free_of}
 use Rattle.mdv_extent.specs.Share.{allotted}
-use Rattle.mdv_extent.specs.Extents.{LieApart, IsExtents, IsAllotment}
+use Rattle.mdv_extent.specs.Extents.{LieApart, IsExtents, IsAllotment, lie_apart}
 
 -- what is left of a base is free, and lies in it in order
 abbrev pub FreeRunsAreFree : Type 0
@@ -31,6 +31,10 @@ pub record IsTaken (blocks : ℕ) (used taken : List Run) : Type 0 where
 
 abbrev pub UsedRunsStay : Type 0
 UsedRunsStay = (blocks need : ℕ) (used taken : List Run) → 1 ≤ need → allotted (free_of blocks used) need ≡ Ok taken → IsTaken blocks used taken
+
+-- extents that are asked for, and lie apart from each other and from those that there are
+abbrev pub GivenExtentsStay : Type 0
+GivenExtentsStay = (blocks : ℕ) (used given : List Run) → length given ≤ 16 → lie_apart blocks (used ++ given) ≡ true → IsTaken blocks used given
 
 -- extents that are given back
 pub record IsGivenBack (blocks : ℕ) (used gone : List Run) : Type 0 where

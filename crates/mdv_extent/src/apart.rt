@@ -3,7 +3,7 @@ ghost use Rattle.std.specs.Prelude.{◌≡◌, ◌↔◌, ◌&&◌, IfOk, IsTrue
 ghost use Rattle.std.specs.List.Sorted.{IsNonDecreasingBy};
 ghost use Rattle.mdv_extent.specs.declared.run.Run.{Run};
 ghost use Rattle.mdv_extent.specs.Runs.{end_of};
-ghost use Rattle.mdv_extent.specs.Extents.{LieApart};
+ghost use Rattle.mdv_extent.specs.Extents.{LieApart, lie_apart as spec_lie_apart};
 
 use crate::Run;
 use std::alloc::{AllocError, Global};
@@ -12,7 +12,8 @@ use std::alloc::{AllocError, Global};
 /// one before it for its header, and ends within the base, and no block has two of them with their headers.
 /// They may come in any order.
 pub fn lie_apart(alloc: Global, blocks: u64, extents: &[Run]) -> Result<bool, AllocError>
-    ensures { IfOk result (λ yes. IsTrue yes ↔ LieApart blocks extents.now) }
+    ensures apart { IfOk result (λ yes. IsTrue yes ↔ LieApart blocks extents.now) }
+    ensures value { IfOk result (λ yes. yes ≡ spec_lie_apart blocks extents.now) }
 {
     let mut extents = Vec::from_slice(alloc, extents)?;
     extents.sort_unstable_by_key(|run| run.at);

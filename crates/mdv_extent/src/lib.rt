@@ -15,7 +15,8 @@ pub use apart::lie_apart;
 pub use form::{Header, header_block, read_header};
 pub use free::{free_runs, release};
 pub use law::{
-    allotments_lie_free, free_runs_are_free, one_list_is_free, releases_give_back, used_runs_stay,
+    allotments_lie_free, free_runs_are_free, given_extents_stay, one_list_is_free,
+    releases_give_back, used_runs_stay,
 };
 pub use run::{MAX_EXTENTS, Run};
 pub use share::{SpaceFault, allocate};

@@ -10,6 +10,8 @@ mod extent_tests;
 #[cfg(test)]
 mod facts;
 #[cfg(test)]
+mod given_tests;
+#[cfg(test)]
 mod plan_tests;
 #[cfg(test)]
 mod print_tests;

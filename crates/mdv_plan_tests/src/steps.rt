@@ -10,7 +10,7 @@ use mdv_components::{MAX_NAMES, RaidAsked, RowAsked};
 use mdv_extent::Run;
 use mdv_plan::*;
 use mdv_print::{print_named, print_tab};
-use mdv_softs::SoftAsked;
+use mdv_softs::{RoomAsked, SoftAsked};
 use mdv_spares::Meant;
 use mdv_submirrors::MirrorAsked;
 use std::alloc::Global;
@@ -32,6 +32,8 @@ pub(crate) enum Step {
     /// The second component comes in the place of the first.
     Replace(VolId, Base, Base),
     MakeSoft(u8, Base, u64),
+    /// With these extents.
+    GiveSoft(u8, Base, &'static [Run]),
     Grow(VolId, u64),
     /// One stripe more, with this interlace.
     AddRow(VolId, &'static [Base], Option<u64>),
@@ -156,7 +158,17 @@ fn change_of(alloc: Global, step: &Step) -> Result<Change, Fail>
         Step::Replace(volume, old, new) => Change::ReplacePart { volume, old, new },
         Step::MakeSoft(number, base, blocks) => Change::MakeSoft {
             volume: volume(number),
-            soft: SoftAsked { base, blocks },
+            soft: SoftAsked {
+                base,
+                room: RoomAsked::Blocks(blocks),
+            },
+        },
+        Step::GiveSoft(number, base, runs) => Change::MakeSoft {
+            volume: volume(number),
+            soft: SoftAsked {
+                base,
+                room: RoomAsked::Extents(listed(alloc, runs)?),
+            },
         },
         Step::Grow(volume, blocks) => Change::Grow { volume, blocks },
         Step::AddRow(volume, bases, interlace) => Change::AddRow {

@@ -4,7 +4,7 @@ use Rattle.std.specs.List.{list_any}
 use Rattle.mdv_softs.specs.Below.{VolId, Geometry, Plan, Status, VolumeStatus, KindStatus, RaidKind, RaidState, Okay, Initializing, Keeping, Base, Slice, Volume, OneVolume, VolumeKind, Component, Row, Stripe, Mirror, Raid, Soft}
 use Rattle.mdv_softs.specs.Below.{SliceUse, SomeExtents, Carried, InitializingWord, is_slice, volume_of, is_taken, clashes, meets_db, status_at}
 use Rattle.mdv_softs.specs.declared.room.Room.{Room}
-use Rattle.mdv_softs.specs.declared.room.Room.TheVariants.{TooMany, Only}
+use Rattle.mdv_softs.specs.declared.room.Room.TheVariants.{TooMany, Only, Unfit}
 
 -- zeros or parity are being written to all of it
 abbrev pub is_being_made : RaidState → Bool
@@ -77,6 +77,10 @@ is_too_many _ = false
 abbrev pub is_short : Room → Bool
 is_short (Only blocks) = true
 is_short _ = false
+
+abbrev pub is_unfit : Room → Bool
+is_unfit Unfit = true
+is_unfit _ = false
 
 abbrev pub blocks_in : Room → ℕ
 blocks_in (Only blocks) = blocks

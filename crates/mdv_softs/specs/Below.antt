@@ -9,6 +9,7 @@ pub use Rattle.mdv_components.specs.Room.{start_of}
 pub use Rattle.mdv_components.specs.declared.cause.Carried.{Carried}
 pub use Rattle.mdv_components.specs.declared.cause.Cause.{Cause}
 pub use Rattle.mdv_components.specs.declared.cause.Cause.TheVariants.{NoSuchVolume, NoSuchSlice, NameTaken, WrongKind, WrongState, TooMany, SliceInUse, HasParent, Nested, TooSmall, NoSpace}
+pub use Rattle.mdv_extent.specs.Extents.{lie_apart}
 pub use Rattle.mdv_extent.specs.Free.{free_of}
 pub use Rattle.mdv_extent.specs.Runs.{end_of}
 pub use Rattle.mdv_extent.specs.Share.{allotted}

@@ -3,9 +3,9 @@ use Rattle.std.specs.Prelude.{ℕ, Bool, ◌+◌, ◌-◌, ◌*◌, ◌^◌, ◌
 use Rattle.std.specs.List.{list_all}
 use Rattle.std.specs.Option.{option_or}
 use Rattle.mdv_softs.specs.Below.{Geometry, SliceAt, Plan, Base, Slice, Volume, OneVolume, VolumeKind, OneRaid, Stripe, Mirror, Raid, Soft, Run, SpaceFault, TooShort}
-use Rattle.mdv_softs.specs.Below.{volume_of, start_of, stripe_blocks, slice_at, same_base, runs_on, end_of, free_of, allotted}
+use Rattle.mdv_softs.specs.Below.{volume_of, start_of, stripe_blocks, slice_at, same_base, runs_on, end_of, free_of, allotted, lie_apart}
 use Rattle.mdv_softs.specs.declared.room.Room.{Room}
-use Rattle.mdv_softs.specs.declared.room.Room.TheVariants.{Extents, TooMany, Only}
+use Rattle.mdv_softs.specs.declared.room.Room.TheVariants.{Extents, TooMany, Only, Unfit}
 
 -- from which block of the base the volume's extents are counted, where it is a soft partition on it
 abbrev pub kind_start : Base → VolumeKind → Option ℕ
@@ -66,6 +66,14 @@ room_with had (Err _) = TooMany
 -- so many blocks more than those of the extents that there are
 abbrev pub room_for : Geometry → Plan → Base → List Run → ℕ → Room
 room_for g p on had need = if need == 0 then Extents had else room_with had (allotted (free_on g p on) need)
+
+-- extents that are asked for lie apart from each other and from those that the base has
+abbrev pub fits_on : Geometry → Plan → Base → List Run → Bool
+fits_on g p on runs = lie_apart (size_on g p on) (runs_on on p ++ runs)
+
+-- these extents
+abbrev pub given_room : Geometry → Plan → Base → List Run → Room
+given_room g p on runs = if nat_lt 16 (length runs) then TooMany else (if fits_on g p on runs then Extents runs else Unfit)
 
 abbrev pub extents_in : Room → List Run
 extents_in (Extents runs) = runs

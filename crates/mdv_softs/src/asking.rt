@@ -5,7 +5,7 @@ ghost use Rattle.mdv_plan.specs.Slices.{IsSound};
 ghost use Rattle.mdv_softs.specs.Asking.{is_being_made as spec_is_being_made, is_kind_being_made as spec_is_kind_being_made, is_initializing as spec_is_initializing};
 ghost use Rattle.mdv_softs.specs.Asking.{is_slice_in_use as spec_is_slice_in_use, is_volume_taken as spec_is_volume_taken, is_nested as spec_is_nested};
 ghost use Rattle.mdv_softs.specs.Asking.{is_on_soft as spec_is_on_soft, is_row_on_soft as spec_is_row_on_soft, has_soft as spec_has_soft, has_soft_in as spec_has_soft_in};
-ghost use Rattle.mdv_softs.specs.Asking.{contains_soft as spec_contains_soft, is_too_many as spec_is_too_many, is_short as spec_is_short, carried_of as spec_carried_of};
+ghost use Rattle.mdv_softs.specs.Asking.{contains_soft as spec_contains_soft, is_too_many as spec_is_too_many, is_short as spec_is_short, is_unfit as spec_is_unfit, carried_of as spec_carried_of};
 
 use crate::room::Room;
 use mdv_base::{StateWord, VolId};
@@ -148,6 +148,12 @@ pub(crate) fn is_short(room: &Room) -> bool
     ensures { result ≡ spec_is_short room.now }
 {
     matches!(room, Room::Only(_))
+}
+
+pub(crate) fn is_unfit(room: &Room) -> bool
+    ensures { result ≡ spec_is_unfit room.now }
+{
+    matches!(room, Room::Unfit)
 }
 
 // What a refusal tells.

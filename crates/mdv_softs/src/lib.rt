@@ -9,5 +9,5 @@ mod room;
 
 pub use asking::is_initializing;
 pub use growing::{grown_room, refuse_grow, volume_grown};
-pub use making::{SoftAsked, refuse_soft, soft_on, soft_room, soft_status};
+pub use making::{RoomAsked, SoftAsked, refuse_soft, soft_on, soft_room, soft_status};
 pub use room::Room;

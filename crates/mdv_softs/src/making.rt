@@ -5,24 +5,37 @@ ghost use Rattle.mdv_components.specs.Causes.{first_of, order, told};
 ghost use Rattle.mdv_plan.specs.Slices.{IsSound};
 ghost use Rattle.mdv_plan.specs.Uses.{uses_of};
 ghost use Rattle.mdv_softs.specs.Asking.{carried_of as spec_carried_of};
-ghost use Rattle.mdv_softs.specs.Making.{soft_condition, soft_on as spec_soft_on, soft_room as spec_soft_room, soft_status as spec_soft_status};
+ghost use Rattle.mdv_softs.specs.Making.{is_nothing as spec_is_nothing, soft_condition, soft_on as spec_soft_on, soft_room as spec_soft_room, soft_status as spec_soft_status};
 
 use crate::asking::{
-    carried_of, is_initializing, is_nested, is_short, is_slice_in_use, is_too_many, is_volume_taken,
+    carried_of, is_initializing, is_nested, is_short, is_slice_in_use, is_too_many, is_unfit,
+    is_volume_taken,
 };
-use crate::room::{Room, extents_in, room_for, start_on};
+use crate::room::{Room, extents_in, given_room, room_for, start_on};
 use mdv_base::{DriveNo, Refusal, VolId};
-use mdv_components::{Cause, is_foreign, is_missing, volume_of};
+use mdv_components::{Cause, MAX_NAMES, is_foreign, is_missing, volume_of};
+use mdv_extent::Run;
 use mdv_name::Geometry;
-use mdv_plan::{Base, KindStatus, Plan, Soft, Table, Uses, Volume, VolumeKind, VolumeStatus};
+use mdv_plan::{
+    Base, KindStatus, Listed, Plan, Soft, Table, Uses, Volume, VolumeKind, VolumeStatus,
+};
 use std::alloc::{AllocError, Global};
 
+/// The blocks that are asked for.
+#[derive(Drop)]
+pub enum RoomAsked {
+    /// So many, wherever there is room.
+    Blocks(u64),
+    /// These extents in this order, counted from where extents begin on the base.
+    Extents(Listed<Run, MAX_NAMES>),
+}
+
 /// A soft partition that is asked for.
-#[derive(Clone, Copy, Debug, PartialEq, Eq)]
+#[derive(Drop)]
 pub struct SoftAsked {
     /// A slice, stripe, mirror or RAID-5 volume.
     pub base: Base,
-    pub blocks: u64,
+    pub room: RoomAsked,
 }
 
 /// What the base gives.
@@ -30,12 +43,27 @@ pub fn soft_room(
     alloc: Global,
     geometry: &Geometry,
     plan: &Plan,
-    asked: SoftAsked,
+    asked: &SoftAsked,
 ) -> Result<Room, AllocError>
     requires { IsSound geometry.now }
-    ensures { IfOk result (λ room. room ≡ spec_soft_room geometry.now plan.now asked) }
+    ensures { IfOk result (λ room. room ≡ spec_soft_room geometry.now plan.now asked.now) }
 {
-    room_for(alloc, geometry, plan, asked.base, &[], asked.blocks)
+    match &asked.room {
+        RoomAsked::Blocks(blocks) => room_for(alloc, geometry, plan, asked.base, &[], *blocks),
+        RoomAsked::Extents(runs) => {
+            given_room(alloc, geometry, plan, asked.base, runs.as_slice())
+        }
+    }
+}
+
+// Whether no block is asked for, or no extent.
+fn is_nothing(room: &RoomAsked) -> bool
+    ensures { result ≡ spec_is_nothing room.now }
+{
+    match room {
+        RoomAsked::Blocks(blocks) => *blocks == 0,
+        RoomAsked::Extents(runs) => runs.as_slice().is_empty(),
+    }
 }
 
 /// The first cause for which the soft partition is refused, as it is told. The caller has looked what the
@@ -46,12 +74,12 @@ pub fn refuse_soft(
     drives: &[DriveNo],
     table: &Table,
     volume: VolId,
-    asked: SoftAsked,
+    asked: &SoftAsked,
     room: &Room,
 ) -> Result<Option<Refusal>, AllocError>
     requires sound { IsSound geometry.now }
-    requires room { room.now ≡ spec_soft_room geometry.now table.now.plan asked }
-    ensures { IfOk result (λ refusal. refusal ≡ option_map (told (spec_carried_of room.now)) (first_of (soft_condition geometry.now drives.now table.now volume asked) order)) }
+    requires room { room.now ≡ spec_soft_room geometry.now table.now.plan asked.now }
+    ensures { IfOk result (λ refusal. refusal ≡ option_map (told (spec_carried_of room.now)) (first_of (soft_condition geometry.now drives.now table.now volume asked.now) order)) }
 {
     let uses = table.plan.uses(alloc)?;
     Ok(
@@ -68,13 +96,13 @@ fn cause_of(
     table: &Table,
     uses: &Uses,
     volume: VolId,
-    asked: SoftAsked,
+    asked: &SoftAsked,
     room: &Room,
 ) -> Option<Cause>
     requires sound { IsSound geometry.now }
     requires uses { uses.now ≡ uses_of table.now.plan }
-    requires room { room.now ≡ spec_soft_room geometry.now table.now.plan asked }
-    ensures { result ≡ first_of (soft_condition geometry.now drives.now table.now volume asked) order }
+    requires room { room.now ≡ spec_soft_room geometry.now table.now.plan asked.now }
+    ensures { result ≡ first_of (soft_condition geometry.now drives.now table.now volume asked.now) order }
 {
     let plan = &table.plan;
     if is_missing(plan, asked.base) {
@@ -101,7 +129,7 @@ fn cause_of(
     if is_nested(plan, asked.base) {
         return Some(Cause::Nested);
     }
-    if asked.blocks == 0 {
+    if is_nothing(&asked.room) || is_unfit(room) {
         return Some(Cause::TooSmall);
     }
     if is_short(room) {

@@ -7,10 +7,10 @@ ghost use Rattle.mdv_plan.specs.Slices.{IsSound};
 ghost use Rattle.mdv_softs.specs.Room.{kind_start as spec_kind_start, start_in as spec_start_in, start_on as spec_start_on};
 ghost use Rattle.mdv_softs.specs.Room.{raid_blocks as spec_raid_blocks, kind_blocks as spec_kind_blocks, size_on as spec_size_on};
 ghost use Rattle.mdv_softs.specs.Room.{lies_within as spec_lies_within, free_within as spec_free_within, free_on as spec_free_on};
-ghost use Rattle.mdv_softs.specs.Room.{with_extents as spec_with_extents, room_for as spec_room_for, extents_in as spec_extents_in};
+ghost use Rattle.mdv_softs.specs.Room.{with_extents as spec_with_extents, room_for as spec_room_for, fits_on as spec_fits_on, given_room as spec_given_room, extents_in as spec_extents_in};
 
 use mdv_components::{start_of, volume_of};
-use mdv_extent::{MAX_EXTENTS, Run, SpaceFault, allocate, free_runs};
+use mdv_extent::{MAX_EXTENTS, Run, SpaceFault, allocate, free_runs, lie_apart};
 use mdv_name::Geometry;
 use mdv_plan::{Base, Listed, Plan, Raid, Volume, VolumeKind, same_base, slice_at};
 use mdv_submirrors::stripe_blocks;
@@ -28,6 +28,9 @@ pub enum Room {
     TooMany,
     /// The free runs could give only so many blocks.
     Only(u64),
+    /// Extents that are asked for share a block with each other or with those that are there, headers
+    /// counted, or one has no block, begins at block 0 or ends past the base.
+    Unfit,
 }
 
 fn kind_start(kind: &VolumeKind, base: Base) -> Option<u64>
@@ -180,6 +183,42 @@ pub(crate) fn room_for(
         Err(SpaceFault::TooMany) => Ok(Room::TooMany),
         Err(SpaceFault::Memory) => Err(AllocError),
     }
+}
+
+// Whether these extents and those that the base has lie apart on it.
+fn fits_on(
+    alloc: Global,
+    geometry: &Geometry,
+    plan: &Plan,
+    base: Base,
+    runs: &[Run],
+) -> Result<bool, AllocError>
+    requires { IsSound geometry.now }
+    ensures { IfOk result (λ fits. fits ≡ spec_fits_on geometry.now plan.now base runs.now) }
+{
+    let mut all = plan.runs_on(alloc, base)?;
+    all.extend_from_slice(runs)?;
+    lie_apart(alloc, size_on(geometry, plan, base), all.as_slice())
+}
+
+// Extents that are asked for.
+pub(crate) fn given_room(
+    alloc: Global,
+    geometry: &Geometry,
+    plan: &Plan,
+    base: Base,
+    runs: &[Run],
+) -> Result<Room, AllocError>
+    requires { IsSound geometry.now }
+    ensures { IfOk result (λ room. room ≡ spec_given_room geometry.now plan.now base runs.now) }
+{
+    if runs.len() > MAX_EXTENTS {
+        return Ok(Room::TooMany);
+    }
+    if !fits_on(alloc, geometry, plan, base, runs)? {
+        return Ok(Room::Unfit);
+    }
+    Ok(Room::Extents(Listed::from_slice(alloc, runs)?))
 }
 
 pub(crate) fn extents_in(alloc: Global, room: Room) -> Listed<Run, MAX_EXTENTS>
