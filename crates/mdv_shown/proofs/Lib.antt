@@ -6,3 +6,5 @@ pub mod Framed
 pub mod Worlds
 pub mod Wiped
 pub mod Others
+pub mod Formatted
+pub mod Formatting

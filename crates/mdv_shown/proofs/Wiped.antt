@@ -2,7 +2,7 @@
 use Rattle.std.proofs.Common.{◌≡◌, ◌⊎◌, inl, inr, ⊎_elim, ℕ, zero, suc, ◌+◌, ◌-◌, ◌*◌, ◌<◌, ◌≤◌, Bool, true, false, refl, sym, ◌∙◌, ap, subst, List, [], ◌∷◌, cond, Option, Some, arith}
 use Rattle.std.proofs.lemmas.Bool.{cases_Bool, cases_lt, cases_eq, false≢true, false_from_ne_true, or_cases, or_left, or_right, or_parts, leb-true, le-leb, cond-true, cond-false}
 use Rattle.std.specs.Prelude.{max, nat_le}
-use Rattle.mdv_shown.specs.Below.{Identity, SliceLine, Master, Head, Image, range, MayWipe, Wipes, block_of, Core, Stage, Reading, Creating, Claiming, Writing, Ready, Wiped, after_all, happens, last_table, place_at, Spot, SpotState, Version, AreApart}
+use Rattle.mdv_shown.specs.Below.{Identity, SliceLine, Master, Head, Image, SameOutside, range, MayWipe, Wipes, block_of, Core, Stage, Reading, Creating, Claiming, Writing, Ready, Wiped, after_all, happens, last_table, place_at, Spot, SpotState, Version, AreApart}
 use Rattle.mdv_votes.specs.Family.{change_at, changed_at, wiped}
 use Rattle.mdv_votes.specs.Spots.{is_in, is_named, same_spot}
 use Rattle.mdv_votes.proofs.Meeting.{same_is, same_self}
@@ -22,17 +22,17 @@ use Rattle.mdv_shown.proofs.Framed.{shows_same}
 
 -- which spots are among those
 module _ (line : SliceLine) (b : ℕ) where
-  record IsFrom (k n : ℕ) (q : Spot) : Type 0 where
-    number : ℕ
-    from : k ≤ number
-    to : number < k + n
-    within : 16 + number * b + b ≤ line.at.blocks
-    spot : spot_on line b number ≡ q
+  pub record IsFrom (k n : ℕ) (q : Spot) : Type 0 where
+    pub number : ℕ
+    pub from : k ≤ number
+    pub to : number < k + n
+    pub within : 16 + number * b + b ≤ line.at.blocks
+    pub spot : spot_on line b number ≡ q
 
   from_more : (k n : ℕ) (q : Spot) → IsFrom (k + 1) n q → IsFrom k (suc n) q
   from_more k n q f = record { number = f.number; from = (let h = f.from in omega (arith, h)); to = (let h = f.to in omega (arith, h)); within = f.within; spot = f.spot }
 
-  in_from : (k n : ℕ) (q : Spot) → is_in (spots_from line b k n) q ≡ true → IsFrom k n q
+  pub in_from : (k n : ℕ) (q : Spot) → is_in (spots_from line b k n) q ≡ true → IsFrom k n q
   in_from k zero q has = absurd (false≢true has)
   in_from k (suc n) q has =
       let rest = spots_from line b (k + 1) n in
@@ -47,7 +47,7 @@ module _ (line : SliceLine) (b : ℕ) where
             from_more k n q (in_from (k + 1) n q (sym (ap (λ (l : List Spot). is_in l q) (cond-false (nat_le (16 + k * b + b) line.at.blocks) (spot_on line b k ∷ rest) rest past)) ∙ has))
       ]
 
-  from_in : (k n j : ℕ) → k ≤ j → j < k + n → 16 + j * b + b ≤ line.at.blocks → is_in (spots_from line b k n) (spot_on line b j) ≡ true
+  pub from_in : (k n j : ℕ) → k ≤ j → j < k + n → 16 + j * b + b ≤ line.at.blocks → is_in (spots_from line b k n) (spot_on line b j) ≡ true
   from_in k zero j from to within = absurd (omega (arith, from, to))
   from_in k (suc n) j from to within =
       let rest = spots_from line b (k + 1) n in
@@ -66,6 +66,29 @@ module _ (line : SliceLine) (b : ℕ) where
           | inr past ↦ ap (λ (l : List Spot). is_in l (spot_on line b j)) (cond-false test (spot_on line b k ∷ rest) rest past) ∙ later other
         ]
       ]
+
+-- places of two slices have two spots
+pub lines_spots : (a b : SliceLine) → AreApart (line_area a) (line_area b) → (i x j y : ℕ) → 16 + i * x + x ≤ a.at.blocks → 16 ≤ x → 16 + j * y + y ≤ b.at.blocks → 16 ≤ y
+    → spot_on a x i ≡ spot_on b y j → ⊥
+lines_spots a b apart i x j y fits least within also e =
+    let drives : a.at.drive.0 ≡ b.at.drive.0 = ap (λ (s : Spot). s.drive.0) e in
+    let firsts : a.at.start + (16 + i * x) ≡ b.at.start + (16 + j * y) = ap (λ (s : Spot). s.first) e in
+    apart b.at.drive.0 (b.at.start + (16 + j * y))
+    (subst (λ (d : ℕ). range a.at.drive.0 a.at.start a.at.blocks d (b.at.start + (16 + j * y)) ≡ true) drives
+    (range_has a.at.drive.0 a.at.start a.at.blocks (b.at.start + (16 + j * y)) (omega (arith, firsts)) (omega (arith, firsts, fits, least))))
+    (range_has b.at.drive.0 b.at.start b.at.blocks (b.at.start + (16 + j * y)) (omega arith) (omega (arith, within, also)))
+
+-- what is written within a place of one slice leaves the others
+pub others_same : (a b : SliceLine) → AreApart (line_area a) (line_area b) → (i x count : ℕ) (old new : Image) → 16 + i * x + count ≤ a.at.blocks
+    → SameOutside (range a.at.drive.0 (a.at.start + (16 + i * x)) count) old new
+    → (block : ℕ) → b.at.start ≤ block → block < b.at.start + b.at.blocks → new b.at.drive.0 block ≡ old b.at.drive.0 block
+others_same a b apart i x count old new fits outside block from to =
+    outside b.at.drive.0 block (false_from_ne_true (range a.at.drive.0 (a.at.start + (16 + i * x)) count b.at.drive.0 block) (λ is.
+    let r = in_range a.at.drive.0 (a.at.start + (16 + i * x)) count b.at.drive.0 block is in
+    apart b.at.drive.0 block
+    (subst (λ (d : ℕ). range a.at.drive.0 a.at.start a.at.blocks d block ≡ true) r.0
+    (range_has a.at.drive.0 a.at.start a.at.blocks block (omega (arith, r.1)) (omega (arith, r.2, fits))))
+    (range_has b.at.drive.0 b.at.start b.at.blocks block from to)))
 
 -- what blanking does to the places, whatever the stage
 abbrev IsBlanked : Core → Spot → Core → Type 0
@@ -163,15 +186,7 @@ module _ {Table : Type 0} (Spells : List ℕ → Table → Type 0) (site : Site)
   other_kept other apart j m head is =
       false_from_ne_true (is_in gone (spot_on other m.blocks j)) (λ among.
       let f = in_from line first.blocks k (max 1 first.count - k) (spot_on other m.blocks j) among in
-      let within = is.within in
-      let fits = f.within in
-      let least : 16 ≤ m.blocks = is.located.lies.least in
-      let drives : line.at.drive.0 ≡ other.at.drive.0 = ap (λ (s : Spot). s.drive.0) f.spot in
-      let firsts : line.at.start + (16 + f.number * first.blocks) ≡ other.at.start + (16 + j * m.blocks) = ap (λ (s : Spot). s.first) f.spot in
-      apart other.at.drive.0 (other.at.start + (16 + j * m.blocks))
-      (subst (λ (d : ℕ). range line.at.drive.0 line.at.start line.at.blocks d (other.at.start + (16 + j * m.blocks)) ≡ true) drives
-      (range_has line.at.drive.0 line.at.start line.at.blocks (other.at.start + (16 + j * m.blocks)) (omega (arith, firsts)) (omega (arith, firsts, fits, blocks_least))))
-      (range_has other.at.drive.0 other.at.start other.at.blocks (other.at.start + (16 + j * m.blocks)) (omega arith) (omega (arith, within, least))))
+      lines_spots line other apart f.number first.blocks j m.blocks f.within blocks_least is.within is.located.lies.least f.spot)
 
   -- in front of it it is found in both, and isn't one of those
   front_same : (j : ℕ) → j < k → (block : ℕ) → block < line.at.start + (16 + j * first.blocks) + first.blocks → new line.at.drive.0 block ≡ old line.at.drive.0 block
@@ -279,12 +294,10 @@ module _ {Table : Type 0} (Spells : List ℕ → Table → Type 0) (site : Site)
       seats = λ q kind holds. shows.seats q kind (wiped_is.held q holds);
     }
 
--- a master is blanked
+-- a master is blanked, and maybe what follows it in its place
 module _ {Table : Type 0} (Spells : List ℕ → Table → Type 0) (site : Site) (line : SliceLine) (k : ℕ) (first : Master) (old new : Image)
-    (has : HasFirst site old line first) (within : 16 + k * first.blocks + first.blocks ≤ line.at.blocks) (wipes : Wipes (place_on line first.blocks first.count k) old new) where
-  blank_here : new line.at.drive.0 (line.at.start + (16 + k * first.blocks)) ≡ block_of []
-  blank_here = ap (new line.at.drive.0) (omega arith) ∙ wipes.here 0 (omega arith)
-
+    (has : HasFirst site old line first) (count : ℕ) (within : 16 + k * first.blocks + count ≤ line.at.blocks)
+    (outside : SameOutside (range line.at.drive.0 (line.at.start + (16 + k * first.blocks)) count) old new) (blank_here : new line.at.drive.0 (line.at.start + (16 + k * first.blocks)) ≡ block_of []) where
   -- no replica of this number is in a chain
   none_there : (m : Master) (head : Head) → m ≡ first → IsInChain Spells site line k (new line.at.drive.0) m head → ⊥
   none_there m head e is =
@@ -292,7 +305,7 @@ module _ {Table : Type 0} (Spells : List ℕ → Table → Type 0) (site : Site)
       no_head_blank (place_on line first.blocks first.count k) (size_on site line) (new line.at.drive.0) blank_here head mine.readable.of_head
 
   wipe_front : (block : ℕ) → block < line.at.start + (16 + k * first.blocks) → new line.at.drive.0 block ≡ old line.at.drive.0 block
-  wipe_front block to = wipes.elsewhere line.at.drive.0 block (before_range line.at.drive.0 (line.at.start + (16 + k * first.blocks)) 1 block to)
+  wipe_front block to = outside line.at.drive.0 block (before_range line.at.drive.0 (line.at.start + (16 + k * first.blocks)) count block to)
 
   -- the slice's first master is blank, or as it was
   first_cut : (j : ℕ) (m : Master) (head : Head) → IsFound Spells site line j (new line.at.drive.0) m head → (0 < k) × (m ≡ first)
@@ -313,13 +326,7 @@ module _ {Table : Type 0} (Spells : List ℕ → Table → Type 0) (site : Site)
 
   pub wipe_cuts : IsCutAt Spells site line k first old new
   wipe_cuts = record {
-    others = λ other apart block from to. wipes.elsewhere other.at.drive.0 block (false_from_ne_true (range line.at.drive.0 (line.at.start + (16 + k * first.blocks)) 1 other.at.drive.0 block) (λ is.
-        let least : 16 ≤ first.blocks = has.located.lies.least in
-        let r = in_range line.at.drive.0 (line.at.start + (16 + k * first.blocks)) 1 other.at.drive.0 block is in
-        apart other.at.drive.0 block
-        (subst (λ (d : ℕ). range line.at.drive.0 line.at.start line.at.blocks d block ≡ true) r.0
-        (range_has line.at.drive.0 line.at.start line.at.blocks block (omega (arith, r.1)) (omega (arith, r.2, within, least))))
-        (range_has other.at.drive.0 other.at.start other.at.blocks block from to)));
+    others = λ other apart. others_same line other apart k first.blocks count old new within outside;
     front = wipe_front;
     cut = λ j m head is.
         let f = first_cut j m head is in
@@ -333,10 +340,10 @@ module _ {Table : Type 0} (Spells : List ℕ → Table → Type 0) (site : Site)
   }
 
 module _ {Table : Type 0} (Spells : List ℕ → Table → Type 0) (site : Site) (identity : Identity) (tables : ℕ → Table) (w : Core) (old new : Image) (line : SliceLine) (k : ℕ) (first : Master)
-    (has : HasFirst site old line first) (within : 16 + k * first.blocks + first.blocks ≤ line.at.blocks) (shows : Shows Spells site identity tables w old) where
+    (has : HasFirst site old line first) (within : 16 + k * first.blocks < line.at.blocks) (shows : Shows Spells site identity tables w old) where
   pub wipe_ends : Wipes (place_on line first.blocks first.count k) old new → Shows Spells site identity tables (after_all w (wiped_all (spots_behind line first k))) new
   wipe_ends wipes =
-      cut_shows Spells site identity line k first old new has (wipe_cuts Spells site line k first old new has within wipes) w (after_all w (wiped_all (spots_behind line first k)))
+      cut_shows Spells site identity line k first old new has (wipe_cuts Spells site line k first old new has 1 (omega (arith, within)) wipes.elsewhere (ap (new line.at.drive.0) (omega arith) ∙ wipes.here 0 (omega arith))) w (after_all w (wiped_all (spots_behind line first k)))
       (all_wiped w (spots_behind line first k)) tables shows
 
   pub wipe_goes : MayWipe (place_on line first.blocks first.count k) old new

@@ -10,16 +10,17 @@ pub use Rattle.mdv_quorum.specs.May.{may}
 pub use Rattle.mdv_quorum.specs.Standing.{IsFamily}
 pub use Rattle.mdv_quorum.specs.World.{after_all, happens, last_table}
 pub use Rattle.mdv_quorum.specs.declared.event.Event.{Event}
-pub use Rattle.mdv_quorum.specs.declared.event.Event.TheVariants.{Claimed, Slotted, Wiped}
+pub use Rattle.mdv_quorum.specs.declared.event.Event.TheVariants.{Claimed, Formatted, Slotted, Wiped}
 pub use Rattle.mdv_quorum.specs.declared.event.SlotEnd.TheVariants.{Closed as LeftClosed, Holds}
 pub use Rattle.mdv_quorum.specs.declared.machine.Core.{Core}
 pub use Rattle.mdv_quorum.specs.declared.machine.Stage.{Stage}
 pub use Rattle.mdv_quorum.specs.declared.machine.Stage.TheVariants.{Claiming, Creating, Reading, Ready, Writing}
-pub use Rattle.mdv_replica.specs.Form.{IsReadable, IsSpare, IsSpareSlot, IsTable, SlotFits, gate_of, other_slot, room_of, text_of}
+pub use Rattle.mdv_replica.specs.Form.{IsReadable, IsSpare, IsSpareSlot, IsTable, SlotFits, formatted_head, gate_of, other_slot, room_of, text_of}
 pub use Rattle.mdv_replica.specs.Form.{with_claim as claimed_head, with_slot}
-pub use Rattle.mdv_replica.specs.Images.{Claims, Fills, IsSame, MayClaim, MayFill, MayWipe, SameOutside, Wipes, closed, filled, untouched}
-pub use Rattle.mdv_replica.specs.Forms.{block_of, claim_text, gate_text}
-pub use Rattle.mdv_replica.specs.Replica.{body_at, gate_at, slot_area, slot_blocks, with_blocks}
+pub use Rattle.mdv_replica.specs.Images.{Claims, Fills, Formats, IsSame, MayClaim, MayFill, MayFormat, MayWipe, SameOutside, Wipes}
+pub use Rattle.mdv_replica.specs.Images.{blanked, closed, filled, formatted, untouched}
+pub use Rattle.mdv_replica.specs.Forms.{IsMaster, block_of, claim_text, gate_text}
+pub use Rattle.mdv_replica.specs.Replica.{IsHead, LiesAt, body_at, gate_at, head_area, master_of, slot_area, slot_blocks, with_blocks}
 pub use Rattle.mdv_replica.specs.Seen.{IsMasterAt}
 pub use Rattle.mdv_replica.specs.declared.forms.Gate.{Gate}
 pub use Rattle.mdv_replica.specs.declared.forms.Gate.TheVariants.{Closed, Open}
@@ -31,6 +32,7 @@ pub use Rattle.mdv_replica.specs.declared.replica.Slot.TheVariants.{First, Secon
 pub use Rattle.mdv_shelf.specs.Area.{AreApart, Area, range}
 pub use Rattle.mdv_shelf.specs.Everywhere.{Image, RestsOn}
 pub use Rattle.mdv_votes.specs.Family.{greatest_of, place_at, put_at, table_at, with_claim, with_newest}
+pub use Rattle.mdv_votes.specs.Spots.{is_in}
 pub use Rattle.mdv_votes.specs.declared.spot.Spot.{Spot}
 pub use Rattle.mdv_votes.specs.declared.version.SpotState.{SpotState}
 pub use Rattle.mdv_votes.specs.declared.version.Version.{Version}

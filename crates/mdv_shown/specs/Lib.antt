@@ -7,3 +7,4 @@ pub mod Laws
 pub mod Worlds
 pub mod Wipes
 pub mod Others
+pub mod Formats

@@ -1,5 +1,5 @@
 -- How an image's world goes on while a master is blanked, whosever replica lies there.
-use Rattle.std.specs.Prelude.{◌⊎◌, ℕ, zero, suc, ◌+◌, ◌-◌, ◌*◌, ◌≤◌, max, cond, nat_le, List, [], ◌∷◌, map, Option, Contains}
+use Rattle.std.specs.Prelude.{◌⊎◌, ℕ, zero, suc, ◌+◌, ◌-◌, ◌*◌, ◌<◌, max, cond, nat_le, List, [], ◌∷◌, map, Option, Contains}
 use Rattle.mdv_shown.specs.Below.{Identity, SliceLine, IsMasterAt, Master, Image, MayWipe, Wipes, Core, Event, Wiped, after_all, Spot}
 use Rattle.mdv_shown.specs.Site.{Site, IsSite, size_on, place_on, spot_on}
 use Rattle.mdv_shown.specs.Shown.{Shows}
@@ -24,15 +24,15 @@ pub record HasFirst (site : Site) (image : Image) (line : SliceLine) (first : Ma
   pub one_of : Contains site.lines line
   pub located : IsMasterAt (place_on line 8192 0 0) (size_on site line) (image line.at.drive.0 (line.at.start + 16)) first
 
--- The master of a replica that ends within its slice is blanked. That one and those behind it aren't found any more.
+-- The master of a replica is blanked, on its slice. That one and those behind it aren't found any more.
 pub record WipesGo (T : Type 0) : Type 0 where
   -- at each moment the image shows the world as it was, or without these
   pub moments : (read : List ℕ → Option T) (site : Site) (identity : Identity) (tables : ℕ → T) (w : Core) (old new : Image) (line : SliceLine) (k : ℕ) (first : Master)
-      → HasFirst site old line first → 16 + k * first.blocks + first.blocks ≤ line.at.blocks → Shows (Reads read) site identity tables w old
+      → HasFirst site old line first → 16 + k * first.blocks < line.at.blocks → Shows (Reads read) site identity tables w old
       → MayWipe (place_on line first.blocks first.count k) old new
       → Shows (Reads read) site identity tables w new ⊎ Shows (Reads read) site identity tables (after_all w (wiped_all (spots_behind line first k))) new
   -- in the end without these
   pub end : (read : List ℕ → Option T) (site : Site) (identity : Identity) (tables : ℕ → T) (w : Core) (old new : Image) (line : SliceLine) (k : ℕ) (first : Master)
-      → HasFirst site old line first → 16 + k * first.blocks + first.blocks ≤ line.at.blocks → Shows (Reads read) site identity tables w old
+      → HasFirst site old line first → 16 + k * first.blocks < line.at.blocks → Shows (Reads read) site identity tables w old
       → Wipes (place_on line first.blocks first.count k) old new
       → Shows (Reads read) site identity tables (after_all w (wiped_all (spots_behind line first k))) new

@@ -2,6 +2,7 @@ ghost use Rattle.mdv_shown.specs.Laws.{ShowsOne, NewestIsOne, ShowsKept, ShowsFi
 ghost use Rattle.mdv_shown.specs.Worlds.{ClaimsGo, TablesBegin, SlotsGo, Frames};
 ghost use Rattle.mdv_shown.specs.Wipes.{WipesGo};
 ghost use Rattle.mdv_shown.specs.Others.{OthersGo};
+ghost use Rattle.mdv_shown.specs.Formats.{FirstFormatsGo, LaterFormatsGo};
 
 /// What a slot shows of tables of any type: one under one mark, by its gate and its body alone, the one that it was filled with; and where it is
 /// open and the replica is readable, one at least. So a replica has one newest table at most.
@@ -33,6 +34,13 @@ pub fn slots_go<T>()
 /// those behind it on the slice.
 pub fn wipes_go<T>()
     ensures { WipesGo T }
+{}
+
+/// While a place is formatted for the database, an image goes on showing the world; or that without what lay there and behind it; or that
+/// with the place formatted.
+pub fn formats_go<T>()
+    ensures first { FirstFormatsGo T }
+    ensures later { LaterFormatsGo T }
 {}
 
 /// While another database's replica is claimed or written, an image goes on showing this one's world.

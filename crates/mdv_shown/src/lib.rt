@@ -4,4 +4,6 @@
 
 mod law;
 
-pub use law::{claims_go, frames, others_go, slots_go, slots_show, tables_begin, wipes_go};
+pub use law::{
+    claims_go, formats_go, frames, others_go, slots_go, slots_show, tables_begin, wipes_go,
+};
