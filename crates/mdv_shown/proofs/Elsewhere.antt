@@ -69,6 +69,7 @@ module _ {Table : Type 0} (Spells : List ℕ → Table → Type 0) (site : Site)
 pub record IsThere {Table : Type 0} (Spells : List ℕ → Table → Type 0) (site : Site) (line : SliceLine) (k : ℕ) (content : ℕ → List ℕ) (first : Master) (head : Head) : Type 0 where
   pub one_of : Contains site.lines line
   pub located : IsMasterAt (place_on line 8192 0 0) (size_on site line) (content (line.at.start + 16)) first
+  pub numbered : (k ≡ 0) ⊎ (k < first.count)
   pub within : 16 + k * first.blocks + first.blocks ≤ line.at.blocks
   pub here : IsInChain Spells site line k content first head
 
@@ -77,6 +78,7 @@ pub there_of : {Table : Type 0} (Spells : List ℕ → Table → Type 0) (site :
 there_of Spells site key line k content first head is = record {
   one_of = is.one_of;
   located = is.located;
+  numbered = is.numbered;
   within = is.within;
   here = record { readable = is.here.readable; length = is.here.length };
 }

@@ -2,7 +2,7 @@
 use Rattle.std.proofs.Common.{◌≡◌, ◌⊎◌, inl, inr, ℕ, ◌+◌, ◌-◌, ◌*◌, ◌<◌, ◌≤◌, Bool, true, false, not, refl, sym, ◌∙◌, ap, subst, List, [], ◌∷◌, Option, None, Some, arith}
 use Rattle.std.proofs.lemmas.Bool.{cases_Bool, cases_lt, cases_eq, false≢true, false_from_ne_true, or_cases, or_left, or_right, cond-true, cond-false, not_from_false}
 use Rattle.std.specs.Prelude.{Contains, filter, max}
-use Rattle.mdv_shown.specs.Below.{Identity, SliceLine, IsMasterAt, Master, Head, Slot, First, Second, Closed, gate_of, Image, SameOutside, MayFormat, Formats, untouched, blanked, formatted, block_of, formatted_head, range, place_at, put_at, Spot, SpotState}
+use Rattle.mdv_shown.specs.Below.{Identity, Key, SliceLine, IsMasterAt, Master, Head, Slot, First, Second, Closed, gate_of, Image, SameOutside, MayFormat, Formats, untouched, blanked, formatted, block_of, formatted_head, range, place_at, put_at, Spot, SpotState}
 use Rattle.mdv_shown.specs.Below.{Core, Stage, Reading, Creating, Claiming, Writing, Ready, Formatted, Version, happens, after_all, AreApart, is_in, IsHead}
 use Rattle.mdv_votes.specs.Family.{formatted as formatted_spot}
 use Rattle.mdv_votes.specs.Spots.{same_spot}
@@ -12,13 +12,13 @@ use Rattle.mdv_quorum.specs.World.{formatted_at, formatted_place, formatted_seat
 use Rattle.mdv_shelf.proofs.Frame.{before_range, behind_range}
 use Rattle.mdv_replica.proofs.Heads.{no_blank_master, one_head}
 use Rattle.mdv_replica.proofs.Showing.{no_head_blank, head_formatted}
-use Rattle.mdv_shown.specs.Site.{Site, size_on, place_on, spot_on, line_area}
+use Rattle.mdv_shown.specs.Site.{Site, IsSite, size_on, place_on, spot_on, line_area}
 use Rattle.mdv_shown.specs.Found.{IsInChain, IsFound, IsOwn}
 use Rattle.mdv_shown.specs.Shown.{ShowsPlaces, Shows}
 use Rattle.mdv_shown.specs.Laws.{Reads}
 use Rattle.mdv_shown.specs.Wipes.{HasFirst, spots_from, spots_behind, wiped_all}
-use Rattle.mdv_shown.specs.Formats.{IsFormat, IsFormattable, FirstIs, FirstFormatsGo, LaterFormatsGo, next_number, master_on, lost_with, lost_beside}
-use Rattle.mdv_shown.proofs.Elsewhere.{one_master, places_step, chain_kept, found_kept}
+use Rattle.mdv_shown.specs.Formats.{OthersFormatsGo, IsFormat, IsFormattable, FirstIs, FirstFormatsGo, LaterFormatsGo, next_number, master_on, lost_with, lost_beside}
+use Rattle.mdv_shown.proofs.Elsewhere.{IsThere, chain_kept, found_kept, one_master, places_step, there_of}
 use Rattle.mdv_shown.proofs.Rewritten.{place_same}
 use Rattle.mdv_shown.proofs.Framed.{shows_same}
 use Rattle.mdv_shown.proofs.Wiped.{all_wiped, in_from, from_in, lines_spots, others_same, cut_shows, wipe_cuts}
@@ -108,7 +108,7 @@ module _ {Table : Type 0} (Spells : List ℕ → Table → Type 0) (site : Site)
   first_kept block up = formats.elsewhere d block (behind_range d (line.at.start + (16 + 0 * blocks)) 4 block up)
 
   -- those behind it are blank
-  none_behind : (j : ℕ) (h : Head) → 0 < j → IsFound Spells site line j (new d) master h → ⊥
+  none_behind : (j : ℕ) (h : Head) → 0 < j → IsThere Spells site line j (new d) master h → ⊥
   none_behind j h some is =
       let told : j < count = elim is.numbered [ inl e ↦ absurd (omega (arith, e, some)) | inr lt ↦ lt ] in
       let step = places_step 0 j blocks some in
@@ -116,10 +116,10 @@ module _ {Table : Type 0} (Spells : List ℕ → Table → Type 0) (site : Site)
       let same = first_kept (line.at.start + (16 + j * blocks)) (omega (arith, step, least)) in
       no_head_blank (place_on line blocks count j) (size_on site line) (new d) (same ∙ f.behind j some told is.within) h is.here.readable.of_head
 
-  first_now : (j : ℕ) (m : Master) (h : Head) → IsFound Spells site line j (new d) m h → ((j < 0) × (m ≡ master)) ⊎ ((j ≡ 0) × (m ≡ master) × (h ≡ head))
+  pub first_now : (j : ℕ) (m : Master) (h : Head) → IsThere Spells site line j (new d) m h → ((j < 0) × (m ≡ master)) ⊎ ((j ≡ 0) × (m ≡ master) × (h ≡ head))
   first_now j m h is =
       let same = one_master line (size_on site line) (new d (line.at.start + 16)) m master is.located own_first.found.located in
-      subst (λ (n : Master). IsFound Spells site line j (new d) n h → ((j < 0) × (n ≡ master)) ⊎ ((j ≡ 0) × (n ≡ master) × (h ≡ head))) (sym same)
+      subst (λ (n : Master). IsThere Spells site line j (new d) n h → ((j < 0) × (n ≡ master)) ⊎ ((j ≡ 0) × (n ≡ master) × (h ≡ head))) (sym same)
       (λ mine. elim (cases_lt 0 j) [
         | inl some ↦ absurd (none_behind j h some mine)
         | inr none ↦
@@ -179,7 +179,7 @@ module _ {Table : Type 0} (Spells : List ℕ → Table → Type 0) (site : Site)
     shut = both_shut head refl refl;
     others = λ other apart. others_same line other apart 0 blocks 4 old new (omega (arith, f.lies.least, f.within)) formats.elsewhere;
     front = λ block to. formats.elsewhere d block (before_range d (line.at.start + (16 + 0 * blocks)) 4 block to);
-    now = first_now;
+    now = λ j m h is. first_now j m h (there_of Spells site site.key line j (new d) m h is);
     was = first_was;
     gone_here = λ other j b apart fits least. first_gone before known other j b apart fits least;
     gone_behind = λ j lt. absurd (omega (arith, lt));
@@ -188,7 +188,6 @@ module _ {Table : Type 0} (Spells : List ℕ → Table → Type 0) (site : Site)
 -- a place behind others of that length
 module _ {Table : Type 0} (Spells : List ℕ → Table → Type 0) (site : Site) (identity : Identity) (line : SliceLine) (k number : ℕ) (first : Master) (old new : Image) (some : 0 < k)
     (f : IsFormat site identity old line first.blocks first.count k number) (has : HasFirst site old line first)
-    (chain : (j : ℕ) → j < k → (h : Head) × IsInChain Spells site line j (old line.at.drive.0) first h)
     (formats : Formats (place_on line first.blocks first.count k) (master_on site identity line first.blocks first.count k) number old new) where
   abbrev later : Head
   later = formatted_head (place_on line first.blocks first.count k) site.key identity number
@@ -214,23 +213,6 @@ module _ {Table : Type 0} (Spells : List ℕ → Table → Type 0) (site : Site)
   first_new : IsMasterAt (place_on line 8192 0 0) (size_on site line) (new e (line.at.start + 16)) first
   first_new = record { form = has.located.form; spelled = first_same ∙ has.located.spelled; lies = has.located.lies }
 
-  pub own_later : IsOwn Spells site identity line k new first later
-  own_later = record {
-    found = record {
-      one_of = f.one_of;
-      located = first_new;
-      numbered = f.numbered;
-      within = f.within;
-      before = λ j lt.
-          let c = chain j lt in
-          let up = places_step j k first.blocks lt in
-          (c.0, chain_kept Spells site line (old e) (new e) first c.0 j (λ block from to. front_kept block (omega (arith, to, up))) c.1);
-      here = record { readable = record { of_head = later_spelled; of_first = tt; of_second = tt }; length = refl };
-      of_key = refl;
-    };
-    of_identity = refl;
-  }
-
   -- those behind it are blank, in both images
   blank_old : (j : ℕ) → k < j → (j ≡ 0) ⊎ (j < first.count) → 16 + j * first.blocks + first.blocks ≤ line.at.blocks → old e (line.at.start + (16 + j * first.blocks)) ≡ block_of []
   blank_old j up numbered within = f.behind j up (elim numbered [ inl z ↦ absurd (omega (arith, z, up)) | inr lt ↦ lt ]) within
@@ -241,13 +223,13 @@ module _ {Table : Type 0} (Spells : List ℕ → Table → Type 0) (site : Site)
       let least = f.lies.least in
       later_kept (line.at.start + (16 + j * first.blocks)) (omega (arith, over, least)) ∙ blank_old j up numbered within
 
-  never_behind : (image : Image) (j : ℕ) (h : Head) → image e (line.at.start + (16 + j * first.blocks)) ≡ block_of [] → IsFound Spells site line j (image e) first h → ⊥
+  never_behind : (image : Image) (j : ℕ) (h : Head) → image e (line.at.start + (16 + j * first.blocks)) ≡ block_of [] → IsThere Spells site line j (image e) first h → ⊥
   never_behind image j h blank is = no_head_blank (place_on line first.blocks first.count j) (size_on site line) (image e) blank h is.here.readable.of_head
 
-  later_now : (j : ℕ) (m : Master) (h : Head) → IsFound Spells site line j (new e) m h → ((j < k) × (m ≡ first)) ⊎ ((j ≡ k) × (m ≡ first) × (h ≡ later))
+  pub later_now : (j : ℕ) (m : Master) (h : Head) → IsThere Spells site line j (new e) m h → ((j < k) × (m ≡ first)) ⊎ ((j ≡ k) × (m ≡ first) × (h ≡ later))
   later_now j m h is =
       let same = one_master line (size_on site line) (new e (line.at.start + 16)) m first is.located first_new in
-      subst (λ (n : Master). IsFound Spells site line j (new e) n h → ((j < k) × (n ≡ first)) ⊎ ((j ≡ k) × (n ≡ first) × (h ≡ later))) (sym same)
+      subst (λ (n : Master). IsThere Spells site line j (new e) n h → ((j < k) × (n ≡ first)) ⊎ ((j ≡ k) × (n ≡ first) × (h ≡ later))) (sym same)
       (λ mine. elim (cases_lt j k) [
         | inl lt ↦ inl (lt, refl)
         | inr up ↦ elim (cases_eq j k) [
@@ -269,23 +251,42 @@ module _ {Table : Type 0} (Spells : List ℕ → Table → Type 0) (site : Site)
         | inl lt ↦ inl (lt, refl)
         | inr up ↦ elim (cases_eq j k) [
           | inl at_k ↦ inr (inl (ap (λ (i : ℕ). spot_on line first.blocks i) at_k))
-          | inr other ↦ absurd (never_behind old j h (blank_old j (omega (arith, up, other)) mine.numbered mine.within) mine)
+          | inr other ↦ absurd (never_behind old j h (blank_old j (omega (arith, up, other)) mine.numbered mine.within) (there_of Spells site site.key line j (old e) first h mine))
         ]
       ])
       is
 
-  pub later_formatted : IsFormattedAt Spells site identity line k first later [] old new
-  later_formatted = record {
-    site_is = f.site_is;
-    own = own_later;
-    shut = both_shut later refl refl;
-    others = λ other apart. others_same line other apart k first.blocks 4 old new (omega (arith, f.lies.least, f.within)) formats.elsewhere;
-    front = front_kept;
-    now = later_now;
-    was = later_was;
-    gone_here = λ other j b apart fits least. refl;
-    gone_behind = λ j lt. refl;
-  }
+  -- those in front of it are readable
+  module _ (chain : (j : ℕ) → j < k → (h : Head) × IsInChain Spells site line j (old line.at.drive.0) first h) where
+    pub own_later : IsOwn Spells site identity line k new first later
+    own_later = record {
+      found = record {
+        one_of = f.one_of;
+        located = first_new;
+        numbered = f.numbered;
+        within = f.within;
+        before = λ j lt.
+            let c = chain j lt in
+            let up = places_step j k first.blocks lt in
+            (c.0, chain_kept Spells site line (old e) (new e) first c.0 j (λ block from to. front_kept block (omega (arith, to, up))) c.1);
+        here = record { readable = record { of_head = later_spelled; of_first = tt; of_second = tt }; length = refl };
+        of_key = refl;
+      };
+      of_identity = refl;
+    }
+
+    pub later_formatted : IsFormattedAt Spells site identity line k first later [] old new
+    later_formatted = record {
+      site_is = f.site_is;
+      own = own_later;
+      shut = both_shut later refl refl;
+      others = λ other apart. others_same line other apart k first.blocks 4 old new (omega (arith, f.lies.least, f.within)) formats.elsewhere;
+      front = front_kept;
+      now = λ j m h is. later_now j m h (there_of Spells site site.key line j (new e) m h is);
+      was = later_was;
+      gone_here = λ other j b apart fits least. refl;
+      gone_behind = λ j lt. refl;
+    }
 
 -- a place that is formatted, as an event
 format_next : (w : Core) (p : Spot) (s : Stage) → p.mediator ≡ false → may_format w p s ≡ true → (number : ℕ) → next_number s ≡ Some number
@@ -311,10 +312,10 @@ module _ {Table : Type 0} (Spells : List ℕ → Table → Type 0) (site : Site)
 
   -- where a slice has no first master, nothing is found on it
   nothing_shows : (w : Core) (line : SliceLine) (old new : Image) → ((b : SliceLine) → Contains site.lines b → (b ≡ line) ⊎ ((block : ℕ) → b.at.start ≤ block → block < b.at.start + b.at.blocks → new b.at.drive.0 block ≡ old b.at.drive.0 block))
-      → FirstIs site old line None → FirstIs site new line None → Shows Spells site identity tables w old → Shows Spells site identity tables w new
+      → FirstIs site old line None → ((j : ℕ) (m : Master) (h : Head) → IsOwn Spells site identity line j new m h → ⊥) → Shows Spells site identity tables w old → Shows Spells site identity tables w new
   nothing_shows w line old new same none still shows = record {
     each = λ l j m h own. elim (same l own.found.one_of) [
-      | inl e ↦ absurd (subst (λ (b : SliceLine). FirstIs site new b None) (sym e) still m own.found.located)
+      | inl e ↦ absurd (still j m h (subst (λ (b : SliceLine). IsOwn Spells site identity b j new m h) e own))
       | inr kept ↦
           let d = l.at.drive.0 in
           let within = own.found.within in
@@ -344,31 +345,40 @@ module _ {Table : Type 0} (Spells : List ℕ → Table → Type 0) (site : Site)
   }
 
   module _ (w : Core) (old new : Image) (line : SliceLine) (shows : Shows Spells site identity tables w old) where
-    -- the master of the first place is blank
-    first_blank : (blocks count number : ℕ) (before : Option Master) → IsFormat site identity old line blocks count 0 number → FirstIs site old line before
-        → SameOutside (range line.at.drive.0 (line.at.start + (16 + 0 * blocks)) 4) old new → new line.at.drive.0 (line.at.start + (16 + 0 * blocks)) ≡ block_of []
-        → Shows Spells site identity tables (after_all w (wiped_all (lost_with line before))) new
-    first_blank blocks count number None f none outside blank =
-        nothing_shows w line old new
-        (λ b one_of. elim (f.site_is.apart line b f.one_of one_of) [
-          | inl e ↦ inl (sym e)
-          | inr apart ↦ inr (others_same line b apart 0 blocks 4 old new (omega (arith, f.lies.least, f.within)) outside)
-        ])
-        none (λ m is. no_blank_master m (sym blank ∙ ap (new line.at.drive.0) (omega arith) ∙ is.spelled)) shows
-    first_blank blocks count number (Some b) f located outside blank =
-        let has : HasFirst site old line b = record { site_is = f.site_is; one_of = f.one_of; located = located } in
-        let here : line.at.start + (16 + 0 * blocks) ≡ line.at.start + (16 + 0 * b.blocks) = omega arith in
-        cut_shows Spells site identity line 0 b old new has
-        (wipe_cuts Spells site line 0 b old new has 4 (omega (arith, f.lies.least, f.within))
-        (subst (λ (n : ℕ). SameOutside (range line.at.drive.0 n 4) old new) here outside)
-        (ap (new line.at.drive.0) (sym here) ∙ blank)) w (after_all w (wiped_all (spots_behind line b 0))) (all_wiped w (spots_behind line b 0)) tables shows
+    module _ (site_is : IsSite site) (one_of : Contains site.lines line) where
+      -- what was found on the slice isn't any more
+      first_lost : (blocks : ℕ) (before : Option Master) → 16 + 0 * blocks + 4 ≤ line.at.blocks → FirstIs site old line before → SameOutside (range line.at.drive.0 (line.at.start + (16 + 0 * blocks)) 4) old new
+          → ((j : ℕ) (m : Master) (h : Head) → IsOwn Spells site identity line j new m h → ⊥) → Shows Spells site identity tables (after_all w (wiped_all (lost_with line before))) new
+      first_lost blocks None fits none outside still =
+          nothing_shows w line old new
+          (λ b has. elim (site_is.apart line b one_of has) [
+            | inl e ↦ inl (sym e)
+            | inr apart ↦ inr (others_same line b apart 0 blocks 4 old new fits outside)
+          ])
+          none still shows
+      first_lost blocks (Some b) fits located outside still =
+          let has : HasFirst site old line b = record { site_is = site_is; one_of = one_of; located = located } in
+          let here : line.at.start + (16 + 0 * blocks) ≡ line.at.start + (16 + 0 * b.blocks) = omega arith in
+          cut_shows Spells site identity line 0 b old new has
+          (record {
+            others = λ other apart. others_same line other apart 0 b.blocks 4 old new (omega (arith, fits)) (subst (λ (n : ℕ). SameOutside (range line.at.drive.0 n 4) old new) here outside);
+            front = λ block to. outside line.at.drive.0 block (before_range line.at.drive.0 (line.at.start + (16 + 0 * blocks)) 4 block (omega (arith, to)));
+            cut = λ j m h own. absurd (still j m h own);
+          })
+          w (after_all w (wiped_all (spots_behind line b 0))) (all_wiped w (spots_behind line b 0)) tables shows
+
+      -- the master of the first place is blank
+      first_blank : (blocks : ℕ) (before : Option Master) → 16 + 0 * blocks + 4 ≤ line.at.blocks → FirstIs site old line before → SameOutside (range line.at.drive.0 (line.at.start + (16 + 0 * blocks)) 4) old new
+          → new line.at.drive.0 (line.at.start + (16 + 0 * blocks)) ≡ block_of [] → Shows Spells site identity tables (after_all w (wiped_all (lost_with line before))) new
+      first_blank blocks before fits known outside blank =
+          first_lost blocks before fits known outside (λ j m h own. no_blank_master m (sym blank ∙ ap (new line.at.drive.0) (omega arith) ∙ own.found.located.spelled))
 
     -- the master of a later place is blank
-    later_blank : (k number : ℕ) (first : Master) → IsFormat site identity old line first.blocks first.count k number → HasFirst site old line first
+    later_blank : (k : ℕ) (first : Master) → 16 + k * first.blocks + 4 ≤ line.at.blocks → HasFirst site old line first
         → SameOutside (range line.at.drive.0 (line.at.start + (16 + k * first.blocks)) 4) old new → new line.at.drive.0 (line.at.start + (16 + k * first.blocks)) ≡ block_of []
         → Shows Spells site identity tables (after_all w (wiped_all (spots_behind line first k))) new
-    later_blank k number first f has outside blank =
-        cut_shows Spells site identity line k first old new has (wipe_cuts Spells site line k first old new has 4 (omega (arith, f.lies.least, f.within)) outside blank) w
+    later_blank k first fits has outside blank =
+        cut_shows Spells site identity line k first old new has (wipe_cuts Spells site line k first old new has 4 fits outside blank identity) w
         (after_all w (wiped_all (spots_behind line first k))) (all_wiped w (spots_behind line first k)) tables shows
 
     module _ (blocks count number : ℕ) (before : Option Master) (f : IsFormat site identity old line blocks count 0 number) (known : FirstIs site old line before)
@@ -385,7 +395,7 @@ module _ {Table : Type 0} (Spells : List ℕ → Table → Type 0) (site : Site)
       pub first_goes : MayFormat (place_on line blocks count 0) (master_on site identity line blocks count 0) number old new
           → Shows Spells site identity tables w new ⊎ (Shows Spells site identity tables (after_all w (wiped_all (lost_with line before))) new ⊎ Shows Spells site identity tables (happens rest (Formatted (spot_on line blocks 0))) new)
       first_goes (untouched same) = inl (shows_same Spells site identity tables w.family w.places old new same shows)
-      first_goes (blanked others blank) = inr (inl (first_blank blocks count number before f known others blank))
+      first_goes (blanked others blank) = inr (inl (first_blank f.site_is f.one_of blocks before (omega (arith, f.lies.least, f.within)) known others blank))
       first_goes (formatted formats) = inr (inr (first_ends formats))
 
     module _ (k number : ℕ) (first : Master) (some : 0 < k) (f : IsFormat site identity old line first.blocks first.count k number) (has : HasFirst site old line first)
@@ -395,13 +405,13 @@ module _ {Table : Type 0} (Spells : List ℕ → Table → Type 0) (site : Site)
       later_ends formats =
           format_happens w (spot_on line first.blocks k) number new refl may
           (formatted_shows Spells site identity line k first (formatted_head (place_on line first.blocks first.count k) site.key identity number) [] old new
-          (later_formatted Spells site identity line k number first old new some f has chain formats) tables w w (all_wiped w []) shows)
+          (later_formatted Spells site identity line k number first old new some f has formats chain) tables w w (all_wiped w []) shows)
 
       pub later_goes : MayFormat (place_on line first.blocks first.count k) (master_on site identity line first.blocks first.count k) number old new
           → Shows Spells site identity tables w new ⊎ (Shows Spells site identity tables (after_all w (wiped_all (spots_behind line first k))) new
           ⊎ Shows Spells site identity tables (happens w (Formatted (spot_on line first.blocks k))) new)
       later_goes (untouched same) = inl (shows_same Spells site identity tables w.family w.places old new same shows)
-      later_goes (blanked others blank) = inr (inl (later_blank k number first f has others blank))
+      later_goes (blanked others blank) = inr (inl (later_blank k first (omega (arith, f.lies.least, f.within)) has others blank))
       later_goes (formatted formats) = inr (inr (later_ends formats))
 
 pub law_first_formats : (T : Type 0) → FirstFormatsGo T
@@ -422,6 +432,60 @@ law_later_formats T = record {
   end = λ read site identity tables w old new line k number first some f has chain shows may formats. record {
     site_is = f.site_is;
     shows = later_ends (Reads read) site identity tables w old new line shows k number first some f has chain may formats;
-    own = own_later (Reads read) site identity line k number first old new some f has chain formats;
+    own = own_later (Reads read) site identity line k number first old new some f has formats chain;
   };
+}
+
+-- for another database
+module _ {Table : Type 0} (Spells : List ℕ → Table → Type 0) (site : Site) (identity : Identity) (tables : ℕ → Table) (w : Core) (old new : Image) (line : SliceLine) (shows : Shows Spells site identity tables w old)
+    (key : Key) (other : Identity) (another : key ≡ site.key → other ≡ identity → ⊥) where
+  abbrev theirs : Site
+  theirs = record site { key = key }
+
+  apart_too : IsSite theirs → IsSite site
+  apart_too is = record { apart = is.apart; long = is.long }
+
+  -- a replica of theirs isn't of this database
+  not_mine : (line : SliceLine) (j k blocks count number : ℕ) (m : Master) (h : Head) → h ≡ formatted_head (place_on line blocks count k) key other number → IsOwn Spells site identity line j new m h → ⊥
+  not_mine l j k blocks count number m h same own =
+      another (sym (ap (λ (n : Head). n.master.key) same) ∙ own.found.of_key) (sym (ap (λ (n : Head). n.master.identity) same) ∙ own.of_identity)
+
+  module _ (blocks count number : ℕ) (before : Option Master) (f : IsFormat theirs other old line blocks count 0 number) (known : FirstIs site old line before) where
+    others_first : MayFormat (place_on line blocks count 0) (master_on theirs other line blocks count 0) number old new
+        → Shows Spells site identity tables w new ⊎ Shows Spells site identity tables (after_all w (wiped_all (lost_with line before))) new
+    others_first (untouched same) = inl (shows_same Spells site identity tables w.family w.places old new same shows)
+    others_first (blanked outside blank) =
+        inr (first_blank Spells site identity tables w old new line shows (apart_too f.site_is) f.one_of blocks before (omega (arith, f.lies.least, f.within)) known outside blank)
+    others_first (formatted formats) =
+        inr (first_lost Spells site identity tables w old new line shows (apart_too f.site_is) f.one_of blocks before (omega (arith, f.lies.least, f.within)) known formats.elsewhere
+        (λ j m h own. elim (first_now Spells theirs other line blocks count number before old new f known formats j m h (there_of Spells theirs site.key line j (new line.at.drive.0) m h own.found)) [
+          | inl c ↦ absurd (omega (arith, c.0))
+          | inr c ↦ not_mine line j 0 blocks count number m h c.2 own
+        ]))
+
+  module _ (k number : ℕ) (first : Master) (some : 0 < k) (f : IsFormat theirs other old line first.blocks first.count k number) (has : HasFirst site old line first) where
+    others_later : MayFormat (place_on line first.blocks first.count k) (master_on theirs other line first.blocks first.count k) number old new
+        → Shows Spells site identity tables w new ⊎ Shows Spells site identity tables (after_all w (wiped_all (spots_behind line first k))) new
+    others_later (untouched same) = inl (shows_same Spells site identity tables w.family w.places old new same shows)
+    others_later (blanked outside blank) = inr (later_blank Spells site identity tables w old new line shows k first (omega (arith, f.lies.least, f.within)) has outside blank)
+    others_later (formatted formats) =
+        let its : HasFirst theirs old line first = record { site_is = f.site_is; one_of = has.one_of; located = has.located } in
+        inr (cut_shows Spells site identity line k first old new has
+        (record {
+          others = λ b apart. others_same line b apart k first.blocks 4 old new (omega (arith, f.lies.least, f.within)) formats.elsewhere;
+          front = λ block to. formats.elsewhere line.at.drive.0 block (before_range line.at.drive.0 (line.at.start + (16 + k * first.blocks)) 4 block to);
+          cut = λ j m h own.
+              elim (later_now Spells theirs other line k number first old new some f its formats j m h (there_of Spells theirs site.key line j (new line.at.drive.0) m h own.found)) [
+                | inl c ↦ c
+                | inr c ↦ absurd (not_mine line j k first.blocks first.count number m h c.2 own)
+              ];
+        })
+        w (after_all w (wiped_all (spots_behind line first k))) (all_wiped w (spots_behind line first k)) tables shows)
+
+pub law_others_formats : (T : Type 0) → OthersFormatsGo T
+law_others_formats T = record {
+  first = λ read site identity tables w old new line blocks count number before key other another f known shows change.
+      others_first (Reads read) site identity tables w old new line shows key other another blocks count number before f known change;
+  later = λ read site identity tables w old new line k number first key other another some f has shows change.
+      others_later (Reads read) site identity tables w old new line shows key other another k number first some f has change;
 }

@@ -55,7 +55,7 @@ module _ {Table : Type 0} (Spells : List ℕ → Table → Type 0) (site : Site)
     }
 
     there_new : IsThere Spells site L K (new L.at.drive.0) F next
-    there_new = record { one_of = there.one_of; located = located_new; within = there.within; here = record { readable = now; length = ap (λ (m : Master). m.blocks) master ∙ there.here.length } }
+    there_new = record { one_of = there.one_of; located = located_new; numbered = there.numbered; within = there.within; here = record { readable = now; length = ap (λ (m : Master). m.blocks) master ∙ there.here.length } }
 
     pub others_show : (tables : ℕ → Table) (family : List Version) (places : List SpotState) → ShowsPlaces Spells site identity tables family places old → ShowsPlaces Spells site identity tables family places new
     others_show tables family places shows = record {

@@ -151,17 +151,17 @@ all_wiped w (p ∷ ps) =
     }
 
 -- An image in which the replicas of one slice from a number on aren't found any more, and all others are as they were.
-pub record IsCutAt {Table : Type 0} (Spells : List ℕ → Table → Type 0) (site : Site) (line : SliceLine) (k : ℕ) (first : Master) (old new : Image) : Type 0 where
+pub record IsCutAt {Table : Type 0} (Spells : List ℕ → Table → Type 0) (site : Site) (identity : Identity) (line : SliceLine) (k : ℕ) (first : Master) (old new : Image) : Type 0 where
   -- on other slices nothing changed
   pub others : (other : SliceLine) → AreApart (line_area line) (line_area other) → (block : ℕ) → other.at.start ≤ block → block < other.at.start + other.at.blocks
       → new other.at.drive.0 block ≡ old other.at.drive.0 block
   -- nor in front of it
   pub front : (block : ℕ) → block < line.at.start + (16 + k * first.blocks) → new line.at.drive.0 block ≡ old line.at.drive.0 block
   -- and none of those is found there
-  pub cut : (j : ℕ) (m : Master) (head : Head) → IsFound Spells site line j (new line.at.drive.0) m head → (j < k) × (m ≡ first)
+  pub cut : (j : ℕ) (m : Master) (head : Head) → IsOwn Spells site identity line j new m head → (j < k) × (m ≡ first)
 
 module _ {Table : Type 0} (Spells : List ℕ → Table → Type 0) (site : Site) (identity : Identity) (line : SliceLine) (k : ℕ) (first : Master) (old new : Image)
-    (has : HasFirst site old line first) (cut : IsCutAt Spells site line k first old new) where
+    (has : HasFirst site old line first) (cut : IsCutAt Spells site identity line k first old new) where
   abbrev gone : List Spot
   gone = spots_behind line first k
 
@@ -244,7 +244,7 @@ module _ {Table : Type 0} (Spells : List ℕ → Table → Type 0) (site : Site)
     each_own : (j : ℕ) (m : Master) (head : Head) → IsOwn Spells site identity line j new m head
         → IsPlaceWith Spells tables v.family (place_on line m.blocks m.count j) (new line.at.drive.0) head (place_at v.places (spot_on line m.blocks j))
     each_own j m head own =
-        let c = cut.cut j m head own.found in
+        let c = cut.cut j m head own in
         subst (λ (n : Master). IsOwn Spells site identity line j new n head → IsPlaceWith Spells tables v.family (place_on line n.blocks n.count j) (new line.at.drive.0) head (place_at v.places (spot_on line n.blocks j)))
         (sym c.1) (each_front j head c.0) own
 
@@ -324,11 +324,12 @@ module _ {Table : Type 0} (Spells : List ℕ → Table → Type 0) (site : Site)
         absurd (no_blank_master m (sym blank_here ∙ ap (new line.at.drive.0) here ∙ is.located.spelled))
   ]
 
-  pub wipe_cuts : IsCutAt Spells site line k first old new
-  wipe_cuts = record {
+  pub wipe_cuts : (identity : Identity) → IsCutAt Spells site identity line k first old new
+  wipe_cuts identity = record {
     others = λ other apart. others_same line other apart k first.blocks count old new within outside;
     front = wipe_front;
-    cut = λ j m head is.
+    cut = λ j m head own.
+        let is = own.found in
         let f = first_cut j m head is in
         elim (cases_lt j k) [
           | inl lt ↦ (lt, f.1)
@@ -343,7 +344,7 @@ module _ {Table : Type 0} (Spells : List ℕ → Table → Type 0) (site : Site)
     (has : HasFirst site old line first) (within : 16 + k * first.blocks < line.at.blocks) (shows : Shows Spells site identity tables w old) where
   pub wipe_ends : Wipes (place_on line first.blocks first.count k) old new → Shows Spells site identity tables (after_all w (wiped_all (spots_behind line first k))) new
   wipe_ends wipes =
-      cut_shows Spells site identity line k first old new has (wipe_cuts Spells site line k first old new has 1 (omega (arith, within)) wipes.elsewhere (ap (new line.at.drive.0) (omega arith) ∙ wipes.here 0 (omega arith))) w (after_all w (wiped_all (spots_behind line first k)))
+      cut_shows Spells site identity line k first old new has (wipe_cuts Spells site line k first old new has 1 (omega (arith, within)) wipes.elsewhere (ap (new line.at.drive.0) (omega arith) ∙ wipes.here 0 (omega arith)) identity) w (after_all w (wiped_all (spots_behind line first k)))
       (all_wiped w (spots_behind line first k)) tables shows
 
   pub wipe_goes : MayWipe (place_on line first.blocks first.count k) old new

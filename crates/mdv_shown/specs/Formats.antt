@@ -1,6 +1,6 @@
 -- How an image's world goes on while a place is formatted for this database.
 use Rattle.std.specs.Prelude.{◌≡◌, ◌⊎◌, ℕ, ◌+◌, ◌-◌, ◌*◌, ◌<◌, ◌≤◌, ◌^◌, not, List, [], Option, Some, None, IsTrue, Contains, filter}
-use Rattle.mdv_shown.specs.Below.{Identity, SliceLine, IsMaster, IsMasterAt, LiesAt, Master, Head, Image, MayFormat, Formats, master_of, formatted_head, block_of, Core, Stage, Reading, Creating, Claiming, Writing, Ready, may, happens, after_all, Formatted, Spot, is_in}
+use Rattle.mdv_shown.specs.Below.{Identity, Key, SliceLine, IsMaster, IsMasterAt, LiesAt, Master, Head, Image, MayFormat, Formats, master_of, formatted_head, block_of, Core, Stage, Reading, Creating, Claiming, Writing, Ready, may, happens, after_all, Formatted, Spot, is_in}
 use Rattle.mdv_shown.specs.Site.{Site, IsSite, size_on, place_on, spot_on}
 use Rattle.mdv_shown.specs.Found.{IsInChain}
 use Rattle.mdv_shown.specs.Shown.{Shows}
@@ -86,3 +86,17 @@ pub record LaterFormatsGo (T : Type 0) : Type 0 where
       → Formats (place_on line first.blocks first.count k) (master_on site identity line first.blocks first.count k) number old new
       → IsShownWith (Reads read) site identity tables (happens w (Formatted (spot_on line first.blocks k))) new line k first
       (formatted_head (place_on line first.blocks first.count k) site.key identity number)
+
+-- A place is formatted for another database, of another key or another identity: what is found there and behind it is lost, and nothing is brought to light.
+pub record OthersFormatsGo (T : Type 0) : Type 0 where
+  -- the first place of a slice
+  pub first : (read : List ℕ → Option T) (site : Site) (identity : Identity) (tables : ℕ → T) (w : Core) (old new : Image) (line : SliceLine) (blocks count number : ℕ) (before : Option Master) (key : Key) (other : Identity)
+      → (key ≡ site.key → other ≡ identity → ⊥) → IsFormat (record site { key = key }) other old line blocks count 0 number → FirstIs site old line before → Shows (Reads read) site identity tables w old
+      → MayFormat (place_on line blocks count 0) (master_on (record site { key = key }) other line blocks count 0) number old new
+      → Shows (Reads read) site identity tables w new ⊎ Shows (Reads read) site identity tables (after_all w (wiped_all (lost_with line before))) new
+  -- a later one
+  pub later : (read : List ℕ → Option T) (site : Site) (identity : Identity) (tables : ℕ → T) (w : Core) (old new : Image) (line : SliceLine) (k number : ℕ) (first : Master) (key : Key) (other : Identity)
+      → (key ≡ site.key → other ≡ identity → ⊥) → 0 < k → IsFormat (record site { key = key }) other old line first.blocks first.count k number → HasFirst site old line first
+      → Shows (Reads read) site identity tables w old
+      → MayFormat (place_on line first.blocks first.count k) (master_on (record site { key = key }) other line first.blocks first.count k) number old new
+      → Shows (Reads read) site identity tables w new ⊎ Shows (Reads read) site identity tables (after_all w (wiped_all (spots_behind line first k))) new

@@ -2,7 +2,7 @@ ghost use Rattle.mdv_shown.specs.Laws.{ShowsOne, NewestIsOne, ShowsKept, ShowsFi
 ghost use Rattle.mdv_shown.specs.Worlds.{ClaimsGo, TablesBegin, SlotsGo, Frames};
 ghost use Rattle.mdv_shown.specs.Wipes.{WipesGo};
 ghost use Rattle.mdv_shown.specs.Others.{OthersGo};
-ghost use Rattle.mdv_shown.specs.Formats.{FirstFormatsGo, LaterFormatsGo};
+ghost use Rattle.mdv_shown.specs.Formats.{FirstFormatsGo, LaterFormatsGo, OthersFormatsGo};
 
 /// What a slot shows of tables of any type: one under one mark, by its gate and its body alone, the one that it was filled with; and where it is
 /// open and the replica is readable, one at least. So a replica has one newest table at most.
@@ -43,9 +43,11 @@ pub fn formats_go<T>()
     ensures later { LaterFormatsGo T }
 {}
 
-/// While another database's replica is claimed or written, an image goes on showing this one's world.
+/// While another database's replica is claimed or written, an image goes on showing this one's world. While a place is formatted for it, an
+/// image goes on showing this one's world, or that without what lay there and behind it.
 pub fn others_go<T>()
-    ensures { OthersGo T }
+    ensures written { OthersGo T }
+    ensures formatted { OthersFormatsGo T }
 {}
 
 /// What is written outside the slices of the site leaves what an image shows.
