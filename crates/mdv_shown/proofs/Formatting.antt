@@ -16,9 +16,9 @@ use Rattle.mdv_shown.specs.Site.{Site, IsSite, size_on, place_on, spot_on, line_
 use Rattle.mdv_shown.specs.Found.{IsInChain, IsFound, IsOwn}
 use Rattle.mdv_shown.specs.Shown.{ShowsPlaces, Shows}
 use Rattle.mdv_shown.specs.Laws.{Reads}
-use Rattle.mdv_shown.specs.Wipes.{HasFirst, spots_from, spots_behind, wiped_all}
-use Rattle.mdv_shown.specs.Formats.{OthersFormatsGo, IsFormat, IsFormattable, FirstIs, FirstFormatsGo, LaterFormatsGo, next_number, master_on, lost_with, lost_beside}
-use Rattle.mdv_shown.proofs.Elsewhere.{IsThere, chain_kept, found_kept, one_master, places_step, there_of}
+use Rattle.mdv_shown.specs.Wipes.{BlankSlicesRest, FirstIs, HasFirst, spots_from, spots_behind, wiped_all}
+use Rattle.mdv_shown.specs.Formats.{OthersFormatsGo, IsFormat, IsFormattable, FirstFormatsGo, LaterFormatsGo, next_number, master_on, lost_with, lost_beside}
+use Rattle.mdv_shown.proofs.Elsewhere.{IsThere, chain_kept, found_kept, one_master, places_step, range_has, there_of}
 use Rattle.mdv_shown.proofs.Rewritten.{place_same}
 use Rattle.mdv_shown.proofs.Framed.{shows_same}
 use Rattle.mdv_shown.proofs.Wiped.{all_wiped, in_from, from_in, lines_spots, others_same, cut_shows, wipe_cuts}
@@ -489,3 +489,13 @@ law_others_formats T = record {
   later = λ read site identity tables w old new line k number first key other another some f has shows change.
       others_later (Reads read) site identity tables w old new line shows key other another k number first some f has change;
 }
+
+pub law_blank : (T : Type 0) → BlankSlicesRest T
+law_blank T read site identity tables w old new line site_is one_of none still outside shows =
+    nothing_shows (Reads read) site identity tables w line old new
+    (λ b has. elim (site_is.apart line b one_of has) [
+      | inl e ↦ inl (sym e)
+      | inr apart ↦ inr (λ block from to.
+          outside b.at.drive.0 block (false_from_ne_true (line_area line b.at.drive.0 block) (λ is. apart b.at.drive.0 block is (range_has b.at.drive.0 b.at.start b.at.blocks block from to))))
+    ])
+    none (λ j m h own. still m own.found.located) shows

@@ -1,11 +1,11 @@
 -- How an image's world goes on while a place is formatted for this database.
 use Rattle.std.specs.Prelude.{◌≡◌, ◌⊎◌, ℕ, ◌+◌, ◌-◌, ◌*◌, ◌<◌, ◌≤◌, ◌^◌, not, List, [], Option, Some, None, IsTrue, Contains, filter}
-use Rattle.mdv_shown.specs.Below.{Identity, Key, SliceLine, IsMaster, IsMasterAt, LiesAt, Master, Head, Image, MayFormat, Formats, master_of, formatted_head, block_of, Core, Stage, Reading, Creating, Claiming, Writing, Ready, may, happens, after_all, Formatted, Spot, is_in}
+use Rattle.mdv_shown.specs.Below.{Identity, Key, SliceLine, IsMaster, LiesAt, Master, Head, Image, MayFormat, Formats, master_of, formatted_head, block_of, Core, Stage, Reading, Creating, Claiming, Writing, Ready, may, happens, after_all, Formatted, Spot, is_in}
 use Rattle.mdv_shown.specs.Site.{Site, IsSite, size_on, place_on, spot_on}
 use Rattle.mdv_shown.specs.Found.{IsInChain}
 use Rattle.mdv_shown.specs.Shown.{Shows}
 use Rattle.mdv_shown.specs.Laws.{Reads}
-use Rattle.mdv_shown.specs.Wipes.{HasFirst, spots_behind, spots_from, wiped_all}
+use Rattle.mdv_shown.specs.Wipes.{FirstIs, HasFirst, spots_behind, spots_from, wiped_all}
 use Rattle.mdv_shown.specs.Worlds.{IsShownWith}
 
 -- the master of the replica of this number, where each has so many blocks and there are so many
@@ -35,11 +35,6 @@ next_number (Ready (Some next)) = Some next.mark.boot
 pub record IsFormattable (w : Core) (p : Spot) (number : ℕ) : Type 0 where
   pub fits : IsTrue (may w (Formatted p))
   pub number_is : next_number w.stage ≡ Some number
-
--- the slice's first master in this image, or that it has none
-abbrev pub FirstIs : Site → Image → SliceLine → Option Master → Type 0
-FirstIs site image line None = (m : Master) → IsMasterAt (place_on line 8192 0 0) (size_on site line) (image line.at.drive.0 (line.at.start + 16)) m → ⊥
-FirstIs site image line (Some first) = IsMasterAt (place_on line 8192 0 0) (size_on site line) (image line.at.drive.0 (line.at.start + 16)) first
 
 -- what is lost with that master: all that it leads to
 abbrev pub lost_with : SliceLine → Option Master → List Spot

@@ -1,6 +1,6 @@
 ghost use Rattle.mdv_shown.specs.Laws.{ShowsOne, NewestIsOne, ShowsKept, ShowsFilled, ShowsSome};
 ghost use Rattle.mdv_shown.specs.Worlds.{ClaimsGo, TablesBegin, SlotsGo, Frames};
-ghost use Rattle.mdv_shown.specs.Wipes.{WipesGo};
+ghost use Rattle.mdv_shown.specs.Wipes.{WipesGo, BlankSlicesRest};
 ghost use Rattle.mdv_shown.specs.Others.{OthersGo};
 ghost use Rattle.mdv_shown.specs.Formats.{FirstFormatsGo, LaterFormatsGo, OthersFormatsGo};
 
@@ -30,10 +30,11 @@ pub fn slots_go<T>()
     ensures { SlotsGo T }
 {}
 
-/// While the master of a replica is blanked, whosever it is, an image goes on showing the world, or that without this replica and
-/// those behind it on the slice.
+/// While a master is blanked on one of the slices, whosever replica lies there, an image goes on showing the world, or that without this
+/// place and those behind it. On a slice without a first master nothing is found, whatever is written there.
 pub fn wipes_go<T>()
-    ensures { WipesGo T }
+    ensures wiped { WipesGo T }
+    ensures blank { BlankSlicesRest T }
 {}
 
 /// While a place is formatted for the database, an image goes on showing the world; or that without what lay there and behind it; or that
