@@ -1,19 +1,20 @@
 -- Boots that find one value of each block, and logs that begin.
-use Rattle.std.proofs.Common.{◌≡◌, inl, inr, ⊎_elim, ℕ, zero, suc, ◌+◌, ◌<◌, ◌≤◌, List, [], ◌∷◌, map, All, Contains, refl, sym, ◌∙◌, ap, subst, arith}
+use Rattle.std.proofs.Common.{◌≡◌, ◌⊎◌, inl, inr, ⊎_elim, ℕ, zero, suc, Bool, ◌+◌, ◌≤◌, List, [], ◌∷◌, map, All, Contains, refl, sym, ◌∙◌, ap, subst, arith}
 use Rattle.std.proofs.lemmas.List.Elements.{All-cons, All-head, All-nil, All-tail}
 use Rattle.mdv_shelf.proofs.Blocks.{both_ways}
-use Rattle.mdv_shelf.specs.Settle.{IsSynced}
-use Rattle.mdv_volumes.specs.Below.{Base, Component, Follows, HasDriveBlock, Key, Map, Slice, Stripe, Tale, Version, VolId, Volume, VolumeKind, VolumeLog, after_begin, last, opening, run_map}
-use Rattle.mdv_volumes.specs.Databases.{Database, is_volume}
+use Rattle.mdv_volumes.specs.Below.{Base, Component, Follows, Key, Map, Site, Slice, Stripe, Tale, Version, VolId, Volume, VolumeKind, VolumeLog, after_begin, last, opening, run_map}
+use Rattle.mdv_volumes.specs.Databases.{is_volume, log_of}
 use Rattle.mdv_volumes.specs.Events.{Begins, Woke}
 use Rattle.mdv_volumes.specs.Events as lives
-use Rattle.mdv_volumes.specs.Happening.{IsNamed}
+use Rattle.mdv_volumes.specs.Happening.{IsNamed, MayBeFound}
 use Rattle.mdv_volumes.specs.Histories.{Happens, Stands}
 use Rattle.mdv_volumes.specs.History.{OfVolume, History, history_after, history_after_all}
-use Rattle.mdv_volumes.specs.HistoryLaws.{AreAwake, BeginningsGo, BootsGo, IsBooted, IsFoundBy, Waking, wakings}
+use Rattle.mdv_volumes.specs.HistoryLaws.{AreAwake, AreWoken, BeginningsGo, BootsGo, IsBooted, IsFoundBy, IsUpon, Waking, wakings}
 use Rattle.mdv_volumes.specs.Standing.{HaveOneValue}
-use Rattle.mdv_volumes.specs.Tables.{IsBaseMap, IsKindMap, Sites}
+use Rattle.mdv_volumes.specs.Tables.{IsBaseMap, IsKindMap, IsMapOf, Sites}
 use Rattle.mdv_volumes.proofs.Databases.{volume_itself, volume_number}
+use Rattle.mdv_store_law.specs.Log.{IsRising}
+use Rattle.mdv_volumes.proofs.Found.{newest_found}
 use Rattle.mdv_volumes.proofs.Lists.{contains_behind, contains_first, first_or_behind}
 use Rattle.mdv_volumes.proofs.Logs.{goes_test}
 use Rattle.mdv_volumes.proofs.Standing.{beginnings_stand, boots_stand}
@@ -77,48 +78,82 @@ awake sites h key (w ∷ ws) t found stands =
       databases = rest.databases;
     }
 
--- a volume whose blocks lie together on a synced drive has one value in each of them
-module _ (sites : Sites) (databases : List Database) (key : Key) (newest : Version) (t : Tale) (booted : IsBooted sites databases key newest t) where
-  of_run : (drive first count : ℕ) → ((b d block : ℕ) → b < count → HasDriveBlock ((run_map drive first count).copies b) d block → IsSynced d t) → (content : ℕ → List ℕ) × HaveOneValue (run_map drive first count) content t
-  of_run drive first zero synced = (λ b. [], record { some = λ b lt. absurd (omega (arith, lt)); alone = λ image b x is lt. absurd (omega (arith, lt)) })
-  of_run drive first (suc count) synced = (λ b. last t drive (first + b), boots_stand.run drive first (suc count) t (synced 0 drive (first + 0) (omega arith) (inl (refl, refl))))
+-- a volume whose blocks lie together on a drive that is up has one value in each of them, or none of its drives is up
+module _ (sites : Sites) (h : History) (key : Key) (site : Site) (newest : Version) (up : ℕ → Bool) (t : Tale) (booted : IsBooted sites h key site newest up t) (stands : Stands sites h t) where
+  abbrev Found : Map → Type 0
+  Found v = ((content : ℕ → List ℕ) × HaveOneValue v content t) ⊎ (IsUpon up v → ⊥)
 
-  of_base : (c : Component) (base : Base) (v : Map) → IsBaseMap booted.site.drives c base v → ((b d block : ℕ) → b < v.blocks → HasDriveBlock (v.copies b) d block → IsSynced d t) → (content : ℕ → List ℕ) × HaveOneValue v content t
-  of_base c (Slice slice) v lies synced =
-      let is = lies.2 in
-      let run = of_run lies.0.drive.0 (lies.0.start + c.start) c.blocks (subst (λ (x : Map). (b d block : ℕ) → b < x.blocks → HasDriveBlock (x.copies b) d block → IsSynced d t) is synced) in
-      (run.0, subst (λ (x : Map). HaveOneValue x run.0 t) (sym is) run.1)
+  of_run : (drive first count : ℕ) → Found (run_map drive first count)
+  of_run drive first zero = inl (λ b. [], record { some = λ b lt. absurd (omega (arith, lt)); alone = λ image b x is lt. absurd (omega (arith, lt)) })
+  of_run drive first (suc count) = elim (both_ways (up drive)) [
+    | inl does ↦ inl (λ b. last t drive (first + b), boots_stand.run drive first (suc count) t (booted.synced drive does))
+    | inr never ↦ inr (λ upon. absurd (let is = upon 0 drive (first + 0) (omega arith) (inl (refl, refl)) in cc (is, never)))
+  ]
 
-  of_kind : (kind : VolumeKind) (v : Map) → IsKindMap booted.site.drives kind v → ((b d block : ℕ) → b < v.blocks → HasDriveBlock (v.copies b) d block → IsSynced d t) → (content : ℕ → List ℕ) × HaveOneValue v content t
-  of_kind (Stripe s) v lies synced = of_base s.component s.component.on v lies synced
+  of_base : (c : Component) (base : Base) (v : Map) → IsBaseMap site.drives c base v → Found v
+  of_base c (Slice slice) v lies = subst Found (sym lies.2) (of_run lies.0.drive.0 (lies.0.start + c.start) c.blocks)
 
-  one_found : (of : Volume) → Contains newest.table.plan.volumes of → (w : Waking) × IsFoundBy sites databases key t w × (w.volume ≡ of.number)
-  one_found of has =
-      let lies = tables_lie.some booted.site.drives newest.table of booted.of_geometry has in
-      let one = of_kind lies.1.of.kind lies.0 lies.1.kind (λ b drive block lt copy. booted.synced of.number lies.0 b drive block lies.1 lt copy) in (
-        record { volume = of.number; count = lies.0.blocks; content = one.0 },
-        record {
-          map = lies.0;
-          there = record { site = booted.site; is_site = booted.is_site; newest = newest; older = booted.older; family = booted.family; written = booted.written; map = lies.1 };
-          long = refl;
-          one = one.1;
-        },
-        refl,
+  of_kind : (kind : VolumeKind) (v : Map) → IsKindMap site.drives kind v → Found v
+  of_kind (Stripe s) v lies = of_base s.component s.component.on v lies
+
+  -- what is found of the volumes of a list
+  record FoundOf (volumes : List Volume) : Type 0 where
+    ws : List Waking
+    all : All (IsFoundBy sites h.databases key t) ws
+    each : (of : Volume) (v : Map) → Contains volumes of → IsMapOf site.drives newest.table of.number v → IsUpon up v → (w : Waking) × Contains ws w × (w.volume ≡ of.number) × (w.count ≡ v.blocks)
+
+  is_one : (volume : VolId) (v w : Map) → IsMapOf site.drives newest.table volume v → IsMapOf site.drives newest.table volume w → v ≡ w
+  is_one = (stands.laid key site newest booted.is_site found).one where
+    found : MayBeFound (log_of h.databases key).family newest
+    found = subst (λ (f : List Version). MayBeFound f newest) (sym booted.family) (newest_found newest booted.older (subst IsRising booted.family (stands.databases key site booted.is_site).is_log.rising))
+
+  one_more : (of : Volume) (volumes : List Volume) (v : Map) → IsMapOf site.drives newest.table of.number v → Found v → FoundOf volumes → FoundOf (of ∷ volumes)
+  one_more of volumes v map (inl one) rest =
+      let w : Waking = record { volume = of.number; count = v.blocks; content = one.0 } in
+      let found : IsFoundBy sites h.databases key t w = record {
+        map = v;
+        there = record { site = site; is_site = booted.is_site; newest = newest; older = booted.older; family = booted.family; written = booted.written; map = map };
+        long = refl;
+        one = one.1;
+      } in record {
+        ws = w ∷ rest.ws;
+        all = All-cons (IsFoundBy sites h.databases key t) w rest.ws found rest.all;
+        each = λ other x has other_map upon. ⊎_elim
+            (λ same. (
+              w,
+              contains_first w rest.ws,
+              ap (λ (o : Volume). o.number) same,
+              ap (λ (y : Map). y.blocks) (is_one of.number v x map (subst (λ (n : VolId). IsMapOf site.drives newest.table n x) (sym (ap (λ (o : Volume). o.number) same)) other_map)),
+            ))
+            (λ behind. let one_of = rest.each other x behind other_map upon in (one_of.0, contains_behind w one_of.0 rest.ws one_of.1, one_of.2, one_of.3)) (first_or_behind of other volumes has);
+      }
+  one_more of volumes v map (inr never) rest = record {
+    ws = rest.ws;
+    all = rest.all;
+    each = λ other x has other_map upon. ⊎_elim
+        (λ same. absurd (never (subst (λ (y : Map). IsUpon up y) (sym (is_one of.number v x map (subst (λ (n : VolId). IsMapOf site.drives newest.table n x) (sym (ap (λ (o : Volume). o.number) same)) other_map))) upon)))
+        (λ behind. rest.each other x behind other_map upon) (first_or_behind of other volumes has);
+  }
+
+  found_of : (volumes : List Volume) → ((of : Volume) → Contains volumes of → Contains newest.table.plan.volumes of) → FoundOf volumes
+  found_of [] among = record { ws = []; all = All-nil (IsFoundBy sites h.databases key t); each = λ of v has. absurd (omega (arith, has.1)) }
+  found_of (of ∷ volumes) among =
+      let lies = tables_lie.some site.drives newest.table of booted.of_geometry (among of (contains_first of volumes)) in
+      one_more of volumes lies.0 lies.1 (of_kind lies.1.of.kind lies.0 lies.1.kind) (found_of volumes (λ other has. among other (contains_behind of other volumes has)))
+
+  all_awake : (ws : List Waking) × AreAwake sites h key ws t × AreWoken site newest.table up (history_after_all h (wakings key ws)) key
+  all_awake =
+      let found = found_of newest.table.plan.volumes (λ of has. has) in
+      let woke = awake sites h key found.ws t found.all stands in (
+        found.ws,
+        woke,
+        λ volume v map upon.
+            let w = found.each map.of v map.has.0 (record { of = map.of; has = (map.has.0, refl); kind = map.kind }) upon in
+            ap (λ (n : VolId). (history_after_all h (wakings key found.ws)).woken key n) (sym map.has.1 ∙ sym w.2) ∙ woke.woken w.0 w.1 ∙ w.3,
       )
 
-  all_found : (volumes : List Volume) → ((of : Volume) → Contains volumes of → Contains newest.table.plan.volumes of)
-      → (ws : List Waking) × All (IsFoundBy sites databases key t) ws × (map (λ (w : Waking). w.volume) ws ≡ map (λ (of : Volume). of.number) volumes)
-  all_found [] among = ([], All-nil (IsFoundBy sites databases key t), refl)
-  all_found (of ∷ volumes) among =
-      let one = one_found of (among of (contains_first of volumes)) in
-      let rest = all_found volumes (λ other has. among other (contains_behind of other volumes has)) in
-      (one.0 ∷ rest.0, All-cons (IsFoundBy sites databases key t) one.0 rest.0 one.1 rest.1, cc (one.2, rest.2))
-
 pub boots_go : BootsGo
-boots_go = record {
-  awake = awake;
-  all = λ sites databases key newest t booted. all_found sites databases key newest t booted newest.table.plan.volumes (λ of has. has);
-}
+boots_go = record { awake = awake; all = all_awake }
 
 -- a log below some block stays where it begins anew from there on
 below_follows : (w : Map) (from : ℕ) (log logs : VolumeLog) (t : Tale) → w.blocks ≤ from → Follows w log t → Follows w (after_begin from logs log) t

@@ -1,5 +1,5 @@
 -- Laws of histories: of each volume, of databases and of deeds, over crashes, boots, writes and reads.
-use Rattle.std.specs.Prelude.{◌≡◌, ◌⊎◌, ◌+◌, ◌<◌, ◌≤◌, ℕ, true, List, [], ◌∷◌, ◌++◌, length, slice_index_or, if◌then◌else◌, map, Option, Some, None, All, Contains}
+use Rattle.std.specs.Prelude.{◌≡◌, ◌⊎◌, ◌+◌, ◌<◌, ◌≤◌, ℕ, true, List, [], ◌∷◌, ◌++◌, length, slice_index_or, Bool, if◌then◌else◌, map, Option, Some, None, All, Contains}
 use Rattle.mdv_volumes.specs.Below.{AllOnDisk, AllRead, Among, AreApart, AreDisjoint, Change, Follows, HasDriveBlock, Identity, Image, IsOfGeometry, Key, KeptOutside, Map, Rewriting, Site, Table, Tale, Version, VolId, area_of, nowhere, only, opening, restarted}
 use Rattle.mdv_shelf.specs.Settle.{IsSynced}
 use Rattle.mdv_store_law.specs.Log as log
@@ -198,22 +198,29 @@ pub record AreAwake (sites : Sites) (h : History) (key : Key) (ws : List Waking)
   pub woken : (w : Waking) → Contains ws w → (history_after_all h (wakings key ws)).woken key w.volume ≡ w.count
   pub databases : (history_after_all h (wakings key ws)).databases ≡ h.databases
 
--- the newest table of a key was written and is one of the geometry, and the drives on which its volumes lie are synced
-pub record IsBooted (sites : Sites) (databases : List Database) (key : Key) (newest : Version) (t : Tale) : Type 0 where
-  pub site : Site
+-- each drive on which a block of it has a copy passes the test
+abbrev pub IsUpon : (ℕ → Bool) → Map → Type 0
+IsUpon up v = (b drive block : ℕ) → b < v.blocks → HasDriveBlock (v.copies b) drive block → up drive ≡ true
+
+-- one value was found of each block of each volume of the table on drives that are up, since the last boot
+abbrev pub AreWoken : Site → Table → (ℕ → Bool) → History → Key → Type 0
+AreWoken site table up h key = (volume : VolId) (v : Map) → IsMapOf site.drives table volume v → IsUpon up v → h.woken key volume ≡ v.blocks
+
+-- the newest table of a key was written and is one of the geometry, and the drives that are up are synced
+pub record IsBooted (sites : Sites) (h : History) (key : Key) (site : Site) (newest : Version) (up : ℕ → Bool) (t : Tale) : Type 0 where
   pub is_site : IsSite sites key site
   pub older : List Version
-  pub family : (log_of databases key).family ≡ newest ∷ older
+  pub family : (log_of h.databases key).family ≡ newest ∷ older
   pub written : newest.is_written ≡ true
   pub of_geometry : IsOfGeometry site.drives newest.table
-  pub synced : (volume : VolId) (v : Map) (b drive block : ℕ) → IsMapOf site.drives newest.table volume v → b < v.blocks → HasDriveBlock (v.copies b) drive block → IsSynced drive t
+  pub synced : (drive : ℕ) → up drive ≡ true → IsSynced drive t
 
 -- boots wake volumes
 pub record BootsGo : Type 0 where
   pub awake : (sites : Sites) (h : History) (key : Key) (ws : List Waking) (t : Tale) → All (IsFoundBy sites h.databases key t) ws → Stands sites h t → AreAwake sites h key ws t
-  -- all of a table that a boot adopted
-  pub all : (sites : Sites) (databases : List Database) (key : Key) (newest : Version) (t : Tale) → IsBooted sites databases key newest t
-      → (ws : List Waking) × All (IsFoundBy sites databases key t) ws × (map (λ w. w.volume) ws ≡ map (λ of. of.number) newest.table.plan.volumes)
+  -- all of the table that a boot adopted, where it has read their drives
+  pub all : (sites : Sites) (h : History) (key : Key) (site : Site) (newest : Version) (up : ℕ → Bool) (t : Tale) → IsBooted sites h key site newest up t → Stands sites h t
+      → (ws : List Waking) × AreAwake sites h key ws t × AreWoken site newest.table up (history_after_all h (wakings key ws)) key
 
 pub record IsBegun (sites : Sites) (h : History) (key : Key) (volume : VolId) (from : ℕ) (v : Map) (t : Tale) : Type 0 where
   pub happens : Happens sites h (OfVolume key volume (Begins from (opening v t)) ∷ []) [] [] t
