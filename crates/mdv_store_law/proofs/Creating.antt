@@ -122,8 +122,8 @@ module _ (site : Site) where
         | filled fills ↦ record { head = made_head; replica = made_replica old new is (record { bytes = takes.bytes; body = takes.body; is_body = takes.is_body; fills = fills }); as_made = refl }
       ]
 
-      is_first : IsFirst [] None [] table
-      is_first = record { none = refl; unasked = refl; unchanged = refl; empty = creates.empty }
+      is_first : IsFirst (Some identity) [] None [] table
+      is_first = record { begun = (identity, refl); none = refl; unasked = refl; unchanged = refl; empty = creates.empty }
 
       table_goes_on : (t m : Tale) → ShowsNothing site t → Leaves (MayTake site.at First first_mark table) u m → GoesMaking site identity Anything t m
       table_goes_on t m none leaves log covers known = record {

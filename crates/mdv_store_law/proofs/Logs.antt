@@ -13,13 +13,13 @@ module _ (g : Geometry) (log : Log) (is : IsLog g log) (mark : Mark) (asked : Op
   abbrev pub begun : Version
   begun = record { mark = mark; table = table; changes = with_asked asked before; is_written = false }
 
-  pub begun_made : IsFirst log.family asked before table ⊎ IsNext g log.family asked before table → AreMade g (with_asked asked before) table
+  pub begun_made : IsFirst log.issued log.family asked before table ⊎ IsNext g log.family asked before table → AreMade g (with_asked asked before) table
   begun_made (inl first) = rw (first.unasked, first.unchanged) first.empty
   begun_made (inr next) =
       let made = All-contains (λ (v : Version). AreMade g v.changes v.table) log.family next.parent is.made next.one_of in
       made_next g asked before next.parent.table table (subst (λ (c : List Change). AreMade g c next.parent.table) next.changes made) next.made
 
-  pub begun_extends : IsFirst log.family asked before table ⊎ IsNext g log.family asked before table → All (λ w. w.is_written ≡ true → Extends (with_asked asked before) w.changes) log.family
+  pub begun_extends : IsFirst log.issued log.family asked before table ⊎ IsNext g log.family asked before table → All (λ w. w.is_written ≡ true → Extends (with_asked asked before) w.changes) log.family
   begun_extends (inl first) =
       let P = λ (w : Version). w.is_written ≡ true → Extends (with_asked asked before) w.changes in
       All-same P log.family [] first.none (All-nil P)

@@ -1,7 +1,7 @@
 -- In which order the changes of a log's tables were written, and told.
 use Rattle.std.proofs.Common.{◌≡◌, ◌⊎◌, inl, inr, true, false, List, [], ◌∷◌, ◌++◌, map, reverse, refl, sym, ◌∙◌, ap, subst, append_assoc, Option, Some, None, Contains, arith}
 use Rattle.std.proofs.lemmas.List.{append-nil, reverse-append}
-use Rattle.mdv_store_law.specs.Below.{Geometry, Mark, Change, Table}
+use Rattle.mdv_store_law.specs.Below.{Identity, Geometry, Mark, Change, Table}
 use Rattle.mdv_store_law.specs.Log.{Version, Log, Event, Issued, Writing, Written, Told, with_asked, answered, log_after, log_after_all, is_firm, IsFirst, IsNext, Extends, IsUntold, IsTellable, IsCourse, asks_of, begun_by, tells, told_by, IsLog}
 use Rattle.mdv_store_law.specs.Part.{IsPart}
 use Rattle.mdv_store_law.proofs.Families.{contains_first, contains_behind, contains_cases, written_firm}
@@ -58,7 +58,7 @@ written_answered (v ∷ older) written are w has = elim (contains_cases (record 
 
 module _ (g : Geometry) where
   -- those of the table that another comes from
-  before_written : (family : List Version) (written : List Change) (asked : Option Change) (before : List Change) (table : Table) → AreWritten family written → IsFirst family asked before table ⊎ IsNext g family asked before table → IsPart (reverse before) written
+  before_written : {issued : Option Identity} (family : List Version) (written : List Change) (asked : Option Change) (before : List Change) (table : Table) → AreWritten family written → IsFirst issued family asked before table ⊎ IsNext g family asked before table → IsPart (reverse before) written
   before_written family written asked before table are (inl first) = subst (λ (l : List Change). IsPart (reverse l) written) (sym first.unchanged) tt
   before_written family written asked before table are (inr next) = subst (λ (l : List Change). IsPart (reverse l) written) next.changes (are next.parent next.one_of)
 
@@ -67,7 +67,7 @@ module _ (g : Geometry) where
   asked_written written (Some change) before is =
       subst (λ (l : List Change). IsPart l (written ++ change ∷ [])) (sym (behind_all before change)) (part_more (reverse before) written (change ∷ []) (change ∷ []) is (part_itself (change ∷ [])))
 
-  next_written : (family : List Version) (written : List Change) (mark : Mark) (asked : Option Change) (before : List Change) (table : Table) → AreWritten family written → IsFirst family asked before table ⊎ IsNext g family asked before table
+  next_written : {issued : Option Identity} (family : List Version) (written : List Change) (mark : Mark) (asked : Option Change) (before : List Change) (table : Table) → AreWritten family written → IsFirst issued family asked before table ⊎ IsNext g family asked before table
       → AreWritten (record { mark = mark; table = table; changes = with_asked asked before; is_written = false } ∷ family) (written ++ with_asked asked [])
   next_written family written mark asked before table are may v has = elim (contains_cases (record { mark = mark; table = table; changes = with_asked asked before; is_written = false }) v family has) [
     | inl same ↦ subst (λ (x : Version). IsPart (reverse x.changes) (written ++ with_asked asked [])) same (asked_written written asked before (before_written family written asked before table are may))

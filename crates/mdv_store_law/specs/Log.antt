@@ -68,8 +68,9 @@ abbrev pub IsMade : Geometry → Option Change → Table → Table → Type 0
 IsMade g None old new = new ≡ old
 IsMade g (Some change) old new = IsAfter g change old.plan new.plan × (new.status ≡ old.status)
 
--- the first table of a database: no change made it, and it has no volumes
-pub record IsFirst (family : List Version) (asked : Option Change) (before : List Change) (table : Table) : Type 0 where
+-- the first table of a database whose creation was issued: no change made it, and it has no volumes
+pub record IsFirst (issued : Option Identity) (family : List Version) (asked : Option Change) (before : List Change) (table : Table) : Type 0 where
+  pub begun : (identity : Identity) × (issued ≡ Some identity)
   pub none : family ≡ []
   pub unasked : asked ≡ None
   pub unchanged : before ≡ []
@@ -118,7 +119,7 @@ pub record IsNewestTellable (log : Log) (asked : Option Change) : Type 0 where
 -- when each event may happen
 abbrev pub MayHappen : Geometry → Log → Event → Type 0
 MayHappen g log (Issued identity) = is_firm log ≡ false
-MayHappen g log (Writing mark asked before table) = IsAbove mark log.family × (IsFirst log.family asked before table ⊎ IsNext g log.family asked before table)
+MayHappen g log (Writing mark asked before table) = IsAbove mark log.family × (IsFirst log.issued log.family asked before table ⊎ IsNext g log.family asked before table)
 MayHappen g log Written = IsBegun log.family
 MayHappen g log (Told which before) = IsTellable log which before
 

@@ -50,7 +50,7 @@ module _ (g : Geometry) (P : Table → Type 0) (none : (table : Table) → table
   begun_found lg mark asked before table here all v found = ⊎_elim (λ new. subst P (ap (λ (w : Version). w.table) new) here) (λ old. all v old)
       (older_found (record { mark = mark; table = table; changes = log.with_asked asked before; is_written = false }) lg.family v found)
 
-  next_table : (lg : Log) (asked : Option Change) (before : List Change) (mark : Mark) (table : Table) → log.IsFirst lg.family asked before table ⊎ log.IsNext g lg.family asked before table
+  next_table : (lg : Log) (asked : Option Change) (before : List Change) (mark : Mark) (table : Table) → log.IsFirst lg.issued lg.family asked before table ⊎ log.IsNext g lg.family asked before table
       → AllFound lg.family → ((other : Table) → AsksTable (log.Writing mark asked before table) other → P other) → P table
   next_table lg asked before mark table (inl first) all new = none table first.empty
   next_table lg None before mark table (inr next) all new = subst P (sym next.made) (all next.parent (next.one_of, next.not_older))

@@ -1,21 +1,46 @@
 -- What goes on in one key's log goes on in the history.
-use Rattle.std.proofs.Common.{◌≡◌, inl, inr, true, List, [], ◌∷◌, ◌++◌, Option, Some, None, map, refl, sym, ◌∙◌, ap, subst, arith}
+use Rattle.std.proofs.Common.{◌≡◌, ◌⊎◌, inl, inr, true, List, [], ◌∷◌, ◌++◌, Option, Some, None, map, refl, sym, ◌∙◌, ap, subst, arith}
 use Rattle.std.proofs.lemmas.List.{map-append}
 use Rattle.mdv_shelf.proofs.Blocks.{both_ways}
 use Rattle.mdv_store_law.specs.Log as log
 use Rattle.mdv_store_law.specs.Standing as database
 use Rattle.mdv_store_law.proofs.Frame.{frames}
 use Rattle.mdv_store_law.proofs.Logs.{courses_are_logs}
-use Rattle.mdv_volumes.specs.Below.{AreDisjoint, Change, Follows, HasVolume, Identity, Key, KeptOutside, Log, Map, Site, Table, Tale, Version, VolId, area_of, is_firm}
+use Rattle.mdv_volumes.specs.Below.{AreDisjoint, Change, Follows, Geometry, HasVolume, Identity, Key, KeptOutside, Log, Map, Site, Table, Tale, Version, VolId, area_of, is_firm}
 use Rattle.mdv_volumes.specs.Databases.{Database, current_of, log_in, log_of, same_key, with_creation, with_event}
 use Rattle.mdv_volumes.specs.Happening.{IsCourse, IsNamed, MayBeFound, deed_of, issued_by, told_by}
 use Rattle.mdv_volumes.specs.Histories.{Stands}
 use Rattle.mdv_volumes.specs.History.{Deed, History, history_after_all}
-use Rattle.mdv_volumes.specs.HistoryLaws.{AreSitesApart, DatabasesGo, HaveDatabase, IsAsked, IsLifted, IsReady, identity_in, lifted}
+use Rattle.mdv_volumes.specs.HistoryLaws.{AreSitesApart, DatabasesGo, IsAsked, IsLifted, IsReady, identity_in, lifted}
 use Rattle.mdv_volumes.specs.Tables.{AreLaid, IsMapOf, IsSite, Sites}
 use Rattle.mdv_volumes.proofs.Databases.{creation_elsewhere, creation_here, event_elsewhere, event_here, key_is, key_itself}
 use Rattle.mdv_volumes.proofs.Found.{found_all}
 use Rattle.mdv_volumes.proofs.Standing.{frames_stand}
+
+-- the events of a log for which no creation was issued begin with one
+abbrev BeginWithCreation : List log.Event → Type 0
+BeginWithCreation [] = Unit {0}
+BeginWithCreation (log.Issued identity ∷ es) = Unit {0}
+BeginWithCreation (log.Writing mark asked before table ∷ es) = ⊥
+BeginWithCreation (log.Written ∷ es) = ⊥
+BeginWithCreation (log.Told which before ∷ es) = ⊥
+
+abbrev HaveDatabase : Option Database → List log.Event → Type 0
+HaveDatabase None es = BeginWithCreation es
+HaveDatabase (Some d) es = Unit {0}
+
+-- so it is where the key has no current database
+have_database : (g : Geometry) (o : Option Database) (es : List log.Event) → log.IsCourse g (log_in o) es → HaveDatabase o es
+have_database g (Some d) es course = tt
+have_database g None [] course = tt
+have_database g None (log.Issued identity ∷ es) course = tt
+have_database g None (log.Writing mark asked before table ∷ es) course = no_table course.0.1
+  where
+    no_table : log.IsFirst None [] asked before table ⊎ log.IsNext g [] asked before table → ⊥
+    no_table (inl first) = cc (first.begun.1)
+    no_table (inr next) = omega (arith, next.one_of.1)
+have_database g None (log.Written ∷ es) course = course.0
+have_database g None (log.Told which before ∷ es) course = cc (course.0.family)
 
 module _ (key : Key) where
   abbrev pub databases_by : List log.Event → List Database → List Database
@@ -111,8 +136,11 @@ swapped : (v w : Map) → AreDisjoint v w → AreDisjoint w v
 swapped v w apart a b drive block below above in_w in_v = apart b a drive block above below in_v in_w
 
 module _ (sites : Sites) (h : History) (key : Key) (site : Site) (es : List log.Event) (t m : Tale) (sites_apart : AreSitesApart sites) (is_site : IsSite sites key site) (stands : Stands sites h t) (kept : KeptOutside (area_of site) t m)
-    (course : log.IsCourse site.drives (log_of h.databases key) es) (have : HaveDatabase (current_of h.databases key) es) (covers : database.Covers site (log.log_after_all (log_of h.databases key) es) m)
+    (course : log.IsCourse site.drives (log_of h.databases key) es) (covers : database.Covers site (log.log_after_all (log_of h.databases key) es) m)
     (ready : (table : Table) → IsAsked es table → IsReady sites h key site t table) where
+  have : HaveDatabase (current_of h.databases key) es
+  have = have_database site.drives (current_of h.databases key) es course
+
   abbrev before : Log
   before = log_of h.databases key
 
@@ -236,4 +264,4 @@ module _ (sites : Sites) (h : History) (key : Key) (site : Site) (es : List log.
       }
 
 pub databases_go : DatabasesGo
-databases_go sites h key site es t m sites_apart is_site stands kept course have covers ready = database_goes sites h key site es t m sites_apart is_site stands kept course have covers ready
+databases_go sites h key site es t m sites_apart is_site stands kept course covers ready = database_goes sites h key site es t m sites_apart is_site stands kept course covers ready

@@ -3,19 +3,15 @@ use Rattle.std.proofs.Common.{◌≡◌, inl, inr, true, List, [], ◌∷◌, Op
 use Rattle.mdv_shelf.proofs.Blocks.{both_ways}
 use Rattle.mdv_store_law.specs.Log as log
 use Rattle.mdv_store_law.proofs.Logs.{told_covers}
-use Rattle.mdv_volumes.specs.Below.{Change, Key, KeptOutside, Log, Site, Table, Tale, Version, area_of}
-use Rattle.mdv_volumes.specs.Databases.{Database, current_of, log_in, log_of, same_key}
+use Rattle.mdv_volumes.specs.Below.{Change, Key, KeptOutside, Log, Site, Table, Tale, area_of}
+use Rattle.mdv_volumes.specs.Databases.{Database, current_of, log_of, same_key}
 use Rattle.mdv_volumes.specs.Happening.{deed_of}
 use Rattle.mdv_volumes.specs.Histories.{Happens, Stands}
 use Rattle.mdv_volumes.specs.History.{Acknowledges, Changed, Created, Deed, Event, History, Saw, Shows, Wrote, history_after_all}
-use Rattle.mdv_volumes.specs.HistoryLaws.{AreSitesApart, HaveDatabase, IsAsked, IsTellable, IsTold, TellsGo, identity_in, lifted}
+use Rattle.mdv_volumes.specs.HistoryLaws.{AreSitesApart, IsAsked, IsTellable, IsTold, TellsGo, identity_in, lifted}
 use Rattle.mdv_volumes.specs.Tables.{Sites}
 use Rattle.mdv_volumes.proofs.Databases.{key_is, key_itself}
 use Rattle.mdv_volumes.proofs.Lifting.{databases_go}
-
-has_database : (o : Option Database) (newest : Version) (older : List Version) (which before : List Change) → (log_in o).family ≡ newest ∷ older → HaveDatabase o (log.Told which before ∷ [])
-has_database None newest older which before is = absurd (cc (is))
-has_database (Some d) newest older which before is = tt
 
 one_deed : (key : Key) (asked : Option Change) (before : List Change) → map (deed_of key) (log.told_by (log.Told (log.with_asked asked []) before ∷ [])) ≡ deed_of key asked ∷ []
 one_deed key None before = refl
@@ -30,7 +26,7 @@ module _ (sites : Sites) (h : History) (t : Tale) (apart : AreSitesApart sites) 
       let which = log.with_asked asked [] in
       let before = can.may.before in
       let may = can.may.may in
-      let is = databases_go sites h key can.site (log.Told which before ∷ []) t t apart can.is_site stands (all_kept can.site t) (may, tt) (has_database (current_of h.databases key) may.newest may.older which before may.family)
+      let is = databases_go sites h key can.site (log.Told which before ∷ []) t t apart can.is_site stands (all_kept can.site t) (may, tt)
       (told_covers can.site (log_of h.databases key) which before t (stands.databases key can.site can.is_site).covers) (λ table none. absurd (never table none)) in
       record {
         es = lifted key (identity_in (current_of h.databases key)) (log.Told which before ∷ []);

@@ -117,18 +117,6 @@ lifted key identity (log.Writing mark asked before table ∷ es) = OfDatabase ke
 lifted key identity (log.Written ∷ es) = OfDatabase key identity log.Written ∷ lifted key identity es
 lifted key identity (log.Told which before ∷ es) = OfDatabase key identity (log.Told which before) ∷ lifted key identity es
 
--- where the key has no current database, they begin with a creation
-abbrev pub BeginWithCreation : List log.Event → Type 0
-BeginWithCreation [] = Unit {0}
-BeginWithCreation (log.Issued identity ∷ es) = Unit {0}
-BeginWithCreation (log.Writing mark asked before table ∷ es) = ⊥
-BeginWithCreation (log.Written ∷ es) = ⊥
-BeginWithCreation (log.Told which before ∷ es) = ⊥
-
-abbrev pub HaveDatabase : Option Database → List log.Event → Type 0
-HaveDatabase None es = BeginWithCreation es
-HaveDatabase (Some d) es = Unit {0}
-
 abbrev pub identity_in : Option Database → Identity
 identity_in None = record { fresh = 0; number = 0 }
 identity_in (Some d) = d.identity
@@ -150,7 +138,7 @@ pub record IsLifted (sites : Sites) (h : History) (key : Key) (es : List log.Eve
 -- A key's log goes on, with nothing done outside the place of its database: so does the history, if each table that is made by a change is ready.
 abbrev pub DatabasesGo : Type 0
 DatabasesGo = (sites : Sites) (h : History) (key : Key) (site : Site) (es : List log.Event) (t m : Tale) → AreSitesApart sites → IsSite sites key site → Stands sites h t → KeptOutside (area_of site) t m
-    → log.IsCourse site.drives (log_of h.databases key) es → HaveDatabase (current_of h.databases key) es → database.Covers site (log.log_after_all (log_of h.databases key) es) m
+    → log.IsCourse site.drives (log_of h.databases key) es → database.Covers site (log.log_after_all (log_of h.databases key) es) m
     → ((table : Table) → IsAsked es table → IsReady sites h key site t table) → IsLifted sites h key es m
 
 -- the creation of a key's database, or a change of it, came to the newest table, and wasn't told
