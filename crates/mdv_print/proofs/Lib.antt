@@ -1,7 +1,7 @@
-mod Complete
+pub mod Complete
 mod Forms
 mod Lines
-mod Needs
-mod Printed
+pub mod Needs
+pub mod Printed
 mod Spelled
-mod Walking
+pub mod Walking

@@ -44,7 +44,7 @@ rank_at height (Some e) = rank_made height (makes e)
 abbrev IsRanked : (ℕ → ℕ) → Entry → Type 0
 IsRanked height e = All (λ (named : Named). rank_of height named < rank_made height (makes e)) (stands_on e)
 
-abbrev volume_named : VolId → Named
+abbrev pub volume_named : VolId → Named
 volume_named v = Named.Volume v
 
 abbrev stands_in : Base → List Named → List Named
@@ -59,22 +59,22 @@ base_first : (b : Base) (cs : List TabComponent) → volumes_of (base_named b �
 base_first (Slice s) cs = refl
 base_first (Volume v) cs = refl
 
-components_stand : (cs : List Component) → volumes_of (map component_named cs) ≡ map volume_named (flat_map component_below cs)
+pub components_stand : (cs : List Component) → volumes_of (map component_named cs) ≡ map volume_named (flat_map component_below cs)
 components_stand [] = refl
 components_stand (c ∷ cs) = base_first c.on (map component_named cs) ∙ base_stands_on c.on (volumes_of (map component_named cs)) (flat_map component_below cs) (components_stand cs)
 
-rows_stand : (rows : List Row) → volumes_of_rows (map row_entry rows) ≡ map volume_named (flat_map row_below rows)
+pub rows_stand : (rows : List Row) → volumes_of_rows (map row_entry rows) ≡ map volume_named (flat_map row_below rows)
 rows_stand [] = refl
 rows_stand (row ∷ rows) =
     ap (λ (l : List Named). l ++ volumes_of_rows (map row_entry rows)) (components_stand row.components)
     ∙ ap (λ (l : List Named). map volume_named (row_below row) ++ l) (rows_stand rows)
     ∙ sym (map-append volume_named (row_below row) (flat_map row_below rows))
 
-submirrors_stand : (vs : List VolId) → submirror_names vs ≡ map volume_named vs
+pub submirrors_stand : (vs : List VolId) → submirror_names vs ≡ map volume_named vs
 submirrors_stand [] = refl
 submirrors_stand (v ∷ vs) = ap (λ (l : List Named). Named.Volume v ∷ l) (submirrors_stand vs)
 
-base_stands : (b : Base) → volumes_of (base_named b ∷ []) ≡ map volume_named (base_below b)
+pub base_stands : (b : Base) → volumes_of (base_named b ∷ []) ≡ map volume_named (base_below b)
 base_stands (Slice s) = refl
 base_stands (Volume v) = refl
 

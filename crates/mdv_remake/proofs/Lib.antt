@@ -1,0 +1,13 @@
+pub mod Apart
+pub mod Bases
+pub mod Causes
+pub mod Components
+pub mod Heights
+pub mod Kept
+pub mod Mirrors
+pub mod Orders
+pub mod Parts
+pub mod Pools
+pub mod Ready
+pub mod Softs
+pub mod Steps

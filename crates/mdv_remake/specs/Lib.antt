@@ -1,0 +1,5 @@
+pub mod Again
+pub mod Asked
+pub mod Below
+pub mod Making
+pub mod Now
