@@ -1,15 +1,17 @@
 -- Which volumes that stay use those that go.
-use Rattle.std.proofs.Common.{◌≡◌, ◌<◌, ◌==◌, ◌&&◌, ◌||◌, ℕ, Bool, true, false, not, cond, refl, sym, ◌∙◌, ap, List, [], ◌∷◌, length, get_or}
-use Rattle.std.proofs.lemmas.List.Folds.{list_any_at}
-use Rattle.std.specs.List.{All, filter, list_any}
+use Rattle.std.proofs.Common.{◌≡◌, ◌<◌, ◌==◌, ◌&&◌, ◌||◌, ℕ, Bool, true, false, not, cond, refl, sym, ◌∙◌, ap, List, [], ◌∷◌, ◌++◌, length, get_or, Some}
+use Rattle.std.proofs.lemmas.List.Folds.{list_any-append, list_any_at}
+use Rattle.std.specs.List.{All, filter, flat_map, list_any}
 use Rattle.std.specs.Prelude.{is_some}
-use Rattle.mdv_keys.proofs.Any.{any_and, any_or, any_same, any_swap}
-use Rattle.mdv_keys.proofs.Marking.{found_small}
+use Rattle.mdv_components.specs.Causes.{form_causes, room_causes, use_causes}
+use Rattle.mdv_components.specs.declared.cause.Cause.TheVariants.{NoSuchVolume, NoSuchPool, NoSuchSlice, NameTaken, WrongKind, WrongState, LastCopy}
+use Rattle.mdv_keys.proofs.Any.{any_and, any_filter, any_never, any_or, any_same, any_swap}
+use Rattle.mdv_keys.proofs.Marking.{found_small, or_false}
 use Rattle.mdv_keys.proofs.Users.{pool_used_is, used_is}
 use Rattle.mdv_keys.specs.Marks.{AreMarks, AreMarked, below_unmarked, number_of, pools_unmarked}
-use Rattle.mdv_change.specs.Below.{OneVolume, Plan, Pool, PoolId, VolId, names_pool, names_volume, pool_key, pool_of, volume_of}
-use Rattle.mdv_change.specs.Clear.{is_left_with, is_no_pool, is_no_volume}
-use Rattle.mdv_change.specs.Levels.{falls, falls_by, is_used_beside, uses_beside}
+use Rattle.mdv_change.specs.Below.{Cause, OneVolume, Plan, Pool, PoolId, VolId, first_of, names_pool, names_volume, order, pool_key, pool_of, volume_of}
+use Rattle.mdv_change.specs.Clear.{clear_condition, is_left_with, is_named, is_no_pool, is_no_volume}
+use Rattle.mdv_change.specs.Levels.{below_of, falls, falls_by, is_used_beside, uses_beside, with_level, with_levels}
 
 abbrev pub IsSmall : OneVolume → Type 0
 IsSmall w = w.number.0 < 8192
@@ -86,3 +88,39 @@ falling_is p volumes named used [] small are uses = refl
 falling_is p volumes named used (v ∷ vs) small are uses =
     ap (λ (b : Bool). cond b (v ∷ filter (falls_by p named used) vs) (filter (falls_by p named used) vs)) (falls_is p volumes named used v small are uses)
     ∙ ap (λ (l : List VolId). cond (falls p volumes v) (v ∷ l) l) (falling_is p volumes named used vs small are uses)
+
+neither : (a b : Bool) → ((a && b) && not a) ≡ false
+neither true true = refl
+neither true false = refl
+neither false b = refl
+
+-- what falls is there
+none_falls : (p : Plan) (volumes vs : List VolId) → list_any (is_no_volume p) (filter (falls p volumes) vs) ≡ false
+none_falls p volumes vs =
+    any_filter (is_no_volume p) (falls p volumes) vs
+    ∙ any_same (λ v. falls p volumes v && is_no_volume p v) (λ v. false) vs (λ i d within. let v = get_or vs i d in neither (is_some (volume_of p v)) (not (is_named volumes v) && not (is_used_beside p volumes v)))
+    ∙ any_never vs
+
+level_there : (p : Plan) (volumes : List VolId) → list_any (is_no_volume p) (with_level p volumes) ≡ list_any (is_no_volume p) volumes
+level_there p volumes =
+    let below = flat_map (below_of p) volumes in
+    list_any-append (is_no_volume p) volumes (filter (falls p volumes) below) ∙ ap (λ (b : Bool). list_any (is_no_volume p) volumes || b) (none_falls p volumes below) ∙ or_false (list_any (is_no_volume p) volumes)
+
+-- with all below them one is missing exactly where one of them is
+pub levels_there : (p : Plan) (volumes : List VolId) → list_any (is_no_volume p) (with_levels p volumes) ≡ list_any (is_no_volume p) volumes
+levels_there p volumes = level_there p (with_level p (with_level p volumes)) ∙ level_there p (with_level p volumes) ∙ level_there p volumes
+
+abbrev latest : List Cause
+latest = NoSuchSlice ∷ NameTaken ∷ WrongKind ∷ WrongState ∷ LastCopy ∷ (form_causes ++ (use_causes ++ room_causes))
+
+abbrev later : List Cause
+later = NoSuchPool ∷ latest
+
+-- the first cause, of volumes that aren't there or else of pools
+pub told_volume : (p : Plan) (volumes all : List VolId) (pools : List PoolId) → list_any (is_no_volume p) all ≡ list_any (is_no_volume p) volumes → list_any (is_no_volume p) volumes ≡ true → first_of (clear_condition p all pools) order ≡ Some NoSuchVolume
+told_volume p volumes all pools same missing = ap (λ (b : Bool). cond b (Some NoSuchVolume) (first_of (clear_condition p all pools) later)) (same ∙ missing)
+
+pub told_pool : (p : Plan) (volumes all : List VolId) (pools : List PoolId) → list_any (is_no_volume p) all ≡ list_any (is_no_volume p) volumes → list_any (is_no_volume p) volumes ≡ false → list_any (is_no_pool p) pools ≡ true → first_of (clear_condition p all pools) order ≡ Some NoSuchPool
+told_pool p volumes all pools same there missing =
+    ap (λ (b : Bool). cond b (Some NoSuchVolume) (first_of (clear_condition p all pools) later)) (same ∙ there)
+    ∙ ap (λ (b : Bool). cond b (Some NoSuchPool) (first_of (clear_condition p all pools) latest)) missing

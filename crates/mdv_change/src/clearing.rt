@@ -48,7 +48,7 @@ fn is_no_volume(plan: &Plan, volume: VolId) -> bool
     volume_of(plan, volume).is_none()
 }
 
-fn has_no_volume(plan: &Plan, volumes: &[VolId]) -> bool
+pub(crate) fn has_no_volume(plan: &Plan, volumes: &[VolId]) -> bool
     ensures { result ≡ list_any (spec_is_no_volume plan.now) volumes.now }
 {
     volumes.iter().any(|volume| is_no_volume(plan, *volume))
@@ -60,7 +60,7 @@ fn is_no_pool(plan: &Plan, pool: PoolId) -> bool
     pool_of(plan, pool).is_none()
 }
 
-fn has_no_pool(plan: &Plan, pools: &[PoolId]) -> bool
+pub(crate) fn has_no_pool(plan: &Plan, pools: &[PoolId]) -> bool
     ensures { result ≡ list_any (spec_is_no_pool plan.now) pools.now }
 {
     pools.iter().any(|pool| is_no_pool(plan, *pool))

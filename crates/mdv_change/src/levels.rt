@@ -1,10 +1,13 @@
 //! The volumes that lie below others, level by level.
-ghost use Rattle.std.specs.Prelude.{◌≡◌, ◌++◌, filter, IfOk, OnOk};
+ghost use Rattle.std.specs.Prelude.{◌≡◌, ◌++◌, filter, Some, IfOk, IfSome, OnOk};
 ghost use Rattle.std.specs.List.{flat_map};
+ghost use Rattle.mdv_change.specs.Below.{first_of, order};
+ghost use Rattle.mdv_change.specs.Clear.{clear_condition};
 ghost use Rattle.mdv_change.specs.Levels.{below_of, falls_by, falls as spec_falls, with_level as spec_with_level, with_levels as spec_with_levels};
 
-use mdv_base::VolId;
-use mdv_components::volume_of;
+use crate::clearing::{has_no_pool, has_no_volume};
+use mdv_base::{PoolId, VolId};
+use mdv_components::{Cause, volume_of};
 use mdv_keys::{VolumeMarks, used_beside, volumes_marked};
 use mdv_plan::{Plan, add_named};
 use std::alloc::{AllocError, Global};
@@ -87,4 +90,17 @@ pub(crate) fn with_levels(
     let first = with_level(alloc, plan, volumes)?;
     let second = with_level(alloc, plan, first.as_slice())?;
     with_level(alloc, plan, second.as_slice())
+}
+
+/// The first cause that look-ups of the names give against a clearing of the volumes, of all below them, and of the pools.
+pub(crate) fn refuse_names(plan: &Plan, volumes: &[VolId], pools: &[PoolId]) -> Option<Cause>
+    ensures { IfSome result (λ cause. first_of (clear_condition plan.now (spec_with_levels plan.now volumes.now) pools.now) order ≡ Some cause) }
+{
+    if has_no_volume(plan, volumes) {
+        return Some(Cause::NoSuchVolume);
+    }
+    if has_no_pool(plan, pools) {
+        return Some(Cause::NoSuchPool);
+    }
+    None
 }

@@ -9,7 +9,7 @@ ghost use Rattle.mdv_change.specs.Change.{refusal_of, with_changed, with_volume}
 
 use crate::change::Change;
 use crate::clearing::{clear, clear_all, refuse_clear};
-use crate::levels::with_levels;
+use crate::levels::{refuse_names, with_levels};
 use crate::mirroring::{detach, take_offline, take_online};
 use crate::pooling::{add_spares_to_all, delete_spares, enable_spares, replace_spare};
 use crate::replacing::{enable_part, replace_part};
@@ -346,6 +346,9 @@ fn clear_below(
 ) -> Result<(), ApplyFault>
     ensures { (g : Geometry) (drives : List DriveNo) → IsApplied g drives (below_change volumes.now pools.now) table.old table.new result }
 {
+    if let Some(cause) = refuse_names(&table.plan, volumes, pools) {
+        return Err(ApplyFault::Refused(cause.refusal(Carried::nothing())));
+    }
     let all = with_levels(alloc, &table.plan, volumes)?;
     if let Some(cause) = refuse_clear(alloc, &table.plan, all.as_slice(), pools)? {
         return Err(ApplyFault::Refused(cause.refusal(Carried::nothing())));

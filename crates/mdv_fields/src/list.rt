@@ -17,7 +17,7 @@ pub fn read_list<T: Part, const MOST: usize>(
     requires { count ≤ MOST }
     ensures { Reads (ListFits T.fits count) (flat_map T.text) rest.old result rest.new }
 {
-    let mut items = Listed::new(alloc);
+    let mut items = Listed::with_capacity(alloc, count)?;
     for _ in 0..count {
         items.push(T::read(alloc, rest)?)?;
     }

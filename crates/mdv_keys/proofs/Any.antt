@@ -23,7 +23,7 @@ any_and true p xs = refl
 any_and false p [] = refl
 any_and false p (x ∷ xs) = any_and false p xs
 
-any_never : {T : Type 0} (xs : List T) → list_any (λ x. false) xs ≡ false
+pub any_never : {T : Type 0} (xs : List T) → list_any (λ x. false) xs ≡ false
 any_never [] = refl
 any_never (x ∷ xs) = any_never xs
 

@@ -1,5 +1,4 @@
 mod Ahead
 mod Back
 mod Noting
-mod Sorted
 mod Table

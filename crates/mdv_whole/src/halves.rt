@@ -20,8 +20,9 @@ pub fn halves<T: Drop, R: Half<T> + Drop, const MOST: usize>(
 ) -> Result<Listed<T, MOST>, AllocError>
     ensures { IfOk result (λ sides. sides ≡ map R.half items.now) }
 {
-    let mut sides = Listed::new(alloc);
-    for item in items.as_slice() {
+    let items = items.as_slice();
+    let mut sides = Listed::with_capacity(alloc, items.len())?;
+    for item in items {
         sides.push(item.half(alloc)?)?;
     }
     Ok(sides)
@@ -35,9 +36,9 @@ pub fn sorted_halves<T: Keyed + Drop, R: Half<T> + Drop, const LIMIT: usize>(
     requires { IsSorted T.key LIMIT (map R.half items.now) }
     ensures { IfOk result (λ sides. sides ≡ map R.half items.now) }
 {
-    let mut sides = Sorted::new(alloc);
+    let mut sides = Vec::with_capacity(alloc, items.len())?;
     for item in items {
-        sides.put(item.half(alloc)?)?;
+        sides.push(item.half(alloc)?)?;
     }
-    Ok(sides)
+    Ok(Sorted::from_ascending(sides))
 }

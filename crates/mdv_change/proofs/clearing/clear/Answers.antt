@@ -1,6 +1,6 @@
 use Rattle.std.proofs.Common.{◌≡◌, map}
 use Rattle.mdv_keys.proofs.Marking.{marks_of_keys}
-use Rattle.mdv_change.specs.Below.{OneVolume, Pool, SpareStatus, VolumeStatus, kept, pool_key, volume_key}
+use Rattle.mdv_change.specs.Below.{OneVolume, Pool, VolumeStatus, kept, pool_key, volume_key}
 use Rattle.mdv_change.specs.Clear.{given_back, lost_spares, spare_key, used_spares}
 use Rattle.mdv_change.proofs.clearing.clear.Goals as goal
 

@@ -4,11 +4,11 @@ use Rattle.mdv_fields.proofs.Lists.{so_far_none, so_far_more, never_more, all_re
 use Rattle.mdv_fields.proofs.list.read_list.Goals as goal
 
 pub loop-init : goal.loop-init
-loop-init g c = rw c.new-items.ensures (so_far_none c.args.rest.now c.args.count)
+loop-init g c = rw c.in_ok-items.ensures (so_far_none c.args.rest.now c.args.count)
 
 pub returns-in_err-read : goal.returns-in_err-read
 returns-in_err-read g c =
-    let told = err_from_is_err_and c.from_residual.result c.from_residual.ensures.1 in
+    let told = err_from_is_err_and c.from_residual-in_err-read.result c.from_residual-in_err-read.ensures.1 in
     rw (told.1, told.2) (record { read = tt; spelled = never_more c.loop.invariant c.loop-test.true c.in_err-read.ensures })
 
 pub loop-preserved : goal.loop-preserved
