@@ -1,4 +1,4 @@
-//! Tests of the configuration of a database, and of the blocks of soft partitions.
+//! Tests of the configuration of a database and of its changes.
 #![tactic(auto)]
 
 #[cfg(test)]
@@ -6,15 +6,11 @@ mod change_tests;
 #[cfg(test)]
 mod drives;
 #[cfg(test)]
-mod extent_tests;
-#[cfg(test)]
 mod facts;
 #[cfg(test)]
 mod given_tests;
 #[cfg(test)]
 mod plan_tests;
-#[cfg(test)]
-mod print_tests;
 #[cfg(test)]
 mod replacing_tests;
 #[cfg(test)]

@@ -4,12 +4,11 @@ ghost use Rattle.mdv_change.specs.Apply.{IsNumbered};
 
 use crate::drives::{drives, empty, replica};
 use crate::facts::{Fact, holds};
-use mdv_base::{DriveNo, Key, Name, Named, PoolId, Refusal, SliceName, StateWord, VolId};
+use mdv_base::{DriveNo, PoolId, Refusal, SliceName, StateWord, VolId};
 use mdv_change::{ApplyFault, Change, apply};
 use mdv_components::{MAX_NAMES, RaidAsked, RowAsked};
 use mdv_extent::Run;
 use mdv_plan::*;
-use mdv_print::{print_named, print_tab};
 use mdv_softs::{RoomAsked, SoftAsked};
 use mdv_spares::Meant;
 use mdv_submirrors::MirrorAsked;
@@ -76,10 +75,6 @@ pub(crate) enum Line {
     OnSpare(u8, SliceName),
     /// From here on the replica has so many blocks.
     Replica(u32),
-    /// The table is printed so.
-    Prints(&'static [u8]),
-    /// In a set named `blue` the names are printed so.
-    PrintsNamed(&'static [Named], &'static [u8]),
 }
 
 /// The place of the first line that isn't so, where the first one finds an empty table.
@@ -112,8 +107,6 @@ fn is_so(alloc: Global, table: &mut Table, line: &Line) -> Result<bool, Fail> {
         Line::Broken(spare) => note_spare(table, *spare, SpareState::Broken),
         Line::Replica(blocks) => set_replica(table, *blocks),
         Line::OnSpare(number, spare) => lay_on_spare(alloc, table, *number, *spare),
-        Line::Prints(text) => prints(alloc, table, text),
-        Line::PrintsNamed(names, text) => prints_named(alloc, table, names, text),
     }
 }
 
@@ -278,27 +271,6 @@ fn add_soft(alloc: Global, table: &mut Table, number: u8, base: VolId) -> Result
 fn note_spare(table: &mut Table, slice: SliceName, state: SpareState) -> Result<bool, Fail> {
     table.status.spares.put(SpareStatus { slice, state })?;
     Ok(true)
-}
-
-fn name(text: &[u8]) -> Result<Name, Fail> {
-    match Name::new(text) {
-        Some(name) => Ok(name),
-        None => Err("no name")?,
-    }
-}
-
-fn prints(alloc: Global, table: &Table, text: &[u8]) -> Result<bool, Fail> {
-    let key = Key::Local(name(b"hostA")?);
-    let mut out = Vec::new(alloc);
-    print_tab(&key, table, &mut out)?;
-    Ok(out.as_slice() == text)
-}
-
-fn prints_named(alloc: Global, table: &Table, names: &[Named], text: &[u8]) -> Result<bool, Fail> {
-    let key = Key::Set(name(b"blue")?);
-    let mut out = Vec::new(alloc);
-    print_named(&key, table, names, &mut out)?;
-    Ok(out.as_slice() == text)
 }
 
 fn set_replica(table: &mut Table, blocks: u32) -> Result<bool, Fail> {

@@ -1,0 +1,9 @@
+//! Tests of tables that are made of the text of an md.tab, and printed again, and of the blocks of soft partitions.
+#![tactic(auto)]
+
+#[cfg(test)]
+mod extent_tests;
+#[cfg(test)]
+mod print_tests;
+#[cfg(test)]
+mod tables;
