@@ -1,4 +1,4 @@
-//! Tests of names and lines, of the table of drives, and of a host's home.
+//! Tests of names and lines, of the table of drives, and of the slices that replicas may lie on.
 #![tactic(auto)]
 
 #[cfg(test)]
@@ -15,6 +15,8 @@ mod home_tests;
 mod name_tests;
 #[cfg(test)]
 mod parts_tests;
+#[cfg(test)]
+mod site_tests;
 #[cfg(test)]
 mod tab_tests;
 #[cfg(test)]

@@ -1,3 +1,4 @@
+pub mod Sites
 pub mod Slots
 pub mod Elsewhere
 pub mod Rewritten
@@ -8,3 +9,4 @@ pub mod Wiped
 pub mod Others
 pub mod Formatted
 pub mod Formatting
+pub mod Choice

@@ -7,10 +7,10 @@ use Rattle.mdv_shown.specs.Found.{Counts}
 use Rattle.mdv_shown.specs.Shown.{SlotShows, IsNewestOf}
 use Rattle.mdv_shown.specs.Laws.{Reads, ShowsOne, NewestIsOne, ShowsKept, ShowsFilled, ShowsSome}
 
-open_same : (m n : Mark) (a b : ℕ) → Open m a ≡ Open n b → (m ≡ n) × (a ≡ b)
+pub open_same : (m n : Mark) (a b : ℕ) → Open m a ≡ Open n b → (m ≡ n) × (a ≡ b)
 open_same m n a b e = (cc (e), cc (e))
 
-never_below : (a b : Mark) → IsBelow a b → IsBelow b a → ⊥
+pub never_below : (a b : Mark) → IsBelow a b → IsBelow b a → ⊥
 never_below a b h k = grind arith
 
 -- a slot is one or the other

@@ -15,7 +15,7 @@ pub use Rattle.mdv_quorum.specs.declared.event.SlotEnd.TheVariants.{Closed as Le
 pub use Rattle.mdv_quorum.specs.declared.machine.Core.{Core}
 pub use Rattle.mdv_quorum.specs.declared.machine.Stage.{Stage}
 pub use Rattle.mdv_quorum.specs.declared.machine.Stage.TheVariants.{Claiming, Creating, Reading, Ready, Writing}
-pub use Rattle.mdv_replica.specs.Form.{IsReadable, IsSpare, IsSpareSlot, IsTable, SlotFits, formatted_head, gate_of, other_slot, room_of, text_of}
+pub use Rattle.mdv_replica.specs.Form.{IsReadable, IsSpare, IsSpareSlot, IsTable, SlotFits, formatted_head, gate_of, greatest, other_slot, room_of, shows, text_of}
 pub use Rattle.mdv_replica.specs.Form.{with_claim as claimed_head, with_slot}
 pub use Rattle.mdv_replica.specs.Images.{Claims, Fills, Formats, IsSame, MayClaim, MayFill, MayFormat, MayWipe, SameOutside, Wipes}
 pub use Rattle.mdv_replica.specs.Images.{blanked, closed, filled, formatted, untouched}
@@ -31,8 +31,8 @@ pub use Rattle.mdv_replica.specs.declared.replica.Slot.{Slot}
 pub use Rattle.mdv_replica.specs.declared.replica.Slot.TheVariants.{First, Second}
 pub use Rattle.mdv_shelf.specs.Area.{AreApart, Area, range}
 pub use Rattle.mdv_shelf.specs.Everywhere.{Image, RestsOn}
-pub use Rattle.mdv_votes.specs.Family.{greatest_of, place_at, put_at, table_at, with_claim, with_newest}
-pub use Rattle.mdv_votes.specs.Spots.{is_in}
+pub use Rattle.mdv_votes.specs.Family.{greatest_of, newest_of, place_at, put_at, table_at, with_claim, with_newest}
+pub use Rattle.mdv_votes.specs.Spots.{covers, covers_second, is_in, is_majority, is_named}
 pub use Rattle.mdv_votes.specs.declared.spot.Spot.{Spot}
 pub use Rattle.mdv_votes.specs.declared.version.SpotState.{SpotState}
 pub use Rattle.mdv_votes.specs.declared.version.Version.{Version}

@@ -1,5 +1,6 @@
 pub mod Below
 pub mod Site
+pub mod Sites
 pub mod Found
 pub mod Shown
 pub mod Steps
@@ -8,3 +9,4 @@ pub mod Worlds
 pub mod Wipes
 pub mod Others
 pub mod Formats
+pub mod Choice

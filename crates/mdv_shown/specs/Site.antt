@@ -1,15 +1,8 @@
 -- Where a boot looks for replicas of a database.
-use Rattle.std.specs.Prelude.{◌≡◌, ◌⊎◌, ℕ, ◌+◌, ◌-◌, ◌*◌, ◌≤◌, false, List, Contains, slice_index_or}
+use Rattle.std.specs.Prelude.{◌≡◌, ◌⊎◌, ℕ, ◌+◌, ◌-◌, ◌*◌, ◌≤◌, false, Contains, slice_index_or}
 use Rattle.std.specs.List.{list_any}
-use Rattle.mdv_shown.specs.Below.{DriveNo, Key, SliceLine, PlaceAt, Spot, Area, AreApart, range}
-
--- whose database it is; the slices on which a boot looks, in the order of the table of drives; the drives that it brings up
--- before; and how many blocks each drive has
-pub record Site : Type 0 where
-  pub key : Key
-  pub lines : List SliceLine
-  pub drives : List DriveNo
-  pub sizes : List ℕ
+use Rattle.mdv_shown.specs.Below.{SliceLine, PlaceAt, Spot, Area, AreApart, range}
+pub use Rattle.mdv_shown.specs.declared.site.Site.{Site}
 
 abbrev pub size_on : Site → SliceLine → ℕ
 size_on site line = slice_index_or site.sizes line.at.drive.0 0

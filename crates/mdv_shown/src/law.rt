@@ -1,8 +1,15 @@
+ghost use Rattle.mdv_shown.specs.Choice.{BootsChoose};
+ghost use Rattle.mdv_shown.specs.Sites.{SitesAre};
 ghost use Rattle.mdv_shown.specs.Laws.{ShowsOne, NewestIsOne, ShowsKept, ShowsFilled, ShowsSome};
 ghost use Rattle.mdv_shown.specs.Worlds.{ClaimsGo, TablesBegin, SlotsGo, Frames};
 ghost use Rattle.mdv_shown.specs.Wipes.{WipesGo, BlankSlicesRest};
 ghost use Rattle.mdv_shown.specs.Others.{OthersGo};
 ghost use Rattle.mdv_shown.specs.Formats.{FirstFormatsGo, LaterFormatsGo, OthersFormatsGo};
+
+/// The slices of a site share no block, and each has the block of its first replica's master.
+pub fn sites_are()
+    ensures { SitesAre }
+{}
 
 /// What a slot shows of tables of any type: one under one mark, by its gate and its body alone, the one that it was filled with; and where it is
 /// open and the replica is readable, one at least. So a replica has one newest table at most.
@@ -54,4 +61,10 @@ pub fn others_go<T>()
 /// What is written outside the slices of the site leaves what an image shows.
 pub fn frames<T>()
     ensures { Frames T }
+{}
+
+/// Of the replicas that a boot read, one with the greatest mark shows the table that the votes choose, and the greatest claim or boot
+/// number is theirs. So where more than half of each of its lists was read, the boot may claim under one more.
+pub fn boots_choose<T>()
+    ensures { BootsChoose T }
 {}
