@@ -97,6 +97,17 @@ both_boots : (head : Head) (slot : Slot) (mark : Mark) (bytes : ℕ) → gate_of
 both_boots head First mark bytes e a b = (let here : boot_of_gate head.first ≡ mark.boot = ap boot_of_gate e in omega (arith, here, b))
 both_boots head Second mark bytes e a b = (let here : boot_of_gate head.second ≡ mark.boot = ap boot_of_gate e in omega (arith, here, a))
 
+-- more than half of each list was read, whatever mediators know
+pub enough : (read : Spot → Bool) (t : Version) (knows : Spot → Bool) → covers (is_majority read) t.lists ≡ true → is_read t read knows ≡ true
+enough read t knows most =
+    let parts = and_parts (is_majority read t.lists.first) (covers_second (is_majority read) t.lists.second) most in
+    and_from (is_read_list t.lists.mediators read knows t.lists.first) (covers_second (is_read_list t.lists.mediators read knows) t.lists.second)
+    (or_left (is_majority read t.lists.first) _ parts.0) (second t.lists.second parts.1)
+  where
+    second : (o : Option (List Spot)) → covers_second (is_majority read) o ≡ true → covers_second (is_read_list t.lists.mediators read knows) o ≡ true
+    second None e = refl
+    second (Some list) e = or_left (is_majority read list) _ e
+
 module _ {Table : Type 0} (Spells : List ℕ → Table → Type 0) (site : Site) (identity : Identity) (tables : ℕ → Table) (w : Core) (image : Image) (seen : List Seen)
     (r : HaveRead Spells site identity tables w image seen) where
   module _ (s : Seen) (has : Contains seen s) where
@@ -298,17 +309,6 @@ module _ {Table : Type 0} (Spells : List ℕ → Table → Type 0) (site : Site)
   pub greatest_is : greatest_of w.family w.places 0 (spots_seen seen) ≡ greatest_seen seen
   greatest_is = (let least : max 0 (greatest_seen seen) ≡ greatest_seen seen = omega arith in greatest_from seen (λ s has. has) 0 ∙ least)
 
-  -- more than half of each list was read, whatever mediators know
-  enough : (t : Version) (knows : Spot → Bool) → covers (is_majority (is_in (spots_seen seen))) t.lists ≡ true → is_read t (is_in (spots_seen seen)) knows ≡ true
-  enough t knows most =
-      let parts = and_parts (is_majority (is_in (spots_seen seen)) t.lists.first) (covers_second (is_majority (is_in (spots_seen seen))) t.lists.second) most in
-      and_from (is_read_list t.lists.mediators (is_in (spots_seen seen)) knows t.lists.first) (covers_second (is_read_list t.lists.mediators (is_in (spots_seen seen)) knows) t.lists.second)
-      (or_left (is_majority (is_in (spots_seen seen)) t.lists.first) _ parts.0) (second t.lists.second parts.1)
-    where
-      second : (o : Option (List Spot)) → covers_second (is_majority (is_in (spots_seen seen))) o ≡ true → covers_second (is_read_list t.lists.mediators (is_in (spots_seen seen)) knows) o ≡ true
-      second None e = refl
-      second (Some list) e = or_left (is_majority (is_in (spots_seen seen)) list) _ e
-
   pub may_adopt : (i : ℕ) (s : Seen) → newest_of w.family w.places None (spots_seen seen) ≡ Some i → MayAdopt w seen i s → IsClaimable w (spot_seen s) (greatest_seen seen + 1)
   may_adopt i s voted m =
       let t = table_at w.family i in
@@ -318,7 +318,7 @@ module _ {Table : Type 0} (Spells : List ℕ → Table → Type 0) (site : Site)
       lt-ltb (rewritten w (spots_seen seen) i).mark.boot (2 ^ 63) (subst (λ (n : ℕ). n + 1 < 2 ^ 63) (sym greatest_is) m.small) in
       let fits : may_choose w (spot_seen s) (spots_seen seen) (Some i) ≡ true =
       and_from (is_read t (is_in (spots_seen seen)) (knows_above w.family w.places t)) (is_target w t.lists (spot_seen s) && nat_lt (rewritten w (spots_seen seen) i).mark.boot (2 ^ 63))
-      (enough t (knows_above w.family w.places t) m.read)
+      (enough (is_in (spots_seen seen)) t (knows_above w.family w.places t) m.read)
       (and_from (is_target w t.lists (spot_seen s)) (nat_lt (rewritten w (spots_seen seen) i).mark.boot (2 ^ 63)) target below) in
       record {
         fits = subst (λ (g : Stage). may_claim w (spot_seen s) g ≡ true) (sym r.stage)

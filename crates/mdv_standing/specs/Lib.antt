@@ -1,0 +1,4 @@
+pub mod Below
+pub mod Matching
+pub mod Worlds
+pub mod Adopting

@@ -1,0 +1,6 @@
+//! How the drives stand with the log of a database with several replicas: definitions, and laws for the crates that write.
+#![tactic(auto)]
+
+mod law;
+
+pub use law::adoptions_go;
