@@ -64,7 +64,7 @@ in_spots : (seen : List Seen) (s : Seen) → Contains seen s → is_in (spots_se
 in_spots seen s has = in_at seen s has.0 has.1 has.2
 
 -- and each of those is the spot of one
-spot_of : (seen : List Seen) (q : Spot) → is_in (spots_seen seen) q ≡ true → (s : Seen) × Contains seen s × (spot_seen s ≡ q)
+pub spot_of : (seen : List Seen) (q : Spot) → is_in (spots_seen seen) q ≡ true → (s : Seen) × Contains seen s × (spot_seen s ≡ q)
 spot_of [] q is = absurd (false≢true is)
 spot_of (x ∷ seen) q is =
     elim (or_cases (same_spot (spot_seen x) q) (is_in (spots_seen seen) q) is) [

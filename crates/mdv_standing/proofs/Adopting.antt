@@ -1,50 +1,31 @@
 -- What a boot's choice, claims and slots do to the worlds and the log of the database that it adopts.
-use Rattle.std.proofs.Common.{◌≡◌, inl, inr, ℕ, ◌+◌, ◌-◌, ◌<◌, ◌^◌, ◌&&◌, Bool, true, List, [], ◌∷◌, ◌++◌, length, refl, sym, ◌∙◌, ap, subst, All, Contains, Option, None, Some, arith}
-use Rattle.std.proofs.lemmas.Bool.{and_from, cases_lt, false≢true, lt-ltb, or_right}
-use Rattle.std.proofs.lemmas.List.Elements.{Contains-get_or}
+use Rattle.std.proofs.Common.{◌≡◌, inl, inr, ℕ, ◌+◌, ◌<◌, ◌^◌, ◌&&◌, Bool, true, List, [], ◌∷◌, ◌++◌, refl, sym, ◌∙◌, ap, subst, Contains, Option, None, Some, arith}
+use Rattle.std.proofs.lemmas.Bool.{and_from, lt-ltb, or_right}
 use Rattle.std.specs.List.{filter_map}
-use Rattle.std.specs.Prelude.{nat_lt, reverse, slice_index_or}
+use Rattle.std.specs.Prelude.{nat_lt, reverse}
 use Rattle.mdv_votes.specs.Family.{put_at, with_claim}
 use Rattle.mdv_votes.specs.Spots.{same_spot}
 use Rattle.mdv_votes.proofs.Growing.{claims_grow}
 use Rattle.mdv_quorum.specs.May.{is_target, may, may_choose, may_claim, may_slot}
-use Rattle.mdv_quorum.specs.Standing.{Standing, BootsAt}
-use Rattle.mdv_quorum.specs.World.{chosen, claimed, happens, rewritten, settled, slotted, with_table}
+use Rattle.mdv_quorum.specs.Standing.{Standing}
+use Rattle.mdv_quorum.specs.World.{chosen, claimed, happens, rewritten, slotted}
 use Rattle.mdv_shown.specs.Steps.{claim_at}
 use Rattle.mdv_shown.specs.Worlds.{IsClaimable}
 use Rattle.mdv_shown.proofs.Choice.{chosen_voted, enough, greatest_is}
-use Rattle.mdv_shown.proofs.Slots.{never_below}
-use Rattle.mdv_shown.proofs.Worlds.{begun_shows, claim_ends, claim_goes}
-use Rattle.mdv_standing.specs.Below.{IsBelow, Identity, Mark, Geometry, SliceLine, Master, Head, Slot, Seen, HaveRead, IsChosen, greatest_seen, spots_seen, Site, place_on, spot_on, Claims, MayClaim, Image, Core, Stage, Claiming, Writing, Claimed, Slotted, LeftClosed, Log, MayHappen, Version, WritesLog, log_after, Table, FamilyTable, Spot, SpotLists, covers, is_claimed, is_in, is_majority, is_named, is_none, is_read, is_written, knows_above, last_table, no_table, place_at, table_at, Shows}
-use Rattle.mdv_standing.specs.Matching.{IsVersionAt, Matches, by_majority_of, is_set, lists_of, tables_of, version_at}
+use Rattle.mdv_shown.proofs.Worlds.{claim_ends, claim_goes}
+use Rattle.mdv_standing.specs.Below.{IsBelow, Identity, Mark, Geometry, SliceLine, Master, Head, Slot, Seen, HaveRead, IsChosen, greatest_seen, spots_seen, Site, place_on, spot_on, Claims, MayClaim, Image, Core, Stage, Claiming, Claimed, Slotted, LeftClosed, Log, MayHappen, Version, WritesLog, log_after, Table, FamilyTable, Spot, SpotLists, covers, is_claimed, is_in, is_majority, is_named, is_none, is_read, knows_above, no_table, place_at, table_at, Shows}
+use Rattle.mdv_standing.specs.Matching.{IsVersionAt, by_majority_of, is_set, lists_of, tables_of, version_at}
 use Rattle.mdv_standing.specs.Worlds.{IsWorld, Turned, IsNoneOr, HasClaimed, MayBeClaimed, not_yet, claimed as has_claimed, IsTaking}
 use Rattle.mdv_standing.specs.Adopting.{IsFoundVersion, IsClaim, IsBeginning, again, drawn}
-use Rattle.mdv_standing.proofs.Versions.{has_version, version_has, version_older}
-use Rattle.mdv_standing.proofs.Reaching.{reached_more, same_number, standing, tables_agree}
-use Rattle.mdv_standing.proofs.Following.{Follows, matches_follow, matches_longer, settled_family, one_more, settled_follows, settled_stage, since_put, table_newest, longer_family}
-
-none_in : (p : Spot) → is_in [] p ≡ true → ⊥
-none_in p e = false≢true e
+use Rattle.mdv_standing.proofs.Versions.{version_has}
+use Rattle.mdv_standing.proofs.Reaching.{reached_more, standing}
+use Rattle.mdv_standing.proofs.Beginning.{LeadsBy, begun_taking, begun_world, none_in}
+use Rattle.mdv_standing.proofs.Voting.{all_that, below, boots, in_log, lists_are, not_older, version_is}
+use Rattle.mdv_standing.proofs.Following.{Follows, matches_follow, one_more, since_put}
 
 module _ (Spells : List ℕ → Table → Type 0) (site : Site) (identity : Identity) (log : Log) (w : Core) (image : Image) (world : IsWorld Spells site identity log w image) where
   stands : Standing w
   stands = standing site w world.reached
-
-  in_log : (i : ℕ) → i < length w.family → i < length log.family
-  in_log i lt = subst (λ (n : ℕ). i < n) world.matches.as_many lt
-
-  -- a table with the mark of a version is that version
-  version_is : (i : ℕ) (v : Version) → i < length w.family → Contains log.family v → (table_at w.family i).mark ≡ v.mark → version_at log.family i ≡ v
-  version_is i v known has same =
-      let found = has_version log.family v has in
-      let j = found.0 in
-      let also : j < length w.family = subst (λ (n : ℕ). j < n) (sym world.matches.as_many) found.1 in
-      let marks : (table_at w.family i).mark ≡ (table_at w.family j).mark = same ∙ ap (λ (x : Version). x.mark) (sym found.2) ∙ sym (world.matches.each j also).mark in
-      ap (version_at log.family) (same_number w stands.family i j known also marks) ∙ found.2
-
-  -- so it has its lists
-  lists_are : (i : ℕ) (v : Version) → i < length w.family → Contains log.family v → (table_at w.family i).mark ≡ v.mark → (table_at w.family i).lists ≡ lists_of site v
-  lists_are i v known has same = (world.matches.each i known).lists ∙ ap (lists_of site) (version_is i v known has same)
 
   module _ (seen : List Seen) (r : HaveRead Spells site identity (tables_of log.family) w image seen) (s : Seen) (slot : Slot) where
     pub finds : (mark : Mark) → IsChosen seen s slot mark → IsFoundVersion Spells log image s slot mark
@@ -54,7 +35,7 @@ module _ (Spells : List ℕ → Table → Type 0) (site : Site) (identity : Iden
         record {
           version = version_at log.family voted.number;
           is = record {
-            one_of = version_has log.family voted.number (in_log voted.number known);
+            one_of = version_has log.family voted.number (in_log site log w world.reached world.matches voted.number known);
             marked = sym (world.matches.each voted.number known).mark ∙ voted.marked;
           };
           shows = voted.shows;
@@ -75,13 +56,9 @@ module _ (Spells : List ℕ → Table → Type 0) (site : Site) (identity : Iden
           voted = voted.voted;
           marked = voted.marked;
           quorum = enough (is_in (spots_seen seen)) t (knows_above w.family w.places t)
-              (subst (λ (l : SpotLists). covers (is_majority (is_in (spots_seen seen))) l ≡ true) (sym (lists_are i v known has voted.marked)) most);
+              (subst (λ (l : SpotLists). covers (is_majority (is_in (spots_seen seen))) l ≡ true) (sym (lists_are site log w world.reached world.matches i v known has voted.marked)) most);
           drawn = ap (λ (n : ℕ). n + 1) (greatest_is Spells site identity (tables_of log.family) w image seen r);
         })
-
-  -- a boot that claimed has chosen a table of the family, and its next one has the same plan
-  boots_at : (i : ℕ) (next : FamilyTable) (taken : List Spot) → w.stage ≡ Claiming i next taken → BootsAt w (Claiming i next taken)
-  boots_at i next taken e = subst (BootsAt w) e stands.boots
 
 -- Claims.
 module _ (Spells : List ℕ → Table → Type 0) (site : Site) (identity : Identity) (log : Log) (w : Core) (old : Image) (line : SliceLine) (k : ℕ) (first : Master) (head : Head) (v : Version) (number : ℕ) (ok : List Spot)
@@ -98,10 +75,10 @@ module _ (Spells : List ℕ → Table → Type 0) (site : Site) (identity : Iden
   with n i next taken = record w { places = put_at w.places p (with_claim n); stage = Claiming i next taken }
 
   -- that the claim may happen, and what is known then
-  record IsClaimed (v' : Core) : Type 0 where
-    claimable : IsClaimable w p number
-    follows : Follows site log w v'
-    known : HasClaimed v.mark number (p ∷ ok) v'
+  pub record IsClaimed (v' : Core) : Type 0 where
+    pub claimable : IsClaimable w p number
+    pub follows : Follows site log w v'
+    pub known : HasClaimed v.mark number (p ∷ ok) v'
 
   with_follows : (n i : ℕ) (next : FamilyTable) (taken : List Spot) → Follows site log w (with n i next taken)
   with_follows n i next taken = record {
@@ -109,14 +86,15 @@ module _ (Spells : List ℕ → Table → Type 0) (site : Site) (identity : Iden
     family = refl;
     changes = refl;
     floor = refl;
+    deleted = refl;
     firm = λ f e. (f, e, omega arith);
     dropped = λ q j e. c.world.matches.dropped q j (sym (since_put w.places p q (with_claim n) (λ x. refl) (λ x. refl)) ∙ e);
   }
 
-  claim_is : IsClaimed (happens w (Claimed p))
+  pub claim_is : IsClaimed (happens w (Claimed p))
   claim_is = elim c.known [
     | not_yet none a ↦
-        let lists = lists_are Spells site identity log w old c.world a.table v a.known c.one_of a.marked in
+        let lists = lists_are site log w c.world.reached c.world.matches a.table v a.known c.one_of a.marked in
         let next = rewritten w a.read a.table in
         let same : happens w (Claimed p) ≡ with next.mark.boot a.table next (p ∷ []) = ap (claimed w p) a.stage ∙ ap (chosen w p a.read) a.voted in
         let choose : may_choose w p a.read (Some a.table) ≡ true =
@@ -144,7 +122,7 @@ module _ (Spells : List ℕ → Table → Type 0) (site : Site) (identity : Iden
           };
         })
     | has_claimed h ↦
-        let lists = h.lists ∙ lists_are Spells site identity log w old c.world h.table v h.known c.one_of h.marked in
+        let lists = h.lists ∙ lists_are site log w c.world.reached c.world.matches h.table v h.known c.one_of h.marked in
         let same : happens w (Claimed p) ≡ with h.next.mark.boot h.table h.next (h.claimed ++ p ∷ []) = ap (claimed w p) h.stage in
         subst IsClaimed (sym same) (record {
           claimable = record {
@@ -212,9 +190,6 @@ module _ (Spells : List ℕ → Table → Type 0) (site : Site) (identity : Iden
       let is = claim_is.claimable in
       claim_taken new (claim_ends Spells site c.site_is identity (tables_of log.family) w line k first head old new c.own c.world.shows number is.small is.fits is.number_is claims)
 
-all_that : (P : Version → Type 0) (xs : List Version) → ((x : Version) → Contains xs x → P x) → All P xs
-all_that P xs each k d lt = each (slice_index_or xs k d) (Contains-get_or xs k d lt)
-
 -- The adopted version begins to be written anew.
 module _ (Spells : List ℕ → Table → Type 0) (site : Site) (identity : Identity) (log : Log) (w : Core) (image : Image) (p : Spot) (v : Version) (number : ℕ) (ok : List Spot)
     (b : IsBeginning Spells site identity log w image p v number ok) where
@@ -225,52 +200,21 @@ module _ (Spells : List ℕ → Table → Type 0) (site : Site) (identity : Iden
   abbrev next : FamilyTable
   next = chose.next
 
-  boots : BootsAt w (Claiming chose.table next chose.claimed)
-  boots = boots_at Spells site identity log w image b.world chose.table next chose.claimed chose.stage
-
   is_version : version_at log.family chose.table ≡ v
-  is_version = version_is Spells site identity log w image b.world chose.table v chose.known b.one_of chose.marked
+  is_version = version_is site log w b.world.reached b.world.matches chose.table v chose.known b.one_of chose.marked
 
   lists : next.lists ≡ lists_of site v
-  lists = chose.lists ∙ lists_are Spells site identity log w image b.world chose.table v chose.known b.one_of chose.marked
-
-  -- a version of the log by its number
-  numbered : (x : Version) → Contains log.family x → (i : ℕ) × (i < length w.family) × (version_at log.family i ≡ x) × ((table_at w.family i).mark ≡ x.mark)
-  numbered x has =
-      let found = has_version log.family x has in
-      let known : found.0 < length w.family = subst (λ (n : ℕ). found.0 < n) (sym b.world.matches.as_many) found.1 in
-      (found.0, known, found.2, (b.world.matches.each found.0 known).mark ∙ ap (λ (y : Version). y.mark) found.2)
-
-  below : (x : Version) → Contains log.family x → IsBelow x.mark (drawn number)
-  below x has =
-      let i = numbered x has in
-      inl (subst (λ (m : Mark). m.boot < number) i.3 (subst (λ (m : Mark). (table_at w.family i.0).mark.boot < m.boot) chose.drawn (boots.0.fresh i.0 i.1)))
-
-  not_older : (x : Version) → Contains log.family x → x.is_written ≡ true → IsBelow v.mark x.mark → ⊥
-  not_older x has written less =
-      let i = numbered x has in
-      let firm = b.world.matches.answered i.0 i.1 (ap (λ (y : Version). y.is_written) i.2 ∙ written) in
-      let f = standing site w b.world.reached in
-      let over = boots.0.above firm.0 firm.1 (f.descent.known firm.0 firm.1) in
-      let marks : IsBelow (table_at w.family chose.table).mark (table_at w.family i.0).mark =
-      subst (λ (m : Mark). IsBelow m (table_at w.family i.0).mark) (sym chose.marked) (subst (λ (m : Mark). IsBelow v.mark m) (sym i.3) less) in
-      elim (cases_lt i.0 chose.table) [
-        | inl down ↦ never_below (table_at w.family i.0).mark (table_at w.family chose.table).mark (f.family.marks i.0 chose.table down chose.known) marks
-        | inr up ↦
-            let same : i.0 ≡ chose.table = omega (arith, up, over, firm.2) in
-            let itself = subst (λ (n : ℕ). IsBelow (table_at w.family chose.table).mark (table_at w.family n).mark) same marks in
-            never_below (table_at w.family chose.table).mark (table_at w.family chose.table).mark itself itself
-      ]
+  lists = chose.lists ∙ lists_are site log w b.world.reached b.world.matches chose.table v chose.known b.one_of chose.marked
 
   pub may_write : (g : Geometry) → MayHappen g log (WritesLog (drawn number) None v.changes v.table)
   may_write g = (
-    all_that (λ x. IsBelow x.mark (drawn number)) log.family below,
+    all_that (λ x. IsBelow x.mark (drawn number)) log.family (λ x has. inl (below site log w b.world.reached b.world.matches v number ok chose x has)),
     inr (record {
       parent = v;
       one_of = b.one_of;
       changes = refl;
       made = refl;
-      not_older = all_that (λ x. x.is_written ≡ true → IsBelow v.mark x.mark → ⊥) log.family not_older;
+      not_older = all_that (λ x. x.is_written ≡ true → IsBelow v.mark x.mark → ⊥) log.family (not_older site log w b.world.reached b.world.matches v number ok chose);
     }),
   )
 
@@ -283,34 +227,13 @@ module _ (Spells : List ℕ → Table → Type 0) (site : Site) (identity : Iden
       let was = b.world.matches.each chose.table chose.known in record {
         mark = chose.drawn;
         lists = lists;
-        changes = ap (λ (x : Version). x.changes) (sym is_version) ∙ was.changes ∙ ap (λ (l : List ℕ). reverse (filter_map b.world.matches.book l)) (sym boots.1);
-        numbered = λ n has. was.numbered n (subst (λ (l : List ℕ). Contains l n) boots.1 has);
+        some = ap (λ (l : SpotLists). is_none l.first) chose.lists ∙ was.some;
+        changes = ap (λ (x : Version). x.changes) (sym is_version) ∙ was.changes ∙ ap (λ (l : List ℕ). reverse (filter_map b.world.matches.book l)) (sym (boots site log w b.world.reached b.world.matches v number ok chose).1);
+        numbered = λ n has. was.numbered n (subst (λ (l : List ℕ). Contains l n) (boots site log w b.world.reached b.world.matches v number ok chose).1 has);
       }
 
-  abbrev begun : Core
-  begun = record (with_table w next) { stage = Writing (Some chose.table) [] }
-
-  abbrev wrote_first : Bool
-  wrote_first = is_written (last_table begun) (is_in [])
-
-  leads : happens w (Slotted p LeftClosed) ≡ settled begun (last_table begun) wrote_first
+  leads : LeadsBy w next (Some chose.table) p
   leads = ap (slotted w p LeftClosed) chose.stage
-
-  begun_matches : Matches site written begun
-  begun_matches =
-      let m = matches_longer site log w next (again number v) b.world.matches next_is refl in
-      record { kind = m.kind; book = m.book; as_many = m.as_many; each = m.each; answered = m.answered; dropped = m.dropped; reused = m.reused }
-
-  begun_long : length begun.family ≡ length w.family + 1
-  begun_long = longer_family site log w next (again number v) b.world.matches next_is refl
-
-  last_is : last_table begun ≡ next
-  last_is = table_newest site log w next (again number v) b.world.matches next_is refl (length begun.family - 1) (omega (arith, begun_long))
-
-  begun_follows : Follows site written begun (settled begun (last_table begun) wrote_first)
-  begun_follows =
-      settled_follows site written begun wrote_first begun_matches (omega (arith, begun_long))
-      (λ f e. omega (arith, begun_long, (standing site w b.world.reached).descent.known f e))
 
   fits : may w (Slotted p LeftClosed) ≡ true
   fits =
@@ -324,36 +247,14 @@ module _ (Spells : List ℕ → Table → Type 0) (site : Site) (identity : Iden
       (and_from (is_claimed w.set next (is_in chose.claimed)) (is_target w next.lists p) claims
       (and_from (place_at w.places p).holds (is_named next.lists p) holds (subst (λ (l : SpotLists). is_named l p ≡ true) (sym lists) b.named)))
 
-  begun_shows_it : Shows Spells site identity (tables_of written.family) (happens w (Slotted p LeftClosed)) image
-  begun_shows_it =
-      let f = (standing site w b.world.reached).family in
-      begun_shows Spells site identity (tables_of written.family) image w p f
-      (tables_agree Spells site identity (tables_of log.family) (tables_of written.family) w image f
-      (λ i lt. ap (λ (x : Version). x.table) (sym (version_older (again number v) log.family i (subst (λ (n : ℕ). i < n) b.world.matches.as_many lt)))) b.world.shows)
-
-  taking : IsTaking (by_majority_of site v) (drawn number) [] (settled begun (last_table begun) wrote_first)
-  taking =
-      let last : last_table (settled begun (last_table begun) wrote_first) ≡ next =
-      ap (λ (l : List FamilyTable). table_at l (length l - 1)) (settled_family begun (last_table begun) wrote_first) ∙ last_is in record {
-        boot = Some chose.table;
-        all = [];
-        stage = settled_stage begun (last_table begun) wrote_first;
-        marked = ap (λ (t : FamilyTable). t.mark) last ∙ chose.drawn;
-        kind = ap (λ (t : FamilyTable). t.by_majority) last ∙ chose.kind ∙ ap (λ (s : Bool). s && is_none next.lists.mediators) b.world.matches.kind
-            ∙ ap (λ (l : SpotLists). is_set site.key && is_none l.mediators) lists;
-        within = λ q e. e;
-        taken = λ q e. absurd (none_in q e);
-      }
+  kind : next.by_majority ≡ by_majority_of site v
+  kind = chose.kind ∙ ap (λ (s : Bool). s && is_none next.lists.mediators) b.world.matches.kind ∙ ap (λ (l : SpotLists). is_set site.key && is_none l.mediators) lists
 
   pub begins : Turned Spells site identity written w image (λ es. es ≡ Slotted p LeftClosed ∷ []) (IsTaking (by_majority_of site v) (drawn number) [])
   begins = record {
     events = Slotted p LeftClosed ∷ [];
     are = refl;
     may = (fits, tt);
-    world = record {
-      reached = reached_more site w (Slotted p LeftClosed ∷ []) b.world.reached (fits, tt);
-      matches = subst (Matches site written) (sym leads) (matches_follow site written begun (settled begun (last_table begun) wrote_first) begun_follows begun_matches);
-      shows = begun_shows_it;
-    };
-    known = subst (IsTaking (by_majority_of site v) (drawn number) []) (sym leads) taking;
+    world = begun_world Spells site identity log w image b.world next (again number v) next_is refl p (Some chose.table) leads fits;
+    known = begun_taking Spells site identity log w image b.world next (again number v) next_is refl p (Some chose.table) leads fits (by_majority_of site v) kind;
   }

@@ -21,6 +21,7 @@ pub record Follows (site : Site) (log : Log) (w v : Core) : Type 0 where
   pub family : v.family ≡ w.family
   pub changes : v.changes ≡ w.changes
   pub floor : v.floor ≡ w.floor
+  pub deleted : v.deleted ≡ w.deleted
   pub firm : (f : ℕ) → w.firm ≡ Some f → (g : ℕ) × (v.firm ≡ Some g) × (f ≤ g)
   pub dropped : (p : Spot) (i : ℕ) → (place_at v.places p).since ≡ Dropped i → IsDroppedBy site log p i
 
@@ -39,6 +40,7 @@ matches_follow site log w v f m = record {
       (now.0, now.1, omega (arith, was.2, now.2));
   dropped = f.dropped;
   reused = f.floor ∙ m.reused;
+  there = f.deleted ∙ m.there;
 }
 
 -- one place more on both sides
@@ -84,12 +86,13 @@ settled_family u t true = refl
 
 -- the last table is firm, where enough places took it
 pub settled_follows : (site : Site) (log : Log) (u : Core) (b : Bool) → Matches site log u → 0 < length u.family → ((f : ℕ) → u.firm ≡ Some f → f < length u.family) → Follows site log u (settled u (last_table u) b)
-settled_follows site log u false m some known = record { set = refl; family = refl; changes = refl; floor = refl; firm = λ f e. (f, e, omega arith); dropped = m.dropped }
+settled_follows site log u false m some known = record { set = refl; family = refl; changes = refl; floor = refl; deleted = refl; firm = λ f e. (f, e, omega arith); dropped = m.dropped }
 settled_follows site log u true m some known = record {
   set = refl;
   family = refl;
   changes = refl;
   floor = refl;
+  deleted = refl;
   firm = λ f e. (last_number u, refl, omega (arith, known f e, some));
   dropped = λ p i e. by p i (map_at u.places p (with_since (last_number u) (last_list (last_table u).lists)) (λ x. refl)) e;
 }
@@ -167,4 +170,5 @@ module _ (site : Site) (log : Log) (w : Core) (next : FamilyTable) (v : Version)
       lacks = subst (λ (x : Version). is_in (last_list (lists_of site x)) p ≡ false) (sym (version_older v log.family i was.known)) was.lacks;
     });
     reused = m.reused;
+    there = m.there;
   }

@@ -1,6 +1,10 @@
 pub mod Versions
 pub mod Reaching
+pub mod Voting
 pub mod Following
+pub mod Beginning
 pub mod Looking
 pub mod Adopting
 pub mod Taking
+pub mod Committing
+pub mod Lawful

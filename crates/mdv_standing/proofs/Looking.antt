@@ -167,7 +167,7 @@ module _ (Spells : List ℕ → Table → Type 0) (site : Site) (identity : Iden
   same_log : Matches site log looked
   same_log =
       let m = world.matches in
-      record { kind = m.kind; book = m.book; as_many = m.as_many; each = m.each; answered = m.answered; dropped = m.dropped; reused = m.reused }
+      record { kind = m.kind; book = m.book; as_many = m.as_many; each = m.each; answered = m.answered; dropped = m.dropped; reused = m.reused; there = m.there }
 
   world_looked : IsWorld Spells site identity log looked image
   world_looked = record {

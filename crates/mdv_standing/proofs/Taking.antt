@@ -68,6 +68,7 @@ module _ (Spells : List ℕ → Table → Type 0) (site : Site) (identity : Iden
     family = refl;
     changes = refl;
     floor = refl;
+    deleted = refl;
     firm = λ f e. (f, e, omega arith);
     dropped = λ q i e. s.world.matches.dropped q i (sym (since_put w.places p q (with_newest (last_number w)) (λ x. refl) (λ x. refl)) ∙ e);
   }) s.world.matches
@@ -163,7 +164,7 @@ matches_answered site log w m firm = record {
   each = λ i known.
       let was = m.each i known in
       let same = answered_same log.family i (subst (λ (n : ℕ). i < n) m.as_many known) in
-      record { mark = was.mark ∙ sym same.mark; lists = was.lists ∙ ap (λ (t : Table). spots_of site t.plan.lists) (sym same.table); changes = same.changes ∙ was.changes; numbered = was.numbered };
+      record { mark = was.mark ∙ sym same.mark; lists = was.lists ∙ ap (λ (t : Table). spots_of site t.plan.lists) (sym same.table); some = was.some; changes = same.changes ∙ was.changes; numbered = was.numbered };
   answered = λ i known written. (last_number w, firm, omega (arith, known));
   dropped = λ p i e.
       let was = m.dropped p i e in
@@ -173,6 +174,7 @@ matches_answered site log w m firm = record {
         lacks = subst (λ (t : Table). is_in (last_list (spots_of site t.plan.lists)) p ≡ false) (sym same.table) was.lacks;
       };
   reused = m.reused;
+  there = m.there;
 }
 
 module _ (Spells : List ℕ → Table → Type 0) (site : Site) (identity : Identity) (log : Log) (w : Core) (image : Image) (v : Version) (by_majority : Bool) (took : List Spot)
@@ -202,13 +204,13 @@ module _ (Spells : List ℕ → Table → Type 0) (site : Site) (identity : Iden
   told_is : (boot : Option ℕ) → IsTold (told_of w boot)
   told_is None = record {
     stage = refl;
-    matches = λ firm. (let m = matches_answered site log w t.world.matches firm in record { kind = m.kind; book = m.book; as_many = m.as_many; each = m.each; answered = m.answered; dropped = m.dropped; reused = m.reused });
+    matches = λ firm. (let m = matches_answered site log w t.world.matches firm in record { kind = m.kind; book = m.book; as_many = m.as_many; each = m.each; answered = m.answered; dropped = m.dropped; reused = m.reused; there = m.there });
     shows = record { each = shows_answered.each; only = shows_answered.only; seats = shows_answered.seats };
     taken = λ p e. (let was = t.known.taken p e in record { holds = was.holds; newest = was.newest });
   }
   told_is (Some i) = record {
     stage = refl;
-    matches = λ firm. (let m = matches_answered site log w t.world.matches firm in record { kind = m.kind; book = m.book; as_many = m.as_many; each = m.each; answered = m.answered; dropped = m.dropped; reused = m.reused });
+    matches = λ firm. (let m = matches_answered site log w t.world.matches firm in record { kind = m.kind; book = m.book; as_many = m.as_many; each = m.each; answered = m.answered; dropped = m.dropped; reused = m.reused; there = m.there });
     shows = record { each = shows_answered.each; only = shows_answered.only; seats = shows_answered.seats };
     taken = λ p e. (let was = t.known.taken p e in record { holds = was.holds; newest = was.newest });
   }

@@ -12,22 +12,26 @@ pub use Rattle.mdv_name.specs.declared.slice_lines.SliceLine.{SliceLine}
 pub use Rattle.mdv_quorum.specs.May.{MayAll}
 pub use Rattle.mdv_quorum.specs.World.{after_all, last_table, start}
 pub use Rattle.mdv_quorum.specs.declared.event.Event.{Event}
-pub use Rattle.mdv_quorum.specs.declared.event.Event.TheVariants.{Back, Claimed, Crash, Lose, Read, Slotted, Told}
+pub use Rattle.mdv_quorum.specs.declared.event.Event.TheVariants.{Back, Claimed, Crash, Lists as NextLists, Lose, Read, Slotted, Told}
 pub use Rattle.mdv_quorum.specs.declared.event.SlotEnd.TheVariants.{Closed as LeftClosed, Holds as Filled}
 pub use Rattle.mdv_quorum.specs.declared.machine.Core.{Core}
 pub use Rattle.mdv_quorum.specs.declared.machine.Stage.{Stage}
 pub use Rattle.mdv_quorum.specs.declared.machine.Stage.TheVariants.{Claiming, Reading, Ready, Writing}
-pub use Rattle.mdv_replica.specs.Form.{IsSpareSlot}
+pub use Rattle.mdv_replica.specs.Form.{IsSpareSlot, gate_of, shows}
 pub use Rattle.mdv_replica.specs.Images.{Claims, Fills, MayClaim, MayFill}
+pub use Rattle.mdv_replica.specs.declared.forms.Gate.TheVariants.{Open}
 pub use Rattle.mdv_replica.specs.declared.forms.Master.{Master}
 pub use Rattle.mdv_replica.specs.declared.replica.Head.{Head}
 pub use Rattle.mdv_replica.specs.declared.replica.Slot.{Slot}
-pub use Rattle.mdv_shelf.specs.Everywhere.{Image}
+pub use Rattle.mdv_replica.specs.declared.replica.Slot.TheVariants.{First, Second}
+pub use Rattle.mdv_shelf.specs.Area.{Area, AreApart, KeptOutside}
+pub use Rattle.mdv_shelf.specs.Everywhere.{Everywhere, Image, Leaves}
+pub use Rattle.mdv_shelf.specs.Tale.{IsImage, Tale}
 pub use Rattle.mdv_shown.specs.Choice.{HaveRead, IsChosen, Seen, greatest_seen, spot_seen, spots_seen}
 pub use Rattle.mdv_shown.specs.Found.{IsOwn, IsOwnAt}
 pub use Rattle.mdv_shown.specs.Laws.{Reads}
 pub use Rattle.mdv_shown.specs.Shown.{Shows, SlotShows}
-pub use Rattle.mdv_shown.specs.Site.{IsSite, place_on, spot_on}
+pub use Rattle.mdv_shown.specs.Site.{IsSite, place_on, site_area, spot_on}
 pub use Rattle.mdv_shown.specs.declared.site.Site.{Site}
 pub use Rattle.mdv_shown.specs.Steps.{IsAbove, IsBodyOf, last_number}
 pub use Rattle.mdv_store_law.specs.Log.{Log, MayHappen, Version, Writing as WritesLog, Written, log_after}
@@ -38,7 +42,7 @@ pub use Rattle.mdv_table.specs.declared.table.Table.{Table}
 pub use Rattle.mdv_votes.specs.Family.{greatest_of, knows_above, newest_of, no_table, place_at, table_at}
 pub use Rattle.mdv_votes.specs.Laws.{IsWithin}
 pub use Rattle.mdv_votes.specs.Quorum.{is_claimed, is_read, is_written}
-pub use Rattle.mdv_votes.specs.Spots.{covers, is_in, is_majority, is_named, is_none, last_list}
+pub use Rattle.mdv_votes.specs.Spots.{covers, is_half, is_in, is_majority, is_named, is_none, last_list}
 pub use Rattle.mdv_votes.specs.declared.spot.Spot.{Spot}
 pub use Rattle.mdv_votes.specs.declared.spot.SpotLists.{SpotLists}
 pub use Rattle.mdv_votes.specs.declared.version.Since.TheVariants.{Dropped}

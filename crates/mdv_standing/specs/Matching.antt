@@ -41,6 +41,7 @@ voted_of site v = record no_table { lists = lists_of site v; by_majority = by_ma
 pub record IsVersionAt (site : Site) (book : ℕ → Option Change) (limit : ℕ) (t : FamilyTable) (v : Version) : Type 0 where
   pub mark : t.mark ≡ v.mark
   pub lists : t.lists ≡ lists_of site v
+  pub some : is_none t.lists.first ≡ false
   pub changes : v.changes ≡ reverse (filter_map book t.plan)
   pub numbered : (c : ℕ) → Contains t.plan c → c < limit
 
@@ -49,8 +50,8 @@ pub record IsDroppedBy (site : Site) (log : Log) (p : Spot) (i : ℕ) : Type 0 w
   pub known : i < length log.family
   pub lacks : is_in (last_list (lists_of site (version_at log.family i))) p ≡ false
 
--- The world is one of this log: it has the same tables, the firm one isn't below any whose write was answered, and no place that
--- was dropped has been formatted again, as no command changes places yet.
+-- The world is one of this log: it has the same tables, and the firm one isn't below any whose write was answered. As no command deletes
+-- a database or changes its places yet, it is there, and no place that was dropped has been formatted again.
 pub record Matches (site : Site) (log : Log) (w : Core) : Type 0 where
   pub kind : w.set ≡ is_set site.key
   pub book : ℕ → Option Change
@@ -59,6 +60,7 @@ pub record Matches (site : Site) (log : Log) (w : Core) : Type 0 where
   pub answered : (i : ℕ) → i < length w.family → (version_at log.family i).is_written ≡ true → (f : ℕ) × (w.firm ≡ Some f) × (i ≤ f)
   pub dropped : (p : Spot) (i : ℕ) → (place_at w.places p).since ≡ Dropped i → IsDroppedBy site log p i
   pub reused : w.floor ≡ 0
+  pub there : w.deleted ≡ None
 
 -- events lead to it, each of which may happen where it happens
 abbrev pub Reached : Site → Core → Type 0

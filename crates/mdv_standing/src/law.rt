@@ -1,7 +1,39 @@
+ghost use Rattle.mdv_standing.specs.Committing.{CommitsGo};
 ghost use Rattle.mdv_standing.specs.Adopting.{AdoptionsGo};
+ghost use Rattle.mdv_standing.specs.Laws.{CrashesStand, NewDrivesStand, Frames, FindsHold, NothingHolds};
+
+/// What a crash leaves of drives that stand with a log stands with that log.
+pub fn crashes_stand()
+    ensures { CrashesStand }
+{}
+
+/// Drives on which no replica of the database is found stand with the empty log.
+pub fn new_drives_stand()
+    ensures { NewDrivesStand }
+{}
+
+/// What is done outside the slices on which a boot looks leaves the standing.
+pub fn frames()
+    ensures { Frames }
+{}
+
+/// What a boot chooses of a quorum that it read has every change that was told.
+pub fn finds_hold()
+    ensures { FindsHold }
+{}
+
+/// Where no replica shows a table, nothing was told.
+pub fn nothing_holds()
+    ensures { NothingHolds }
+{}
 
 /// While a boot adopts a database, each image goes on showing a world of its log: by reads, claims, and the adopted version that is
 /// written anew.
 pub fn adoptions_go()
     ensures { AdoptionsGo }
+{}
+
+/// What a change makes of the newest table may be written under the next count, and each image goes on showing a world of the log meanwhile.
+pub fn commits_go()
+    ensures { CommitsGo }
 {}

@@ -3,4 +3,6 @@
 
 mod law;
 
-pub use law::adoptions_go;
+pub use law::{
+    adoptions_go, commits_go, crashes_stand, finds_hold, frames, new_drives_stand, nothing_holds,
+};
