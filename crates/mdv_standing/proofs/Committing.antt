@@ -45,7 +45,7 @@ module _ (site : Site) where
   same_list [] = refl
   same_list (p ∷ ps) = and_from (same_spot p p) (same_spots ps ps) (same_self p) (same_list ps)
 
-  may_list_again : (set : Bool) (lists : Lists) → (is_lists set (spots_of site lists) ≡ true) × (may_follow (spots_of site lists) (spots_of site lists) ≡ true) × (same_spots (spots_of site lists).mediators (spots_of site lists).mediators ≡ true)
+  pub may_list_again : (set : Bool) (lists : Lists) → (is_lists set (spots_of site lists) ≡ true) × (may_follow (spots_of site lists) (spots_of site lists) ≡ true) × (same_spots (spots_of site lists).mediators (spots_of site lists).mediators ≡ true)
   may_list_again set (One places) =
       let l = spots_of site (One places) in (
         and_from (list_all is_place l.first && all_second l.second) ((list_all (λ (p : Spot). p.mediator) l.mediators && is_distinct l.mediators) && (set || is_none l.mediators))

@@ -5,6 +5,8 @@ use Rattle.std.proofs.lemmas.List.Elements.{All-contains, All-nil}
 use Rattle.std.specs.Prelude.{count_by, not}
 use Rattle.mdv_votes.specs.Quorum.{is_written_list}
 use Rattle.mdv_votes.specs.Spots.{covers_second, is_half, same_spot}
+use Rattle.mdv_votes.specs.declared.version.Since.TheVariants.{Dropped}
+use Rattle.mdv_votes.specs.declared.version.SpotState.{SpotState}
 use Rattle.mdv_votes.proofs.Meeting.{meet, meet_counted, same_is, step_counted}
 use Rattle.mdv_quorum.specs.World.{happens}
 use Rattle.mdv_replica.specs.Form.{is_open}
@@ -16,7 +18,7 @@ use Rattle.mdv_store_law.specs.Laws.{restarted}
 use Rattle.mdv_store_law.specs.Log.{AreMade, IsLog, empty_log}
 use Rattle.mdv_store_law.proofs.Families.{extends_more, extends_written}
 use Rattle.mdv_standing.specs.Below.{Area, AreApart, Change, Core, First, Geometry, HaveRead, Head, Identity, Image, IsBelow, IsChosen, IsImage, IsSite, KeptOutside, Claimed, Lists, One, Log, Mark, Open, Place, Second, Seen, Site, Slot, Spot, SpotLists, FamilyTable, Table, Tale, Version, covers, gate_of, greatest_seen, is_in, is_majority, is_none, is_written, place_at, place_on, shows, site_area, slice_at, spot_on, spot_seen, spots_seen, start, table_at}
-use Rattle.mdv_standing.specs.Matching.{is_set, lists_of, spot_in, spots_of, tables_of, version_at}
+use Rattle.mdv_standing.specs.Matching.{Matches, is_set, lists_of, spot_in, spots_of, tables_of, version_at}
 use Rattle.mdv_standing.specs.Worlds.{IsWorld, HasClaimed}
 use Rattle.mdv_standing.specs.Standing.{Covers, Stands}
 use Rattle.mdv_standing.specs.Laws.{FoundHolds, HasNone, ShowsNoTable}
@@ -25,6 +27,24 @@ use Rattle.mdv_standing.proofs.Reaching.{reached_more, standing}
 use Rattle.mdv_standing.proofs.Voting.{all_that, below, not_older, numbered}
 use Rattle.mdv_standing.proofs.Following.{matches_follow}
 use Rattle.mdv_standing.proofs.Adopting.{claim_is, draws}
+
+-- a database without a table, of which no place is known
+pub matches_empty : (site : Site) (log : Log) (w : Core) → log.family ≡ [] → w.set ≡ is_set site.key → w.family ≡ [] → w.places ≡ [] → w.floor ≡ 0 → w.deleted ≡ None → Matches site log w
+matches_empty site log w empty kind none places floor there =
+    let long : length w.family ≡ 0 = ap length none in
+    record {
+      kind = kind;
+      book = λ n. None;
+      as_many = long ∙ sym (ap length empty);
+      each = λ i known. absurd (omega (arith, known, long));
+      answered = λ i known written. absurd (omega (arith, known, long));
+      dropped = λ p i e. absurd (never p i (ap (λ (xs : List SpotState). (place_at xs p).since) (sym places) ∙ e));
+      reused = floor;
+      there = there;
+    }
+  where
+    never : (p : Spot) (i : ℕ) → (place_at [] p).since ≡ Dropped i → ⊥
+    never p i e = cc
 
 module _ (Spells : List ℕ → Table → Type 0) (site : Site) (identity : Identity) where
   pub world_same : (log : Log) (old new : Image) → ((drive block : ℕ) → site_area site drive block ≡ true → new drive block ≡ old drive block)
@@ -46,16 +66,7 @@ module _ (Spells : List ℕ → Table → Type 0) (site : Site) (identity : Iden
   pub world_none : (image : Image) → HasNone Spells site identity image → IsWorld Spells site identity empty_log (start (is_set site.key)) image
   world_none image none = record {
     reached = ([], tt, refl);
-    matches = record {
-      kind = refl;
-      book = λ n. None;
-      as_many = refl;
-      each = λ i known. absurd (omega (arith, known));
-      answered = λ i known written. absurd (omega (arith, known));
-      dropped = λ p i e. absurd (cc (e));
-      reused = refl;
-      there = refl;
-    };
+    matches = matches_empty site empty_log (start (is_set site.key)) refl refl refl refl refl refl;
     shows = record {
       each = λ line k first head own. absurd (none line k first head own);
       only = λ p place holds. absurd (false≢true holds);

@@ -8,3 +8,4 @@ pub mod Adopting
 pub mod Taking
 pub mod Committing
 pub mod Lawful
+pub mod Creating

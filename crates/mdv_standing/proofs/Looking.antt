@@ -33,7 +33,7 @@ of_drives (d ∷ ds) lost =
     ]
 
 -- no table is below the first
-clean_one : (lost : List DriveNo) (x : SpotState) → is_clean_at 0 lost x ≡ true
+pub clean_one : (lost : List DriveNo) (x : SpotState) → is_clean_at 0 lost x ≡ true
 clean_one lost x = or_right (not (x.holds && is_up lost x.spot)) (x.spot.mediator || not (shows_below 0 x.newest)) (or_right x.spot.mediator (not (shows_below 0 x.newest)) (by x.newest))
   where
     by : (o : Option ℕ) → not (shows_below 0 o) ≡ true

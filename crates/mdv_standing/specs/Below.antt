@@ -1,5 +1,6 @@
 -- The words of the crates below in which this crate speaks, so that a file of it needs one line of import.
 pub use Rattle.mdv_base.specs.Mark.{IsBelow}
+pub use Rattle.mdv_base.specs.declared.drive.DriveNo.{DriveNo}
 pub use Rattle.mdv_base.specs.declared.mark.Identity.{Identity}
 pub use Rattle.mdv_base.specs.declared.mark.Mark.{Mark}
 pub use Rattle.mdv_base.specs.declared.name.Key.{Key}
@@ -12,13 +13,13 @@ pub use Rattle.mdv_name.specs.declared.slice_lines.SliceLine.{SliceLine}
 pub use Rattle.mdv_quorum.specs.May.{MayAll}
 pub use Rattle.mdv_quorum.specs.World.{after_all, last_table, start}
 pub use Rattle.mdv_quorum.specs.declared.event.Event.{Event}
-pub use Rattle.mdv_quorum.specs.declared.event.Event.TheVariants.{Back, Claimed, Crash, Lists as NextLists, Lose, Read, Slotted, Told}
+pub use Rattle.mdv_quorum.specs.declared.event.Event.TheVariants.{Back, Claimed, Crash, Formatted, Lists as NextLists, Lose, Read, Slotted, Told}
 pub use Rattle.mdv_quorum.specs.declared.event.SlotEnd.TheVariants.{Closed as LeftClosed, Holds as Filled}
 pub use Rattle.mdv_quorum.specs.declared.machine.Core.{Core}
 pub use Rattle.mdv_quorum.specs.declared.machine.Stage.{Stage}
-pub use Rattle.mdv_quorum.specs.declared.machine.Stage.TheVariants.{Claiming, Reading, Ready, Writing}
+pub use Rattle.mdv_quorum.specs.declared.machine.Stage.TheVariants.{Claiming, Creating, Reading, Ready, Writing}
 pub use Rattle.mdv_replica.specs.Form.{IsSpareSlot, gate_of, shows}
-pub use Rattle.mdv_replica.specs.Images.{Claims, Fills, MayClaim, MayFill}
+pub use Rattle.mdv_replica.specs.Images.{Claims, Fills, Formats, MayClaim, MayFill, MayFormat}
 pub use Rattle.mdv_replica.specs.declared.forms.Gate.TheVariants.{Open}
 pub use Rattle.mdv_replica.specs.declared.forms.Master.{Master}
 pub use Rattle.mdv_replica.specs.declared.replica.Head.{Head}
@@ -28,10 +29,12 @@ pub use Rattle.mdv_shelf.specs.Area.{Area, AreApart, KeptOutside}
 pub use Rattle.mdv_shelf.specs.Everywhere.{Everywhere, Image, Leaves}
 pub use Rattle.mdv_shelf.specs.Tale.{IsImage, Tale}
 pub use Rattle.mdv_shown.specs.Choice.{HaveRead, IsChosen, Seen, greatest_seen, spot_seen, spots_seen}
-pub use Rattle.mdv_shown.specs.Found.{IsOwn, IsOwnAt}
+pub use Rattle.mdv_shown.specs.Formats.{IsFormat, master_on}
+pub use Rattle.mdv_shown.specs.Found.{IsInChain, IsOwn, IsOwnAt}
 pub use Rattle.mdv_shown.specs.Laws.{Reads}
 pub use Rattle.mdv_shown.specs.Shown.{Shows, SlotShows}
 pub use Rattle.mdv_shown.specs.Site.{IsSite, place_on, site_area, spot_on}
+pub use Rattle.mdv_shown.specs.Wipes.{FirstIs, HasFirst}
 pub use Rattle.mdv_shown.specs.declared.site.Site.{Site}
 pub use Rattle.mdv_shown.specs.Steps.{IsAbove, IsBodyOf, last_number}
 pub use Rattle.mdv_store_law.specs.Log.{Log, MayHappen, Version, Writing as WritesLog, Written, log_after}

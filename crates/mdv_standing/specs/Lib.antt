@@ -5,3 +5,4 @@ pub mod Standing
 pub mod Laws
 pub mod Adopting
 pub mod Committing
+pub mod Creating

@@ -1,3 +1,4 @@
+ghost use Rattle.mdv_standing.specs.Creating.{CreationsGo};
 ghost use Rattle.mdv_standing.specs.Committing.{CommitsGo};
 ghost use Rattle.mdv_standing.specs.Adopting.{AdoptionsGo};
 ghost use Rattle.mdv_standing.specs.Laws.{CrashesStand, NewDrivesStand, Frames, FindsHold, NothingHolds};
@@ -36,4 +37,9 @@ pub fn adoptions_go()
 /// What a change makes of the newest table may be written under the next count, and each image goes on showing a world of the log meanwhile.
 pub fn commits_go()
     ensures { CommitsGo }
+{}
+
+/// While a database is created, each image goes on showing a world of its log: by places that are formatted, and the first table that is written.
+pub fn creations_go()
+    ensures { CreationsGo }
 {}
