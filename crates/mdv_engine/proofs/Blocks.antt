@@ -1,7 +1,7 @@
 -- What a read and a write of a volume's blocks come to.
 use Rattle.mdv_engine_law.specs.Line.{Ask, ToDo}
 use Rattle.std.proofs.Common.{◌≡◌, inl, inr, ◌+◌, ℕ, List, [], ◌∷◌, Option, Some, None, Err, refl, sym, ap, ◌∙◌, subst, arith}
-use Rattle.mdv_engine.specs.Below.{Failures, VolId, Refusal, IoFault, Moments, Ends, IsSettled, Settling, Tale, Read, Write, Wrote, Host, IsReady, Memory, AreBlocksAt, CameTo, kept_at, IsPlain, CarriedTo, CarryMoment, Knows}
+use Rattle.mdv_engine.specs.Below.{Failures, VolId, Refusal, IoFault, Moments, Ends, IsSettled, Settling, Tale, Read, Write, Wrote, Host, key_of, IsReady, Memory, AreBlocksAt, CameTo, kept_at, IsPlain, CarriedTo, CarryMoment, Knows}
 use Rattle.mdv_engine.proofs.Judged.{blocks_judged, judged_said, read_judged}
 use Rattle.mdv_shelf.proofs.Moments.{moments_end, moments_none, moments_weaker, ends_both}
 use Rattle.mdv_engine_law.specs.Commands as came
@@ -68,11 +68,11 @@ torn_of shelf old new engine volume at value r written is =
 -- one block that is written
 module _ (host : Host) (sizes : List ℕ) (ready : IsReady host sizes) (memory : Memory) (well : IsWell host memory) (volume : VolId) (at : ℕ) (value : List ℕ) (a b : Option Tale) where
   abbrev wrote : Ask
-  wrote = ToDo (Wrote volume at (value ∷ []))
+  wrote = ToDo (Wrote (key_of host) volume at (value ∷ []))
 
   module _ (block : ℕ) (there : AreBlocksAt host memory volume at 1 block) (free : blocks_refusal memory.opened volume (at + 1) ≡ None) (settling : Moments (Settling 0 block (value ∷ [])) a b) where
     pub write_moments : Moments (CarryMoment host wrote memory) a b
-    write_moments = moments_weaker (Settling 0 block (value ∷ [])) (CarryMoment host wrote memory) a b (λ t m s. writing_moment host sizes ready memory volume at block (value ∷ []) (omega arith) there t m s (stays_in_volume host sizes ready memory volume at 1 block (omega arith) there well.table t m s.outside)) settling
+    write_moments = moments_weaker (Settling 0 block (value ∷ [])) (CarryMoment host wrote memory) a b (λ t m s. writing_moment host sizes ready memory well.sound volume at block (value ∷ []) (omega arith) there t m s (stays_in_volume host sizes ready memory volume at 1 block (omega arith) there well.table t m s.outside)) settling
 
     -- it is on the disk
     module _ (settled : Ends (λ t u. IsSettled 0 block (value ∷ []) u) a b) where
@@ -84,7 +84,7 @@ module _ (host : Host) (sizes : List ℕ) (ready : IsReady host sizes) (memory :
           (let end = both t start in (end.0, end.1, λ known. came.done calm free (block, there, refl, refl, are_put t end.0 block (value ∷ []) end.2.0 end.2.1)))
 
       pub written_carried : Ends (CarriedTo host wrote memory accepted memory) a b
-      written_carried t start = (let end = both t start in (end.0, end.1, wrote_blocks host sizes ready memory volume at block (value ∷ []) (omega arith) there t end.0 end.2.0 end.2.1))
+      written_carried t start = (let end = both t start in (end.0, end.1, wrote_blocks host sizes ready memory well.sound volume at block (value ∷ []) (omega arith) there t end.0 end.2.0 end.2.1))
 
     -- a call on the drive failed
     pub torn_line : (failures : Failures) → failures.some → Ends (λ t u. Knows host memory t → CameTo failures host (kept_at memory t) (Write volume at value) (refusing IoFault) (kept_at memory u)) a b
@@ -93,7 +93,7 @@ module _ (host : Host) (sizes : List ℕ) (ready : IsReady host sizes) (memory :
 
     pub torn_carried : Ends (CarriedTo host wrote memory (refusing IoFault) memory) a b
     torn_carried t start =
-        (let end = moments_end (Settling 0 block (value ∷ [])) a b settling t start in (end.0, end.1, wrote_some host sizes ready memory volume at block (value ∷ []) (omega arith) there t end.0 end.2))
+        (let end = moments_end (Settling 0 block (value ∷ [])) a b settling t start in (end.0, end.1, wrote_some host sizes ready memory well.sound volume at block (value ∷ []) (omega arith) there t end.0 end.2))
 
   -- a write that was refused: the volume has no such block, or a call on the drive failed
   pub record IsUnwritten (failures : Failures) (r : Refusal) : Type 0 where

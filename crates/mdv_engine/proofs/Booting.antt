@@ -39,7 +39,7 @@ module _ (host : Host) (sizes : List ℕ) (ready : IsReady host sizes) (at : Pla
         → Ends (BootedTo host (booted (Some newest) begun)) a b
     adopted_booted quiet is synced goes =
         ends_both _ _ _ a b
-        (λ t u one two. booted_adopted host t u (quiet_here host sizes ready at at_is t u one.0) one.0.quiet (to_host (λ s. IsSynced s.at.drive.0 u) one.1) begun newest (to_host (λ s. IsOpened s newest u) two.0.1) (to_host (λ s. GoesOnTo s (IsNewestIn newest) t u) two.1))
+        (λ t u one two. booted_adopted host t u (quiet_here host sizes ready at at_is t u one.0) one.0.quiet (to_host (λ s. IsSynced s.at.drive.0 u) one.1) begun sizes ready newest (to_host (λ s. IsOpened s newest u) two.0.1) (to_host (λ s. GoesOnTo s (IsNewestIn newest) t u) two.1))
         (ends_both (IsQuiet at) (λ t u. IsSynced at.drive.0 u) (λ t u. IsQuiet at t u × IsSynced at.drive.0 u) a b (λ t u q s. (q, s)) (moments_end (IsQuiet at) a b quiet) synced)
         (ends_both (λ t u. IsAdopted site (last t at.drive.0) newest u × IsOpened site newest u) (GoesOnTo site (IsNewestIn newest)) (λ t u. (IsAdopted site (last t at.drive.0) newest u × IsOpened site newest u) × GoesOnTo site (IsNewestIn newest) t u) a b (λ t u q s. (q, s)) is goes)
 

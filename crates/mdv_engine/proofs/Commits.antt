@@ -1,7 +1,7 @@
 -- What a commit of the open database answers and leaves, told of the host, by the answer of the database.
 use Rattle.mdv_engine_law.specs.Line.{ToDo}
 use Rattle.std.proofs.Common.{◌≡◌, Option, Some, refl, sym, subst, ap, ◌∙◌}
-use Rattle.mdv_engine.specs.Below.{Failures, VolId, SliceName, CameTo, Refusal, Ends, Tale, Change, Newest, Changed, Answer, Host, Memory, kept_at, CarriedTo, Knows}
+use Rattle.mdv_engine.specs.Below.{Failures, VolId, SliceName, CameTo, Refusal, Ends, Tale, Change, Newest, Changed, Answer, Host, key_of, Memory, kept_at, CarriedTo, Knows}
 use Rattle.mdv_table.specs.declared.change.Change.TheVariants as change
 use Rattle.mdv_words.specs.declared.command.Command.TheVariants.{MakeStripe}
 use Rattle.mdv_engine_law.specs.Answers.{refusing}
@@ -25,7 +25,7 @@ module _ (host : Host) (memory : Memory) (volume : VolId) (slice : SliceName) wh
     Committed failures answer after = Ends (λ t u. Knows host memory t → CameTo failures host (kept_at memory t) (MakeStripe volume slice) answer (kept_at after u)) a b
 
     abbrev Carried : Answer → Memory → Type 0
-    Carried answer after = Ends (CarriedTo host (ToDo (Changed (change.MakeStripe volume slice))) memory answer after) a b
+    Carried answer after = Ends (CarriedTo host (ToDo (Changed (key_of host) (change.MakeStripe volume slice))) memory answer after) a b
 
     -- what the commit answers, and leaves in memory
     commit_as : (failures : Failures) → Committed failures answer after → Committed failures result real
@@ -40,8 +40,8 @@ module _ (host : Host) (memory : Memory) (volume : VolId) (slice : SliceName) wh
 
 -- nothing was done
 module _ (host : Host) (memory : Memory) (change : Change) (a b : Option Tale) (same : b ≡ a) where
-  pub refused_carried : (refusal : Refusal) → Ends (CarriedTo host (ToDo (Changed change)) memory (refusing refusal) memory) a b
-  refused_carried refusal t start = (t, same ∙ start, refused_still host (ToDo (Changed change)) memory memory t refl refl refusal)
+  pub refused_carried : (refusal : Refusal) → Ends (CarriedTo host (ToDo (Changed (key_of host) change)) memory (refusing refusal) memory) a b
+  refused_carried refusal t start = (t, same ∙ start, refused_still host (ToDo (Changed (key_of host) change)) memory memory t refl refl refusal)
 
-  pub spent_carried : Ends (CarriedTo host (ToDo (Changed change)) memory (Over ended.Spent) memory) a b
-  spent_carried t start = (t, same ∙ start, spent_still host (ToDo (Changed change)) memory memory t)
+  pub spent_carried : Ends (CarriedTo host (ToDo (Changed (key_of host) change)) memory (Over ended.Spent) memory) a b
+  spent_carried t start = (t, same ∙ start, spent_still host (ToDo (Changed (key_of host) change)) memory memory t)

@@ -1,7 +1,7 @@
 -- What a commit of the host's next table leaves, told of the host.
 use Rattle.mdv_engine_law.specs.Line.{ToDo}
 use Rattle.std.proofs.Common.{◌≡◌, ◌≤◌, ◌<◌, ◌+◌, ◌^◌, ◌++◌, inl, inr, ℕ, Bool, true, false, List, [], ◌∷◌, length, Option, Some, None, refl, sym, subst, ap, ◌∙◌, arith}
-use Rattle.mdv_engine.specs.Below.{Failures, VolId, SliceName, Refusal, ReplicaFull, OutOfMemory, place_of, Geometry, record_text, PlaceAt, Moments, Ends, Tale, Change, MakeStripe, Table, IsOfGeometry, IsWithNewest, Log, IsMade, NoCreation, Site, Newest, Anything, GoesFrom, IsOpened, next_newest, Changed, IsCommitted, IsQuiet, MayCommit, Answer, Host, IsReady, site_of, Memory, CameTo, Answer, kept_at, record_room, IsPlain, CarriedTo, CarryMoment, Knows}
+use Rattle.mdv_engine.specs.Below.{Failures, VolId, SliceName, Refusal, ReplicaFull, OutOfMemory, place_of, Geometry, record_text, PlaceAt, KeptOutside, Moments, Ends, Tale, told, area_of, Change, MakeStripe, Table, IsOfGeometry, IsWithNewest, Log, IsMade, NoCreation, Site, Newest, Anything, GoesFrom, IsOpened, next_newest, Changed, IsCommitted, IsQuiet, MayCommit, Answer, Host, IsReady, IsSound, key_of, site_of, Memory, CameTo, Answer, kept_at, record_room, IsPlain, CarriedTo, CarryMoment, Knows}
 use Rattle.mdv_shelf.proofs.Moments.{moments_both, moments_weaker, moments_end, some_is, ends_both}
 use Rattle.mdv_words.specs.declared.command.Command.TheVariants as command
 use Rattle.mdv_engine_law.specs.Answers.{accepted, refusing}
@@ -118,7 +118,20 @@ next_of host memory change next newest opened is = subst (λ (n : Newest). IsCha
 is_made : (host : Host) (newest : Newest) (change : Change) (next : Table) → IsChanging host newest change next → IsMade host.drives (Some change) newest.table next
 is_made host newest change next is = ((is.allowed, ap (λ (t : Table). t.plan) is.is), ap (λ (t : Table). t.status) is.is)
 
-module _ (host : Host) (sizes : List ℕ) (ready : IsReady host sizes) (at : PlaceAt) (at_is : at ≡ place_of host.home) (memory : Memory) (change : Change) (next : Table)
+-- whichever change it is
+module _ (host : Host) (sizes : List ℕ) (ready : IsReady host sizes) (memory : Memory) (sound : IsSound memory) (newest : Newest) (opened : memory.opened ≡ Some newest) (next : Table) (placed : IsTableOf host newest.blocks next) (t m : Tale)
+    (kept : KeptOutside (area_of (site_of host)) t m) where
+  moment_of : (change : Change) → IsMade host.drives (Some change) newest.table next → told m ≡ told t → Commits host newest change Anything t m → CarryMoment host (ToDo (Changed (key_of host) change)) memory t m
+  moment_of (MakeStripe volume slice) made quiet goes = changing_moment host sizes ready memory sound newest opened volume slice next made placed t m kept quiet goes
+
+  done_of : (change : Change) → IsMade host.drives (Some change) newest.table next → (IsOpened (site_of host) newest t → IsOpened (site_of host) (next_newest newest next) m) → Commits host newest change (IsCommittedTo newest change next) t m
+      → CarriedTo host (ToDo (Changed (key_of host) change)) memory accepted (record memory { opened = Some (next_newest newest next) }) t m
+  done_of (MakeStripe volume slice) made opens goes = changed host sizes ready memory sound newest opened volume slice next made placed t m kept (record memory { opened = Some (next_newest newest next) }) refl refl opens goes
+
+  lost_of : (change : Change) → IsMade host.drives (Some change) newest.table next → (after : Memory) → Commits host newest change Anything t m → CarriedTo host (ToDo (Changed (key_of host) change)) memory (Over (ended.Lost 0 1)) after t m
+  lost_of (MakeStripe volume slice) made after goes = changed_or_lost host sizes ready memory sound newest opened volume slice next made placed t m kept 0 1 after goes
+
+module _ (host : Host) (sizes : List ℕ) (ready : IsReady host sizes) (at : PlaceAt) (at_is : at ≡ place_of host.home) (memory : Memory) (sound : IsSound memory) (change : Change) (next : Table)
     (newest : Newest) (opened : memory.opened ≡ Some newest) (changed_is : IsChanging host newest change next) (placed : IsTableOf host newest.blocks next) where
   abbrev site : Site
   site = told_site host sizes ready at at_is
@@ -145,9 +158,9 @@ module _ (host : Host) (sizes : List ℕ) (ready : IsReady host sizes) (at : Pla
       record { es = went.es; course = went.course; come = went.come; stands = went.stands; after = (went.after.is_newest, λ other same. went.after.tellable other same) }
 
   module _ (a b : Option Tale) (quiet : Moments (IsQuiet at) a b) where
-    pub changing_moments : Moments (Goes Anything) a b → Moments (CarryMoment host (ToDo (Changed change)) memory) a b
-    changing_moments goes = moments_weaker _ (CarryMoment host (ToDo (Changed change)) memory) a b
-        (λ t m both. changing_moment host memory newest opened change t m (quiet_here host sizes ready at at_is t m both.0) both.0.quiet (commits Anything t m both.1))
+    pub changing_moments : Moments (Goes Anything) a b → Moments (CarryMoment host (ToDo (Changed (key_of host) change)) memory) a b
+    changing_moments goes = moments_weaker _ (CarryMoment host (ToDo (Changed (key_of host) change)) memory) a b
+        (λ t m both. moment_of host sizes ready memory sound newest opened next placed t m (quiet_here host sizes ready at at_is t m both.0) change (is_made host newest change next changed_is) both.0.quiet (commits Anything t m both.1))
         (moments_both (IsQuiet at) (Goes Anything) a b quiet goes)
 
     abbrev pub Opens : Tale → Tale → Type 0
@@ -157,23 +170,23 @@ module _ (host : Host) (sizes : List ℕ) (ready : IsReady host sizes) (at : Pla
     opens_here t u opens known =
         to_host (λ s. MayCommit s newest (Some change) next t → IsOpened s (next_newest newest next) u) opens (may t (opened_has memory newest (λ n. IsOpened (site_of host) n t) opened known.opened))
 
-    pub committed_carried : Ends Opens a b → Ends (Goes (IsCommitted newest (Some change) next)) a b → Ends (CarriedTo host (ToDo (Changed change)) memory accepted with_next) a b
+    pub committed_carried : Ends Opens a b → Ends (Goes (IsCommitted newest (Some change) next)) a b → Ends (CarriedTo host (ToDo (Changed (key_of host) change)) memory accepted with_next) a b
     committed_carried opens goes =
         ends_both _ _ _ a b
-        (λ t u q two. changed host memory newest opened change t u (quiet_here host sizes ready at at_is t u q) next with_next refl
+        (λ t u q two. done_of host sizes ready memory sound newest opened next placed t u (quiet_here host sizes ready at at_is t u q) change (is_made host newest change next changed_is)
         (λ now. to_host (λ s. MayCommit s newest (Some change) next t → IsOpened s (next_newest newest next) u) two.0 (may t now)) (commits_to t u two.1))
         (moments_end (IsQuiet at) a b quiet)
         (ends_both Opens (Goes (IsCommitted newest (Some change) next)) (λ t u. Opens t u × Goes (IsCommitted newest (Some change) next) t u) a b (λ t u o g. (o, g)) opens goes)
 
     -- a call on the drive failed
-    pub lost_carried : (after : Memory) → Moments (Goes Anything) a b → Ends (CarriedTo host (ToDo (Changed change)) memory (Over (ended.Lost 0 1)) after) a b
+    pub lost_carried : (after : Memory) → Moments (Goes Anything) a b → Ends (CarriedTo host (ToDo (Changed (key_of host) change)) memory (Over (ended.Lost 0 1)) after) a b
     lost_carried after goes =
-        ends_both (IsQuiet at) (Goes Anything) (CarriedTo host (ToDo (Changed change)) memory (Over (ended.Lost 0 1)) after) a b
-        (λ t u q g. changed_or_lost host memory newest opened change t u (quiet_here host sizes ready at at_is t u q) 0 1 after (commits Anything t u g))
+        ends_both (IsQuiet at) (Goes Anything) (CarriedTo host (ToDo (Changed (key_of host) change)) memory (Over (ended.Lost 0 1)) after) a b
+        (λ t u q g. lost_of host sizes ready memory sound newest opened next placed t u (quiet_here host sizes ready at at_is t u q) change (is_made host newest change next changed_is) after (commits Anything t u g))
         (moments_end (IsQuiet at) a b quiet) (moments_end (Goes Anything) a b goes)
 
 -- what the making of a stripe comes to
-module _ (host : Host) (sizes : List ℕ) (ready : IsReady host sizes) (at : PlaceAt) (at_is : at ≡ place_of host.home) (memory : Memory) (volume : VolId) (slice : SliceName) (next : Table)
+module _ (host : Host) (sizes : List ℕ) (ready : IsReady host sizes) (at : PlaceAt) (at_is : at ≡ place_of host.home) (memory : Memory) (sound : IsSound memory) (volume : VolId) (slice : SliceName) (next : Table)
     (newest : Newest) (opened : memory.opened ≡ Some newest) (changed_is : IsChanging host newest (MakeStripe volume slice) next) (placed : IsTableOf host newest.blocks next) where
   abbrev stripe : Change
   stripe = MakeStripe volume slice
@@ -193,10 +206,10 @@ module _ (host : Host) (sizes : List ℕ) (ready : IsReady host sizes) (at : Pla
   -- it was committed
   module _ (a b : Option Tale) (quiet : Moments (IsQuiet at) a b) (fits : length (record_text next) ≤ record_room newest) where
     abbrev OpensHere : Tale → Tale → Type 0
-    OpensHere = Opens host sizes ready at at_is memory stripe next newest opened changed_is placed a b quiet
+    OpensHere = Opens host sizes ready at at_is memory sound stripe next newest opened changed_is placed a b quiet
 
     opens_so : (t u : Tale) → OpensHere t u → Knows host memory t → IsOpened (site_of host) (next_newest newest next) u
-    opens_so = opens_here host sizes ready at at_is memory stripe next newest opened changed_is placed a b quiet
+    opens_so = opens_here host sizes ready at at_is memory sound stripe next newest opened changed_is placed a b quiet
 
     pub committed_answer : (failures : Failures) → failures.none → newest.mark.count + 1 < 2 ^ 63 → Ends OpensHere a b → Ends (Comes failures accepted after_it) a b
     committed_answer failures calm less opens = ends_both (IsQuiet at) OpensHere (Comes failures accepted after_it) a b

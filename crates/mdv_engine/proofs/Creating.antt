@@ -2,7 +2,7 @@
 use Rattle.mdv_engine_law.specs.Line.{ToDo}
 use Rattle.mdv_engine_law.specs.Commands as came
 use Rattle.std.proofs.Common.{◌≡◌, ◌≤◌, ◌+◌, ℕ, Bool, false, List, Option, Some, None, refl, subst, ap, ◌∙◌}
-use Rattle.mdv_engine.specs.Below.{Failures, SliceName, Create, Identity, IoFault, OutOfMemory, place_of, PlaceAt, Moments, Ends, Tale, IsCreated, Log, is_firm, Site, Newest, Anything, GoesMaking, IsOpened, ShowsNothing, Created, IsQuiet, IsSafe, first_newest, first_table, Host, IsReady, site_of, identity_of, Memory, CameTo, IsAllowed, kept_at, CarriedTo, CarryMoment, Knows}
+use Rattle.mdv_engine.specs.Below.{Failures, SliceName, Create, Identity, IoFault, OutOfMemory, place_of, PlaceAt, Moments, Ends, Tale, IsCreated, Log, is_firm, Site, Newest, Anything, GoesMaking, IsOpened, ShowsNothing, Created, IsQuiet, IsSafe, first_newest, first_table, Host, IsReady, key_of, site_of, identity_of, Memory, CameTo, IsAllowed, kept_at, CarriedTo, CarryMoment, Knows}
 use Rattle.mdv_shelf.proofs.Moments.{moments_both, moments_weaker, moments_end, ends_both}
 use Rattle.mdv_engine_law.specs.Answers.{accepted, refusing}
 use Rattle.mdv_engine_law.specs.declared.answer.Answer.TheVariants.{Over}
@@ -39,9 +39,9 @@ module _ (host : Host) (sizes : List ℕ) (ready : IsReady host sizes) (at : Pla
   makes : (After : Log → Type 0) (t m : Tale) → Goes After t m → Makes host memory After t m
   makes After t m goes = to_host (λ s. ShowsNothing s t → GoesMaking s identity After t m) goes
 
-  pub making_moments : Moments (Goes Anything) a b → Moments (CarryMoment host (ToDo Created) memory) a b
-  making_moments goes = moments_weaker _ (CarryMoment host (ToDo Created) memory) a b
-      (λ t m both. making_moment host memory room none up t m (quiet_here host sizes ready at at_is t m both.0) both.0.quiet (makes Anything t m both.1))
+  pub making_moments : Moments (Goes Anything) a b → Moments (CarryMoment host (ToDo (Created (key_of host))) memory) a b
+  making_moments goes = moments_weaker _ (CarryMoment host (ToDo (Created (key_of host))) memory) a b
+      (λ t m both. making_moment host sizes ready memory room none up t m (quiet_here host sizes ready at at_is t m both.0) both.0.quiet (makes Anything t m both.1))
       (moments_both (IsQuiet at) (Goes Anything) a b quiet goes)
 
   -- it was made
@@ -54,10 +54,10 @@ module _ (host : Host) (sizes : List ℕ) (ready : IsReady host sizes) (at : Pla
         ))
         (moments_end (IsQuiet at) a b quiet) safe
 
-  pub made_carried : (newest : Newest) (next : Memory) → newest ≡ first_newest at → next ≡ with_new host memory → Ends (λ t u. IsOpened site newest u) a b → Ends (Goes (IsCreated site identity newest.table)) a b → Ends (CarriedTo host (ToDo Created) memory accepted next) a b
+  pub made_carried : (newest : Newest) (next : Memory) → newest ≡ first_newest at → next ≡ with_new host memory → Ends (λ t u. IsOpened site newest u) a b → Ends (Goes (IsCreated site identity newest.table)) a b → Ends (CarriedTo host (ToDo (Created (key_of host))) memory accepted next) a b
   made_carried newest next is next_is opened goes =
       ends_both _ _ _ a b
-      (λ t u q two. made host memory room none up t u (quiet_here host sizes ready at at_is t u q) (first_table (site_of host).at.place) next (ap (λ (m : Memory). m.opened) next_is)
+      (λ t u q two. made host sizes ready memory room none up t u (quiet_here host sizes ready at at_is t u q) (first_table (site_of host).at.place) next refl (ap (λ (m : Memory). m.opened) next_is)
       (λ nothing. to_host (λ s. IsOpened s (first_newest s.at) u) (subst (λ (n : Newest). IsOpened site n u) is two.0))
       (to_host (λ s. ShowsNothing s t → GoesMaking s identity (IsCreated s identity (first_table s.at.place)) t u) (subst (λ (n : Newest). Goes (IsCreated site identity n.table) t u) is two.1)))
       (moments_end (IsQuiet at) a b quiet)
@@ -74,10 +74,10 @@ module _ (host : Host) (sizes : List ℕ) (ready : IsReady host sizes) (at : Pla
         (λ t u q n. λ known. came.faulted so free refl (uncreated host memory (begun memory) t u (quiet_here host sizes ready at at_is t u q) refl (to_host (λ s. ShowsNothing s t → ShowsNothing s u) n (known.nothing none up))))
         (moments_end (IsQuiet at) a b quiet) nothing
 
-    pub unmade_carried : Ends (Goes (λ lg. is_firm lg ≡ false)) a b → Ends (CarriedTo host (ToDo Created) memory (refusing IoFault) (begun memory)) a b
+    pub unmade_carried : Ends (Goes (λ lg. is_firm lg ≡ false)) a b → Ends (CarriedTo host (ToDo (Created (key_of host))) memory (refusing IoFault) (begun memory)) a b
     unmade_carried goes =
         ends_both _ _ _ a b
-        (λ t u q two. unmade host memory room none up t u (quiet_here host sizes ready at at_is t u q) (begun memory) none (to_host (λ s. ShowsNothing s t → ShowsNothing s u) two.0) (makes (λ lg. is_firm lg ≡ false) t u two.1))
+        (λ t u q two. unmade host sizes ready memory room none up t u (quiet_here host sizes ready at at_is t u q) (begun memory) none (to_host (λ s. ShowsNothing s t → ShowsNothing s u) two.0) (makes (λ lg. is_firm lg ≡ false) t u two.1))
         (moments_end (IsQuiet at) a b quiet)
         (ends_both (λ t u. ShowsNothing site t → ShowsNothing site u) (Goes (λ lg. is_firm lg ≡ false)) (λ t u. (ShowsNothing site t → ShowsNothing site u) × Goes (λ lg. is_firm lg ≡ false) t u) a b (λ t u o g. (o, g)) nothing goes)
 
@@ -92,10 +92,10 @@ module _ (host : Host) (sizes : List ℕ) (ready : IsReady host sizes) (at : Pla
   pub lost_leaves : Ends (λ _ u. ShowsReplica site identity u) a b → Ends (λ _ u. ShowsReplica (site_of host) identity u) a b
   lost_leaves shows t start = (let end = shows t start in (end.0, end.1, to_host (λ x. ShowsReplica x identity end.0) end.2))
 
-  pub lost_carried : (next : Memory) → Moments (Goes Anything) a b → Ends (CarriedTo host (ToDo Created) memory (Over (ended.Lost 0 1)) next) a b
+  pub lost_carried : (next : Memory) → Moments (Goes Anything) a b → Ends (CarriedTo host (ToDo (Created (key_of host))) memory (Over (ended.Lost 0 1)) next) a b
   lost_carried next goes =
-      ends_both (IsQuiet at) (Goes Anything) (CarriedTo host (ToDo Created) memory (Over (ended.Lost 0 1)) next) a b
-      (λ t u q g. made_or_lost host memory room none up t u (quiet_here host sizes ready at at_is t u q) 0 1 next (makes Anything t u g))
+      ends_both (IsQuiet at) (Goes Anything) (CarriedTo host (ToDo (Created (key_of host))) memory (Over (ended.Lost 0 1)) next) a b
+      (λ t u q g. made_or_lost host sizes ready memory room none up t u (quiet_here host sizes ready at at_is t u q) 0 1 next (makes Anything t u g))
       (moments_end (IsQuiet at) a b quiet) (moments_end (Goes Anything) a b goes)
 
 -- memory was wanting
@@ -103,5 +103,5 @@ module _ (host : Host) (memory : Memory) (a b : Option Tale) (same : b ≡ a) wh
   pub unbegun_creation : (slice : SliceName) (force : Bool) → IsAllowed (record { host = host; memory = memory }) (Create slice force) → (failures : Failures) → failures.none → Ends (λ t u. Knows host memory t → CameTo failures host (kept_at memory t) (Create slice force) (refusing OutOfMemory) (kept_at (begun memory) u)) a b
   unbegun_creation slice force free failures calm t start = (t, same ∙ start, λ known. came.wanting calm refl (free, record { memory = refl; content = λ drive block. refl }))
 
-  pub unbegun_carried : Ends (CarriedTo host (ToDo Created) memory (refusing OutOfMemory) (begun memory)) a b
-  unbegun_carried t start = (t, same ∙ start, refused_still host (ToDo Created) memory (begun memory) t refl refl OutOfMemory)
+  pub unbegun_carried : Ends (CarriedTo host (ToDo (Created (key_of host))) memory (refusing OutOfMemory) (begun memory)) a b
+  unbegun_carried t start = (t, same ∙ start, refused_still host (ToDo (Created (key_of host))) memory (begun memory) t refl refl OutOfMemory)

@@ -5,7 +5,7 @@ use Rattle.mdv_shelf.proofs.Moments.{ends_both}
 use Rattle.mdv_words.specs.declared.command.Command.{Command}
 use Rattle.mdv_shelf.specs.Made.{Made}
 use Rattle.mdv_engine_law.specs.Line.{contents}
-use Rattle.mdv_engine.specs.Below.{Failures, Refusal, Ends, Tale, Deed, Created, Answer, Ended, Host, Memory, kept_at, unbooted, asked_by, CameTo, IsRebooted, adopted, empty, down, lost, spent, wanting, IsPlain, BootedTo, CarriedTo, CarryEnd, Knows}
+use Rattle.mdv_engine.specs.Below.{Failures, Key, Refusal, Ends, Tale, Deed, Created, Answer, Ended, Host, Memory, kept_at, unbooted, asked_by, CameTo, IsRebooted, adopted, empty, down, lost, spent, wanting, IsPlain, BootedTo, CarriedTo, CarryEnd, Knows}
 use Rattle.mdv_engine_law.specs.Answers.{accepted, refusing}
 use Rattle.mdv_engine_law.specs.Replies.{HasAnswerCause}
 use Rattle.mdv_engine_law.specs.declared.answer.Answer.TheVariants.{Said, Over}
@@ -17,12 +17,12 @@ use Rattle.mdv_engine.specs.Ends.{CommandEnd, HasAnswered, IsBootEnd, LeavesMade
 use Rattle.mdv_engine.specs.Engine.{IsWell}
 
 module _ (failures : Failures) (old : Engine) (command : Command) (answer : Answer) (new : Engine) (a b : Option Tale)
-    (came : Ends (λ t u. Knows old.host old.state t → CameTo failures old.host (kept_at old.state t) command answer (kept_at new.state u)) a b) (carried : Ends (CarriedTo old.host (asked_by command) old.state answer new.state) a b) where
+    (came : Ends (λ t u. Knows old.host old.state t → CameTo failures old.host (kept_at old.state t) command answer (kept_at new.state u)) a b) (carried : Ends (CarriedTo old.host (asked_by old.host command) old.state answer new.state) a b) where
   abbrev Carry : Tale → Tale → Type 0
-  Carry t u = CarryEnd (λ kept x next. CameTo failures old.host kept command x next) old.host (asked_by command) old.state answer new.state t u
+  Carry t u = CarryEnd (λ kept x next. CameTo failures old.host kept command x next) old.host (asked_by old.host command) old.state answer new.state t u
 
   carry_ends : Ends Carry a b
-  carry_ends = ends_both (λ t u. Knows old.host old.state t → CameTo failures old.host (kept_at old.state t) command answer (kept_at new.state u)) (CarriedTo old.host (asked_by command) old.state answer new.state) Carry a b
+  carry_ends = ends_both (λ t u. Knows old.host old.state t → CameTo failures old.host (kept_at old.state t) command answer (kept_at new.state u)) (CarriedTo old.host (asked_by old.host command) old.state answer new.state) Carry a b
       (λ t u one two. record { answered = one; carried = two }) came carried
 
   -- with what is left where the run is over
@@ -36,20 +36,20 @@ module _ (failures : Failures) (old : Engine) (command : Command) (answer : Answ
 -- where something is told
 pub command_ends : (failures : Failures) (old : Engine) (command : Command) (this : Outcome) (new : Engine) (a b : Option Tale)
     → Ends (λ t u. Knows old.host old.state t → CameTo failures old.host (kept_at old.state t) command (Said this) (kept_at new.state u)) a b
-    → Ends (CarriedTo old.host (asked_by command) old.state (Said this) new.state) a b → Ends (CommandEnd failures old command (Said this) new) a b
+    → Ends (CarriedTo old.host (asked_by old.host command) old.state (Said this) new.state) a b → Ends (CommandEnd failures old command (Said this) new) a b
 command_ends failures old command this new a b came carried = other_ends failures old command (Said this) new a b came carried (λ active listed is u. absurd (cc (is)))
 
 -- a refusal before anything was done
 pub refused_answer : (failures : Failures) (ask : Ask) (old : Engine) → IsWell old.host old.state → (r : Refusal) → HasAnswerCause failures (refusing r) → IsPlain r → HasAnswered failures ask old (refusing r) old
-refused_answer failures ask old well r cause plain = record { plain = plain; cause = cause; awake = λ on. absurd on; free = λ on has. absurd on; host = refl; well = well; begun = at_most old.state.begun }
+refused_answer failures ask old well r cause plain = record { plain = plain; cause = cause; free = λ on has. absurd on; host = refl; well = well; begun = at_most old.state.begun }
   where
     at_most : (n : ℕ) → n ≤ n + 1
     at_most n = omega arith
 
 -- a deed that is no creation
-pub no_creation : (deed : Deed) → (deed ≡ Created → ⊥) → Contains (deed ∷ []) Created → ⊥
-no_creation deed other (zero, less, is) = other is
-no_creation deed other (suc n, less, is) = absurd (omega (arith, less))
+pub no_creation : (key : Key) (deed : Deed) → (deed ≡ Created key → ⊥) → Contains (deed ∷ []) (Created key) → ⊥
+no_creation key deed other (zero, less, is) = other is
+no_creation key deed other (suc n, less, is) = absurd (omega (arith, less))
 
 -- a boot that was answered
 pub answered_ends : (failures : Failures) (calls : Made) (host : Host) (old new memory : Memory) (a b : Option Tale) → new ≡ memory

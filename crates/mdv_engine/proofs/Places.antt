@@ -1,5 +1,5 @@
 -- Where the blocks of a volume lie.
-use Rattle.std.proofs.Common.{◌≡◌, inl, inr, ◌≤◌, ◌<◌, ◌+◌, ◌^◌, ℕ, Bool, true, false, List, Option, Some, None, refl, subst, ap, ◌∙◌, Contains, arith}
+use Rattle.std.proofs.Common.{◌≡◌, ◌≤◌, ◌<◌, ◌+◌, ◌^◌, ℕ, Bool, true, false, Option, Some, None, refl, sym, subst, ap, ◌∙◌, Contains, arith}
 use Rattle.std.proofs.lemmas.List.Elements.{All-contains}
 use Rattle.std.proofs.lemmas.Bool.Decides.{nat_tests}
 use Rattle.std.specs.List.{find}
@@ -8,8 +8,10 @@ use Rattle.mdv_base.specs.Order.{first_refusal, where_so}
 use Rattle.mdv_base.specs.declared.refusal.Refusal.TheVariants.{NoSuchVolume, OutOfRange}
 use Rattle.mdv_engine_law.specs.Refusals.{blocks_refusal, has_number, held_past, size_of}
 use Rattle.mdv_engine_law.proofs.Volumes.{find_is, find_none}
-use Rattle.mdv_engine.specs.Below.{AreBlocksAt, VolId, SliceName, IsHomeTable, IsWithin, HasSlice, HasNoSlice, SliceAt, Table, Base, Slice, Volume, VolumeKind, Stripe, IsComponentOn, IsKindOf, IsStripeOf, IsWholeSlice, HasVolume, HasNoVolume, Newest, LiesOn, Host, site_of, Memory, HasVolumeOn, IsSound as IsSoundMemory}
-use Rattle.mdv_shelf.proofs.Blocks.{both_ways}
+use Rattle.mdv_engine.specs.Below.{VolId, SliceName, IsHomeTable, IsWithin, HasSlice, HasNoSlice, SliceAt, Table, Base, Slice, Volume, VolumeKind, Stripe, IsComponentOn, IsKindOf, IsStripeOf, IsWholeSlice, HasVolume, HasNoVolume, Newest, Host, Memory, HasVolumeOn}
+use Rattle.mdv_base.specs.declared.drive.DriveNo.{DriveNo}
+use Rattle.mdv_map.specs.Maps.{Map, run_map}
+use Rattle.mdv_volumes.specs.Tables.{IsBaseMap, IsKindMap}
 use Rattle.mdv_home.proofs.Places.{slices_within}
 use Rattle.mdv_table.specs.declared.volume.Stripe.{Stripe as OneStripe}
 use Rattle.mdv_table.specs.Slices.{IsSound}
@@ -47,21 +49,13 @@ module _ (host : Host) (home : IsHomeTable host.drives host.home) (sound : IsSou
     pub starts : stripe.component.start ≡ 0
     starts = whole.whole.start
 
-    pub lies_on : (volumes : List Volume) → Contains volumes volume → LiesOn (site_of host) volumes volume.number (at.start + stripe.component.start) stripe.component.blocks
-    lies_on volumes has_volume = record {
-      of = volume;
-      has = (has_volume, refl);
-      interlace = stripe.interlace;
-      component = stripe.component;
-      kind = kind_is;
-      slice = slice;
-      on = on_is;
-      at = at;
-      has_slice = has;
-      drive = within.drive;
-      first_is = refl;
-      count_is = refl;
-    }
+    pub lies_on : IsKindMap host.drives volume.kind (run_map 0 (at.start + stripe.component.start) stripe.component.blocks)
+    lies_on = subst (λ (k : VolumeKind). IsKindMap host.drives k map) (sym kind_is) (subst (λ (b : Base). IsBaseMap host.drives stripe.component b map) (sym on_is) (at, has, on_first)) where
+      map : Map
+      map = run_map 0 (at.start + stripe.component.start) stripe.component.blocks
+
+      on_first : map ≡ run_map at.drive.0 (at.start + stripe.component.start) stripe.component.blocks
+      on_first = ap (λ (d : DriveNo). run_map d.0 (at.start + stripe.component.start) stripe.component.blocks) (sym within.drive)
 
     pub ends_within : (at.start + stripe.component.start) + stripe.component.blocks ≤ host.home.drive_blocks
     ends_within = (let zero = starts in let count = counts in let less = within.within in omega arith)
@@ -101,19 +95,5 @@ module _ (host : Host) (memory : Memory) (well : IsWell host memory) (newest : N
         let is : IsTableOf host newest.blocks newest.table = opened_has memory newest (λ n. IsTableOf host n.blocks n.table) opened well.table in
         All-contains (λ (v : Volume). IsKindOf host.drives v.kind) newest.table.plan.volumes volume is.of_geometry.kinds (subst (λ (t : Table). Contains t.plan.volumes volume) table_is has.0)
 
-    pub volume_on : (first blocks : ℕ) → ((volumes : List Volume) → Contains volumes volume → LiesOn (site_of host) volumes volume.number first blocks) → HasVolumeOn host memory number first blocks
-    volume_on first blocks lies = (
-      newest,
-      opened,
-      subst (λ (n : VolId). LiesOn (site_of host) newest.table.plan.volumes n first blocks) has.1 (lies newest.table.plan.volumes (subst (λ (t : Table). Contains t.plan.volumes volume) table_is has.0)),
-    )
-
--- a database is open only where the drive was read
-pub awake_opened : (memory : Memory) (newest : Newest) → IsSoundMemory memory → memory.opened ≡ Some newest → memory.down ≡ false
-awake_opened memory newest sound opened = elim (both_ways memory.down) [
-  | inl down ↦ (let none = sound down in absurd (cc (none, opened)))
-  | inr up ↦ up
-]
-
-pub awake_blocks : (host : Host) (memory : Memory) (volume : VolId) (at count : ℕ) → IsSoundMemory memory → (block : ℕ) → AreBlocksAt host memory volume at count block → memory.down ≡ false
-awake_blocks host memory volume at count sound block there = awake_opened memory there.lies.0 sound there.lies.1
+    pub volume_on : (first blocks : ℕ) → IsKindMap host.drives volume.kind (run_map 0 first blocks) → HasVolumeOn host memory number first blocks
+    volume_on first blocks lies = (newest, opened, record { of = volume; has = (subst (λ (t : Table). Contains t.plan.volumes volume) table_is has.0, has.1); kind = lies })

@@ -12,7 +12,7 @@ pub use Rattle.mdv_database.specs.Commit.{HasCommitCause}
 pub use Rattle.mdv_database.specs.Database.{IsCommitted, IsDrawn, IsLaid, IsOnDrive, IsQuiet, IsSafe, IsSpent, MayCommit}
 pub use Rattle.mdv_database.specs.Database.{first_newest, first_table}
 pub use Rattle.mdv_database.specs.declared.database.CommitFault.{CommitFault}
-pub use Rattle.mdv_engine_law.specs.Home.{IsReady, StaysHome, identity_of, site_of}
+pub use Rattle.mdv_engine_law.specs.Home.{IsReady, StaysHome, identity_of, key_of, site_of}
 pub use Rattle.mdv_engine_law.specs.Commands.{CameTo, IsAllowed}
 pub use Rattle.mdv_engine_law.specs.Line.{AreBlocksAt, HasVolumeOn}
 pub use Rattle.mdv_engine_law.specs.Line.{IsRebooted, IsSound, IsTurnedDown, IsUsedUp, Kept, Memory, adopted, asked_by, blocks_of, down}
@@ -22,7 +22,6 @@ pub use Rattle.mdv_engine_law.specs.Standing.{BootMoment, BootedTo, CarriedTo, C
 pub use Rattle.mdv_engine_law.specs.declared.answer.Answer.{Answer}
 pub use Rattle.mdv_engine_law.specs.declared.answer.Ended.{Ended}
 pub use Rattle.mdv_engine_law.specs.declared.host.Host.{Host}
-pub use Rattle.mdv_history.specs.History.{Changed, Created, Deed, LiesOn, Saw, Wrote}
 pub use Rattle.mdv_home.specs.Home.{line_of, place_of}
 pub use Rattle.mdv_home.specs.Placed.{IsHomeTable, IsWithin}
 pub use Rattle.mdv_name.specs.SliceIndex.{HasNoSlice, HasSlice}
@@ -55,4 +54,6 @@ pub use Rattle.mdv_table.specs.declared.volume.Base.TheVariants.{Slice}
 pub use Rattle.mdv_table.specs.declared.volume.Volume.{Volume}
 pub use Rattle.mdv_table.specs.declared.volume.VolumeKind.{VolumeKind}
 pub use Rattle.mdv_table.specs.declared.volume.VolumeKind.TheVariants.{Stripe}
+pub use Rattle.mdv_volumes.specs.History.{Changed, Created, Deed, Saw, Wrote}
+pub use Rattle.mdv_volumes.specs.Tables.{IsMapOf}
 pub use Rattle.mdv_words.specs.declared.command.Command.TheVariants.{Create, Read, Write}

@@ -6,7 +6,7 @@ use Rattle.mdv_shelf.specs.declared.shelf.Shelf.{Ghosts}
 use Rattle.mdv_words.specs.declared.command.Command.{Command}
 use Rattle.mdv_words.specs.declared.command.Command.TheVariants.{Create, MakeStripe}
 use Rattle.mdv_words.specs.Line as words
-use Rattle.mdv_engine.specs.Below.{Failures, site_of, identity_of, SliceName, VolId, Refusal, IoFault, OutOfMemory, KeptOutside, nowhere, IsSettled, Settling, Tale, last, Change, Table, Created, Answer, Ended, Host, Kept, Memory, kept_at, unbooted, asked_by, blocks_of, AreBlocksAt, CameTo, IsRebooted, IsPlainAnswer, BootedTo, CarryEnd, Executed, Knows, TellMoment, TellsFront, TurnMoment, Turned, text_of}
+use Rattle.mdv_engine.specs.Below.{Failures, key_of, site_of, identity_of, SliceName, VolId, Refusal, IoFault, OutOfMemory, KeptOutside, nowhere, IsSettled, Settling, Tale, last, Change, Table, Created, Answer, Ended, Host, Kept, Memory, kept_at, unbooted, asked_by, blocks_of, AreBlocksAt, CameTo, IsRebooted, IsPlainAnswer, BootedTo, CarryEnd, Executed, Knows, TellMoment, TellsFront, TurnMoment, Turned, text_of}
 use Rattle.mdv_store_law.specs.Site.{Newest}
 use Rattle.mdv_store_law.specs.Standing.{ShowsReplica}
 use Rattle.mdv_shelf.specs.Made.{Made, and_more, made_of}
@@ -20,9 +20,9 @@ use Rattle.mdv_engine_law.specs.declared.answer.Outcome.{Outcome}
 use Rattle.mdv_engine_law.specs.declared.answer.Reply.{Reply}
 use Rattle.mdv_engine_law.specs.declared.answer.Reply.TheVariants as reply
 use Rattle.mdv_engine_law.specs.Replies.{HasAnswerCause, HasCommandCause, IsAccepted, IsLost, IsReplied, IsReplyTo}
-use Rattle.mdv_engine_law.specs.Standing.{IsAwake}
 use Rattle.mdv_engine.specs.declared.engine.Engine.{Engine}
 use Rattle.mdv_engine_law.specs.Efforts.{BootCalls, DoneCalls, FaultCalls, LossCalls, calls_of, wanting_calls}
+use Rattle.mdv_engine_law.specs.Standing.{IsBare}
 use Rattle.mdv_engine_law.specs.Efforts as efforts
 use Rattle.mdv_engine.specs.Counts.{IsQuietRefusal, IsUnlooked}
 use Rattle.mdv_engine.specs.Engine.{HasBootCause, IsNextTable, IsWell, case_at}
@@ -34,7 +34,7 @@ LeavesMade host old other u = Unit {0}
 
 -- a command that was carried out: what it came to and led to, and what it left where the run is over, for a place was lost
 pub record CarriedOut (failures : Failures) (host : Host) (command : Command) (old : Memory) (answer : Answer) (new : Memory) (t u : Tale) : Type 0 where
-  pub carry : CarryEnd (λ kept a next. CameTo failures host kept command a next) host (asked_by command) old answer new t u
+  pub carry : CarryEnd (λ kept a next. CameTo failures host kept command a next) host (asked_by host command) old answer new t u
   pub lost : (active listed : ℕ) → answer ≡ Over (ended.Lost active listed) → LeavesMade host old command u
 
 -- the end of a command
@@ -54,13 +54,12 @@ abbrev pub CreationEnds : {S : Type 0} → Ghosts S → S → S → Engine → A
 CreationEnds shelf from to old answer new =
     (slice : SliceName) (force : Bool) → IsAllowed (case_at old) (Create slice force) → AtEnd shelf (CommandEnd (DriveFailures shelf from to 0) old (Create slice force) answer new) from to
 
--- What an answer says, whatever the shelf tells: its text is a reply's, it has its cause, a deed is accepted only where the last boot read
--- the drive, and a creation only where no database is open; and what the engine keeps.
+-- What an answer says, whatever the shelf tells: its text is a reply's, it has its cause, a creation is accepted only where no database is open and the last boot has read
+-- the drive; and what the engine keeps.
 pub record HasAnswered (failures : Failures) (ask : Ask) (old : Engine) (answer : Answer) (new : Engine) : Type 0 where
   pub plain : IsPlainAnswer answer
   pub cause : HasAnswerCause failures answer
-  pub awake : IsAccepted answer → IsAwake old.state
-  pub free : IsAccepted answer → Contains (deeds ask) Created → old.state.opened ≡ None
+  pub free : IsAccepted answer → Contains (deeds ask) (Created (key_of old.host)) → IsBare old.state
   pub host : new.host ≡ old.host
   pub well : IsWell old.host new.state
   pub begun : new.state.begun ≤ old.state.begun + 1
@@ -88,7 +87,7 @@ CarriesOut host command failures kept answer next = CameTo failures host kept co
 -- nothing was written; and what a command left that lost a place.
 pub record TurnEnd (drive : Failures) (replies : Type 0) (made : Made) (old : Engine) (command : Command) (given : Reply) (new : Engine) (t u : Tale) : Type 0 where
   pub answered : Knows old.host old.state t → Executed drive replies made old.host (words.Exec command) old.state new.state given t u
-  pub turned : IsReplied given → Turned old.host (asked_by command) old.state new.state t u
+  pub turned : IsReplied given → Turned old.host (asked_by old.host command) old.state new.state t u
   pub knows : (IsLost given → ⊥) → Knows old.host old.state t → Knows old.host new.state u
   pub quiet : IsQuietRefusal given → KeptOutside nowhere t u
   pub lost : (active listed : ℕ) → given ≡ reply.Panic active listed → LeavesMade old.host old.state command u

@@ -1,12 +1,12 @@
 ghost use Rattle.std.specs.Prelude.{◌≡◌, ◌<◌, ◌≤◌, ◌+◌, ◌^◌, Bool, false, None};
 ghost use Rattle.mdv_base.specs.declared.drive.SliceName.{SliceName};
 ghost use Rattle.mdv_words.specs.declared.command.Command.TheVariants.{Create};
-ghost use Rattle.mdv_history.specs.History.{Created};
+ghost use Rattle.mdv_volumes.specs.History.{Created};
 ghost use Rattle.mdv_engine.specs.Counts.{IsCommandCounted};
 ghost use Rattle.mdv_engine.specs.Engine.{IsWell, case_at};
 ghost use Rattle.mdv_shelf.specs.Calls.{OnDrive};
 ghost use Rattle.mdv_shelf.specs.Shelves.{AtEachTale, AtEnd, DriveFailures, KeptOn};
-ghost use Rattle.mdv_engine_law.specs.Home.{IsReady};
+ghost use Rattle.mdv_engine_law.specs.Home.{IsReady, key_of};
 ghost use Rattle.mdv_engine_law.specs.Line.{ToDo};
 ghost use Rattle.mdv_engine_law.specs.Refusals.{refusal_of};
 ghost use Rattle.mdv_home.specs.Placed.{IsHomeTable};
@@ -38,9 +38,9 @@ impl Engine {
         requires ready { IsReady self.old.host (S.sizes shelf.old) }
         requires well { IsWell self.old.host self.old.state }
         requires begun { self.old.state.begun + 1 < 2 ^ 32 }
-        ensures moments { AtEachTale S.Shelf (CarryMoment self.old.host (ToDo Created) self.old.state) shelf.old shelf.new }
+        ensures moments { AtEachTale S.Shelf (CarryMoment self.old.host (ToDo (Created (key_of self.old.host))) self.old.state) shelf.old shelf.new }
         ensures end { AtEnd S.Shelf (CommandEnd (DriveFailures S.Shelf shelf.old shelf.new 0) self.old (Create slice force) result self.new) shelf.old shelf.new }
-        ensures answer { HasAnswered (DriveFailures S.Shelf shelf.old shelf.new 0) (ToDo Created) self.old result self.new }
+        ensures answer { HasAnswered (DriveFailures S.Shelf shelf.old shelf.new 0) (ToDo (Created (key_of self.old.host))) self.old result self.new }
         ensures counted { IsCommandCounted S.tale S.calls S.written shelf.old shelf.new (Create slice force) result self.new.state.opened }
         ensures kept { KeptOn S.Shelf shelf.old shelf.new (OnDrive 0) }
     {
@@ -85,9 +85,9 @@ impl Engine {
         requires room { 8208 ≤ self.old.host.home.blocks }
         requires none { self.old.state.opened ≡ None }
         requires up { self.old.state.down ≡ false }
-        ensures moments { AtEachTale S.Shelf (CarryMoment self.old.host (ToDo Created) self.old.state) shelf.old shelf.new }
+        ensures moments { AtEachTale S.Shelf (CarryMoment self.old.host (ToDo (Created (key_of self.old.host))) self.old.state) shelf.old shelf.new }
         ensures end { CreationEnds S.Shelf shelf.old shelf.new self.old result self.new }
-        ensures answer { HasAnswered (DriveFailures S.Shelf shelf.old shelf.new 0) (ToDo Created) self.old result self.new }
+        ensures answer { HasAnswered (DriveFailures S.Shelf shelf.old shelf.new 0) (ToDo (Created (key_of self.old.host))) self.old result self.new }
         ensures counted { (slice : SliceName) (force : Bool) → IsCommandCounted S.tale S.calls S.written shelf.old shelf.new (Create slice force) result self.new.state.opened }
         ensures kept { KeptOn S.Shelf shelf.old shelf.new (OnDrive 0) }
     {

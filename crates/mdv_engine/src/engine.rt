@@ -70,7 +70,7 @@ impl Engine {
         requires well { IsWell self.old.host self.old.state }
         requires begun { self.old.state.begun + 1 < 2 ^ 32 }
         requires form { IsInForm command.now }
-        ensures moments { LineMoments B.Shelf self.old.host (asked_by command.now) self.old.state (CarriesOut self.old.host command.now) bench.old bench.new }
+        ensures moments { LineMoments B.Shelf self.old.host (asked_by self.old.host command.now) self.old.state (CarriesOut self.old.host command.now) bench.old bench.new }
         ensures end { TurnEnds B.Shelf bench.old bench.new self.old command.now result self.new }
         ensures answer { HasReplied (DriveFailures B.Shelf bench.old bench.new 0) (GivingFailed B.Shelf bench.old bench.new) self.old result self.new }
         ensures counted { IsTurnCounted B.Shelf bench.old bench.new command.now result self.new.state.opened }
@@ -109,9 +109,9 @@ impl Engine {
         requires well { IsWell self.old.host self.old.state }
         requires begun { self.old.state.begun + 1 < 2 ^ 32 }
         requires form { IsInForm command.now }
-        ensures moments { AtEachTale S.Shelf (CarryMoment self.old.host (asked_by command.now) self.old.state) shelf.old shelf.new }
+        ensures moments { AtEachTale S.Shelf (CarryMoment self.old.host (asked_by self.old.host command.now) self.old.state) shelf.old shelf.new }
         ensures end { AtEnd S.Shelf (CommandEnd (DriveFailures S.Shelf shelf.old shelf.new 0) self.old command.now result self.new) shelf.old shelf.new }
-        ensures answer { HasAnswered (DriveFailures S.Shelf shelf.old shelf.new 0) (asked_by command.now) self.old result self.new }
+        ensures answer { HasAnswered (DriveFailures S.Shelf shelf.old shelf.new 0) (asked_by self.old.host command.now) self.old result self.new }
         ensures counted { IsCommandCounted S.tale S.calls S.written shelf.old shelf.new command.now result self.new.state.opened }
         ensures kept { KeptOn S.Shelf shelf.old shelf.new (OnDrive 0) }
     {

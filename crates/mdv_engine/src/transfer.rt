@@ -1,18 +1,19 @@
-ghost use Rattle.std.specs.Prelude.{◌≡◌, ◌≤◌, ◌+◌, ◌^◌, ℕ, List, [], ◌∷◌, length, replicate, None, Some, Err, IfOk, IfErr, OnOk, Contains};
+ghost use Rattle.std.specs.Prelude.{◌≡◌, ◌≤◌, ◌+◌, ◌^◌, ℕ, [], ◌∷◌, length, None, Some, Err, IfOk, IfErr, OnOk};
 ghost use Rattle.mdv_home.specs.Placed.{IsHomeTable};
 ghost use Rattle.mdv_status.specs.Values.{values_reply};
-ghost use Rattle.mdv_table.specs.declared.volume.Volume.{Volume as AnyVolume};
 ghost use Rattle.mdv_table.specs.declared.volume.Base.TheVariants.{Slice};
 ghost use Rattle.mdv_table.specs.declared.volume.VolumeKind.TheVariants.{Stripe as AnyStripe};
 ghost use Rattle.mdv_table.specs.Slices.{IsSound};
 ghost use Rattle.mdv_table.specs.Table.{IsKindOf};
 ghost use Rattle.mdv_words.specs.declared.command.Command.TheVariants.{Read, Write};
-ghost use Rattle.mdv_history.specs.History.{LiesOn, Wrote};
+ghost use Rattle.mdv_map.specs.Maps.{run_map};
+ghost use Rattle.mdv_volumes.specs.History.{Wrote};
+ghost use Rattle.mdv_volumes.specs.Tables.{IsKindMap};
 ghost use Rattle.mdv_engine.specs.Counts.{HasReadCounts, IsCommandCounted};
 ghost use Rattle.mdv_engine.specs.Engine.{HasBlocksCause, HasReadCause, IsCount, IsWell};
 ghost use Rattle.mdv_shelf.specs.Calls.{OnDrive};
 ghost use Rattle.mdv_shelf.specs.Shelves.{AtEachTale, AtEnd, DriveFailures, KeptOn};
-ghost use Rattle.mdv_engine_law.specs.Home.{IsReady, site_of};
+ghost use Rattle.mdv_engine_law.specs.Home.{IsReady, key_of};
 ghost use Rattle.mdv_engine_law.specs.Line.{AreBlocksAt, ToDo, ToSee};
 ghost use Rattle.mdv_engine_law.specs.Refusals.{blocks_refusal, read_refusal, size_of};
 ghost use Rattle.mdv_engine_law.specs.Standing.{CarryMoment};
@@ -97,9 +98,9 @@ impl Engine {
         requires ready { IsReady self.now.host (S.sizes shelf.old) }
         requires well { IsWell self.now.host self.now.state }
         requires some { 1 ≤ count }
-        ensures moments { AtEachTale S.Shelf (CarryMoment self.now.host (ToSee volume at count) self.now.state) shelf.old shelf.new }
+        ensures moments { AtEachTale S.Shelf (CarryMoment self.now.host (ToSee (key_of self.now.host) volume at count) self.now.state) shelf.old shelf.new }
         ensures end { AtEnd S.Shelf (CommandEnd (DriveFailures S.Shelf shelf.old shelf.new 0) self.now (Read volume at count) result self.now) shelf.old shelf.new }
-        ensures answer { HasAnswered (DriveFailures S.Shelf shelf.old shelf.new 0) (ToSee volume at count) self.now result self.now }
+        ensures answer { HasAnswered (DriveFailures S.Shelf shelf.old shelf.new 0) (ToSee (key_of self.now.host) volume at count) self.now result self.now }
         ensures counted { IsCommandCounted S.tale S.calls S.written shelf.old shelf.new (Read volume at count) result self.now.state.opened }
         ensures kept { KeptOn S.Shelf shelf.old shelf.new (OnDrive 0) }
     {
@@ -149,9 +150,9 @@ impl Engine {
     ) -> Answer
         requires ready { IsReady self.old.host (S.sizes shelf.old) }
         requires well { IsWell self.old.host self.old.state }
-        ensures moments { AtEachTale S.Shelf (CarryMoment self.old.host (ToDo (Wrote volume at (block.now ∷ []))) self.old.state) shelf.old shelf.new }
+        ensures moments { AtEachTale S.Shelf (CarryMoment self.old.host (ToDo (Wrote (key_of self.old.host) volume at (block.now ∷ []))) self.old.state) shelf.old shelf.new }
         ensures end { AtEnd S.Shelf (CommandEnd (DriveFailures S.Shelf shelf.old shelf.new 0) self.old (Write volume at block.now) result self.new) shelf.old shelf.new }
-        ensures answer { HasAnswered (DriveFailures S.Shelf shelf.old shelf.new 0) (ToDo (Wrote volume at (block.now ∷ []))) self.old result self.new }
+        ensures answer { HasAnswered (DriveFailures S.Shelf shelf.old shelf.new 0) (ToDo (Wrote (key_of self.old.host) volume at (block.now ∷ []))) self.old result self.new }
         ensures counted { IsCommandCounted S.tale S.calls S.written shelf.old shelf.new (Write volume at block.now) result self.new.state.opened }
         ensures kept { KeptOn S.Shelf shelf.old shelf.new (OnDrive 0) }
     {
@@ -208,7 +209,7 @@ impl Engine {
         requires table { IsHomeTable self.now.host.drives self.now.host.home }
         requires sound { IsSound self.now.host.drives }
         requires kind { IsKindOf self.now.host.drives volume.now.kind }
-        ensures lies { (volumes : List AnyVolume) → Contains volumes volume.now → LiesOn (site_of self.now.host) volumes volume.now.number result.0 result.1 }
+        ensures lies { IsKindMap self.now.host.drives volume.now.kind (run_map 0 result.0 result.1) }
         ensures sized { result.1 ≡ size_of volume.now.kind }
         ensures within { result.0 + result.1 ≤ self.now.host.home.drive_blocks }
         ensures fits { result.0 + result.1 ≤ 2 ^ 40 }

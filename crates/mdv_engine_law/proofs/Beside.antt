@@ -2,8 +2,13 @@
 use Rattle.std.proofs.Common.{◌≡◌, ◌≢◌, ◌+◌, ◌≤◌, ℕ, true, false, List, [], ◌∷◌, sym, ◌∙◌, ap, subst, arith}
 use Rattle.std.proofs.lemmas.Bool.Decides.{nat_tests}
 use Rattle.std.proofs.lemmas.List.Elements.{All-contains, All-head}
-use Rattle.mdv_engine_law.specs.Below.{SliceName, VolId, Place, line_of, Site, Newest, IsTableAt, IsNewestOf, IsOpened, HasSlice, SliceAt, SliceLine, Area, AreApart, KeptOutside, range, Tale, last, One, Base, Volume, VolumeKind, HasBlock, IsPlaceOf, IsListsOf, IsWholeSlice, IsComponentOn, IsStripeOf, IsKindOf, LiesOn}
+use Rattle.mdv_engine_law.specs.Below.{SliceName, VolId, Place, line_of, Site, Newest, IsTableAt, IsNewestOf, IsOpened, HasSlice, SliceAt, SliceLine, Area, AreApart, KeptOutside, range, Tale, last, One, Base, Volume, VolumeKind, HasBlock, IsSound, Table, IsPlaceOf, IsListsOf, IsComponentOn, IsKindOf, DriveBlock, Map, IsMapOf, run_map}
+use Rattle.mdv_table.specs.declared.volume.Base.TheVariants.{Slice}
+use Rattle.mdv_table.specs.declared.volume.Component.{Component}
+use Rattle.mdv_table.specs.declared.volume.VolumeKind.TheVariants.{Stripe}
 use Rattle.mdv_shelf.proofs.Everywhere.{everywhere_apart, last_image}
+use Rattle.mdv_table.specs.Table.{IsOfGeometry}
+use Rattle.mdv_volumes.specs.Tables.{IsBaseMap, IsKindMap}
 use Rattle.mdv_store_law.proofs.Frame.{newest_there, rests_there}
 use Rattle.mdv_engine_law.specs.declared.host.Host.{Host}
 use Rattle.mdv_engine_law.specs.Home.{IsReady, site_of}
@@ -16,6 +21,21 @@ opened_beside site newest area t u apart kept opened = record {
       (rests_there site newest.blocks (λ content. IsNewestOf site content opened.head newest) (λ old new same is. newest_there site old new opened.head (λ block from to. (let blocks = is.blocks in same block from (omega arith))) newest is)) apart kept opened.each;
 }
 
+-- blocks that lie together are known by their map
+pub record IsRun (drive first count other from blocks : ℕ) : Type 0 where
+  pub on_drive : drive ≡ other
+  pub at_first : first ≡ from
+  pub as_many : count ≡ blocks
+
+same_first : (first from : ℕ) → first + 0 ≡ from + 0 → first ≡ from
+same_first first from is = omega arith
+
+pub run_is : (drive first count other from blocks : ℕ) → run_map drive first count ≡ run_map other from blocks → IsRun drive first count other from blocks
+run_is drive first count other from blocks same =
+    let copies : record { drive = drive; block = first + 0 } ∷ [] ≡ record { drive = other; block = from + 0 } ∷ [] = ap (λ (v : Map). v.copies 0) same in
+    let copy : ◌≡◌ {A = DriveBlock} (record { drive = drive; block = first + 0 }) (record { drive = other; block = from + 0 }) = cc (copies) in
+    record { on_drive = ap (λ (b : DriveBlock). b.drive) copy; at_first = same_first first from (ap (λ (b : DriveBlock). b.block) copy); as_many = ap (λ (v : Map). v.blocks) same }
+
 -- so many blocks of the drive, from the first on: all of a slice that isn't set aside for replicas
 pub record IsPlain (host : Host) (first count : ℕ) : Type 0 where
   pub name : SliceName
@@ -25,6 +45,31 @@ pub record IsPlain (host : Host) (first count : ℕ) : Type 0 where
   pub drive : at.drive ≡ record { 0 = 0 }
   pub first_is : first ≡ at.start
   pub count_is : count ≡ at.blocks
+
+module _ (host : Host) (sound : IsSound host.drives) where
+  plain_base : (first count : ℕ) (c : Component) (base : Base) → IsComponentOn host.drives c base → IsBaseMap host.drives c base (run_map 0 first count) → IsPlain host first count
+  plain_base first count c (Slice slice) whole lies =
+      let same : whole.at ≡ lies.0 = sound.once slice whole.at lies.0 whole.has lies.1 in
+      let run = run_is 0 first count lies.0.drive.0 (lies.0.start + c.start) c.blocks lies.2 in
+      let at_first = run.at_first in
+      let at_start = whole.whole.start in
+      record {
+        name = slice;
+        at = lies.0;
+        has = lies.1;
+        plain = sym (ap (λ (a : SliceAt). a.db) same) ∙ whole.whole.plain;
+        drive = ap (λ (n : ℕ). record { 0 = n }) (sym run.on_drive);
+        first_is = omega arith;
+        count_is = (run.as_many ∙ whole.whole.blocks) ∙ ap (λ (a : SliceAt). a.blocks) same;
+      }
+
+  plain_kind : (first count : ℕ) (kind : VolumeKind) → IsKindOf host.drives kind → IsKindMap host.drives kind (run_map 0 first count) → IsPlain host first count
+  plain_kind first count (Stripe s) is lies = plain_base first count s.component s.component.on is.component lies
+
+  -- a volume of a table of these drives lies on all of a slice that isn't set aside for replicas
+  pub lies_plain : (table : Table) → IsOfGeometry host.drives table → (volume : VolId) (first count : ℕ) → IsMapOf host.drives table volume (run_map 0 first count) → IsPlain host first count
+  lies_plain table is volume first count lies =
+      plain_kind first count lies.of.kind (All-contains (λ (v : Volume). IsKindOf host.drives v.kind) table.plan.volumes lies.of is.kinds lies.has.0) lies.kind
 
 module _ (host : Host) (sizes : List ℕ) (ready : IsReady host sizes) where
   pub of_home : (start count : ℕ) → IsPlain host start count → (block blocks size : ℕ) → start ≤ block → block + blocks ≤ start + count → 16 + size ≤ host.home.blocks
@@ -67,20 +112,5 @@ module _ (host : Host) (sizes : List ℕ) (ready : IsReady host sizes) where
         omega arith
 
     -- a volume of it lies on all of a slice that isn't set aside for replicas
-    pub on_plain : (volume : VolId) (first count : ℕ) → LiesOn (site_of host) newest.table.plan.volumes volume first count → IsPlain host first count
-    on_plain volume first count lies =
-        let kind : IsKindOf host.drives lies.of.kind = All-contains (λ (v : Volume). IsKindOf host.drives v.kind) newest.table.plan.volumes lies.of table_at.of_geometry.kinds lies.has.0 in
-        let stripe : IsStripeOf host.drives (record { interlace = lies.interlace; component = lies.component }) = subst (λ (k : VolumeKind). IsKindOf host.drives k) lies.kind kind in
-        let whole : IsWholeSlice host.drives lies.component lies.slice = subst (λ (b : Base). IsComponentOn host.drives lies.component b) lies.on stripe.component in
-        let same : whole.at ≡ lies.at = ready.sound.once lies.slice whole.at lies.at whole.has lies.has_slice in
-        let at_first = lies.first_is in
-        let at_start = whole.whole.start in
-        record {
-          name = lies.slice;
-          at = lies.at;
-          has = lies.has_slice;
-          plain = sym (ap (λ (a : SliceAt). a.db) same) ∙ whole.whole.plain;
-          drive = lies.drive;
-          first_is = omega arith;
-          count_is = (lies.count_is ∙ whole.whole.blocks) ∙ ap (λ (a : SliceAt). a.blocks) same;
-        }
+    pub on_plain : (volume : VolId) (first count : ℕ) → IsMapOf host.drives newest.table volume (run_map 0 first count) → IsPlain host first count
+    on_plain volume first count lies = lies_plain host ready.sound newest.table table_at.of_geometry volume first count lies

@@ -1,48 +1,99 @@
 -- How what goes on is joined, told of less, and taken from what the history's laws say.
-use Rattle.std.proofs.Common.{◌≤◌, List, [], ◌∷◌, ◌++◌, IfSome, refl}
-use Rattle.mdv_engine_law.specs.Below.{Identity, KeptOutside, nowhere, Tale, NoCreation, History, Deed, Event, OfDatabase, Issues, Acknowledges, Shows, Woke, history_after, history_after_all, MayHappen, IsIssue}
+use Rattle.std.proofs.Common.{◌≡◌, ◌≤◌, false, true, List, [], ◌∷◌, ◌++◌, IfSome, Option, inl, inr, refl, sym, subst}
+use Rattle.mdv_engine_law.specs.Below.{Acknowledges, Boots, Crashes, Creation, Database, Identity, KeptOutside, Key, Log, nowhere, OfVolume, Reads, Shows, Stops, Tale, History, Deed, Event, OfDatabase, Happens, IsCourse, MayHappen, history_after, history_after_all, IsIssue, log_of}
+use Rattle.mdv_shelf.proofs.Blocks.{both_ways}
 use Rattle.mdv_store_law.specs.Log as log
 use Rattle.mdv_store_law.specs.Part.{IsPart}
-use Rattle.mdv_history.specs.Standing as history
-use Rattle.mdv_history.specs.History.{begins, tells}
+use Rattle.mdv_volumes.specs.Databases.{is_current, log_in, same_key, with_creation, with_event}
+use Rattle.mdv_volumes.specs.Happening.{IsLater, begins, tells}
+use Rattle.mdv_volumes.proofs.Databases.{creation_elsewhere, creation_here, key_is, key_itself}
 use Rattle.mdv_store_law.specs.Machine.{AreAll}
+use Rattle.mdv_store_law.specs.Machine as machine
 use Rattle.mdv_store_law.proofs.Machine.{adds_more, adds_weaker}
 use Rattle.mdv_store_law.proofs.Machine.{goes_more as machine_more, goes_weaker as machine_weaker}
+use Rattle.mdv_engine_law.specs.Awake.{Happening, IsAwakeAt}
 use Rattle.mdv_engine_law.specs.declared.host.Host.{Host}
-use Rattle.mdv_engine_law.specs.Home.{site_of}
+use Rattle.mdv_engine_law.specs.Home.{key_of, sites_of}
 use Rattle.mdv_engine_law.specs.Standing.{StandsAt, IsOfRun, Does, Goes}
 use Rattle.mdv_engine_law.proofs.Knowing.{stands_kept}
 
 -- a database was made only where there is room for it
 abbrev pub HasRoom : Host → History → Type 0
-HasRoom host h = IfSome h.database.issued (λ identity. 8208 ≤ host.home.blocks)
+HasRoom host h = IfSome (log_of h.databases (key_of host)).issued (λ identity. 8208 ≤ host.home.blocks)
+
+-- only a creation changes whose log it is
+later_issued : (e : log.Event) → IsLater e → (lg : Log) → (log.log_after lg e).issued ≡ lg.issued
+later_issued (log.Issued identity) later lg = absurd later
+later_issued (log.Writing mark asked before table) later lg = refl
+later_issued log.Written later lg = refl
+later_issued (log.Told which before) later lg = refl
+
+event_issued : (key k : Key) (e : log.Event) → IsLater e → (ds : List Database) → (log_of (with_event key e ds) k).issued ≡ (log_of ds k).issued
+event_issued key k e later [] = refl
+event_issued key k e later (d ∷ ds) = elim (both_ways (is_current key d)) [
+  | inl does ↦ elim (both_ways (is_current k d)) [
+    | inl here ↦ rw (does, here) (later_issued e later d.log)
+    | inr away ↦ rw (does, away) refl
+  ]
+  | inr never ↦ elim (both_ways (is_current k d)) [
+    | inl here ↦ rw (never, here) refl
+    | inr away ↦ rw (never, away) (event_issued key k e later ds)
+  ]
+]
 
 module _ (host : Host) where
-  room_next : (h : History) (e : Event) → IsIssue (IsOfRun host) e → HasRoom host h → HasRoom host (history_after h e)
-  room_next h (OfDatabase (log.Issued identity)) is room = is.room
-  room_next h (OfDatabase (log.Writing mark asked before table)) is room = room
-  room_next h (OfDatabase log.Written) is room = room
-  room_next h (OfDatabase (log.Told which before)) is room = room
-  room_next h (Issues extent blocks) is room = room
-  room_next h (Acknowledges extent blocks) is room = room
-  room_next h (Shows extent blocks) is room = room
-  room_next h (Woke content) is room = room
+  abbrev Room : Log → Type 0
+  Room lg = IfSome lg.issued (λ identity. 8208 ≤ host.home.blocks)
+
+  created_room : (key : Key) (identity : Identity) (ds : List Database) → IsOfRun host identity → Room (log_of ds (key_of host)) → Room (log_of (with_creation key identity ds) (key_of host))
+  created_room key identity ds is room = elim (both_ways (same_key key (key_of host))) [
+    | inl does ↦ subst (λ (k : Key). Room (log_of (with_creation key identity ds) k)) (key_is key (key_of host) does) (subst (λ (o : Option Database). Room (log_in o)) (sym (creation_here key identity ds)) is.room)
+    | inr never ↦ subst (λ (o : Option Database). Room (log_in o)) (sym (creation_elsewhere key (key_of host) (λ same. true_never same never) identity ds)) room
+  ]
+    where
+      true_never : key ≡ key_of host → same_key key (key_of host) ≡ false → ⊥
+      true_never same never = let itself = subst (λ (k : Key). same_key key k ≡ true) same (key_itself key) in cc (itself, never)
+
+  room_next : (h : History) (e : Event) → MayHappen (sites_of host) h e → IsIssue (IsOfRun host) e → HasRoom host h → HasRoom host (history_after h e)
+  room_next h (Creation key identity) may is room = created_room key identity h.databases is room
+  room_next h (OfDatabase key identity e) may is room = subst (λ (o : Option Identity). IfSome o (λ i. 8208 ≤ host.home.blocks)) (sym (event_issued key (key_of host) e may.later h.databases)) room
+  room_next h (OfVolume key volume e) may is room = room
+  room_next h (Reads key volume at blocks) may is room = room
+  room_next h (Acknowledges place key volume at blocks) may is room = room
+  room_next h (Shows place key volume at blocks) may is room = room
+  room_next h (Boots key) may is room = room
+  room_next h Stops may is room = room
+  room_next h Crashes may is room = room
 
   -- events that issue only creations of this run keep that
-  pub room_after : (h : History) (es : List Event) → AreAll (IsIssue (IsOfRun host)) es → HasRoom host h → HasRoom host (history_after_all h es)
-  room_after h [] is room = room
-  room_after h (e ∷ es) is room = room_after (history_after h e) es is.1 (room_next h e is.0 room)
+  pub room_after : (h : History) (es : List Event) → IsCourse (sites_of host) h es → AreAll (IsIssue (IsOfRun host)) es → HasRoom host h → HasRoom host (history_after_all h es)
+  room_after h [] course is room = room
+  room_after h (e ∷ es) course is room = room_after (history_after h e) es course.1 is.1 (room_next h e course.0 is.0 room)
 
 -- such a creation is any creation that is wanted
-issue_weaker : (Which Any : Identity → Type 0) → ((identity : Identity) → Which identity → Any identity) → (e : Event) → IsIssue Which e → IsIssue Any e
-issue_weaker Which Any wider (OfDatabase (log.Issued identity)) is = wider identity is
-issue_weaker Which Any wider (OfDatabase (log.Writing mark asked before table)) is = is
-issue_weaker Which Any wider (OfDatabase log.Written) is = is
-issue_weaker Which Any wider (OfDatabase (log.Told which before)) is = is
-issue_weaker Which Any wider (Issues extent blocks) is = is
-issue_weaker Which Any wider (Acknowledges extent blocks) is = is
-issue_weaker Which Any wider (Shows extent blocks) is = is
-issue_weaker Which Any wider (Woke content) is = is
+pub issue_weaker : (Which Any : Identity → Type 0) → ((identity : Identity) → Which identity → Any identity) → (e : Event) → IsIssue Which e → IsIssue Any e
+issue_weaker Which Any wider (Creation key identity) is = wider identity is
+issue_weaker Which Any wider (OfDatabase key identity e) is = is
+issue_weaker Which Any wider (OfVolume key volume e) is = is
+issue_weaker Which Any wider (Reads key volume at blocks) is = is
+issue_weaker Which Any wider (Acknowledges place key volume at blocks) is = is
+issue_weaker Which Any wider (Shows place key volume at blocks) is = is
+issue_weaker Which Any wider (Boots key) is = is
+issue_weaker Which Any wider Stops is = is
+issue_weaker Which Any wider Crashes is = is
+
+-- blocks of volumes are read and written only where a boot has found what they hold
+abbrev pub AllAwake : History → List Event → Type 0
+AllAwake = machine.IsCourse history_after IsAwakeAt
+
+module _ (host : Host) where
+  pub both_courses : (h : History) (es : List Event) → IsCourse (sites_of host) h es → AllAwake h es → machine.IsCourse history_after (Happening host) h es
+  both_courses h [] course awake = tt
+  both_courses h (e ∷ es) course awake = ((course.0, awake.0), both_courses (history_after h e) es course.1 awake.1)
+
+  pub may_course : (h : History) (es : List Event) → machine.IsCourse history_after (Happening host) h es → IsCourse (sites_of host) h es
+  may_course h [] course = tt
+  may_course h (e ∷ es) course = (course.0.0, may_course (history_after h e) es course.1)
 
 -- nothing happened
 pub goes_none : (host : Host) (asks : List Deed) (After : List Event → History → Type 0) (m : Tale) (h : History) → StandsAt host h m → After [] h → Goes host asks [] After m h
@@ -59,31 +110,26 @@ does_more host asks others all done more es fs within one other = does_wider hos
 pub goes_more : (host : Host) (asks others all done more : List Deed) (Between After : List Event → History → Type 0) (u m : Tale) (h : History) → IsPart (asks ++ others) all → Goes host asks done Between u h
     → ((es : List Event) (g : History) → StandsAt host g u → Between es g → Goes host others more (λ fs. After (es ++ fs)) m g) → Goes host all (done ++ more) After m h
 goes_more host asks others all done more Between After u m h within =
-    machine_more history_after (MayHappen (site_of host)) (Does host asks done) (Does host others more) (Does host all (done ++ more)) (λ g. StandsAt host g u) (λ g. StandsAt host g m) Between After h
+    machine_more history_after (Happening host) (Does host asks done) (Does host others more) (Does host all (done ++ more)) (λ g. StandsAt host g u) (λ g. StandsAt host g m) Between After h
     (λ es fs one other. does_more host asks others all done more es fs within one other)
 
 -- more was asked, less is known, and no block changed since
 pub goes_weaker : (host : Host) (asks all done : List Deed) (After Then : List Event → History → Type 0) (u v : Tale) (h : History) → IsPart asks all → KeptOutside nowhere u v
     → ((es : List Event) (g : History) → After es g → Then es g) → Goes host asks done After u h → Goes host all done Then v h
 goes_weaker host asks all done After Then u v h within kept less =
-    machine_weaker history_after (MayHappen (site_of host)) (Does host asks done) (Does host all done) (λ g. StandsAt host g u) (λ g. StandsAt host g v) After Then h
+    machine_weaker history_after (Happening host) (Does host asks done) (Does host all done) (λ g. StandsAt host g u) (λ g. StandsAt host g v) After Then h
     (λ es does. does_wider host asks all done es within does) (λ g stands. stands_kept host u v kept g stands) (λ es g stands is. less es g is)
 
--- what a law says of a history that the drive stands with
-pub lift : (host : Host) (Known : History → Type 0) (Which : Identity → Type 0) (asks all done : List Deed) (After Then : List Event → History → Type 0) (t m : Tale)
-    → ((identity : Identity) → Which identity → IsOfRun host identity) → IsPart asks all → ((es : List Event) (g : History) → After es g → Then es g)
-    → history.Goes (site_of host) Known Which asks done After t m → (h : History) → StandsAt host h t → Known h → Goes host all done Then m h
-lift host Known Which asks all done After Then t m mine within less goes h stands known =
-    let one = goes h stands.stands known in
-    let does : Does host all done one.es = adds_weaker tells begins (IsIssue Which) (IsIssue (IsOfRun host)) asks all done one.es (issue_weaker Which (IsOfRun host) mine) within one.come in
-    record {
-      es = one.es;
-      course = one.course;
-      come = does;
-      stands = record { stands = one.stands; room = room_after host h one.es does.issues stands.room };
-      after = less one.es (history_after_all h one.es) one.after;
-    }
+-- what happens to a history that the drives stand with, by a law of histories
+module _ (host : Host) (asks begun done : List Deed) (m : Tale) (h : History) (es : List Event) (happens : Happens (sites_of host) h es begun done m) (room : HasRoom host h) (issues : AreAll (IsIssue (IsOfRun host)) es) where
+  pub happened_stands : StandsAt host (history_after_all h es) m
+  happened_stands = record { stands = happens.stands; room = room_after host h es happens.course issues room }
 
--- no creation is one of this run, too
-pub no_creation : (host : Host) (identity : Identity) → NoCreation identity → IsOfRun host identity
-no_creation host identity none = absurd none
+  pub happened : (After : List Event → History → Type 0) → AllAwake h es → IsPart begun asks → After es (history_after_all h es) → Goes host asks done After m h
+  happened After awake within after = record {
+    es = es;
+    course = both_courses host h es happens.course awake;
+    come = record { tells = happens.tells; issues = issues; begins = subst (λ (l : List Deed). IsPart l asks) (sym happens.begins) within };
+    stands = happened_stands;
+    after = after;
+  }

@@ -1,15 +1,15 @@
 -- What is known between lines stays where no block changes.
-use Rattle.std.proofs.Common.{◌≡◌, Option, Some, None, IfSome, ◌∙◌}
-use Rattle.mdv_engine_law.specs.Below.{KeptOutside, nowhere, Tale, Log, Newest, IsFound, IsNewestOf, IsOpened, IsNewestIn, History}
+use Rattle.std.proofs.Common.{◌≡◌, Option, Some, None, IfSome, refl, sym, ◌∙◌}
+use Rattle.mdv_engine_law.specs.Below.{AreWoken, KeptOutside, nowhere, Tale, Log, Newest, IsFound, IsNewestOf, IsOpened, IsNewestIn, History, VolId, log_of}
 use Rattle.mdv_shelf.proofs.Everywhere.{everywhere_kept}
-use Rattle.mdv_history.proofs.Going.{stays_standing}
+use Rattle.mdv_volumes.proofs.Restarts.{restarts_go}
 use Rattle.mdv_engine_law.specs.declared.host.Host.{Host}
-use Rattle.mdv_engine_law.specs.Home.{site_of}
+use Rattle.mdv_engine_law.specs.Home.{key_of, site_of, sites_of}
 use Rattle.mdv_engine_law.specs.Line.{Memory}
-use Rattle.mdv_engine_law.specs.Standing.{StandsAt, Knows, IsKnown}
+use Rattle.mdv_engine_law.specs.Standing.{StandsAt, Knows, IsKnown, is_up}
 
 -- of the value in an option, where it is of the value in any
-some_more : {A : Type 0} (o : Option A) (P Q : A → Type 0) → ((x : A) → P x → Q x) → IfSome o P → IfSome o Q
+pub some_more : {A : Type 0} (o : Option A) (P Q : A → Type 0) → ((x : A) → P x → Q x) → IfSome o P → IfSome o Q
 some_more None P Q more is = is
 some_more (Some x) P Q more is = more x is
 
@@ -26,22 +26,27 @@ newest_same newest old new same is = record {
 
 module _ (host : Host) (u v : Tale) (kept : KeptOutside nowhere u v) where
   pub stands_kept : (h : History) → StandsAt host h u → StandsAt host h v
-  stands_kept h stands = record { stands = stays_standing (site_of host) h u v kept stands.stands; room = stands.room }
+  stands_kept h stands = record { stands = restarts_go.kept (sites_of host) h u v kept stands.stands; room = stands.room }
 
   module _ (memory : Memory) where
     pub knows_kept : Knows host memory u → Knows host memory v
     knows_kept knows = record {
       nothing = λ none up. everywhere_kept (λ image. IsFound (site_of host) (image 0) None) u v kept (knows.nothing none up);
       opened = some_more memory.opened (λ newest. IsOpened (site_of host) newest u) (λ newest. IsOpened (site_of host) newest v) (λ newest is. record { head = is.head; each = everywhere_kept (λ image. IsNewestOf (site_of host) (image 0) is.head newest) u v kept is.each }) knows.opened;
+      unused = λ drive block up free x left. (let is = kept drive block refl in knows.unused drive block up free x (is.left x left) ∙ sym is.last);
     }
 
     pub known_kept : (h : History) → IsKnown host memory h u → IsKnown host memory h v
-    known_kept h known = record { stands = stands_kept h known.stands; newest = known.newest; knows = knows_kept known.knows }
+    known_kept h known = record { stands = stands_kept h known.stands; newest = known.newest; woken = known.woken; knows = knows_kept known.knows }
 
--- a history that goes on with the same tables is known as the first was
-pub known_on : (host : Host) (memory : Memory) (h after : History) (t : Tale) → StandsAt host after t → after.database.family ≡ h.database.family → IsKnown host memory h t → IsKnown host memory after t
-known_on host memory h after t stands same known = record {
+-- a history that goes on with the same tables, and as many blocks woken, is known as the first was
+pub known_on : (host : Host) (memory : Memory) (h after : History) (t : Tale) → StandsAt host after t → (log_of after.databases (key_of host)).family ≡ (log_of h.databases (key_of host)).family
+    → ((volume : VolId) → after.woken (key_of host) volume ≡ h.woken (key_of host) volume) → IsKnown host memory h t → IsKnown host memory after t
+known_on host memory h after t stands same counts known = record {
   stands = stands;
-  newest = some_more memory.opened (λ newest. IsNewestIn newest h.database) (λ newest. IsNewestIn newest after.database) (λ newest is. newest_same newest h.database after.database same is) known.newest;
+  newest = some_more memory.opened (λ newest. IsNewestIn newest (log_of h.databases (key_of host))) (λ newest. IsNewestIn newest (log_of after.databases (key_of host)))
+      (λ newest is. newest_same newest (log_of h.databases (key_of host)) (log_of after.databases (key_of host)) same is) known.newest;
+  woken = some_more memory.opened (λ newest. AreWoken (site_of host) newest.table (is_up host memory) h (key_of host)) (λ newest. AreWoken (site_of host) newest.table (is_up host memory) after (key_of host))
+      (λ newest are volume v map upon. counts volume ∙ are volume v map upon) known.woken;
   knows = known.knows;
 }

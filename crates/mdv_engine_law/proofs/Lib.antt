@@ -4,6 +4,7 @@ pub mod Writing
 pub mod Executing
 pub mod Plain
 pub mod Knowing
+pub mod Sites
 pub mod Longer
 pub mod Fronts
 pub mod Going
@@ -12,8 +13,11 @@ pub mod Turning
 pub mod Lifting
 pub mod Refusing
 pub mod Beside
+pub mod Unused
+pub mod Asking
 pub mod Booting
 pub mod Making
+pub mod Growing
 pub mod Changing
 pub mod Transfer
 pub mod Keeping

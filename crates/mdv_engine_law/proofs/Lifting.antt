@@ -1,49 +1,85 @@
--- What goes on in a host's database, and on its drive, goes on in its history.
-use Rattle.std.proofs.Common.{◌≡◌, inl, ℕ, List, [], ◌∷◌, Option, map, slice_index_or, refl}
-use Rattle.mdv_engine_law.specs.Below.{Identity, Local, place_of, KeptOutside, IsSynced, Tale, last, Change, Log, Site, area_of, GoesFrom, PlaceAt, History, Deed, Event, Woke, history_after, history_after_all, HasWoken}
-use Rattle.mdv_shelf.proofs.Everywhere.{everywhere_synced, last_image}
-use Rattle.mdv_history.specs.History.{HaveValues, told_of}
-use Rattle.mdv_history.proofs.Database.{lift_database}
+-- What goes on in a host's database goes on in its history.
+use Rattle.std.proofs.Common.{◌≡◌, inl, inr, ℕ, List, [], ◌∷◌, Option, Some, None, map, refl, sym, ◌∙◌, ap, subst, slice_index_or}
+use Rattle.mdv_engine_law.specs.Below.{Identity, place_of, KeptOutside, Key, Tale, Change, Log, Site, area_of, GoesFrom, PlaceAt, History, Deed, Event, Table, Happens, history_after_all, log_of}
+use Rattle.mdv_store_law.specs.Log as log
+use Rattle.mdv_store_law.specs.Machine.{AreAll}
 use Rattle.mdv_store_law.specs.Part.{IsPart}
+use Rattle.mdv_store_law.proofs.Parts.{part_mapped, part_of_part}
+use Rattle.mdv_volumes.specs.Databases.{current_of}
+use Rattle.mdv_volumes.specs.Happening.{IsIssue, deed_of}
+use Rattle.mdv_volumes.specs.HistoryLaws.{IsAsked, IsLifted, IsReady as IsTableReady, identity_in, lifted}
+use Rattle.mdv_volumes.proofs.Lifting.{databases_go}
 use Rattle.mdv_engine_law.specs.declared.host.Host.{Host}
-use Rattle.mdv_engine_law.specs.Home.{IsReady, site_of}
+use Rattle.mdv_engine_law.specs.Home.{IsReady, key_of, site_of, sites_of}
 use Rattle.mdv_engine_law.specs.Standing.{StandsAt, IsOfRun, Goes}
-use Rattle.mdv_engine_law.proofs.Going.{lift}
+use Rattle.mdv_engine_law.proofs.Going.{AllAwake, happened, happened_stands}
+use Rattle.mdv_engine_law.proofs.Sites.{own_site, sites_apart}
 
 -- the site that the database is told, where its place is the home's
 pub site_here : (host : Host) (sizes : List ℕ) → IsReady host sizes → (at : PlaceAt) → at ≡ place_of host.home
-    → ◌≡◌ {A = Site} (record { drives = host.drives; key = Local host.home.host; at = at; size = slice_index_or sizes at.drive.0 0 }) (site_of host)
+    → ◌≡◌ {A = Site} (record { drives = host.drives; key = key_of host; at = at; size = slice_index_or sizes at.drive.0 0 }) (site_of host)
 site_here host sizes ready at is = rw (is, ready.drive)
 
-module _ (host : Host) (asks : List Deed) (Then : List Event → History → Type 0) where
-  -- what goes on in the database, where nothing is done outside the replica's blocks
-  pub lift_log : (Known : Log → Type 0) (Which : Identity → Type 0) (asked : List (Option Change)) (After : Log → Type 0) (t m : Tale) → KeptOutside (area_of (site_of host)) t m
-      → ((identity : Identity) → Which identity → IsOfRun host identity) → IsPart (map told_of asked) asks
-      → ((es : List Event) (g : History) → StandsAt host g m → After g.database → Then es g)
-      → GoesFrom (site_of host) Known Which asked After t m → (h : History) → StandsAt host h t → Known h.database → Goes host asks [] Then m h
-  lift_log Known Which asked After t m kept mine within then goes h stands known =
-      let went = lift host (λ g. Known g.database) Which (map told_of asked) asks [] (λ es g. After g.database) (λ es g. After g.database) t m mine within (λ es g is. is)
-      (lift_database (site_of host) Known Which asked After t m kept (λ lg stood of. goes lg stood.covers of)) h stands known in
-      record {
-        es = went.es;
-        course = went.course;
-        come = went.come;
-        stands = went.stands;
-        after = then went.es (history_after_all h went.es) went.stands went.after;
-      }
+-- a log's events read and write no volume
+pub lifted_awake : (key : Key) (identity : Identity) (es : List log.Event) (h : History) → AllAwake h (lifted key identity es)
+lifted_awake key identity [] h = tt
+lifted_awake key identity (log.Issued other ∷ es) h = (tt, lifted_awake key other es _)
+lifted_awake key identity (log.Writing mark asked before table ∷ es) h = (tt, lifted_awake key identity es _)
+lifted_awake key identity (log.Written ∷ es) h = (tt, lifted_awake key identity es _)
+lifted_awake key identity (log.Told which before ∷ es) h = (tt, lifted_awake key identity es _)
 
-  -- a boot has read the drive, and the database is as it was
-  pub goes_woken : (u : Tale) (h : History) → IsSynced 0 u → StandsAt host h u → ((es : List Event) (g : History) → StandsAt host g u → HasWoken es → g.database ≡ h.database → Then es g) → Goes host asks [] Then u h
-  goes_woken u h synced stands then =
-      let woke : Event = Woke (λ block. last u 0 block) in
-      let now : StandsAt host (history_after h woke) u = record {
-        stands = record { database = stands.stands.database; values = everywhere_synced (HaveValues (site_of host) (λ block. last u 0 block ∷ [])) 0 u synced (λ block out. inl refl) };
-        room = stands.room;
-      } in
-      record {
-        es = woke ∷ [];
-        course = (stands.stands.values (last u) (last_image u), tt);
-        come = record { tells = refl; issues = (tt, tt); begins = tt };
-        stands = now;
-        after = then (woke ∷ []) (history_after h woke) now tt refl;
-      }
+lifted_issues : (Which : Identity → Type 0) (key : Key) (identity : Identity) (es : List log.Event) → AreAll (log.IsIssue Which) es → AreAll (IsIssue Which) (lifted key identity es)
+lifted_issues Which key identity [] is = tt
+lifted_issues Which key identity (log.Issued other ∷ es) is = (is.0, lifted_issues Which key other es is.1)
+lifted_issues Which key identity (log.Writing mark asked before table ∷ es) is = (tt, lifted_issues Which key identity es is.1)
+lifted_issues Which key identity (log.Written ∷ es) is = (tt, lifted_issues Which key identity es is.1)
+lifted_issues Which key identity (log.Told which before ∷ es) is = (tt, lifted_issues Which key identity es is.1)
+
+issue_wider : (Which Any : Identity → Type 0) → ((identity : Identity) → Which identity → Any identity) → (es : List log.Event) → AreAll (log.IsIssue Which) es → AreAll (log.IsIssue Any) es
+issue_wider Which Any wider [] is = tt
+issue_wider Which Any wider (log.Issued other ∷ es) is = (wider other is.0, issue_wider Which Any wider es is.1)
+issue_wider Which Any wider (log.Writing mark asked before table ∷ es) is = (tt, issue_wider Which Any wider es is.1)
+issue_wider Which Any wider (log.Written ∷ es) is = (tt, issue_wider Which Any wider es is.1)
+issue_wider Which Any wider (log.Told which before ∷ es) is = (tt, issue_wider Which Any wider es is.1)
+
+-- a table that a change makes was asked by one
+pub asked_change : (es : List log.Event) (table : Table) → IsAsked es table → (change : Change) × IsPart (Some change ∷ []) (log.begun_by es)
+asked_change [] table is = absurd is
+asked_change (log.Issued identity ∷ es) table (inl is) = absurd is
+asked_change (log.Issued identity ∷ es) table (inr is) = let rest = asked_change es table is in (rest.0, inr rest.1)
+asked_change (log.Writing mark None before other ∷ es) table (inl is) = absurd is
+asked_change (log.Writing mark None before other ∷ es) table (inr is) = asked_change es table is
+asked_change (log.Writing mark (Some change) before other ∷ es) table (inl is) = (change, inl (refl, tt))
+asked_change (log.Writing mark (Some change) before other ∷ es) table (inr is) = let rest = asked_change es table is in (rest.0, inr rest.1)
+asked_change (log.Written ∷ es) table (inl is) = absurd is
+asked_change (log.Written ∷ es) table (inr is) = asked_change es table is
+asked_change (log.Told which before ∷ es) table (inl is) = absurd is
+asked_change (log.Told which before ∷ es) table (inr is) = asked_change es table is
+
+-- so none is, where only a creation is asked, or nothing
+pub never_asked : (es : List log.Event) (table : Table) → IsPart (log.begun_by es) (None ∷ []) → IsAsked es table → ⊥
+never_asked es table within is = let asked = asked_change es table is in never (part_of_part (Some asked.0 ∷ []) (log.begun_by es) (None ∷ []) asked.1 within)
+  where
+    never : {change : Change} → IsPart (Some change ∷ []) (None ∷ []) → ⊥
+    never (inl same) = cc (same.0)
+    never (inr none) = none
+
+module _ (host : Host) (asks : List Deed) (Then : List Event → History → Type 0) where
+  -- What goes on in the database, where nothing is done outside the replica's blocks, and each table that a change makes is ready.
+  pub lift_log : (Known : Log → Type 0) (Which : Identity → Type 0) (asked : List (Option Change)) (After : Log → Type 0) (t m : Tale) → KeptOutside (area_of (site_of host)) t m
+      → ((identity : Identity) → Which identity → IsOfRun host identity) → IsPart (map (deed_of (key_of host)) asked) asks → (h : History)
+      → ((es : List log.Event) → log.IsCourse host.drives (log_of h.databases (key_of host)) es → IsPart (log.begun_by es) asked → (table : Table) → IsAsked es table → IsTableReady (sites_of host) h (key_of host) (site_of host) t table)
+      → ((es : List Event) (g : History) → StandsAt host g m → g.woken ≡ h.woken → After (log_of g.databases (key_of host)) → Then es g)
+      → GoesFrom (site_of host) Known Which asked After t m → StandsAt host h t → Known (log_of h.databases (key_of host)) → Goes host asks [] Then m h
+  lift_log Known Which asked After t m kept mine within h ready then goes stands known =
+      let key = key_of host in
+      let one = goes (log_of h.databases key) (stands.stands.databases key (site_of host) (own_site host)).covers known in
+      let is : IsLifted (sites_of host) h key one.es m = databases_go (sites_of host) h key (site_of host) one.es t m (sites_apart host) (own_site host) stands.stands kept one.course one.stands (λ table asks_it. ready one.es one.course one.come.begins table asks_it) in
+      let events = lifted key (identity_in (current_of h.databases key)) one.es in
+      let issues : AreAll (IsIssue (IsOfRun host)) events = lifted_issues (IsOfRun host) key (identity_in (current_of h.databases key)) one.es (issue_wider Which (IsOfRun host) mine one.es one.come.issues) in
+      let begun = map (deed_of key) (log.begun_by one.es) in
+      let tells = is.happens.tells ∙ ap (map (deed_of key)) one.come.tells in
+      let happens : Happens (sites_of host) h events begun [] m = record { course = is.happens.course; begins = is.happens.begins; tells = tells; stands = is.happens.stands } in
+      happened host asks begun [] m h events happens stands.room issues Then (lifted_awake key (identity_in (current_of h.databases key)) one.es h)
+      (part_of_part begun (map (deed_of key) asked) asks (part_mapped (deed_of key) (log.begun_by one.es) asked one.come.begins) within)
+      (then events (history_after_all h events) (happened_stands host asks begun [] m h events happens stands.room issues) is.woken (subst After (sym is.own) one.after))

@@ -1,16 +1,18 @@
 -- What a creation leaves of a host's history.
-use Rattle.std.proofs.Common.{◌≡◌, ◌≤◌, ℕ, false, List, [], ◌∷◌, Option, Some, None, IfSome, refl, sym, subst}
-use Rattle.mdv_engine_law.specs.Below.{Identity, IoFault, KeptOutside, Tale, told, Table, IsCreated, created_newest, Log, IsThis, is_firm, Newest, area_of, ShowsNothing, IsOpened, IsNewestIn, Anything, GoesMaking, History, Created, Event}
+use Rattle.std.proofs.Common.{◌≡◌, ◌≤◌, ℕ, Bool, true, false, not, ◌&&◌, ◌==◌, List, [], ◌∷◌, Contains, Option, Some, None, IfSome, refl, sym, subst, arith}
+use Rattle.mdv_engine_law.specs.Below.{AreWoken, Identity, IoFault, KeptOutside, Map, area_of_map, IsMapOf, VolId, Volume, Tale, told, Table, IsCreated, created_newest, Log, IsThis, is_firm, Newest, area_of, ShowsNothing, IsOpened, IsNewestIn, Anything, GoesMaking, History, Created, Event, log_of}
 use Rattle.mdv_engine_law.specs.declared.answer.Answer.TheVariants.{Said, Over}
 use Rattle.mdv_engine_law.specs.declared.answer.Ended.TheVariants as ended
 use Rattle.mdv_engine_law.specs.declared.answer.Outcome.TheVariants as outcome
 use Rattle.mdv_engine_law.specs.declared.host.Host.{Host}
-use Rattle.mdv_engine_law.specs.Home.{site_of, identity_of}
+use Rattle.mdv_engine_law.specs.Home.{IsReady, identity_of, key_of, plain_area, site_of}
 use Rattle.mdv_engine_law.specs.Line.{Memory, ToDo}
-use Rattle.mdv_engine_law.specs.Standing.{StandsAt, IsOfRun, Goes, Reached, Knows, IsKnown, IsKnownAfter, CarryMoment, CarriedTo}
+use Rattle.mdv_engine_law.specs.Standing.{StandsAt, IsOfRun, IsUnused, Goes, Reached, Knows, IsKnown, IsKnownAfter, CarryMoment, CarriedTo, is_up}
 use Rattle.mdv_store_law.proofs.Parts.{part_itself}
-use Rattle.mdv_engine_law.proofs.Lifting.{lift_log}
-use Rattle.mdv_engine_law.proofs.Refusing.{of_opened, knows_opened}
+use Rattle.mdv_engine_law.proofs.Lifting.{lift_log, never_asked}
+use Rattle.mdv_engine_law.proofs.Unused.{free_kept}
+use Rattle.mdv_engine_law.proofs.Refusing.{IsFree, of_opened, knows_opened}
+use Rattle.mdv_engine_law.proofs.Sites.{own_site}
 use Rattle.mdv_engine_law.proofs.Staying.{stays_in_replica}
 
 -- how the log goes on by the creation of this number, where nothing was there
@@ -18,46 +20,74 @@ abbrev pub Makes : Host → Memory → (Log → Type 0) → Tale → Tale → Ty
 Makes host memory After t m = ShowsNothing (site_of host) t → GoesMaking (site_of host) (identity_of host memory.begun) After t m
 
 -- a creation of this run, on a slice with room, where no database is open and the last boot has read the drive
-module _ (host : Host) (memory : Memory) (room : 8208 ≤ host.home.blocks) (none : memory.opened ≡ None) (up : memory.down ≡ false) (t m : Tale) (kept : KeptOutside (area_of (site_of host)) t m) where
+module _ (host : Host) (sizes : List ℕ) (ready : IsReady host sizes) (memory : Memory) (room : 8208 ≤ host.home.blocks) (none : memory.opened ≡ None) (up : memory.down ≡ false) (t m : Tale) (kept : KeptOutside (area_of (site_of host)) t m) where
   mine : (other : Identity) → IsThis (identity_of host memory.begun) other → IsOfRun host other
   mine other same = subst (λ (i : Identity). IsOfRun host i) (sym same) (record { fresh = refl; room = room })
 
-  making : (After : Log → Type 0) (Then : List Event → History → Type 0) → Makes host memory After t m → (h : History) → IsKnown host memory h t → ((es : List Event) (g : History) → StandsAt host g m → After g.database → Then es g)
-      → Goes host (Created ∷ []) [] Then m h
+  making : (After : Log → Type 0) (Then : List Event → History → Type 0) → Makes host memory After t m → (h : History) → IsKnown host memory h t → ((es : List Event) (g : History) → StandsAt host g m → After (log_of g.databases (key_of host)) → Then es g)
+      → Goes host (Created (key_of host) ∷ []) [] Then m h
   making After Then goes h known then =
-      lift_log host (Created ∷ []) Then Anything (IsThis (identity_of host memory.begun)) (None ∷ []) After t m kept mine (part_itself (Created ∷ [])) then (goes (known.knows.nothing none up)) h known.stands tt
+      lift_log host (Created (key_of host) ∷ []) Then Anything (IsThis (identity_of host memory.begun)) (None ∷ []) After t m kept mine (part_itself (Created (key_of host) ∷ [])) h
+      (λ es course within table asked. absurd (never_asked es table within asked)) (λ es g there woken after. then es g there after) (goes (known.knows.nothing none up)) known.stands tt
 
-  pub making_moment : told m ≡ told t → Makes host memory Anything t m → CarryMoment host (ToDo Created) memory t m
+  pub making_moment : told m ≡ told t → Makes host memory Anything t m → CarryMoment host (ToDo (Created (key_of host))) memory t m
   making_moment quiet goes = record { home = stays_in_replica host t m kept; within = kept; quiet = quiet; goes = λ h known. making Anything Reached goes h known (λ es g there is. tt) }
 
+  abbrev Frees : Newest → ℕ → ℕ → Type 0
+  Frees n drive block = (volume : VolId) (v : Map) → IsMapOf host.drives n.table volume v → area_of_map v drive block ≡ false
+
+  -- unused blocks stay so
+  freed : (next : Memory) → ((drive block : ℕ) → IsUnused host next drive block → plain_area host.drives.slices drive block ≡ true) → Knows host memory t → IsFree host next m
+  freed next plain known = free_kept host sizes ready memory next t m kept still (λ drive block is. record { plain = plain drive block is; free = subst (λ (o : Option Newest). IfSome o (λ n. Frees n drive block)) (sym none) tt }) known.unused
+    where
+      still : (drive : ℕ) → is_up host next drive ≡ true → is_up host memory drive ≡ true
+      still drive on = rw up (first (drive == (site_of host).at.drive.0) (not next.down) on) where
+        first : (a b : Bool) → a && b ≡ true → a && true ≡ true
+        first true b is = refl
+        first false b is = cc (is)
+
   -- it was made, and its `ok` may be told
-  pub made : (table : Table) (next : Memory) → next.opened ≡ Some (created_newest (site_of host) table) → (ShowsNothing (site_of host) t → IsOpened (site_of host) (created_newest (site_of host) table) m)
-      → Makes host memory (IsCreated (site_of host) (identity_of host memory.begun) table) t m → CarriedTo host (ToDo Created) memory (Said outcome.Ok) next t m
-  made table next opened is goes =
+  pub made : (table : Table) (next : Memory) → table.plan.volumes ≡ [] → next.opened ≡ Some (created_newest (site_of host) table) → (ShowsNothing (site_of host) t → IsOpened (site_of host) (created_newest (site_of host) table) m)
+      → Makes host memory (IsCreated (site_of host) (identity_of host memory.begun) table) t m → CarriedTo host (ToDo (Created (key_of host))) memory (Said outcome.Ok) next t m
+  made table next empty opened is goes =
       let newest : Newest = created_newest (site_of host) table in
-      let knows : Knows host memory t → Knows host next m = λ known. knows_opened host next newest m opened (is (known.nothing none up)) in
+      let knows : Knows host memory t → Knows host next m = λ known. knows_opened host next newest m opened (is (known.nothing none up)) (freed next (λ drive block unused. unused.plain) known) in
       record {
-        done = Created ∷ [];
+        done = Created (key_of host) ∷ [];
         acks = refl;
-        goes = λ h known. making (IsCreated (site_of host) (identity_of host memory.begun) table) (λ es g. IsKnownAfter host (Created ∷ []) (Said outcome.Ok) next g m) goes h known (λ es g there created. (
-          record { stands = there; newest = of_opened next newest (λ n. IsNewestIn n g.database) opened created.newest; knows = knows known.knows },
-          created.tellable,
+        goes = λ h known. making (IsCreated (site_of host) (identity_of host memory.begun) table) (λ es g. IsKnownAfter host (Created (key_of host) ∷ []) (Said outcome.Ok) next g m) goes h known (λ es g there created. (
+          record {
+            stands = there;
+            newest = of_opened next newest (λ n. IsNewestIn n (log_of g.databases (key_of host))) opened created.newest;
+            woken = of_opened next newest (λ n. AreWoken (site_of host) n.table (is_up host next) g (key_of host)) opened (λ volume v map upon. absurd (no_map volume v map));
+            knows = knows known.knows;
+          },
+          record { site = site_of host; is_site = own_site host; may = created.tellable },
         ));
         knows = knows;
       }
+    where
+      no_map : (volume : VolId) (v : Map) → IsMapOf host.drives table volume v → ⊥
+      no_map volume v map = let has = subst (λ (l : List Volume). Contains l map.of) empty map.has.0 in omega (arith, has.1)
 
   -- it failed, and nothing is there
-  pub unmade : (next : Memory) → next.opened ≡ None → (ShowsNothing (site_of host) t → ShowsNothing (site_of host) m) → Makes host memory (λ lg. is_firm lg ≡ false) t m → CarriedTo host (ToDo Created) memory (Said (outcome.Refused IoFault)) next t m
+  pub unmade : (next : Memory) → next.opened ≡ None → (ShowsNothing (site_of host) t → ShowsNothing (site_of host) m) → Makes host memory (λ lg. is_firm lg ≡ false) t m
+      → CarriedTo host (ToDo (Created (key_of host))) memory (Said (outcome.Refused IoFault)) next t m
   unmade next closed nothing goes =
       let empty : (P : Newest → Type 0) → IfSome next.opened P = λ P. subst (λ (o : Option Newest). IfSome o P) (sym closed) tt in
-      let knows : Knows host memory t → Knows host next m = λ known. record { nothing = λ free read. nothing (known.nothing none up); opened = empty (λ n. IsOpened (site_of host) n m) } in
+      let knows : Knows host memory t → Knows host next m = λ known. record { nothing = λ free read. nothing (known.nothing none up); opened = empty (λ n. IsOpened (site_of host) n m); unused = freed next (λ drive block unused. unused.plain) known } in
       record {
         done = [];
         acks = refl;
-        goes = λ h known. making (λ lg. is_firm lg ≡ false) (λ es g. IsKnown host next g m) goes h known (λ es g there after. record { stands = there; newest = empty (λ n. IsNewestIn n g.database); knows = knows known.knows });
+        goes = λ h known. making (λ lg. is_firm lg ≡ false) (λ es g. IsKnown host next g m) goes h known (λ es g there after. record {
+          stands = there;
+          newest = empty (λ n. IsNewestIn n (log_of g.databases (key_of host)));
+          woken = empty (λ n. AreWoken (site_of host) n.table (is_up host next) g (key_of host));
+          knows = knows known.knows;
+        });
         knows = knows;
       }
 
   -- whether it is there isn't known
-  pub made_or_lost : (active listed : ℕ) (next : Memory) → Makes host memory Anything t m → CarriedTo host (ToDo Created) memory (Over (ended.Lost active listed)) next t m
+  pub made_or_lost : (active listed : ℕ) (next : Memory) → Makes host memory Anything t m → CarriedTo host (ToDo (Created (key_of host))) memory (Over (ended.Lost active listed)) next t m
   made_or_lost active listed next goes = record { done = []; acks = refl; goes = λ h known. making Anything (λ es g. IsKnownAfter host [] (Over (ended.Lost active listed)) next g m) goes h known (λ es g there is. tt); knows = λ known. tt }

@@ -224,7 +224,7 @@ module _ (ask : Ask) where
     by : (a : Ask) → AcksFront a bytes []
     by Nothing = refl
     by (ToDo deed) = refl
-    by (ToSee volume at count) = inl (is, refl)
+    by (ToSee key volume at count) = inl (is, refl)
 
   -- nor does nothing
   no_front : (bytes : List ℕ) → bytes ≡ [] → AcksFront ask bytes []
@@ -251,7 +251,7 @@ module _ (ask : Ask) where
     by : (a : Ask) → AcksBy a (refusal_line r) []
     by Nothing = refl
     by (ToDo deed) = refl
-    by (ToSee volume at count) = inl ((r, refl), refl)
+    by (ToSee key volume at count) = inl ((r, refl), refl)
 
   -- what an answer says that the line may have begun is no more than what it asks
   issued_asked : (answer : Answer) → IsPart (issued_by ask answer) (deeds ask)
@@ -333,8 +333,8 @@ module _ (ask : Ask) where
     by : (a : Ask) → AcksBy a reply done → (told : List Deed) × AcksFront a (b ∷ bytes) told × TellsAll answer done told
     by Nothing acks = ([], refl, inl refl)
     by (ToDo deed) acks = ([], refl, inl refl)
-    by (ToSee volume at count) (inl (refusal, none)) = ([], inl ((refusal.0, size, is ∙ ap (take size) refusal.1), refl), inl refl)
-    by (ToSee volume at count) (inr tells) = (done, inr (record { some = λ empty. absurd (cc (empty)); reply = reply; size = size; front = is; tells = tells }), inr (on, refl))
+    by (ToSee key volume at count) (inl (refusal, none)) = ([], inl ((refusal.0, size, is ∙ ap (take size) refusal.1), refl), inl refl)
+    by (ToSee key volume at count) (inr tells) = (done, inr (record { some = λ empty. absurd (cc (empty)); reply = reply; size = size; front = is; tells = tells }), inr (on, refl))
 
   whole_way : (answer : Answer) (done : List Deed) (bytes reply : List ℕ) (told : List Deed) → said_in bytes ≡ one_reply reply → ReplyWay answer done reply told → Way answer done bytes
   whole_way answer done bytes reply told one way = record {

@@ -30,7 +30,7 @@ module _ (host : Host) where
   stays_in_replica t m kept = kept_outside_left (area_of (site_of host)) (plain_area host.drives.slices) t m kept
 
   -- blocks of a slice that isn't set aside for replicas are among them
-  plain_has : (start count : ℕ) → IsPlain host start count → (block blocks drive b : ℕ) → start ≤ block → block + blocks ≤ start + count → range 0 block blocks drive b ≡ true → plain_area host.drives.slices drive b ≡ true
+  pub plain_has : (start count : ℕ) → IsPlain host start count → (block blocks drive b : ℕ) → start ≤ block → block + blocks ≤ start + count → range 0 block blocks drive b ≡ true → plain_area host.drives.slices drive b ≡ true
   plain_has start count is block blocks drive b from to here =
       let line : SliceLine = record { name = is.name; at = is.at } in
       let p = λ (l : SliceLine). not l.at.db && covers l.at.drive.0 l.at.start l.at.blocks drive b in

@@ -1,32 +1,38 @@
 -- What a read and a write of blocks of a volume leave of a host's history.
-use Rattle.std.proofs.Common.{◌≡◌, inr, ◌+◌, ◌<◌, ◌≤◌, ℕ, Bool, true, false, List, [], ◌∷◌, length, Option, IfSome, Contains, refl, sym, subst, arith}
+use Rattle.std.proofs.Common.{◌≡◌, inl, inr, ◌+◌, ◌<◌, ◌≤◌, ℕ, Bool, true, false, not, List, [], ◌∷◌, length, None, refl, sym, ◌∙◌, subst, arith}
+use Rattle.std.proofs.lemmas.Bool.Decides.{nat_tests}
 use Rattle.std.proofs.lemmas.List.FromFn.{length-map-range_with_len, get_or-map-range_with_len}
-use Rattle.mdv_engine_law.specs.Below.{Identity, VolId, IoFault, Among, AreAllowed, AreApart, range, Settling, IsSettled, Tale, last, Table, Version, Newest, IsTableAt, with_blocks, nothing, replica, IsOpened, IsNewestIn, History, Deed, Wrote, Saw, Event, Extent, Issues, HasExtent, LiesOn, area_of, values_reply, history_after}
-use Rattle.mdv_shelf.proofs.Frame.{fixed_settled}
-use Rattle.mdv_shelf.proofs.Settled.{covered}
-use Rattle.mdv_home.proofs.Places.{whole_place}
-use Rattle.mdv_shelf.proofs.Everywhere.{last_image}
-use Rattle.mdv_store_law.proofs.Families.{contains_first, written_firm}
-use Rattle.mdv_store_law.proofs.Frame.{frames}
+use Rattle.mdv_engine_law.specs.Below.{Answers, AreApart, AreWoken, Deed, Event, Flushes, HasRange, History, IoFault, Issues, IsMapOf, IsNewestIn, IsOpened, IsSettled, IsTableAt, Key, Map, Newest, OfVolume, Reads, Saw, Settling, Table, Tale, VolId, Wrote, area_of_map, history_after, history_after_all, log_of, range, run_map, values_reply, with_blocks}
+use Rattle.mdv_map.specs.Maps.{HasDriveBlock}
+use Rattle.mdv_map.specs.Requests.{AllOnDisk, AllRead, Rewriting}
+use Rattle.mdv_map.proofs.Covering.{runs_lie}
+use Rattle.mdv_shelf.specs.Calls.{Shows}
 use Rattle.mdv_store_law.proofs.Parts.{part_itself}
-use Rattle.mdv_history.proofs.Values.{values_issued, issued_newest}
+use Rattle.mdv_volumes.specs.Databases.{is_volume}
+use Rattle.mdv_volumes.specs.Events.{VolumeEvent}
+use Rattle.mdv_volumes.specs.History.{woken_by}
+use Rattle.mdv_volumes.specs.HistoryLaws.{IsUpon, write_of}
+use Rattle.mdv_volumes.proofs.Runs.{runs_stand}
+use Rattle.mdv_volumes.proofs.Transfers.{reads_go, writes_go}
+use Rattle.mdv_engine_law.specs.Awake.{AreFound}
 use Rattle.mdv_engine_law.specs.declared.answer.Answer.TheVariants.{Said}
 use Rattle.mdv_engine_law.specs.declared.answer.Outcome.TheVariants as outcome
 use Rattle.mdv_engine_law.specs.declared.host.Host.{Host}
-use Rattle.mdv_engine_law.specs.Home.{IsReady, StaysHome, site_of}
-use Rattle.mdv_engine_law.specs.Line.{Memory, ToDo, ToSee, AreBlocksAt, blocks_of, contents}
-use Rattle.mdv_engine_law.specs.Standing.{StandsAt, Goes, Reached, Knows, IsKnown, IsKnownAfter, CarryMoment, CarriedTo}
+use Rattle.mdv_engine_law.specs.Home.{IsReady, StaysHome, key_of, site_of, sites_of}
+use Rattle.mdv_engine_law.specs.Line.{Memory, ToDo, ToSee, AreBlocksAt, IsSound, blocks_of, contents}
+use Rattle.mdv_engine_law.specs.Standing.{Goes, IsUnused, StandsAt, Reached, Knows, IsKnown, IsKnownAfter, CarryMoment, CarriedTo, is_up}
 use Rattle.mdv_engine_law.proofs.Beside.{IsPlain, of_home, on_plain, replica_within, opened_beside, table_opened}
-use Rattle.mdv_engine_law.proofs.Going.{goes_none}
-use Rattle.mdv_engine_law.proofs.Refusing.{opened_has, knows_opened}
+use Rattle.mdv_engine_law.proofs.Going.{happened, happened_stands}
+use Rattle.mdv_engine_law.proofs.Knowing.{known_on, newest_same, some_more}
+use Rattle.mdv_engine_law.proofs.Refusing.{IsFree, opened_has, knows_opened}
+use Rattle.mdv_engine_law.proofs.Sites.{own_site}
+use Rattle.mdv_shelf.proofs.Blocks.{both_ways}
 
--- A log whose newest table was written, and which the drive stands with, had its creation issued: there is room for its replica.
-has_room : (host : Host) (newest : Newest) (h : History) (t : Tale) → StandsAt host h t → IsNewestIn newest h.database → 8208 ≤ host.home.blocks
-has_room host newest h t stands is = elim (stands.stands.database.covers (last t) (last_image t)) [
-  | nothing not_firm found ↦
-      let firm = written_firm h.database.family is.version (subst (λ (f : List Version). Contains f is.version) (sym is.family) (contains_first is.version is.older)) is.written in
-      absurd (cc (firm, not_firm))
-  | replica head agrees ↦ subst (λ (o : Option Identity). IfSome o (λ identity. 8208 ≤ host.home.blocks)) agrees.as_issued stands.room
+-- what happens to a volume, but for a boot's waking, leaves all counts
+count_kept : (h : History) (key : Key) (volume : VolId) (e : VolumeEvent) → ((n : ℕ) → woken_by e n ≡ n) → (other : Key) (beside : VolId) → (history_after h (OfVolume key volume e)).woken other beside ≡ h.woken other beside
+count_kept h key volume e keeps other beside = elim (both_ways (is_volume key volume other beside)) [
+  | inl does ↦ rw does (keeps (h.woken other beside))
+  | inr never ↦ rw never refl
 ]
 
 -- blocks of a volume of the open database
@@ -34,8 +40,8 @@ module _ (host : Host) (sizes : List ℕ) (ready : IsReady host sizes) (memory :
   abbrev newest : Newest
   newest = there.lies.0
 
-  abbrev extent : Extent
-  extent = record { volume = volume; at = at; block = block }
+  abbrev map : Map
+  map = run_map 0 there.first there.blocks
 
   is_opened : (t : Tale) → Knows host memory t → IsOpened (site_of host) newest t
   is_opened t knows = opened_has memory newest (λ n. IsOpened (site_of host) n t) there.lies.1 knows.opened
@@ -55,62 +61,102 @@ module _ (host : Host) (sizes : List ℕ) (ready : IsReady host sizes) (memory :
       of_home host sizes ready there.first there.blocks (plain_blocks t knows) block count size from to room
 
   -- the history has them
-  pub has_extent : (h : History) (t : Tale) → IsKnown host memory h t → HasExtent (site_of host) h extent count
-  has_extent h t known =
-      let is : IsNewestIn newest h.database = opened_has memory newest (λ n. IsNewestIn n h.database) there.lies.1 known.newest in
-      let room = has_room host newest h t known.stands is in
+  pub has_range : (h : History) (t : Tale) → IsKnown host memory h t → HasRange (sites_of host) h.databases (key_of host) volume at count
+  has_range h t known =
+      let is : IsNewestIn newest (log_of h.databases (key_of host)) = opened_has memory newest (λ n. IsNewestIn n (log_of h.databases (key_of host))) there.lies.1 known.newest in
       record {
-        newest = is.version;
-        older = is.older;
-        family = is.family;
-        written = is.written;
-        is_extent = record {
-          first = there.first;
-          blocks = there.blocks;
-          lies = subst (λ (table : Table). LiesOn (site_of host) table.plan.volumes volume there.first there.blocks) (sym is.table) there.lies.2;
-          some = some;
-          within = there.within;
-          block = there.block_is;
-          apart = subst (λ (n : ℕ). AreApart (range 0 block count) (range 0 (host.home.start + 16) n)) (sym (whole_place host.home room)) (apart_from t 8192 known.knows (omega (arith, room)));
+        map = map;
+        there = record {
+          site = site_of host;
+          is_site = own_site host;
+          newest = is.version;
+          older = is.older;
+          family = is.family;
+          written = is.written;
+          map = subst (λ (table : Table). IsMapOf host.drives table volume map) (sym is.table) there.lies.2;
         };
+        some = some;
+        within = there.within;
       }
 
-  -- what the drive has there is among the values that they may have
-  seen_allowed : (h : History) (t : Tale) → IsKnown host memory h t → AreAllowed h.allowed block (blocks_of (contents t 0) block count)
-  seen_allowed h t known k less =
-      let within : k < count = subst (λ (n : ℕ). k < n) (length-map-range_with_len (contents t 0) block count) less in
-      let apart = (has_extent h t known).is_extent.apart in
-      let out : area_of (site_of host) 0 (block + k) ≡ false = not_true (area_of (site_of host) 0 (block + k)) (apart 0 (block + k) (covered 0 block count k within)) in
-      subst (λ (x : List ℕ). Among (h.allowed (block + k)) x) (sym (get_or-map-range_with_len (contents t 0) block count k (block + k) [] within refl))
-      (known.stands.stands.values (last t) (last_image t) (block + k) out)
-    where
-      not_true : (x : Bool) → (x ≡ true → ⊥) → x ≡ false
-      not_true true never = absurd (never refl)
-      not_true false never = refl
+  module _ (sound : IsSound memory) where
+    -- a database is open only where the drive was read
+    drive_up : is_up host memory 0 ≡ true
+    drive_up = by memory.down refl where
+      by : (down : Bool) → memory.down ≡ down → not down ≡ true
+      by false is = refl
+      by true is = absurd (let closed : memory.opened ≡ None = sound is in let opened = there.lies.1 in cc (closed, opened))
 
-  -- they were read
-  pub saw : (t : Tale) (text : List ℕ) → text ≡ values_reply at (blocks_of (contents t 0) block count) → CarriedTo host (ToSee volume at count) memory (Said (outcome.Values text)) memory t t
-  saw t text is =
-      let blocks = blocks_of (contents t 0) block count in
-      let counted : length blocks ≡ count = length-map-range_with_len (contents t 0) block count in
-      record {
-        done = Saw volume at blocks ∷ [];
-        acks = inr (record { blocks = blocks; counted = counted; told = is; seen = refl });
-        goes = λ h known. goes_none host [] (λ es g. IsKnownAfter host (Saw volume at blocks ∷ []) (Said (outcome.Values text)) memory g t) t h known.stands (
-          known,
-          (block, subst (λ (n : ℕ). HasExtent (site_of host) h extent n) (sym counted) (has_extent h t known), seen_allowed h t known),
-        );
-        knows = λ knows. knows;
-      }
+    -- and one value of each was found
+    pub are_found : (h : History) (t : Tale) → IsKnown host memory h t → AreFound h (key_of host) volume at count
+    are_found h t known =
+        let woken : AreWoken (site_of host) newest.table (is_up host memory) h (key_of host) = opened_has memory newest (λ n. AreWoken (site_of host) n.table (is_up host memory) h (key_of host)) there.lies.1 known.woken in
+        let upon : IsUpon (is_up host memory) map = λ b drive at lt has. on_zero drive at b has in
+        let all : h.woken (key_of host) volume ≡ there.blocks = woken volume map there.lies.2 upon in
+        let within = there.within in omega (arith, all, within)
+      where
+        on_zero : (drive place b : ℕ) → HasDriveBlock (map.copies b) drive place → is_up host memory drive ≡ true
+        on_zero drive place b (inl is) = subst (λ (d : ℕ). is_up host memory d ≡ true) (sym is.0) drive_up
+        on_zero drive place b (inr none) = absurd none
+
+    -- they were read
+    pub saw : (t : Tale) (text : List ℕ) → text ≡ values_reply at (blocks_of (contents t 0) block count) → CarriedTo host (ToSee (key_of host) volume at count) memory (Said (outcome.Values text)) memory t t
+    unfolding has_range
+    saw t text is = record {
+      done = Saw (key_of host) volume at blocks ∷ [];
+      acks = inr (record { blocks = blocks; counted = counted; told = is; seen = refl });
+      goes = λ h known.
+          (let read = reads_go (sites_of host) h (key_of host) volume at blocks t (range_of h known) known.stands.stands (runs_stand.copies 0 there.first there.blocks at (length blocks)) (runs_stand.read 0 there.first there.blocks at blocks t shown) in
+          let event : Event = Reads (key_of host) volume at blocks in
+          let stands = happened_stands host [] [] [] t h (event ∷ []) read.happens known.stands.room (tt, tt) in
+          happened host [] [] [] t h (event ∷ []) read.happens known.stands.room (tt, tt) (λ es g. IsKnownAfter host (Saw (key_of host) volume at blocks ∷ []) (Said (outcome.Values text)) memory g t)
+          (subst (λ (n : ℕ). AreFound h (key_of host) volume at n) (sym counted) (are_found h t known), tt) tt (
+            known_on host memory h (history_after h event) t stands refl (λ other. refl) known,
+            read.untold,
+          ));
+      knows = λ knows. knows;
+    }
+      where
+        blocks : List (List ℕ)
+        blocks = blocks_of (contents t 0) block count
+
+        counted : length blocks ≡ count
+        counted = length-map-range_with_len (contents t 0) block count
+
+        range_of : (h : History) → IsKnown host memory h t → HasRange (sites_of host) h.databases (key_of host) volume at (length blocks)
+        range_of h known = subst (λ (n : ℕ). HasRange (sites_of host) h.databases (key_of host) volume at n) (sym counted) (has_range h t known)
+
+        shown : Shows t 0 (there.first + at) blocks
+        shown k lt =
+            let within : k < count = subst (λ (n : ℕ). k < n) counted lt in
+            let is = there.block_is in
+            get_or-map-range_with_len (contents t 0) block count k ((there.first + at) + k) [] within (omega (arith, is))
 
 -- blocks of a volume that are written
-module _ (host : Host) (sizes : List ℕ) (ready : IsReady host sizes) (memory : Memory) (volume : VolId) (at block : ℕ) (blocks : List (List ℕ)) (some : 0 < length blocks) (there : AreBlocksAt host memory volume at (length blocks) block)
-    (t m : Tale) (settling : Settling 0 block blocks t m) where
+module _ (host : Host) (sizes : List ℕ) (ready : IsReady host sizes) (memory : Memory) (sound : IsSound memory) (volume : VolId) (at block : ℕ) (blocks : List (List ℕ)) (some : 0 < length blocks)
+    (there : AreBlocksAt host memory volume at (length blocks) block) (t m : Tale) (settling : Settling 0 block blocks t m) where
   abbrev wrote : Deed
-  wrote = Wrote volume at blocks
+  wrote = Wrote (key_of host) volume at blocks
 
-  abbrev written : Extent
-  written = record { volume = volume; at = at; block = block }
+  same_block : block ≡ there.first + at
+  same_block = there.block_is
+
+  rewriting : Rewriting (run_map 0 there.first there.blocks) at blocks t m
+  rewriting = runs_stand.written 0 there.first there.blocks at blocks t m (subst (λ (b : ℕ). Settling 0 b blocks t m) same_block settling)
+
+  -- the unused blocks stay
+  free_written : IsFree host memory t → IsFree host memory m
+  free_written free drive b on unused x left =
+      let kept = settling.outside drive b (outside drive b unused) in free drive b on unused x (kept.left x left) ∙ sym kept.last
+    where
+      outside : (drive b : ℕ) → IsUnused host memory drive b → range 0 block (length blocks) drive b ≡ false
+      outside drive b unused =
+          let away : area_of_map (run_map 0 there.first there.blocks) drive b ≡ false = opened_has memory there.lies.0 (λ n. (other : VolId) (v : Map) → IsMapOf host.drives n.table other v → area_of_map v drive b ≡ false) there.lies.1 unused.free volume
+          (run_map 0 there.first there.blocks) there.lies.2 in
+          within there.first there.blocks drive b (sym (runs_lie.area 0 there.first there.blocks drive b) ∙ away) there.block_is there.within
+        where
+          within : (first count drive b : ℕ) → range 0 first count drive b ≡ false → block ≡ first + at → at + length blocks ≤ count → range 0 block (length blocks) drive b ≡ false
+          within first count drive b away is fits = grind (arith, nat_tests)
 
   -- what is known of the open database stays
   knows_written : Knows host memory t → Knows host memory m
@@ -119,51 +165,66 @@ module _ (host : Host) (sizes : List ℕ) (ready : IsReady host sizes) (memory :
       let opened = is_opened host sizes ready memory volume at (length blocks) block some there t knows in
       let within = replica_within host sizes ready n (table_opened host sizes ready n t opened) in
       let apart = apart_from host sizes ready memory volume at (length blocks) block some there t n.blocks knows within in
-      knows_opened host memory n m there.lies.1 (opened_beside (site_of host) n (range 0 block (length blocks)) t m apart settling.outside opened)
+      knows_opened host memory n m there.lies.1 (opened_beside (site_of host) n (range 0 block (length blocks)) t m apart settling.outside opened) (free_written knows.unused)
 
-  -- the history goes on by their issue
-  issued_by : (After : List Event → History → Type 0) → ((h : History) → HasExtent (site_of host) h written (length blocks) → IsKnown host memory (history_after h (Issues written blocks)) m → After (Issues written blocks ∷ []) (history_after h (Issues written blocks)))
-      → (h : History) → IsKnown host memory h t → Goes host (wrote ∷ []) [] After m h
-  issued_by After then h known =
-      let has = has_extent host sizes ready memory volume at (length blocks) block some there h t known in
-      let stands : StandsAt host (history_after h (Issues written blocks)) m = record {
-        stands = record {
-          database = record {
-            is_log = known.stands.stands.database.is_log;
-            covers = frames.covers (site_of host) (range 0 block (length blocks)) h.database t m has.is_extent.apart settling.outside known.stands.stands.database.covers;
-          };
-          values = values_issued (site_of host) h.allowed block blocks t m settling known.stands.stands.values;
-        };
-        room = known.stands.room;
-      } in
-      record {
-        es = Issues written blocks ∷ [];
-        course = (has, tt);
-        come = record { tells = refl; issues = (tt, tt); begins = part_itself (wrote ∷ []) };
-        stands = stands;
-        after = then h has (record { stands = stands; newest = known.newest; knows = knows_written known.knows });
-      }
+  module _ (h : History) (known : IsKnown host memory h t) where
+    abbrev own : HasRange (sites_of host) h.databases (key_of host) volume at (length blocks)
+    own = has_range host sizes ready memory volume at (length blocks) block some there h t known
+
+    found : AreFound h (key_of host) volume at (length blocks)
+    found = are_found host sizes ready memory volume at (length blocks) block some there sound h t known
+
+    -- what was known is known
+    still : (g : History) → StandsAt host g m → (log_of g.databases (key_of host)).family ≡ (log_of h.databases (key_of host)).family → ((other : VolId) → g.woken (key_of host) other ≡ h.woken (key_of host) other) → IsKnown host memory g m
+    still g stands same counts = record {
+      stands = stands;
+      newest = some_more memory.opened (λ n. IsNewestIn n (log_of h.databases (key_of host))) (λ n. IsNewestIn n (log_of g.databases (key_of host))) (λ n is. newest_same n (log_of h.databases (key_of host)) (log_of g.databases (key_of host)) same is) known.newest;
+      woken = some_more memory.opened (λ n. AreWoken (site_of host) n.table (is_up host memory) h (key_of host)) (λ n. AreWoken (site_of host) n.table (is_up host memory) g (key_of host))
+          (λ n are other v lies upon. counts other ∙ are other v lies upon) known.woken;
+      knows = knows_written known.knows;
+    }
+
+    -- its values were issued
+    issued_known : IsKnown host memory (history_after h (OfVolume (key_of host) volume (Issues at blocks))) m
+    unfolding has_range
+    issued_known =
+        let issued = writes_go.issued (sites_of host) h (key_of host) volume at blocks t m own known.stands.stands rewriting in
+        let stands = happened_stands host [] (wrote ∷ []) [] m h (OfVolume (key_of host) volume (Issues at blocks) ∷ []) issued known.stands.room (tt, tt) in
+        still (history_after h (OfVolume (key_of host) volume (Issues at blocks))) stands refl (λ other. count_kept h (key_of host) volume (Issues at blocks) (λ n. refl) (key_of host) other)
+
+    pub issued_by : (After : List Event → History → Type 0) → (IsKnown host memory (history_after h (OfVolume (key_of host) volume (Issues at blocks))) m → After (OfVolume (key_of host) volume (Issues at blocks) ∷ []) (history_after h (OfVolume (key_of host) volume (Issues at blocks))))
+        → Goes host (wrote ∷ []) [] After m h
+    unfolding has_range
+    issued_by After then =
+        let issued = writes_go.issued (sites_of host) h (key_of host) volume at blocks t m own known.stands.stands rewriting in
+        happened host (wrote ∷ []) (wrote ∷ []) [] m h (OfVolume (key_of host) volume (Issues at blocks) ∷ []) issued known.stands.room (tt, tt) After (found, tt) (part_itself (wrote ∷ [])) (then issued_known)
+
+    -- they are on the disk
+    pub written_by : AllRead (run_map 0 there.first there.blocks) at blocks m → AllOnDisk (run_map 0 there.first there.blocks) at (length blocks) m
+        → Goes host (wrote ∷ []) [] (λ es g. IsKnownAfter host (wrote ∷ []) (Said outcome.Ok) memory g m) m h
+    unfolding has_range
+    written_by read on =
+        let done = writes_go.done (sites_of host) h (key_of host) volume at blocks t m own known.stands.stands rewriting read on in
+        let es = write_of (key_of host) volume at blocks in
+        let first = history_after h (OfVolume (key_of host) volume (Issues at blocks)) in
+        let second = history_after first (OfVolume (key_of host) volume (Answers at blocks)) in
+        let stands = happened_stands host [] (wrote ∷ []) [] m h es done.happens known.stands.room (tt, (tt, (tt, tt))) in
+        happened host (wrote ∷ []) (wrote ∷ []) [] m h es done.happens known.stands.room (tt, (tt, (tt, tt))) (λ es g. IsKnownAfter host (wrote ∷ []) (Said outcome.Ok) memory g m) (found, (tt, (tt, tt))) (part_itself (wrote ∷ [])) (
+          still (history_after_all h es) stands refl (λ other.
+              count_kept second (key_of host) volume (Flushes at (length blocks)) (λ n. refl) (key_of host) other ∙ count_kept first (key_of host) volume (Answers at blocks) (λ n. refl) (key_of host) other
+              ∙ count_kept h (key_of host) volume (Issues at blocks) (λ n. refl) (key_of host) other),
+          done.untold,
+        )
 
   pub writing_moment : StaysHome host t m → CarryMoment host (ToDo wrote) memory t m
-  writing_moment home = record { home = home; within = inr (block, there, settling.outside); quiet = settling.quiet; goes = issued_by Reached (λ h has known. tt) }
+  writing_moment home = record { home = home; within = inr (block, there, settling.outside); quiet = settling.quiet; goes = λ h known. issued_by h known Reached (λ is. tt) }
 
   -- they are on the disk, and the `ok` may be told
   pub wrote_blocks : IsSettled 0 block blocks m → CarriedTo host (ToDo wrote) memory (Said outcome.Ok) memory t m
-  wrote_blocks settled = record {
-    done = wrote ∷ [];
-    acks = refl;
-    goes = issued_by (λ es g. IsKnownAfter host (wrote ∷ []) (Said outcome.Ok) memory g m) (λ h has known. (
-      known,
-      (
-        block,
-        record { newest = has.newest; older = has.older; family = has.family; written = has.written; is_extent = has.is_extent },
-        issued_newest (site_of host) h.allowed block blocks,
-        fixed_settled 0 block blocks m settled,
-      ),
-    ));
-    knows = knows_written;
-  }
+  wrote_blocks settled =
+      let both = runs_stand.settled 0 there.first there.blocks at blocks m (subst (λ (b : ℕ). IsSettled 0 b blocks m) same_block settled) in
+      record { done = wrote ∷ []; acks = refl; goes = λ h known. written_by h known both.0 both.1; knows = knows_written }
 
   -- a call on the drive failed
   pub wrote_some : CarriedTo host (ToDo wrote) memory (Said (outcome.Refused IoFault)) memory t m
-  wrote_some = record { done = []; acks = refl; goes = issued_by (λ es g. IsKnownAfter host [] (Said (outcome.Refused IoFault)) memory g m) (λ h has known. known); knows = knows_written }
+  wrote_some = record { done = []; acks = refl; goes = λ h known. issued_by h known (λ es g. IsKnownAfter host [] (Said (outcome.Refused IoFault)) memory g m) (λ is. is); knows = knows_written }

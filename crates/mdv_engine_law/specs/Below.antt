@@ -5,6 +5,7 @@ pub use Rattle.mdv_base.specs.Refusal.{refusal_text}
 pub use Rattle.mdv_base.specs.declared.drive.SliceName.{SliceName}
 pub use Rattle.mdv_base.specs.declared.mark.Identity.{Identity}
 pub use Rattle.mdv_base.specs.declared.mark.Mark.{Mark}
+pub use Rattle.mdv_base.specs.declared.name.Key.{Key}
 pub use Rattle.mdv_base.specs.declared.name.Key.TheVariants.{Local}
 pub use Rattle.mdv_base.specs.declared.name.VolId.{VolId}
 pub use Rattle.mdv_base.specs.declared.place.Place.{Place}
@@ -14,13 +15,9 @@ pub use Rattle.mdv_base.specs.declared.refusal.Refusal.TheVariants.{NoSuchVolume
 pub use Rattle.mdv_base.specs.declared.refusal.Refusal.TheVariants.{TooMany, WrongKind, WrongState}
 pub use Rattle.mdv_base.specs.declared.state_word.StateWord.{StateWord}
 pub use Rattle.mdv_base.specs.declared.state_word.StateWord.TheVariants.{Down}
-pub use Rattle.mdv_history.specs.History.{Acknowledges, Adds, AreAllowed, Changed, Created, Deed, Event, Extent, HasExtent, HasWoken, History}
-pub use Rattle.mdv_history.specs.History.{IsCourse, IsIssue, Issues, LiesOn, MayHappen, OfDatabase, Saw, Shows, Woke, Wrote}
-pub use Rattle.mdv_history.specs.History.{history_after, history_after_all, told_by}
-pub use Rattle.mdv_history.specs.Laws.{CanTell}
-pub use Rattle.mdv_history.specs.Standing.{Stands}
 pub use Rattle.mdv_home.specs.Home.{IsHome, IsSmall, line_of, place_of}
 pub use Rattle.mdv_home.specs.Placed.{IsHomeTable}
+pub use Rattle.mdv_map.specs.Maps.{DriveBlock, Map, area_of_map, run_map}
 pub use Rattle.mdv_name.specs.SliceIndex.{HasNoSlice, HasSlice}
 pub use Rattle.mdv_name.specs.declared.slice_lines.SliceAt.{SliceAt}
 pub use Rattle.mdv_name.specs.declared.slice_lines.SliceLine.{SliceLine}
@@ -36,7 +33,7 @@ pub use Rattle.mdv_shelf.specs.Area.{AreApart, Area, KeptOutside, joined, nowher
 pub use Rattle.mdv_shelf.specs.Calls.{OnReplies, and_then}
 pub use Rattle.mdv_shelf.specs.Moments.{Ends, Grew, Moments}
 pub use Rattle.mdv_shelf.specs.Settle.{IsSettled, IsSynced, Settling}
-pub use Rattle.mdv_shelf.specs.Tale.{Among, Gave, IsImage, Tale, Then, covers, last, told}
+pub use Rattle.mdv_shelf.specs.Tale.{Among, Gave, IsImage, MayLeave, Tale, Then, covers, last, told}
 pub use Rattle.mdv_status.specs.Telling.{Said, lacks, left_in, one_reply, refused, replies_in, said_in, unsaid, with_reply}
 pub use Rattle.mdv_status.specs.Values.{block_text, entries_reply, values_reply}
 pub use Rattle.mdv_store_law.specs.Going.{IsCreated, IsWithNewest, created_head, created_newest}
@@ -56,6 +53,14 @@ pub use Rattle.mdv_table.specs.declared.table.Table.{Table}
 pub use Rattle.mdv_table.specs.declared.volume.Base.{Base}
 pub use Rattle.mdv_table.specs.declared.volume.Volume.{Volume}
 pub use Rattle.mdv_table.specs.declared.volume.VolumeKind.{VolumeKind}
+pub use Rattle.mdv_volumes.specs.Databases.{Database, log_of, same_key}
+pub use Rattle.mdv_volumes.specs.Events.{Answers, Begins, Flushes, Issues, VolumeEvent, Woke}
+pub use Rattle.mdv_volumes.specs.Happening.{Adds, HasRange, IsCourse, IsIssue, IsNamed, IsThere, MayHappen, issued_by, told_by}
+pub use Rattle.mdv_volumes.specs.Histories.{Happens, Stands}
+pub use Rattle.mdv_volumes.specs.History.{Acknowledges, Boots, Changed, Crashes, Created, Creation, Deed, Event, History, OfDatabase, OfVolume, Reads, Saw, Shows, Stops, Wrote}
+pub use Rattle.mdv_volumes.specs.History.{history_after, history_after_all}
+pub use Rattle.mdv_volumes.specs.HistoryLaws.{AreSitesApart, AreWoken, CanTell}
+pub use Rattle.mdv_volumes.specs.Tables.{ArePlain, IsMapOf, IsSite, Sites}
 pub use Rattle.mdv_words.specs.declared.command.Command.{Command}
 pub use Rattle.mdv_words.specs.declared.command.Command.TheVariants.{Create, Read, Write}
 pub use Rattle.mdv_words.specs.Line.{Line}

@@ -1,12 +1,20 @@
 -- A host: its table of drives, where its database lies, and the blocks that its run may touch.
-use Rattle.std.specs.Prelude.{◌≡◌, ◌<◌, ◌^◌, ℕ, not, ◌&&◌, List, [], ◌∷◌}
+use Rattle.std.specs.Prelude.{◌≡◌, ◌<◌, ◌^◌, ℕ, not, ◌&&◌, List, [], ◌∷◌, Some, None, if◌then◌else◌}
 use Rattle.std.specs.List.{list_any}
-use Rattle.mdv_engine_law.specs.Below.{Identity, Local, IsHomeTable, IsHome, IsSmall, place_of, Site, area_of, SliceLine, Area, joined, KeptOutside, Tale, covers, IsSound}
+use Rattle.mdv_engine_law.specs.Below.{Identity, Key, Local, Sites, same_key, IsHomeTable, IsHome, IsSmall, place_of, Site, area_of, SliceLine, Area, joined, KeptOutside, Tale, covers, IsSound}
 use Rattle.mdv_engine_law.specs.declared.host.Host.{Host}
 
--- where the host has its database
+-- the key of the host's own database
+abbrev pub key_of : Host → Key
+key_of host = Local host.home.host
+
+-- where the host has it
 abbrev pub site_of : Host → Site
-site_of host = record { drives = host.drives; key = Local host.home.host; at = place_of host.home; size = host.home.drive_blocks }
+site_of host = record { drives = host.drives; key = key_of host; at = place_of host.home; size = host.home.drive_blocks }
+
+-- where each key has a database: no other has one yet
+abbrev pub sites_of : Host → Sites
+sites_of host key = if same_key key (key_of host) then Some (site_of host) else None
 
 -- the blocks of the slices that aren't set aside for replicas
 abbrev pub plain_area : List SliceLine → Area

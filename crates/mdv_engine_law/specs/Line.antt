@@ -2,7 +2,7 @@
 use Rattle.std.specs.Prelude.{◌≡◌, ◌⊎◌, ◌+◌, ◌<◌, ◌≤◌, ◌^◌, ℕ, Bool, true, false, List, [], ◌∷◌, length, map, Option, Some, None, slice_index_or}
 use Rattle.std.specs.List.{range_with_len}
 use Rattle.mdv_shelf.specs.Everywhere.{Image}
-use Rattle.mdv_engine_law.specs.Below.{Failures, Mark, VolId, Refusal, record_text, Head, First, Second, IsSpareSlot, greatest, other_slot, room_of, shows, Tale, covers, last, MakeStripe, One, Table, Entry, Command, Create, Read, Write, Line, Site, Newest, IsReplica, IsFound, HasTable, IsNewestOf, area_of, adopted_newest, next_newest, rewritten, Deed, Created, Changed, Wrote, LiesOn}
+use Rattle.mdv_engine_law.specs.Below.{Failures, Mark, VolId, Refusal, record_text, Head, First, Second, IsSpareSlot, greatest, other_slot, room_of, shows, Tale, covers, last, MakeStripe, One, Table, Entry, Command, Create, Read, Write, Line, Site, Newest, IsReplica, IsFound, HasTable, IsNewestOf, area_of, adopted_newest, next_newest, rewritten, Key, Deed, Created, Changed, Wrote, IsMapOf, run_map}
 use Rattle.mdv_store_law.specs.Adoptable.{IsAdoptable, IsHeaded}
 use Rattle.mdv_words.specs.declared.command.Command.TheVariants as command
 use Rattle.mdv_words.specs.Line as words
@@ -11,7 +11,7 @@ use Rattle.mdv_engine_law.specs.declared.answer.Answer.TheVariants.{Over}
 use Rattle.mdv_engine_law.specs.declared.answer.Ended.TheVariants as ended
 use Rattle.mdv_engine_law.specs.declared.host.Host.{Host}
 use Rattle.mdv_engine_law.specs.Answers.{accepted, refusing}
-use Rattle.mdv_engine_law.specs.Home.{site_of, identity_of}
+use Rattle.mdv_engine_law.specs.Home.{key_of, site_of, identity_of}
 
 -- what an engine keeps in memory: the open database, whether a call on the drive failed in the last boot, how many
 -- creations the run has begun, and the entries of the last `tab` block that was kept since that boot
@@ -100,7 +100,7 @@ blocks_of content first count = map content (range_with_len first count)
 
 -- the open database has the volume, on so many blocks of the drive from the first on
 abbrev pub HasVolumeOn : Host → Memory → VolId → ℕ → ℕ → Type 0
-HasVolumeOn host memory volume first count = (newest : Newest) × (memory.opened ≡ Some newest) × LiesOn (site_of host) newest.table.plan.volumes volume first count
+HasVolumeOn host memory volume first count = (newest : Newest) × (memory.opened ≡ Some newest) × IsMapOf host.drives newest.table volume (run_map 0 first count)
 
 -- the volume has these blocks, which lie on the drive from that one on
 pub record AreBlocksAt (host : Host) (memory : Memory) (volume : VolId) (at count block : ℕ) : Type 0 where
@@ -162,26 +162,26 @@ IsTurnedDown refusal kept answer next = (answer ≡ refusing refusal) × Stays k
 pub data Ask : Type 0 where
   Nothing : Ask
   ToDo : Deed → Ask
-  ToSee : VolId → ℕ → ℕ → Ask
+  ToSee : Key → VolId → ℕ → ℕ → Ask
 
--- what a command asks
-abbrev pub asked_by : Command → Ask
-asked_by (Create slice force) = ToDo Created
-asked_by (command.MakeStripe volume slice) = ToDo (Changed (MakeStripe volume slice))
-asked_by (Read volume at count) = ToSee volume at count
-asked_by (Write volume at block) = ToDo (Wrote volume at (block ∷ []))
+-- what a command asks of the host's own database
+abbrev pub asked_by : Host → Command → Ask
+asked_by host (Create slice force) = ToDo (Created (key_of host))
+asked_by host (command.MakeStripe volume slice) = ToDo (Changed (key_of host) (MakeStripe volume slice))
+asked_by host (Read volume at count) = ToSee (key_of host) volume at count
+asked_by host (Write volume at block) = ToDo (Wrote (key_of host) volume at (block ∷ []))
 
 -- a boot asks nothing, nor does a block of entries
-abbrev pub asked_by_line : Line → Ask
-asked_by_line words.Boot = Nothing
-asked_by_line (words.Tab lines) = Nothing
-asked_by_line (words.Exec command) = asked_by command
+abbrev pub asked_by_line : Host → Line → Ask
+asked_by_line host words.Boot = Nothing
+asked_by_line host (words.Tab lines) = Nothing
+asked_by_line host (words.Exec command) = asked_by host command
 
 -- the deeds that it may begin
 abbrev pub deeds : Ask → List Deed
 deeds Nothing = []
 deeds (ToDo deed) = deed ∷ []
-deeds (ToSee volume at count) = []
+deeds (ToSee key volume at count) = []
 
 -- a database is open only where the last boot read its drive
 abbrev pub IsSound : Memory → Type 0

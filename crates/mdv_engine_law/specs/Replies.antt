@@ -5,7 +5,7 @@ use Rattle.mdv_shelf.specs.Calls.{OnDrive}
 use Rattle.mdv_shelf.specs.Shelves.{IsOneCall, MadeCalls}
 use Rattle.mdv_shelf.specs.Story.{NoFewer}
 use Rattle.mdv_shelf.specs.declared.shelf.Shelf.{Ghosts}
-use Rattle.mdv_engine_law.specs.Below.{Failures, refusal_text, VolId, Refusal, IoFault, Deed, Saw, lacks, left_in, one_reply, refused, replies_in, said_in, unsaid, with_reply, entries_reply, values_reply}
+use Rattle.mdv_engine_law.specs.Below.{Failures, refusal_text, Key, VolId, Refusal, IoFault, Deed, Saw, lacks, left_in, one_reply, refused, replies_in, said_in, unsaid, with_reply, entries_reply, values_reply}
 use Rattle.mdv_engine_law.specs.declared.answer.Answer.{Answer}
 use Rattle.mdv_engine_law.specs.declared.answer.Answer.TheVariants.{Said, Over}
 use Rattle.mdv_engine_law.specs.declared.answer.Ended.{Ended}
@@ -72,25 +72,25 @@ abbrev pub IsRefusal : List ℕ → Type 0
 IsRefusal reply = (refusal : Refusal) × (reply ≡ refusal_line refusal)
 
 -- the reply tells values of so many blocks, from that one on, and these are what was seen
-pub record TellsValues (volume : VolId) (at count : ℕ) (reply : List ℕ) (done : List Deed) : Type 0 where
+pub record TellsValues (key : Key) (volume : VolId) (at count : ℕ) (reply : List ℕ) (done : List Deed) : Type 0 where
   pub blocks : List (List ℕ)
   pub counted : length blocks ≡ count
   pub told : reply ≡ values_reply at blocks
-  pub seen : done ≡ Saw volume at blocks ∷ []
+  pub seen : done ≡ Saw key volume at blocks ∷ []
 
 -- What a reply acknowledges to a line that asks this: `ok` the deed, and a reply to a read the values that it tells.
 abbrev pub AcksBy : Ask → List ℕ → List Deed → Type 0
 AcksBy Nothing reply done = done ≡ []
 AcksBy (ToDo deed) reply done = done ≡ (if bytes_eq reply ok_line then deed ∷ [] else [])
-AcksBy (ToSee volume at count) reply done = (IsRefusal reply × (done ≡ [])) ⊎ TellsValues volume at count reply done
+AcksBy (ToSee key volume at count) reply done = (IsRefusal reply × (done ≡ [])) ⊎ TellsValues key volume at count reply done
 
 -- some bytes are a front of a reply that tells values, and all of these were seen
-pub record TellsFront (volume : VolId) (at count : ℕ) (bytes : List ℕ) (done : List Deed) : Type 0 where
+pub record TellsFront (key : Key) (volume : VolId) (at count : ℕ) (bytes : List ℕ) (done : List Deed) : Type 0 where
   pub some : bytes ≢ []
   pub reply : List ℕ
   pub size : ℕ
   pub front : bytes ≡ take size reply
-  pub tells : TellsValues volume at count reply done
+  pub tells : TellsValues key volume at count reply done
 
 -- a front of a reply that tells a refusal
 abbrev pub IsRefusalFront : List ℕ → Type 0
@@ -100,7 +100,7 @@ IsRefusalFront bytes = (refusal : Refusal) × (count : ℕ) × (bytes ≡ take c
 abbrev pub AcksFront : Ask → List ℕ → List Deed → Type 0
 AcksFront Nothing bytes done = done ≡ []
 AcksFront (ToDo deed) bytes done = done ≡ []
-AcksFront (ToSee volume at count) bytes done = (IsRefusalFront bytes × (done ≡ [])) ⊎ TellsFront volume at count bytes done
+AcksFront (ToSee key volume at count) bytes done = (IsRefusalFront bytes × (done ≡ [])) ⊎ TellsFront key volume at count bytes done
 
 -- what the bytes told of a reply acknowledge
 abbrev pub AcksIn : Ask → List (List ℕ) → List ℕ → List Deed → Type 0

@@ -1,27 +1,28 @@
--- How the drive stands with its history at each moment of a line.
-use Rattle.std.specs.Prelude.{◌≡◌, ◌≢◌, ◌⊎◌, ℕ, ◌≤◌, false, List, [], ◌∷◌, ◌++◌, length, take, None, IfSome, Contains}
-use Rattle.mdv_engine_law.specs.Below.{Failures, Identity, KeptOutside, nowhere, range, Wrote, Tale, told, Line, area_of, ShowsNothing, IsOpened, IsNewestIn, History, Deed, Created, Event, history_after, MayHappen, Adds, HasWoken, CanTell}
+-- How the drives stand with their history at each moment of a line.
+use Rattle.std.specs.Prelude.{◌≡◌, ◌⊎◌, ℕ, Bool, ◌≤◌, true, false, not, ◌&&◌, ◌==◌, List, [], ◌∷◌, ◌++◌, length, take, None, IfSome, Contains}
+use Rattle.mdv_engine_law.specs.Below.{Failures, Identity, KeptOutside, nowhere, range, Wrote, Tale, told, MayLeave, last, Line, area_of, VolId, Map, IsMapOf, area_of_map, ShowsNothing, IsOpened, IsNewestIn, History, Deed, Created, Event, history_after, log_of, Adds, AreWoken, CanTell}
 use Rattle.mdv_store_law.specs.Machine as machine
 use Rattle.mdv_words.specs.Line as words
 use Rattle.mdv_shelf.specs.Calls.{OnDrive}
 use Rattle.mdv_shelf.specs.Made.{Made}
 use Rattle.mdv_shelf.specs.Story.{FailuresBy, Moment}
-use Rattle.mdv_history.specs.Standing as history
+use Rattle.mdv_volumes.specs.Histories as history
 use Rattle.mdv_engine_law.specs.declared.answer.Answer.{Answer}
 use Rattle.mdv_engine_law.specs.declared.answer.Answer.TheVariants.{Said, Over}
 use Rattle.mdv_engine_law.specs.declared.answer.Outcome.TheVariants as outcome
 use Rattle.mdv_engine_law.specs.declared.answer.Reply.{Reply}
 use Rattle.mdv_engine_law.specs.declared.host.Host.{Host}
-use Rattle.mdv_engine_law.specs.Home.{StaysHome, site_of}
+use Rattle.mdv_engine_law.specs.Awake.{Happening, HasBooted}
+use Rattle.mdv_engine_law.specs.Home.{StaysHome, key_of, plain_area, site_of, sites_of}
 use Rattle.mdv_engine_law.specs.Commands.{ComesTo}
 use Rattle.mdv_engine_law.specs.Efforts.{LineCalls, replied_to}
 use Rattle.mdv_engine_law.specs.Line.{Ask, AreBlocksAt, Kept, Nothing, ToDo, ToSee, Memory, IsSame, asked_by, deeds, contents, kept_at}
 use Rattle.mdv_engine_law.specs.Replies.{Acks, AcksAnswer, AcksBy, IsReply, IsFront, IsTold, issuable, issuable_of, issued_by, text_of}
 
--- the drive stands with the history, in which a database was made only where there is room for it
+-- the drives stand with the history, in which the host's database was made only where there is room for it
 pub record StandsAt (host : Host) (h : History) (m : Tale) : Type 0 where
-  pub stands : history.Stands (site_of host) h m
-  pub room : IfSome h.database.issued (λ identity. 8208 ≤ host.home.blocks)
+  pub stands : history.Stands (sites_of host) h m
+  pub room : IfSome (log_of h.databases (key_of host)).issued (λ identity. 8208 ≤ host.home.blocks)
 
 -- a creation of this run, on a slice that has room for it
 pub record IsOfRun (host : Host) (identity : Identity) : Type 0 where
@@ -32,10 +33,10 @@ pub record IsOfRun (host : Host) (identity : Identity) : Type 0 where
 abbrev pub Does : Host → List Deed → List Deed → List Event → Type 0
 Does host asks done es = Adds (IsOfRun host) asks done es
 
--- From a history by some events, which tell these deeds and begin only deeds that are asked, to one that the drive stands with, of
+-- From a history by some events, which tell these deeds and begin only deeds that are asked, to one that the drives stand with, of
 -- which more is known.
 abbrev pub Goes : Host → List Deed → List Deed → (List Event → History → Type 0) → Tale → History → Type 0
-Goes host asks done After m h = machine.Goes history_after (MayHappen (site_of host)) (Does host asks done) (λ g. StandsAt host g m) After h
+Goes host asks done After m h = machine.Goes history_after (Happening host) (Does host asks done) (λ g. StandsAt host g m) After h
 
 abbrev pub Reached : List Event → History → Type 0
 Reached es h = Unit {0}
@@ -58,44 +59,57 @@ pub record Executed (drive : Failures) (replies : Type 0) (made : Made) (host : 
   pub calls : LineCalls (replied_to answer made) host (kept_at old t) line answer (kept_at new u)
   pub replied : Replied replies answer reply t u
 
--- What is known of the drive between two lines: where no database is open and the last boot read the drive, nothing is
--- there; where one is open, every crash leaves one and the same replica, with its newest table.
+-- whether a drive is the host's, and the last boot has read it
+abbrev pub is_up : Host → Memory → ℕ → Bool
+is_up host memory drive = drive == (site_of host).at.drive.0 && not memory.down
+
+-- a block of a slice that isn't set aside for replicas, which no volume of the open database has
+pub record IsUnused (host : Host) (memory : Memory) (drive block : ℕ) : Type 0 where
+  pub plain : plain_area host.drives.slices drive block ≡ true
+  pub free : IfSome memory.opened (λ newest. (volume : VolId) (v : Map) → IsMapOf host.drives newest.table volume v → area_of_map v drive block ≡ false)
+
+-- What is known of the drives between two lines: where no database is open and the last boot read the drive, nothing is
+-- there; where one is open, every crash leaves one and the same replica, with its newest table; and of an unused block on a drive that the last boot
+-- has read a crash leaves what a read gives.
 pub record Knows (host : Host) (memory : Memory) (t : Tale) : Type 0 where
   pub nothing : memory.opened ≡ None → memory.down ≡ false → ShowsNothing (site_of host) t
   pub opened : IfSome memory.opened (λ newest. IsOpened (site_of host) newest t)
+  pub unused : (drive block : ℕ) → is_up host memory drive ≡ true → IsUnused host memory drive block → (x : List ℕ) → MayLeave t drive block x → x ≡ last t drive block
 
--- what is known of a history there: the open database is the newest of its log
+-- what is known of a history there: the open database's table is the newest of its log; and the last boot has found one value of each block of each of its
+-- volumes on a drive that it has read, or the volume was made since
 pub record IsKnown (host : Host) (memory : Memory) (h : History) (t : Tale) : Type 0 where
   pub stands : StandsAt host h t
-  pub newest : IfSome memory.opened (λ newest. IsNewestIn newest h.database)
+  pub newest : IfSome memory.opened (λ newest. IsNewestIn newest (log_of h.databases (key_of host)))
+  pub woken : IfSome memory.opened (λ newest. AreWoken (site_of host) newest.table (is_up host memory) h (key_of host))
   pub knows : Knows host memory t
 
--- a moment of a boot: nothing is told, nothing outside the replica's blocks is touched, and each history goes on with nothing asked
+-- a moment of a boot: nothing is told, nothing outside the replica's blocks is touched, and each history goes on with nothing asked, by the boot's beginning first
 pub record BootMoment (host : Host) (t m : Tale) : Type 0 where
   pub kept : KeptOutside (area_of (site_of host)) t m
   pub quiet : told m ≡ told t
-  pub goes : (h : History) → StandsAt host h t → Goes host [] [] Reached m h
+  pub goes : (h : History) → StandsAt host h t → Goes host [] [] (λ es after. HasBooted (key_of host) es) m h
 
--- a boot that is answered, and leaves this in memory: where it has read the drive, each block has one value since
+-- a boot that is answered, and leaves this in memory
 pub record BootedTo (host : Host) (memory : Memory) (t u : Tale) : Type 0 where
   pub kept : KeptOutside (area_of (site_of host)) t u
   pub quiet : told u ≡ told t
   pub knows : Knows host memory u
-  pub goes : (h : History) → StandsAt host h t → Goes host [] [] (λ es after. IsKnown host memory after u × (memory.down ≡ false → HasWoken es)) u h
+  pub goes : (h : History) → StandsAt host h t → Goes host [] [] (λ es after. IsKnown host memory after u × HasBooted (key_of host) es) u h
 
 -- The blocks that a line which asks this may write, and all others are kept: a boot, a creation and a change those of the replica, a write its own, and a
 -- read none.
 abbrev pub WritesOnly : Host → Ask → Memory → Tale → Tale → Type 0
 WritesOnly host Nothing memory t m = KeptOutside (area_of (site_of host)) t m
-WritesOnly host (ToDo (Wrote volume at blocks)) memory t m = KeptOutside nowhere t m ⊎ ((place : ℕ) × AreBlocksAt host memory volume at (length blocks) place × KeptOutside (range 0 place (length blocks)) t m)
+WritesOnly host (ToDo (Wrote key volume at blocks)) memory t m = KeptOutside nowhere t m ⊎ ((place : ℕ) × AreBlocksAt host memory volume at (length blocks) place × KeptOutside (range 0 place (length blocks)) t m)
 WritesOnly host (ToDo other) memory t m = KeptOutside (area_of (site_of host)) t m
-WritesOnly host (ToSee volume at count) memory t m = KeptOutside nowhere t m
+WritesOnly host (ToSee key volume at count) memory t m = KeptOutside nowhere t m
 
 -- and those that a line may write, or a block of entries, which makes no call on the drive
 abbrev pub LineWrites : Host → Line → Memory → Tale → Tale → Type 0
 LineWrites host words.Boot memory t m = WritesOnly host Nothing memory t m
 LineWrites host (words.Tab lines) memory t m = KeptOutside nowhere t m
-LineWrites host (words.Exec command) memory t m = WritesOnly host (asked_by command) memory t m
+LineWrites host (words.Exec command) memory t m = WritesOnly host (asked_by host command) memory t m
 
 -- a moment while a line is carried out that asks this, with nothing told, and nothing done outside the host's blocks, nor outside those that it may write
 pub record CarryMoment (host : Host) (ask : Ask) (memory : Memory) (t m : Tale) : Type 0 where
@@ -105,15 +119,15 @@ pub record CarryMoment (host : Host) (ask : Ask) (memory : Memory) (t m : Tale) 
   pub goes : (h : History) → IsKnown host memory h t → Goes host (deeds ask) [] Reached m h
 
 -- these deeds can be told
-abbrev pub CanTellAll : Host → List Deed → History → Tale → Type 0
-CanTellAll host [] h u = Unit {0}
-CanTellAll host (deed ∷ []) h u = CanTell (site_of host) deed h u
-CanTellAll host (deed ∷ more) h u = ⊥
+abbrev pub CanTellAll : Host → List Deed → History → Type 0
+CanTellAll host [] h = Unit {0}
+CanTellAll host (deed ∷ []) h = CanTell (sites_of host) deed h
+CanTellAll host (deed ∷ more) h = ⊥
 
 -- what is known once a line was carried out: behind an `ok`, that its deeds may be told
 abbrev pub IsKnownAfter : Host → List Deed → Answer → Memory → History → Tale → Type 0
 IsKnownAfter host done (Said (outcome.Refused refusal)) next h u = IsKnown host next h u
-IsKnownAfter host done (Said this) next h u = IsKnown host next h u × CanTellAll host done h u
+IsKnownAfter host done (Said this) next h u = IsKnown host next h u × CanTellAll host done h
 IsKnownAfter host done (Over end) next h u = Unit {0}
 
 -- what is known of the drive alone, where a reply is to be told
@@ -133,10 +147,6 @@ pub record CarriedTo (host : Host) (ask : Ask) (old : Memory) (answer : Answer) 
 pub record CarryEnd (Comes : Kept → Answer → Kept → Type 0) (host : Host) (ask : Ask) (old : Memory) (answer : Answer) (new : Memory) (t u : Tale) : Type 0 where
   pub answered : Knows host old t → Comes (kept_at old t) answer (kept_at new u)
   pub carried : CarriedTo host ask old answer new t u
-
--- a deed is told only where the last boot read the drive
-abbrev pub IsAwake : Memory → Type 0
-IsAwake memory = memory.down ≡ false
 
 -- a moment while an answer is told
 pub record TellMoment (text : List ℕ) (t m : Tale) : Type 0 where
@@ -158,8 +168,12 @@ pub record FrontTold (Comes : Failures → Kept → Answer → Kept → Type 0) 
 abbrev pub TellsFront : (Failures → Kept → Answer → Kept → Type 0) → Memory → Moment → Moment → Type 0
 TellsFront Comes old t m = (told m.tale ≡ told t.tale) ⊎ FrontTold Comes old t m
 
+-- no database is open, and the last boot has read the drive
+abbrev pub IsBare : Memory → Type 0
+IsBare memory = (memory.opened ≡ None) × (memory.down ≡ false)
+
 -- A moment of a line that asks this, and of its reply: at most a front of one reply is told, which acknowledges these deeds, and each
--- history goes on by telling them, with what the front lets the line begin. A creation is told only where no database was open.
+-- history goes on by telling them, with what the front lets the line begin. A creation is told only where no database was open, and the last boot had read the drive.
 pub record TurnMoment (host : Host) (ask : Ask) (old : Memory) (t m : Tale) : Type 0 where
   pub home : StaysHome host t m
   pub within : WritesOnly host ask old t m
@@ -168,8 +182,7 @@ pub record TurnMoment (host : Host) (ask : Ask) (old : Memory) (t m : Tale) : Ty
   pub front : IsFront bytes
   pub done : List Deed
   pub acks : Acks ask bytes done
-  pub awake : done ≢ [] → IsAwake old
-  pub free : Contains done Created → old.opened ≡ None
+  pub free : Contains done (Created (key_of host)) → IsBare old
   pub goes : (h : History) → IsKnown host old h t → Goes host (issuable_of ask bytes) done Reached m h
 
 -- a line and its reply, told whole, that led from one memory to the other
@@ -179,7 +192,6 @@ pub record Turned (host : Host) (ask : Ask) (old new : Memory) (t u : Tale) : Ty
   pub reply : IsReply bytes
   pub done : List Deed
   pub acks : AcksBy ask bytes done
-  pub awake : done ≢ [] → IsAwake old
-  pub free : Contains done Created → old.opened ≡ None
+  pub free : Contains done (Created (key_of host)) → IsBare old
   pub knows : Knows host old t → Knows host new u
   pub goes : (h : History) → IsKnown host old h t → Goes host (issuable ask bytes) done (λ es after. IsKnown host new after u) u h

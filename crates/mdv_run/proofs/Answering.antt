@@ -18,7 +18,8 @@ use Rattle.mdv_engine_law.proofs.Turning.{accepted_none, never_among, refused_no
 use Rattle.mdv_engine_law.proofs.Knowing.{knows_kept}
 use Rattle.mdv_engine_law.specs.Replies.{IsPlain}
 use Rattle.mdv_engine_law.specs.Standing.{OnlyReplied}
-use Rattle.mdv_history.specs.History.{Created}
+use Rattle.mdv_engine_law.specs.Home.{key_of}
+use Rattle.mdv_volumes.specs.History.{Created}
 use Rattle.mdv_base.specs.declared.refusal.Refusal.{Refusal}
 use Rattle.mdv_shelf.specs.Made.{Made}
 use Rattle.mdv_shelf.proofs.Made.{IsToo}
@@ -28,7 +29,7 @@ use Rattle.mdv_engine_law.specs.Standing.{LineWrites, TurnMoment, WritesOnly}
 use Rattle.mdv_shelf.specs.Moments.{Moments}
 use Rattle.mdv_shelf.proofs.Moments.{moments_end, some_is}
 use Rattle.mdv_run_law.proofs.Turning.{line_moment, line_ran}
-use Rattle.mdv_run_law.proofs.Waking.{refused_entries, told_text}
+use Rattle.mdv_run_law.proofs.Entries.{refused_entries, told_text}
 use Rattle.mdv_run_law.specs.Standing.{HasEntries, IsWanting}
 use Rattle.mdv_engine_law.proofs.Plain.{memory_plain, taken_front}
 use Rattle.mdv_engine_law.proofs.Turning.{refusal_told}
@@ -69,7 +70,7 @@ turn_writes host ask old a b moments t u is_t is_u =
 -- a refusal that was told, and nothing else happened
 module _ (host : Host) (memory : Memory) (r : Refusal) (plain : IsPlain r) (replies : Type 0) (reply : Reply) (t u : Tale) (given : OnlyReplied replies (refusing r) reply t u) where
   pub refused_turned : (ask : Ask) → IsReplied reply → Turned host ask memory memory t u
-  refused_turned ask on = turned host ask memory memory replies t t u refl (refusing r) plain (λ on some. absurd on) (λ on has. absurd on) (refused_none host ask memory r t) reply on given
+  refused_turned ask on = turned host ask memory memory replies t t u refl (refusing r) plain (λ on has. absurd on) (refused_none host ask memory r t) reply on given
 
   -- whose bytes are the refusal's
   pub refused_is : (ask : Ask) (on : IsReplied reply) → (refused_turned ask on).bytes ≡ refusal_line r
@@ -88,7 +89,7 @@ module _ (host : Host) (memory : Memory) (r : Refusal) (plain : IsPlain r) (repl
 -- an `ok` of a boot that was told
 pub accepted_turned : (host : Host) (memory : Memory) (replies : Type 0) (reply : Reply) (t u : Tale) → OnlyReplied replies accepted reply t u → IsReplied reply → Turned host Nothing memory memory t u
 accepted_turned host memory replies reply t u given on =
-    turned host Nothing memory memory replies t t u refl accepted tt (λ on some. absurd (some refl)) (λ on has. absurd (never_among [] Created refl has)) (accepted_none host memory t) reply on given
+    turned host Nothing memory memory replies t t u refl accepted tt (λ on has. absurd (never_among [] (Created (key_of host)) refl has)) (accepted_none host memory t) reply on given
 
 pub accepted_ok : (host : Host) (memory : Memory) (replies : Type 0) (reply : Reply) (t u : Tale) (given : OnlyReplied replies accepted reply t u) (on : IsReplied reply) → (accepted_turned host memory replies reply t u given on).bytes ≡ ok_line
 accepted_ok host memory replies reply t u given on =
@@ -103,13 +104,14 @@ module _ (host : Host) (text : List ℕ) (old : Memory) where
   unread_moment more t m tell =
       let turn = refusal_told host old Nothing OutOfMemory memory_plain t m tell in
       let front : turn.bytes ≡ take tell.count (refusal_line OutOfMemory) = append_cancel_left (told t) turn.bytes (take tell.count (refusal_line OutOfMemory)) (sym turn.is_told ∙ tell.is_told) in
-      line_moment host text Nothing more old t m turn (inr (refl, subst IsWanting (sym front) (wanting_front tell.count)))
+      let wanting : IsWanting turn.bytes = subst IsWanting (sym front) (wanting_front tell.count) in
+      line_moment host text Nothing more old t m turn (inr (refl, wanting)) (inr wanting)
 
   pub unread_ran : (replies : Type 0) (reply : Reply) (t u : Tale) → OnlyReplied replies (refusing OutOfMemory) reply t u → IsReplied reply → (more : Script) → RanTo host (line text more) old old more t u
   unread_ran replies reply t u given on more =
       let is = refused_is host old OutOfMemory memory_plain replies reply t u given Nothing on in
       let wanting : IsWanting (refused_turned host old OutOfMemory memory_plain replies reply t u given Nothing on).bytes = subst IsWanting (sym is) whole in
-      line_ran host text Nothing more old old t u (refused_turned host old OutOfMemory memory_plain replies reply t u given Nothing on) (inr (refl, wanting)) (inr is) (λ knows. (λ up. up, refused_keeps host old OutOfMemory memory_plain replies reply t u given text Nothing on))
+      line_ran host text Nothing more old old t u (refused_turned host old OutOfMemory memory_plain replies reply t u given Nothing on) (inr (refl, wanting)) (inr wanting) (λ knows. refused_keeps host old OutOfMemory memory_plain replies reply t u given text Nothing on)
     where
       whole : IsWanting (refusal_line OutOfMemory)
       whole = subst IsWanting (take_all (length (refusal_line OutOfMemory)) (refusal_line OutOfMemory) (omega arith)) (wanting_front (length (refusal_line OutOfMemory)))

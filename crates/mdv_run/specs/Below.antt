@@ -6,12 +6,11 @@ pub use Rattle.mdv_engine.specs.declared.engine.Engine.{Engine}
 pub use Rattle.mdv_engine_law.specs.Home.{IsReady, StaysHome}
 pub use Rattle.mdv_engine_law.specs.Line.{IsRebooted, IsSame, IsTurnedDown, Kept, Memory, asked_by, contents, kept_at, unbooted}
 pub use Rattle.mdv_engine_law.specs.Replies.{IsReplied, IsTold}
-pub use Rattle.mdv_engine_law.specs.Standing.{TellsFront, BootMoment, BootedTo, Executed, IsAwake, Knows, Replied, TurnMoment, Turned}
+pub use Rattle.mdv_engine_law.specs.Standing.{TellsFront, BootMoment, BootedTo, Executed, Knows, Replied, TurnMoment, Turned}
 pub use Rattle.mdv_engine_law.specs.declared.answer.Answer.{Answer}
 pub use Rattle.mdv_engine_law.specs.declared.answer.Ended.{Ended}
 pub use Rattle.mdv_engine_law.specs.declared.answer.Reply.{Reply}
 pub use Rattle.mdv_engine_law.specs.declared.host.Host.{Host}
-pub use Rattle.mdv_history.specs.History.{Deed}
 pub use Rattle.mdv_home.specs.Home.{IsHome}
 pub use Rattle.mdv_home.specs.declared.geometry.Home.{Home}
 pub use Rattle.mdv_name.specs.declared.geometry.Geometry.{Geometry}

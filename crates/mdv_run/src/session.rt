@@ -6,9 +6,7 @@ ghost use Rattle.mdv_items.specs.Items.{IsItem, asked_before};
 ghost use Rattle.mdv_home.specs.declared.geometry.Home.{Home};
 ghost use Rattle.mdv_words.specs.Line.{Boot, IsLine, tab_text};
 ghost use Rattle.mdv_engine_law.specs.Home.{IsReady};
-ghost use Rattle.mdv_engine_law.specs.Line.{Nothing};
 ghost use Rattle.mdv_engine_law.specs.Replies.{IsReplied};
-ghost use Rattle.mdv_engine_law.specs.Standing.{TurnMoment};
 ghost use Rattle.mdv_engine.specs.Engine.{IsWell};
 ghost use Rattle.mdv_name.specs.declared.geometry.Geometry.{Geometry};
 ghost use Rattle.mdv_name.specs.Geometry.{IsGeometry as IsTable};
@@ -281,7 +279,7 @@ fn refuse_unread<B: Bench>(engine: &mut Engine, bench: &mut B) -> Reply
 fn boot_anew<B: Bench>(engine: &mut Engine, alloc: Global, bench: &mut B) -> Reply
     requires ready { IsReady engine.old.host (B.sizes bench.old) }
     requires well { IsWell engine.old.host engine.old.state }
-    ensures moments { AtEachTale B.Shelf (TurnMoment engine.old.host Nothing engine.old.state) bench.old bench.new }
+    ensures moments { (text : List ℕ) (more : Script) → IsLine text Boot → AtEachTale B.Shelf (LinesMoment engine.old.host (line_of text more) engine.old.state) bench.old bench.new }
     ensures end { (text : List ℕ) → IsLine text Boot → LineEnds B.Shelf bench.old bench.new engine.old.host text engine.old.state engine.new.state result }
     ensures stays { (text : List ℕ) → IsLine text Boot → LineStays B.Shelf engine.old.host (IsReplied result) (IsUncut result) (LineTells B.Shelf engine.old text bench.old bench.new) bench.old bench.new }
     ensures answer { BootReplies B.Shelf engine.old bench.old bench.new engine.new result }

@@ -5,40 +5,39 @@ use Rattle.std.proofs.lemmas.Slice.Eq.{bytes_eq-Decides}
 use Rattle.std.specs.Fmt.{digits}
 use Rattle.std.specs.Str.{bytes_eq}
 use Rattle.std.proofs.lemmas.List.Elements.{Contains-append_left, Contains-append_right}
-use Rattle.mdv_run_law.specs.Below.{Script, at_end, spent, too_long, line, Deed, Created, Changed, Saw, Event, told_by, Host, Ask, Nothing, ToDo, ToSee, asked_by_line, AcksBy, ok_line}
-use Rattle.mdv_history.specs.History.{Wrote}
-use Rattle.mdv_history.proofs.Parts.{first_or_behind}
+use Rattle.mdv_run_law.specs.Below.{Script, at_end, spent, too_long, line, Deed, Created, Changed, Saw, Event, Host, Ask, Nothing, ToDo, ToSee, asked_by_line, AcksBy, Wrote, ok_line, told_by}
+use Rattle.mdv_volumes.proofs.Lists.{first_or_behind}
 use Rattle.mdv_words.proofs.Lines.{one_line}
-use Rattle.mdv_history.specs.History.{tells}
+use Rattle.mdv_volumes.specs.Happening.{tells}
 use Rattle.mdv_store_law.proofs.Machine.{all_more}
 use Rattle.mdv_run_law.specs.Standing.{Asks, AsksBy, AreIdle, AreOfLine, ComeOf, Context, IsSettled, InWork, IsWanting, NothingLeft, IsTold, behind}
 
 -- a line asks one thing
-pub one_asked : (text : List ℕ) (a b : Ask) → Asks text a → Asks text b → a ≡ b
-one_asked text a b (inl one) (inl other) = one.1 ∙ sym other.1
-one_asked text a b (inl one) (inr other) = absurd (one.0 other.0 other.1)
-one_asked text a b (inr one) (inl other) = absurd (other.0 one.0 one.1)
-one_asked text a b (inr one) (inr other) = one.2 ∙ ap asked_by_line (one_line text one.0 other.0 one.1 other.1) ∙ sym other.2
+pub one_asked : (host : Host) (text : List ℕ) (a b : Ask) → Asks host text a → Asks host text b → a ≡ b
+one_asked host text a b (inl one) (inl other) = one.1 ∙ sym other.1
+one_asked host text a b (inl one) (inr other) = absurd (one.0 other.0 other.1)
+one_asked host text a b (inr one) (inl other) = absurd (other.0 one.0 one.1)
+one_asked host text a b (inr one) (inr other) = one.2 ∙ ap (asked_by_line host) (one_line text one.0 other.0 one.1 other.1) ∙ sym other.2
 
 -- any deed but values that were seen
 abbrev pub IsDone : Deed → Type 0
-IsDone Created = Unit {0}
-IsDone (Changed change) = Unit {0}
-IsDone (Wrote volume at blocks) = Unit {0}
-IsDone (Saw volume at blocks) = ⊥
+IsDone (Created key) = Unit {0}
+IsDone (Changed key change) = Unit {0}
+IsDone (Wrote key volume at blocks) = Unit {0}
+IsDone (Saw key volume at blocks) = ⊥
 
 -- a reply acknowledges such a deed to one ask in one way
 pub acked_once : (ask : Ask) (reply : List ℕ) (a b : List Deed) (deed : Deed) → IsDone deed → AcksBy ask reply a → AcksBy ask reply b → Contains a deed → Contains b deed
 acked_once Nothing reply a b deed done one other has = subst (λ (l : List Deed). Contains l deed) (one ∙ sym other) has
 acked_once (ToDo asked) reply a b deed done one other has = subst (λ (l : List Deed). Contains l deed) (one ∙ sym other) has
-acked_once (ToSee volume at count) reply a b deed done (inl one) other has = absurd (let in_none : Contains [] deed = subst (λ (l : List Deed). Contains l deed) one.1 has in omega (arith, in_none.1))
-acked_once (ToSee volume at count) reply a b deed done (inr one) other has = elim (first_or_behind (Saw volume at one.blocks) deed [] (subst (λ (l : List Deed). Contains l deed) one.seen has)) [
+acked_once (ToSee key volume at count) reply a b deed done (inl one) other has = absurd (let in_none : Contains [] deed = subst (λ (l : List Deed). Contains l deed) one.1 has in omega (arith, in_none.1))
+acked_once (ToSee key volume at count) reply a b deed done (inr one) other has = elim (first_or_behind (Saw key volume at one.blocks) deed [] (subst (λ (l : List Deed). Contains l deed) one.seen has)) [
   | inl same ↦ absurd (subst IsDone (sym same) done)
   | inr none ↦ absurd (omega (arith, none.1))
 ]
 
 -- the reply that memory was wanting acknowledges none
-no_ok : (reply : List ℕ) → IsWanting reply → bytes_eq reply ok_line ≡ true → ⊥
+pub no_ok : (reply : List ℕ) → IsWanting reply → bytes_eq reply ok_line ≡ true → ⊥
 unfolding digits
 no_ok reply wanting ok = absurd (cc (subst IsWanting ((bytes_eq-Decides reply ok_line).0 ok) wanting))
 
@@ -48,17 +47,17 @@ wanting_acks (ToDo asked) reply done deed is wanting acks has = by (bytes_eq rep
   by : (ok : Bool) → bytes_eq reply ok_line ≡ ok → done ≡ cond ok (asked ∷ []) [] → ⊥
   by true same acks = no_ok reply wanting same
   by false same acks = absurd (let none : Contains [] deed = subst (λ (l : List Deed). Contains l deed) acks has in omega (arith, none.1))
-wanting_acks (ToSee volume at count) reply done deed is wanting (inl acks) has = absurd (let none : Contains [] deed = subst (λ (l : List Deed). Contains l deed) acks.1 has in omega (arith, none.1))
-wanting_acks (ToSee volume at count) reply done deed is wanting (inr acks) has = elim (first_or_behind (Saw volume at acks.blocks) deed [] (subst (λ (l : List Deed). Contains l deed) acks.seen has)) [
+wanting_acks (ToSee key volume at count) reply done deed is wanting (inl acks) has = absurd (let none : Contains [] deed = subst (λ (l : List Deed). Contains l deed) acks.1 has in omega (arith, none.1))
+wanting_acks (ToSee key volume at count) reply done deed is wanting (inr acks) has = elim (first_or_behind (Saw key volume at acks.blocks) deed [] (subst (λ (l : List Deed). Contains l deed) acks.seen has)) [
   | inl same ↦ absurd (subst IsDone (sym same) is)
   | inr none ↦ absurd (omega (arith, none.1))
 ]
 
 -- what a reply acknowledges of a line it acknowledges whatever is known of what the line asks
-pub acked_by : (text reply : List ℕ) (deed : Deed) → IsDone deed → (ask : Ask) → Asks text ask → (told : List Deed) → AcksBy ask reply told → Contains told deed → (also : Ask) → AsksBy text reply also → (done : List Deed) → AcksBy also reply done → Contains done deed
-acked_by text reply deed is ask asks told acks has also (inl same) done acks_too =
-    acked_once also reply told done deed is (subst (λ (a : Ask). AcksBy a reply told) (one_asked text ask also asks same) acks) acks_too has
-acked_by text reply deed is ask asks told acks has also (inr (nothing, wanting)) done acks_too = absurd (wanting_acks ask reply told deed is wanting acks has)
+pub acked_by : (host : Host) (text reply : List ℕ) (deed : Deed) → IsDone deed → (ask : Ask) → Asks host text ask → (told : List Deed) → AcksBy ask reply told → Contains told deed → (also : Ask) → AsksBy host text reply also → (done : List Deed) → AcksBy also reply done → Contains done deed
+acked_by host text reply deed is ask asks told acks has also (inl same) done acks_too =
+    acked_once also reply told done deed is (subst (λ (a : Ask). AcksBy a reply told) (one_asked host text ask also asks same) acks) acks_too has
+acked_by host text reply deed is ask asks told acks has also (inr (nothing, wanting)) done acks_too = absurd (wanting_acks ask reply told deed is wanting acks has)
 
 pub behind_none : (script : Script) → behind script [] ≡ script
 behind_none at_end = refl
@@ -74,26 +73,26 @@ behind_more (too_long more) (reply ∷ a) b = behind_more more a b
 behind_more (line text more) [] b = refl
 behind_more (line text more) (reply ∷ a) b = behind_more more a b
 
-pub told_none : (script : Script) (deed : Deed) → IsTold script [] deed → ⊥
-told_none at_end deed is = is
-told_none (spent lines bytes) deed is = is
-told_none (too_long more) deed is = is
-told_none (line text more) deed is = is
-
--- what some replies told, and what those behind them tell
-pub told_either : (script : Script) (a b : List (List ℕ)) (deed : Deed) → IsTold script (a ++ b) deed → IsTold script a deed ⊎ IsTold (behind script a) b deed
-told_either at_end a b deed is = absurd is
-told_either (spent lines bytes) a b deed is = absurd is
-told_either (too_long more) [] b deed is = inr is
-told_either (too_long more) (reply ∷ a) b deed is = told_either more a b deed is
-told_either (line text more) [] b deed is = inr is
-told_either (line text more) (reply ∷ a) b deed (inl here) = inl (inl here)
-told_either (line text more) (reply ∷ a) b deed (inr is) = ⊎_elim (λ first. inl (inr first)) (λ second. inr second) (told_either more a b deed is)
-
 nothing_front : (es fs : List Event) → es ≡ [] → es ++ fs ≡ fs
 nothing_front es fs none = ap (λ (l : List Event). l ++ fs) none
 
 module _ (host : Host) where
+  pub told_none : (script : Script) (deed : Deed) → IsTold host script [] deed → ⊥
+  told_none at_end deed is = is
+  told_none (spent lines bytes) deed is = is
+  told_none (too_long more) deed is = is
+  told_none (line text more) deed is = is
+
+  -- what some replies told, and what those behind them tell
+  pub told_either : (script : Script) (a b : List (List ℕ)) (deed : Deed) → IsTold host script (a ++ b) deed → IsTold host script a deed ⊎ IsTold host (behind script a) b deed
+  told_either at_end a b deed is = absurd is
+  told_either (spent lines bytes) a b deed is = absurd is
+  told_either (too_long more) [] b deed is = inr is
+  told_either (too_long more) (reply ∷ a) b deed is = told_either more a b deed is
+  told_either (line text more) [] b deed is = inr is
+  told_either (line text more) (reply ∷ a) b deed (inl here) = inl (inl here)
+  told_either (line text more) (reply ∷ a) b deed (inr is) = ⊎_elim (λ first. inl (inr first)) (λ second. inr second) (told_either more a b deed is)
+
   -- nothing happened yet
   pub idle_none : AreIdle host []
   idle_none = record { tells = refl; issues = tt; begins = tt }
@@ -146,14 +145,14 @@ module _ (host : Host) where
     )
 
     -- what the replies tell, the events tell
-    pub come_told : (down : Context) (script : Script) (replies : List (List ℕ)) (es : List Event) (deed : Deed) → IsDone deed → ComeOf host Left down script replies es → IsTold script replies deed → Contains (told_by es) deed
+    pub come_told : (down : Context) (script : Script) (replies : List (List ℕ)) (es : List Event) (deed : Deed) → IsDone deed → ComeOf host Left down script replies es → IsTold host script replies deed → Contains (told_by es) deed
     come_told down script [] es deed done come is = absurd (told_none script deed is)
     come_told down at_end (reply ∷ replies) es deed done come is = absurd is
     come_told down (spent lines bytes) (reply ∷ replies) es deed done come is = absurd is
     come_told down (too_long more) (reply ∷ replies) es deed done come is =
         subst (λ (l : List Deed). Contains l deed) (sym (ap told_by come.2 ∙ all_more tells come.0 come.1)) (Contains-append_right (told_by come.0) (told_by come.1) deed (come_told down more replies come.1 deed done come.4 is))
     come_told down (line text more) (reply ∷ replies) es deed done come (inl here) =
-        let told : Contains (told_by come.0) deed = subst (λ (l : List Deed). Contains l deed) (sym come.4.does.tells) (acked_by text reply deed done here.0 here.1 here.2 here.3 here.4 come.4.ask come.4.asks come.4.done come.4.acks) in
+        let told : Contains (told_by come.0) deed = subst (λ (l : List Deed). Contains l deed) (sym come.4.does.tells) (acked_by host text reply deed done here.0 here.1 here.2 here.3 here.4 come.4.ask come.4.asks come.4.done come.4.acks) in
         subst (λ (l : List Deed). Contains l deed) (sym (ap told_by come.2 ∙ all_more tells come.0 come.1)) (Contains-append_left (told_by come.0) (told_by come.1) deed told)
     come_told down (line text more) (reply ∷ replies) es deed done come (inr is) =
         subst (λ (l : List Deed). Contains l deed) (sym (ap told_by come.2 ∙ all_more tells come.0 come.1)) (Contains-append_right (told_by come.0) (told_by come.1) deed (come_told come.3 more replies come.1 deed done come.6 is))

@@ -1,10 +1,11 @@
 mod Asked
 pub mod Coming
+mod Deeds
 pub mod Made
 pub mod Turning
 pub mod Lining
 pub mod Booting
-pub mod Waking
+pub mod Entries
 pub mod Living
 pub mod Extents
 pub mod Again

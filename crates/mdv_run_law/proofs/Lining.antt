@@ -1,9 +1,9 @@
 -- How the moments of the lines add up.
 use Rattle.std.proofs.Common.{◌≡◌, ◌⊎◌, inl, inr, ⊎_elim, ℕ, List, [], ◌++◌, refl, sym, ◌∙◌, ap, subst, append_assoc}
 use Rattle.std.proofs.lemmas.List.{append-nil}
-use Rattle.mdv_run_law.specs.Below.{Script, Tale, told, Said, left_in, replies_in, History, Deed, Created, Event, history_after_all, Host, site_of, Memory, StandsAt, Reached, IsKnown}
+use Rattle.mdv_run_law.specs.Below.{Script, Tale, told, Said, left_in, replies_in, History, Deed, Created, Event, history_after_all, Host, key_of, Memory, StandsAt, Reached, IsKnown}
 use Rattle.mdv_store_law.proofs.Machine.{goes_more}
-use Rattle.mdv_run_law.specs.Below.{MayHappen, history_after}
+use Rattle.mdv_run_law.specs.Below.{Happening, history_after}
 use Rattle.mdv_engine_law.proofs.Plain.{nothing_answers, nothing_said}
 use Rattle.mdv_run_law.specs.Standing.{ComeOf, Context, IsSettled, context_of, InWork, NothingLeft, IsTold, Goes, behind, AreReplies, LinesMoment, RanTo}
 use Rattle.mdv_run_law.proofs.Coming.{behind_none, behind_more, told_none, told_either, in_work_none, come_more}
@@ -15,9 +15,9 @@ goes_nothing host Come After m h come stands after = record { es = []; course = 
 
 -- bytes that are whole replies, and what comes behind them
 module _ (script left : Script) (a b : List ℕ) (replies : AreReplies a) (left_is : behind script (replies_in a) ≡ left) where
-  pub told_behind : (deed : Deed) → IsTold script (replies_in (a ++ b)) deed → IsTold script (replies_in a) deed ⊎ IsTold left (replies_in b) deed
-  told_behind deed is = ⊎_elim (λ first. inl first) (λ second. inr (subst (λ (s : Script). IsTold s (replies_in b) deed) left_is second))
-      (told_either script (replies_in a) (replies_in b) deed (subst (λ (l : List (List ℕ)). IsTold script l deed) (replies.replies b) is))
+  pub told_behind : (host : Host) (deed : Deed) → IsTold host script (replies_in (a ++ b)) deed → IsTold host script (replies_in a) deed ⊎ IsTold host left (replies_in b) deed
+  told_behind host deed is = ⊎_elim (λ first. inl first) (λ second. inr (subst (λ (s : Script). IsTold host s (replies_in b) deed) left_is second))
+      (told_either host script (replies_in a) (replies_in b) deed (subst (λ (l : List (List ℕ)). IsTold host script l deed) (replies.replies b) is))
 
   pub come_behind : (host : Host) (Left : Context → Script → List Event → Type 0) (now down : Context) (es fs : List Event) → IsSettled now → ComeOf host (NothingLeft now) down script (replies_in a) es → ComeOf host Left now left (replies_in b) fs
       → ComeOf host Left down script (replies_in (a ++ b)) (es ++ fs)
@@ -40,14 +40,14 @@ replies_none : AreReplies []
 replies_none = record { replies = λ rest. ap (λ (l : List (List ℕ)). l ++ replies_in rest) (sym nothing_answers); left = λ rest. refl }
 
 module _ (host : Host) (script : Script) (first : Memory) (t : Tale) where
-  nothing_told : (deed : Deed) → IsTold script (replies_in []) deed → ⊥
-  nothing_told deed is = told_none script deed (subst (λ (l : List (List ℕ)). IsTold script l deed) nothing_answers is)
+  nothing_told : (deed : Deed) → IsTold host script (replies_in []) deed → ⊥
+  nothing_told deed is = told_none host script deed (subst (λ (l : List (List ℕ)). IsTold host script l deed) nothing_answers is)
 
   pub lines_start : LinesMoment host script first t t
   lines_start = record {
     bytes = [];
     is_told = sym (append-nil (told t));
-    made = λ knows is. absurd (nothing_told Created is);
+    made = λ knows is. absurd (nothing_told (Created (key_of host)) is);
     goes = λ h known. goes_nothing host (ComeOf host (InWork host (left_in [])) (context_of first) script (replies_in [])) Reached t h
         (subst (λ (s : Said). ComeOf host (InWork host s.left) (context_of first) script s.replies []) (sym nothing_said) (in_work_none host (context_of first) script)) known.stands tt;
   }
@@ -59,7 +59,7 @@ module _ (host : Host) (script : Script) (first : Memory) (t : Tale) where
     replies = replies_none;
     left_is = ap (behind script) nothing_answers ∙ behind_none script;
     knows = λ knows. knows;
-    made = λ knows is. absurd (nothing_told Created is);
+    made = λ knows is. absurd (nothing_told (Created (key_of host)) is);
     goes = λ h known. goes_nothing host (ComeOf host (NothingLeft (context_of first)) (context_of first) script (replies_in [])) (λ es after. IsKnown host first after t) t h
         (subst (λ (l : List (List ℕ)). ComeOf host (NothingLeft (context_of first)) (context_of first) script l []) (sym nothing_answers) (refl, refl)) known.stands known;
   }
@@ -72,7 +72,7 @@ module _ (host : Host) (script : Script) (first : Memory) (t : Tale) where
     lines_goes : (Left : Context → Script → List Event → Type 0) (m : Tale) (bytes : List ℕ) (After : History → Type 0) (h : History) → Goes host (ComeOf host (NothingLeft (context_of now)) (context_of first) script (replies_in ran.bytes)) (λ es after. IsKnown host now after u) u h
         → ((g : History) → IsKnown host now g u → Goes host (ComeOf host Left (context_of now) left (replies_in bytes)) (λ es after. After after) m g) → Goes host (ComeOf host Left (context_of first) script (replies_in (ran.bytes ++ bytes))) (λ es after. After after) m h
     lines_goes Left m bytes After h before behind_goes =
-        goes_more history_after (MayHappen (site_of host)) (ComeOf host (NothingLeft (context_of now)) (context_of first) script (replies_in ran.bytes)) (ComeOf host Left (context_of now) left (replies_in bytes)) (ComeOf host Left (context_of first) script (replies_in (ran.bytes ++ bytes)))
+        goes_more history_after (Happening host) (ComeOf host (NothingLeft (context_of now)) (context_of first) script (replies_in ran.bytes)) (ComeOf host Left (context_of now) left (replies_in bytes)) (ComeOf host Left (context_of first) script (replies_in (ran.bytes ++ bytes)))
         (λ g. StandsAt host g u) (λ g. StandsAt host g m) (λ es after. IsKnown host now after u) (λ es after. After after) h
         (λ es fs one other. come_behind script left ran.bytes bytes ran.replies ran.left_is host Left (context_of now) (context_of first) es fs (now.entries, refl) one other) before (λ es g stands known. behind_goes g known)
 
@@ -87,7 +87,7 @@ module _ (host : Host) (script : Script) (first : Memory) (t : Tale) where
           let after = lines.goes has.history has.known in
           shows_made host has.number (history_after_all has.history after.es) m (ours_stays host has.number has.history after.es after.course (record { issued = has.issued; firm = has.firm })) after.stands)
           (λ here. lines.made (ran.knows knows) here)
-          (told_behind script left ran.bytes lines.bytes ran.replies ran.left_is Created is);
+          (told_behind script left ran.bytes lines.bytes ran.replies ran.left_is host (Created (key_of host)) is);
       goes = λ h known. subst (λ (l : List ℕ). Goes host (ComeOf host (InWork host l) (context_of first) script (replies_in (ran.bytes ++ lines.bytes))) Reached m h) (sym (ran.replies.left lines.bytes))
           (lines_goes (InWork host (left_in lines.bytes)) m lines.bytes (λ g. Unit {0}) h (ran.goes h known) (λ g after. lines.goes g after));
     }
@@ -106,6 +106,6 @@ module _ (host : Host) (script : Script) (first : Memory) (t : Tale) where
           let ours = ours_stays host has.number has.history after.es after.course (record { issued = has.issued; firm = has.firm }) in
           record { history = history_after_all has.history after.es; known = after.after; number = has.number; issued = ours.issued; firm = ours.firm })
           (λ here. more.made (ran.knows knows) here)
-          (told_behind script left ran.bytes more.bytes ran.replies ran.left_is Created is);
+          (told_behind script left ran.bytes more.bytes ran.replies ran.left_is host (Created (key_of host)) is);
       goes = λ h known. lines_goes (NothingLeft (context_of new)) v more.bytes (λ after. IsKnown host new after v) h (ran.goes h known) (λ g after. more.goes g after);
     }

@@ -2,24 +2,32 @@
 use Rattle.std.proofs.Common.{◌≡◌, inl, inr, ◌≤◌, ℕ, List, [], ◌∷◌, ◌++◌, reverse, Option, Some, None, IfSome, Contains, refl, sym, ◌∙◌, ap, subst, arith}
 use Rattle.std.proofs.lemmas.List.{reverse-append}
 use Rattle.std.proofs.lemmas.List.Elements.{Contains-append_cases, Contains-append_left, Contains-append_right}
-use Rattle.mdv_run_law.specs.Below.{Identity, Mark, IsHome, Home, Geometry, Image, Head, Slot, IsNewest, Tale, last, left_in, replies_in, Change, Table, IsSound, Version, Log, empty_log, Extends, Site, HasTable, IsFound, IsReplica, nothing, replica, History, Deed, Created, Changed, Event, changes_in, history_after_all, issued_by, told_by, IsCourse, new_history, site_of, StandsAt}
+use Rattle.mdv_run_law.specs.Below.{Identity, Key, Mark, IsHome, Home, Geometry, Image, Script, Head, Slot, IsNewest, Tale, last, left_in, replies_in, Change, Table, IsSound, Version, Log, empty_log, Extends, Site, HasTable, IsFound, IsReplica, nothing, replica, History, Deed, Created, Changed, Crashes, Stops, Event, Happening, IsCourse, history_after, history_after_all, issued_by, told_by, new_history, log_of, Host, key_of, restarted, site_of, sites_of, StandsAt}
 use Rattle.mdv_store_law.specs.Log as log
+use Rattle.mdv_store_law.specs.Log.{changes_of}
+use Rattle.mdv_store_law.specs.Machine as machine
 use Rattle.mdv_shelf.proofs.Everywhere.{last_image}
 use Rattle.mdv_store_law.proofs.Lawful.{finds_hold, nothing_holds}
 use Rattle.mdv_store_law.proofs.Logs.{told_is_acknowledged}
 use Rattle.mdv_store_law.specs.Part.{IsPart}
-use Rattle.mdv_store_law.proofs.Orders.{IsToldPart, all_told, all_written, changes_of, oldest_extended}
+use Rattle.mdv_store_law.proofs.Orders.{IsToldPart, all_told, all_written, oldest_extended}
 use Rattle.mdv_store_law.proofs.Parts.{part_of_part}
 use Rattle.mdv_home.proofs.Homes.{one_home}
-use Rattle.mdv_history.specs.History.{tells}
+use Rattle.mdv_volumes.specs.Happening.{tells}
+use Rattle.mdv_volumes.specs.HistoryLaws.{database_deeds, log_events_of}
+use Rattle.mdv_volumes.specs.Tables.{IsSite}
+use Rattle.mdv_volumes.proofs.Keys.{databases_live}
+use Rattle.mdv_volumes.proofs.Restarts.{restarts_go}
+use Rattle.mdv_volumes.proofs.Standing.{restarts_stand}
+use Rattle.mdv_volumes.proofs.Told.{told_writes_last}
 use Rattle.mdv_store_law.proofs.Machine.{after_more, all_more, course_more}
-use Rattle.mdv_run_law.specs.Below.{MayHappen, history_after}
-use Rattle.mdv_history.proofs.Lawful.{crashes_stand, new_drives_stand, reads_hold}
-use Rattle.mdv_history.proofs.Parts.{of_database, database_after, database_course, told_of_database, database_changes, database_told, database_written, part_changes, part_contains, told_change, told_created}
-use Rattle.mdv_run_law.specs.Standing.{InWork}
-use Rattle.mdv_run_law.specs.Lives.{Ran, MayBeFound, as_it_was, crashed, Life, new_drives, run_on, AreOfRuns, IsSaid, IsHistoryOf, HasToldChanges, LivesStand, RunsHaveHome, DatabaseIsFound, BlocksHold, host_of}
-use Rattle.mdv_run_law.proofs.Asked.{runs_answer}
+use Rattle.mdv_engine_law.proofs.Going.{both_courses, may_course}
+use Rattle.mdv_engine_law.proofs.Sites.{only_key, only_site, own_site}
+use Rattle.mdv_run_law.specs.Standing.{AreOfRun, InWork, IsTold}
+use Rattle.mdv_run_law.specs.Lives.{Ran, MayBeFound, as_it_was, crashed, Life, new_drives, run_on, AreOfRuns, IsBetween, IsSaid, IsHistoryOf, HasToldChanges, LivesStand, RunsHaveHome, DatabaseIsFound, BlocksAre, BlocksHold, changes_in, host_of}
+use Rattle.mdv_run_law.proofs.Asked.{runs_answer, told_ended}
 use Rattle.mdv_run_law.proofs.Coming.{IsDone, come_told}
+use Rattle.mdv_run_law.proofs.Deeds.{change_has, deed_has, part_changes, part_contains, part_deeds}
 use Rattle.mdv_run_law.proofs.Made.{empty_is_log, some_told}
 
 -- what is among changes is among them in any order
@@ -35,95 +43,135 @@ found_part : (g : Geometry) (acknowledged : Option (List Change)) (told changes 
 found_part g None told changes has none = subst (λ (l : List Change). IsPart l (reverse changes)) (sym none) tt
 found_part g (Some later) told changes has part = oldest_extended changes later told (has later refl) part
 
-module _ (drives : Geometry) (home : Home) where
-  -- what one of the runs told, their events tell
-  said_told : (ran : List Ran) (es : List Event) (deed : Deed) → IsDone deed → AreOfRuns drives ran es → IsSaid ran deed → Contains (told_by es) deed
-  said_told [] es deed done are said = absurd said
-  said_told (run ∷ before) es deed done are (inl is) =
-      let of_run = are.4 in
-      let here = come_told (host_of drives run.home run.fresh) (InWork (host_of drives run.home run.fresh) (left_in run.bytes)) (record { down = of_run.down; entries = Some [] }) run.script (replies_in run.bytes) of_run.lines deed done of_run.come is in
-      let behind = Contains-append_right (told_by of_run.boot) (told_by of_run.lines) deed here in
-      let rest : Contains (told_by are.1) deed = subst (λ (l : List Deed). Contains l deed) (sym (ap told_by of_run.both ∙ all_more tells of_run.boot of_run.lines)) behind in
-      subst (λ (l : List Deed). Contains l deed) (sym (ap told_by are.2 ∙ all_more tells are.0 are.1)) (Contains-append_right (told_by are.0) (told_by are.1) deed rest)
-  said_told (run ∷ before) es deed done are (inr said) =
-      subst (λ (l : List Deed). Contains l deed) (sym (ap told_by are.2 ∙ all_more tells are.0 are.1)) (Contains-append_left (told_by are.0) (told_by are.1) deed (said_told before are.0 deed done are.3 said))
+-- what a run told, its events tell
+run_told : (host : Host) (script : Script) (bytes : List ℕ) (es : List Event) (deed : Deed) → IsDone deed → AreOfRun host script bytes es → IsTold host script (replies_in bytes) deed → Contains (told_by es) deed
+run_told host script bytes es deed done run is =
+    let lines = come_told host (InWork host (left_in bytes)) (Some []) script (replies_in bytes) run.lines deed done run.come is in
+    subst (λ (l : List Deed). Contains l deed) (sym (ap told_by run.both ∙ all_more tells run.boot run.lines)) (Contains-append_right (told_by run.boot) (told_by run.lines) deed lines)
 
+-- what one of the runs told, their events tell
+said_told : (drives : Geometry) (ran : List Ran) (es : List Event) (deed : Deed) → IsDone deed → AreOfRuns drives ran es → IsSaid drives ran deed → Contains (told_by es) deed
+said_told drives [] es deed done are said = absurd said
+said_told drives (run ∷ before) es deed done are (inl is) =
+    let here = subst (λ (l : List Deed). Contains l deed) (sym (told_ended are.1 are.2 are.6)) (run_told (host_of drives run.home run.fresh) run.script run.bytes are.1 deed done are.5 is) in
+    subst (λ (l : List Deed). Contains l deed) (sym (ap told_by are.3 ∙ all_more tells are.0 (are.1 ++ are.2))) (Contains-append_right (told_by are.0) (told_by (are.1 ++ are.2)) deed here)
+said_told drives (run ∷ before) es deed done are (inr said) =
+    subst (λ (l : List Deed). Contains l deed) (sym (ap told_by are.3 ∙ all_more tells are.0 (are.1 ++ are.2))) (Contains-append_left (told_by are.0) (told_by (are.1 ++ are.2)) deed (said_told drives before are.0 deed done are.4 said))
+
+module _ (drives : Geometry) (home : Home) where
   -- a host that tells its databases by another word stands as well
   stands_fresh : (fresh other : ℕ) (h : History) (m : Tale) → StandsAt (host_of drives home fresh) h m → StandsAt (host_of drives home other) h m
   stands_fresh fresh other h m is = record { stands = is.stands; room = is.room }
 
   module _ (made : Image) (is_home : IsHome drives home) where
+    abbrev host : Host
+    host = host_of drives home 0
+
     abbrev site : Site
-    site = site_of (host_of drives home 0)
+    site = site_of host
 
-    abbrev start : History
-    start = new_history site made
+    abbrev key : Key
+    key = key_of host
 
-    -- what is found stands with what was there
-    still_stands : (h : History) (m next : Tale) → MayBeFound m next → StandsAt (host_of drives home 0) h m → StandsAt (host_of drives home 0) h next
-    still_stands h m next as_it_was stands = stands
-    still_stands h m next (crashed image told is) stands = record { stands = crashes_stand site h m image told stands.stands is; room = stands.room }
+    abbrev Course : History → List Event → Type 0
+    Course = machine.IsCourse history_after (Happening host)
+
+    -- what happens between two runs
+    record Ends (h : History) (next : Tale) : Type 0 where
+      end : List Event
+      between : IsBetween end
+      course : Course h end
+      stands : StandsAt host (history_after_all h end) next
+
+    -- what is found stands with what was there, and the end of the run
+    ends : (h : History) (m next : Tale) → MayBeFound m next → StandsAt host h m → Ends h next
+    ends h m next as_it_was stands =
+        let is = restarts_go.ended (sites_of host) h m stands.stands in
+        record { end = Stops ∷ []; between = inl refl; course = both_courses host h (Stops ∷ []) is.course (tt, tt); stands = record { stands = is.stands; room = stands.room } }
+    ends h m next (crashed image told left) stands =
+        let is = restarts_go.crashed (sites_of host) h m (restarted image told) (restarts_stand.crashed m (record { block = image; told = told }) left) stands.stands in
+        record { end = Stops ∷ Crashes ∷ []; between = inr refl; course = both_courses host h (Stops ∷ Crashes ∷ []) is.course (tt, (tt, tt)); stands = record { stands = is.stands; room = stands.room } }
+
+    -- on new drives no key has a database
+    none_there : ((home : Home) → IsHome drives home → IsFound (site_of (host_of drives home 0)) (made 0) None) → (other : Key) (at : Site) → IsSite (sites_of host) other at → IsFound at (made at.at.drive.0) None
+    none_there none other at is =
+        let here = only_site host at (subst (λ (k : Key). IsSite (sites_of host) k at) (only_key host other at is) is) in
+        subst (λ (s : Site). IsFound s (made s.at.drive.0) None) (sym here) (none home is_home)
+
+    -- a run more, and what comes behind it
+    run_more : (before : List Ran) (run : Ran) (es more : List Event) (next : Tale) → Course new_history es → AreOfRuns drives before es → Course (history_after_all new_history es) more → AreOfRun (host_of drives run.home run.fresh) run.script run.bytes more
+        → Ends (history_after_all (history_after_all new_history es) more) next → IsHistoryOf drives home made (run ∷ before) next
+    run_more before run es more next course are also of_run ends = record {
+      es = es ++ (more ++ ends.end);
+      course = course_more history_after (Happening host) new_history es (more ++ ends.end) course (course_more history_after (Happening host) (history_after_all new_history es) more ends.end also ends.course);
+      come = (es, more, ends.end, refl, are, of_run, ends.between);
+      stands = subst (λ (h : History). StandsAt host h next) (sym (after_more history_after new_history es (more ++ ends.end) ∙ after_more history_after (history_after_all new_history es) more ends.end)) ends.stands;
+    }
 
     -- any host of the table is this one
     lives : (ran : List Ran) (t : Tale) → Life drives made ran t → IsHistoryOf drives home made ran t
-    lives ran t (new_drives told none) = record { es = []; course = tt; come = refl; stands = record { stands = new_drives_stand site made told (none home is_home); room = tt } }
+    lives ran t (new_drives told none) = record { es = []; course = tt; come = refl; stands = record { stands = restarts_go.new_drives (sites_of host) made told (none_there none); room = tt } }
     lives ran t (run_on before other fresh from m next script life its_home moment found) =
         let old = lives before from life in
         let same : home ≡ other = one_home drives home other is_home its_home in
-        let more = moment.stands (history_after_all start old.es) (subst (λ (h : Home). StandsAt (host_of drives h fresh) (history_after_all start old.es) from) same (stands_fresh 0 fresh (history_after_all start old.es) from old.stands)) in
-        let there = history_after_all (history_after_all start old.es) more.es in
-        record {
-          es = old.es ++ more.es;
-          course = course_more history_after (MayHappen site) start old.es more.es old.course (subst (λ (h : Home). IsCourse (site_of (host_of drives h fresh)) (history_after_all start old.es) more.es) (sym same) more.course);
-          come = (old.es, more.es, refl, old.come, more.come);
-          stands = subst (λ (h : History). StandsAt (host_of drives home 0) h next) (sym (after_more history_after start old.es more.es))
-              (still_stands there m next found (stands_fresh fresh 0 there m (subst (λ (h : Home). StandsAt (host_of drives h fresh) there m) (sym same) more.stands)));
-        }
+        let then = history_after_all new_history old.es in
+        let more = moment.stands then (subst (λ (h : Home). StandsAt (host_of drives h fresh) then from) same (stands_fresh 0 fresh then from old.stands)) in
+        let there = history_after_all then more.es in
+        run_more before (record { home = other; fresh = fresh; script = script; bytes = moment.bytes }) old.es more.es next old.course old.come
+        (subst (λ (h : Home). machine.IsCourse history_after (Happening (host_of drives h fresh)) then more.es) (sym same) more.course) more.come
+        (ends there m next found (stands_fresh fresh 0 there m (subst (λ (h : Home). StandsAt (host_of drives h fresh) there m) (sym same) more.stands)))
 
     -- the log of such a history
     module _ (ran : List Ran) (t : Tale) (is : IsHistoryOf drives home made ran t) where
+      abbrev now : History
+      now = history_after_all new_history is.es
+
       abbrev events : List log.Event
-      events = of_database is.es
+      events = log_events_of key is.es
 
       abbrev database : Log
-      database = (history_after_all start is.es).database
+      database = log_of now.databases key
+
+      its_may : IsCourse (sites_of host) new_history is.es
+      its_may = may_course host new_history is.es is.course
 
       its_log : database ≡ log.log_after_all empty_log events
-      its_log = database_after start is.es
+      its_log = databases_live.is key (sites_of host) new_history is.es its_may
 
       its_course : log.IsCourse drives empty_log events
-      its_course = database_course site start is.es is.course
+      its_course = databases_live.may key site (sites_of host) new_history is.es (own_site host) its_may
 
-      its_told : (deed : Deed) → IsDone deed → IsSaid ran deed → Contains (told_by is.es) deed
-      its_told deed done said = said_told ran is.es deed done is.come said
+      its_told : (deed : Deed) → IsDone deed → IsSaid drives ran deed → Contains (told_by is.es) deed
+      its_told deed done said = said_told drives ran is.es deed done is.come said
 
-      created_is_acknowledged : IsSaid ran Created → database.acknowledged ≡ None → ⊥
+      created_is_acknowledged : IsSaid drives ran (Created key) → database.acknowledged ≡ None → ⊥
       created_is_acknowledged said none =
-          let told : Contains (told_of_database (told_by is.es)) None = told_created (told_by is.es) (its_told Created tt said) in
-          told_is_acknowledged drives empty_log events (empty_is_log drives) its_course (λ quiet. some_told (told_of_database (told_by is.es)) None told (sym (database_told is.es) ∙ quiet))
+          let told : Contains (database_deeds key (told_by is.es)) None = deed_has key (told_by is.es) None (its_told (Created key) tt said) in
+          told_is_acknowledged drives empty_log events (empty_is_log drives) its_course (λ quiet. some_told (database_deeds key (told_by is.es)) None told (sym (databases_live.tells key is.es) ∙ quiet))
           (sym (ap (λ (lg : Log). lg.acknowledged) its_log) ∙ none)
 
-      is_found : IsSaid ran Created → IsFound site (last t 0) None → ⊥
+      is_found : IsSaid drives ran (Created key) → IsFound site (last t 0) None → ⊥
       is_found said none =
-          let stands = is.stands.stands.database in
+          let stands = is.stands.stands.databases key site (own_site host) in
           created_is_acknowledged said (nothing_holds site database (last t 0) stands.is_log (stands.covers (last t) (last_image t)) none)
 
       -- the changes that the events tell are those of a table that has what is acknowledged, in order
-      told_part : (changes : List Change) → ((later : List Change) → database.acknowledged ≡ Some later → Extends changes later) → IsPart (changes_in (told_by is.es)) (reverse changes)
+      told_part : (changes : List Change) → ((later : List Change) → database.acknowledged ≡ Some later → Extends changes later) → IsPart (changes_in key (told_by is.es)) (reverse changes)
       told_part changes has =
           let told = all_told drives empty_log events [] (empty_is_log drives) refl its_course in
-          let same : changes_of (log.told_by events) ≡ changes_in (told_by is.es) = ap changes_of (database_told is.es) ∙ database_changes (told_by is.es) in
-          found_part drives database.acknowledged (changes_in (told_by is.es)) changes has (subst (λ (l : List Change). IsToldPart drives database.acknowledged l) same (subst (λ (lg : Log). IsToldPart drives lg.acknowledged (changes_of (log.told_by events))) (sym its_log) told))
+          let same : changes_of (log.told_by events) ≡ changes_in key (told_by is.es) = ap changes_of (databases_live.tells key is.es) in
+          found_part drives database.acknowledged (changes_in key (told_by is.es)) changes has
+          (subst (λ (l : List Change). IsToldPart drives database.acknowledged l) same (subst (λ (lg : Log). IsToldPart drives lg.acknowledged (changes_of (log.told_by events))) (sym its_log) told))
 
       -- and those of each table were begun in their order
-      begun_part : (v : Version) → Contains database.family v → IsPart (reverse v.changes) (changes_in (issued_by is.es))
+      begun_part : (v : Version) → Contains database.family v → IsPart (reverse v.changes) (changes_in key (issued_by is.es))
       begun_part v has =
           let written = all_written drives empty_log events [] (λ w none. absurd (omega (arith, none.1))) its_course in
-          subst (λ (l : List Change). IsPart (reverse v.changes) l) (database_written is.es) (written v (subst (λ (lg : Log). Contains lg.family v) its_log has))
+          subst (λ (l : List Change). IsPart (reverse v.changes) l) (ap changes_of (databases_live.begins key is.es)) (written v (subst (λ (lg : Log). Contains lg.family v) its_log has))
 
       has_changes : (head : Head) (slot : Slot) (mark : Mark) (newest : Table) → IsSound drives → IsReplica site (last t 0) head → IsNewest head slot → HasTable site (last t 0) head slot mark newest → HasToldChanges drives home made ran t newest
       has_changes head slot mark newest sound its_replica is_newest has =
-          let stands = is.stands.stands.database in
+          let stands = is.stands.stands.databases key site (own_site host) in
           let found = finds_hold site database (last t 0) head slot mark newest sound stands.is_log (stands.covers (last t) (last_image t)) its_replica is_newest has in
           let changes = found.version.changes in
           let answers = runs_answer drives ran is.es is.come in
@@ -134,23 +182,34 @@ module _ (drives : Geometry) (home : Home) where
             one_of = found.one_of;
             is_table = found.table;
             by = found.made;
-            told = λ change said. among_reversed changes change (part_contains (changes_in (told_by is.es)) (reverse changes) change in_order (told_change (told_by is.es) change (its_told (Changed change) tt said)));
+            told = λ change said.
+                among_reversed changes change (part_contains (changes_in key (told_by is.es)) (reverse changes) change in_order
+                (change_has (database_deeds key (told_by is.es)) change (deed_has key (told_by is.es) (Some change) (its_told (Changed key change) tt said))));
             said = answers.said;
             are_said = answers.are_said;
-            all_said = subst (λ (l : List Deed). IsPart (changes_in l) (reverse changes)) answers.tells in_order;
+            all_said = subst (λ (l : List Deed). IsPart (changes_in key l) (reverse changes)) answers.tells in_order;
             asked = answers.asked;
             are_asked = answers.are_asked;
-            all_asked = part_of_part (reverse changes) (changes_in (issued_by is.es)) (changes_in answers.asked) (begun_part found.version found.one_of) (part_changes (issued_by is.es) answers.asked answers.begins);
+            all_asked = part_of_part (reverse changes) (changes_in key (issued_by is.es)) (changes_in key answers.asked) (begun_part found.version found.one_of)
+                (part_changes (database_deeds key (issued_by is.es)) (database_deeds key answers.asked) (part_deeds key (issued_by is.es) answers.asked answers.begins));
           }
 
       -- the database that is found was made where there is room for it
       has_room : (head : Head) → IsFound site (last t 0) (Some head) → 8208 ≤ home.blocks
-      has_room head found = elim (is.stands.stands.database.covers (last t) (last_image t)) [
+      has_room head found = elim ((is.stands.stands.databases key site (own_site host)).covers (last t) (last_image t)) [
         | nothing not_firm none ↦ absurd (none head found.0 found.1)
         | replica other agrees ↦
             let room : IfSome (Some other.master.identity) (λ identity. 8208 ≤ home.blocks) = subst (λ (o : Option Identity). IfSome o (λ identity. 8208 ≤ home.blocks)) agrees.as_issued is.stands.room in
             room
       ]
+
+      -- each block of a volume reads as the history has it, and writes that were told last
+      blocks_are : BlocksAre drives home made ran t
+      blocks_are = record {
+        history = is;
+        reads = λ volume v named b x lt among. (is.stands.stands.volumes key volume v named).reads b x lt among;
+        lasts = λ es later place other volume at blocks same. told_writes_last (sites_of host) new_history es later place other volume at blocks refl refl (subst (IsCourse (sites_of host) new_history) same its_may);
+      }
 
 pub lives_stand : LivesStand
 lives_stand = λ drives home made ran t is_home is. lives drives home made is_home ran t is.life
@@ -166,6 +225,4 @@ database_is_found = record {
 }
 
 pub blocks_hold : BlocksHold
-blocks_hold = λ drives home made ran t is_home is.
-    let its = lives drives home made is_home ran t is.life in
-    (its, reads_hold (site_of (host_of drives home 0)) (history_after_all (new_history (site_of (host_of drives home 0)) made) its.es) t its.stands.stands)
+blocks_hold = λ drives home made ran t is_home is. blocks_are drives home made is_home ran t (lives drives home made is_home ran t is.life)

@@ -1,6 +1,8 @@
 -- Where the blocks of a volume of the open database lie: at one place, which no replica may have.
 use Rattle.std.proofs.Common.{◌≡◌, ℕ, ◌+◌, ◌≤◌, ◌<◌, false, Option, Some, None, sym, ◌∙◌, ap, subst, arith}
-use Rattle.mdv_run_law.specs.Below.{VolId, IsHome, IsSound, IsPlanOf, Newest, area_of, LiesOn, Host, site_of, Memory, HasVolumeOn, AreBlocksAt}
+use Rattle.mdv_run_law.specs.Below.{VolId, IsHome, IsSound, IsPlanOf, Newest, area_of, run_map, Host, site_of, Memory, HasVolumeOn, AreBlocksAt}
+use Rattle.mdv_volumes.specs.Tables.{IsMapOf}
+use Rattle.mdv_engine_law.proofs.Beside.{lies_plain}
 use Rattle.mdv_run_law.proofs.Extents.{one_place, lies_beside}
 
 -- no database is open, or one on these drives, whose home has room for it
@@ -16,12 +18,12 @@ never_shut opened newest none some = absurd (cc (none, some))
 
 module _ (host : Host) (sound : IsSound host.drives) (home : IsHome host.drives host.home) (memory : Memory) (volume : VolId) where
   module _ (newest : Newest) (opened : memory.opened ≡ Some newest) (is_plan : IsPlanOf host.drives newest.table.plan) where
-    lies_there : (first count : ℕ) → HasVolumeOn host memory volume first count → LiesOn (site_of host) newest.table.plan.volumes volume first count
-    lies_there first count (other, also, lies) = subst (λ (n : Newest). LiesOn (site_of host) n.table.plan.volumes volume first count) (opened_twice memory.opened newest other opened also) lies
+    lies_there : (first count : ℕ) → HasVolumeOn host memory volume first count → IsMapOf host.drives newest.table volume (run_map 0 first count)
+    lies_there first count (other, also, lies) = subst (λ (n : Newest). IsMapOf host.drives n.table volume (run_map 0 first count)) (opened_twice memory.opened newest other opened also) lies
 
     same_place : (first count other others : ℕ) → HasVolumeOn host memory volume first count → HasVolumeOn host memory volume other others → (first ≡ other) × (count ≡ others)
     same_place first count other others one also =
-        one_place (site_of host) sound newest.table.plan is_plan volume first count other others (lies_there first count one) (lies_there other others also)
+        one_place host.drives sound newest.table is_plan volume first count other others (lies_there first count one) (lies_there other others also)
 
   module _ (at count : ℕ) where
     abbrev At : ℕ → Type 0
@@ -39,4 +41,4 @@ module _ (host : Host) (sound : IsSound host.drives) (home : IsHome host.drives 
           let lies = lies_there newest opened is_plan there.first there.blocks there.lies in
           let block = there.block_is in
           let within = there.within in
-          lies_beside host sound home room newest.table.plan is_plan volume there.first there.blocks lies (a + k) (omega (arith, block)) (omega (arith, block, within, less))
+          lies_beside host home room there.first there.blocks (lies_plain host sound newest.table is_plan volume there.first there.blocks lies) (a + k) (omega (arith, block)) (omega (arith, block, within, less))

@@ -4,13 +4,15 @@ pub use Rattle.mdv_base.specs.Refusal.{refusal_text}
 pub use Rattle.mdv_base.specs.declared.drive.SliceName.{SliceName}
 pub use Rattle.mdv_base.specs.declared.mark.Identity.{Identity}
 pub use Rattle.mdv_base.specs.declared.mark.Mark.{Mark}
+pub use Rattle.mdv_base.specs.declared.name.Key.{Key}
 pub use Rattle.mdv_base.specs.declared.name.VolId.{VolId}
 pub use Rattle.mdv_base.specs.declared.refusal.Refusal.{Refusal}
 pub use Rattle.mdv_base.specs.declared.refusal.Refusal.TheVariants.{BadLine, LineTooLong, NeedForce, NoDatabase, NoSuchSlice, NoSuchVolume}
 pub use Rattle.mdv_base.specs.declared.refusal.Refusal.TheVariants.{OutOfMemory, OutOfRange, ReplicaFull, SliceInUse, TooSmall, WrongKind}
 pub use Rattle.mdv_base.specs.declared.refusal.Refusal.TheVariants.{TooMany, WrongState}
 pub use Rattle.mdv_base.specs.declared.state_word.StateWord.{StateWord}
-pub use Rattle.mdv_engine_law.specs.Home.{identity_of, site_of}
+pub use Rattle.mdv_engine_law.specs.Awake.{Happening, HasBooted, IsAwakeAt}
+pub use Rattle.mdv_engine_law.specs.Home.{identity_of, key_of, site_of, sites_of}
 pub use Rattle.mdv_engine_law.specs.Commands.{CameTo, ComesTo}
 pub use Rattle.mdv_engine_law.specs.Line.{AreBlocksAt, ArePut, HasVolumeOn}
 pub use Rattle.mdv_engine_law.specs.Line.{IsCommitted, IsCreated, IsNew}
@@ -20,17 +22,14 @@ pub use Rattle.mdv_engine_law.specs.Line.{empty, kept_at, lost, record_room}
 pub use Rattle.mdv_engine_law.specs.Line.{unbooted, wanting}
 pub use Rattle.mdv_engine_law.specs.Replies.{Acks, AcksBy, AcksFront, AcksIn, IsFront, IsPlain, IsRefusal, IsPlainAnswer, IsReplied, IsReply, IsTold, is_front_of, issuable, issuable_front, issuable_in, issuable_of}
 pub use Rattle.mdv_engine_law.specs.Replies.{ok_line, refusal_line}
-pub use Rattle.mdv_engine_law.specs.Standing.{BootMoment, BootedTo, Does, Executed, IsAwake, IsKnown, IsOfRun, Knows, Reached}
+pub use Rattle.mdv_engine_law.specs.Standing.{BootMoment, BootedTo, Does, Executed, IsKnown, IsOfRun, Knows, Reached}
 pub use Rattle.mdv_engine_law.specs.Standing.{StandsAt, TurnMoment, Turned}
 pub use Rattle.mdv_engine_law.specs.declared.answer.Answer.{Answer}
 pub use Rattle.mdv_engine_law.specs.declared.answer.Reply.{Reply}
 pub use Rattle.mdv_engine_law.specs.declared.host.Host.{Host}
-pub use Rattle.mdv_history.specs.History.{Changed, Created, Deed, Event, HasWoken, HaveValues, History, IsCourse, LiesOn, MayHappen, Saw, changes_in, history_after, history_after_all}
-pub use Rattle.mdv_history.specs.History.{issued_by, told_by}
-pub use Rattle.mdv_history.specs.Laws.{new_history}
-pub use Rattle.mdv_history.specs.Standing.{ValuesHold}
 pub use Rattle.mdv_home.specs.Home.{IsHome, line_of}
 pub use Rattle.mdv_home.specs.declared.geometry.Home.{Home}
+pub use Rattle.mdv_map.specs.Maps.{Map, readings, run_map}
 pub use Rattle.mdv_name.specs.Geometry.{IsGeometry}
 pub use Rattle.mdv_name.specs.SliceIndex.{HasNoSlice, HasSlice}
 pub use Rattle.mdv_name.specs.declared.geometry.Geometry.{Geometry}
@@ -69,6 +68,10 @@ pub use Rattle.mdv_table.specs.declared.volume.Component.{Component}
 pub use Rattle.mdv_table.specs.declared.volume.Volume.{Volume}
 pub use Rattle.mdv_table.specs.declared.volume.VolumeKind.{VolumeKind}
 pub use Rattle.mdv_table.specs.declared.volume.VolumeKind.TheVariants.{Stripe}
+pub use Rattle.mdv_volumes.specs.Databases.{log_of, same_key}
+pub use Rattle.mdv_volumes.specs.Happening.{IsCourse, IsNamed, MayHappen, issued_by, told_by}
+pub use Rattle.mdv_volumes.specs.History.{Acknowledges, Changed, Crashes, Created, Deed, Event, History, Saw, Stops, Wrote, history_after, history_after_all}
+pub use Rattle.mdv_volumes.specs.HistoryLaws.{Lasts, new_history}
 pub use Rattle.mdv_words.specs.Line.{Boot, IsCommand, IsInForm, IsLine, Line, Tab}
 pub use Rattle.mdv_words.specs.declared.command.Command.{Command}
 pub use Rattle.mdv_words.specs.declared.command.Command.TheVariants.{Create, MakeStripe, Read, Write}

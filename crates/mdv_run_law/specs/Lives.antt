@@ -1,6 +1,9 @@
 -- Lives: any number of runs on the same drives, each but the first begun on what the one before left, or a crash in it.
-use Rattle.std.specs.Prelude.{◌≡◌, ◌⊎◌, ℕ, List, [], ◌∷◌, ◌++◌, reverse, None, Contains}
-use Rattle.mdv_run_law.specs.Below.{IsHome, Home, Geometry, Script, Head, Slot, IsNewest, Mark, Image, Tale, HaveValues, last, IsImage, Change, Table, Version, IsSound, restarted, AreMade, HasTable, IsFound, IsReplica, Deed, Created, Changed, changes_in, Event, history_after_all, IsCourse, new_history, Host, site_of, contents, StandsAt, left_in, replies_in}
+use Rattle.std.specs.Prelude.{◌≡◌, ◌⊎◌, ◌<◌, ℕ, List, [], ◌∷◌, ◌++◌, reverse, None, Contains}
+use Rattle.mdv_run_law.specs.Below.{IsHome, Home, Geometry, Script, Head, Slot, IsNewest, Mark, Image, Tale, Among, last, IsImage, Key, VolId, Map, readings, Change, Table, Version, IsSound, restarted, AreMade, HasTable, IsFound, IsReplica, Deed, Acknowledges, Created, Changed, Crashes, Stops, Event, IsNamed, Happening, Lasts, history_after, history_after_all, log_of, new_history, Host, key_of, site_of, sites_of, contents, StandsAt, left_in, replies_in}
+use Rattle.mdv_store_law.specs.Machine as machine
+use Rattle.mdv_store_law.specs.Log.{changes_of}
+use Rattle.mdv_volumes.specs.HistoryLaws.{database_deeds}
 use Rattle.mdv_run_law.specs.Run.{HasHome}
 use Rattle.mdv_store_law.specs.Part.{IsPart}
 use Rattle.mdv_run_law.specs.Standing.{RunMoment, AreBegun, AreOfRun, AreTold, IsTold}
@@ -39,31 +42,42 @@ pub record IsLife (drives : Geometry) (made : Image) (ran : List Ran) (t : Tale)
   pub life : Life drives made ran t
   pub fair : IsFair drives ran
 
+-- what happens between two runs: the one ends, and where there was a crash drives begin anew
+abbrev pub IsBetween : List Event → Type 0
+IsBetween es = (es ≡ Stops ∷ []) ⊎ (es ≡ Stops ∷ Crashes ∷ [])
+
 -- the events of these runs, one run behind the other
 abbrev pub AreOfRuns : Geometry → List Ran → List Event → Type 0
 AreOfRuns drives [] es = es ≡ []
-AreOfRuns drives (ran ∷ before) es = (first : List Event) × (rest : List Event) × (es ≡ first ++ rest) × AreOfRuns drives before first × AreOfRun (host_of drives ran.home ran.fresh) ran.script ran.bytes rest
+AreOfRuns drives (ran ∷ before) es =
+    (first : List Event) × (run : List Event) × (end : List Event) × (es ≡ first ++ (run ++ end)) × AreOfRuns drives before first × AreOfRun (host_of drives ran.home ran.fresh) ran.script ran.bytes run × IsBetween end
 
 -- one of the runs told the deed
-abbrev pub IsSaid : List Ran → Deed → Type 0
-IsSaid [] deed = ⊥
-IsSaid (ran ∷ before) deed = IsTold ran.script (replies_in ran.bytes) deed ⊎ IsSaid before deed
+abbrev pub IsSaid : Geometry → List Ran → Deed → Type 0
+IsSaid drives [] deed = ⊥
+IsSaid drives (ran ∷ before) deed = IsTold (host_of drives ran.home ran.fresh) ran.script (replies_in ran.bytes) deed ⊎ IsSaid drives before deed
 
 -- all that they told, and what their lines may have begun, in order
-abbrev pub AreSaid : List Ran → List Deed → Type 0
-AreSaid [] said = said ≡ []
-AreSaid (ran ∷ before) said = (first : List Deed) × AreSaid before first × (rest : List Deed) × AreTold ran.script (replies_in ran.bytes) (left_in ran.bytes) rest × (said ≡ first ++ rest)
+abbrev pub AreSaid : Geometry → List Ran → List Deed → Type 0
+AreSaid drives [] said = said ≡ []
+AreSaid drives (ran ∷ before) said =
+    (first : List Deed) × AreSaid drives before first × (rest : List Deed) × AreTold (host_of drives ran.home ran.fresh) ran.script (replies_in ran.bytes) (left_in ran.bytes) rest × (said ≡ first ++ rest)
 
-abbrev pub AreAsked : List Ran → List Deed → Type 0
-AreAsked [] asked = asked ≡ []
-AreAsked (ran ∷ before) asked = (first : List Deed) × AreAsked before first × (rest : List Deed) × AreBegun ran.script (replies_in ran.bytes) (left_in ran.bytes) rest × (asked ≡ first ++ rest)
+abbrev pub AreAsked : Geometry → List Ran → List Deed → Type 0
+AreAsked drives [] asked = asked ≡ []
+AreAsked drives (ran ∷ before) asked =
+    (first : List Deed) × AreAsked drives before first × (rest : List Deed) × AreBegun (host_of drives ran.home ran.fresh) ran.script (replies_in ran.bytes) (left_in ran.bytes) rest × (asked ≡ first ++ rest)
+
+-- the changes of a key's table among these deeds, in order
+abbrev pub changes_in : Key → List Deed → List Change
+changes_in key deeds = changes_of (database_deeds key deeds)
 
 -- a history of these drives behind these runs, with which they stand
 pub record IsHistoryOf (drives : Geometry) (home : Home) (made : Image) (ran : List Ran) (t : Tale) : Type 0 where
   pub es : List Event
-  pub course : IsCourse (site_of (host_of drives home 0)) (new_history (site_of (host_of drives home 0)) made) es
+  pub course : machine.IsCourse history_after (Happening (host_of drives home 0)) new_history es
   pub come : AreOfRuns drives ran es
-  pub stands : StandsAt (host_of drives home 0) (history_after_all (new_history (site_of (host_of drives home 0)) made) es) t
+  pub stands : StandsAt (host_of drives home 0) (history_after_all new_history es) t
 
 -- over every life there is one
 abbrev pub LivesStand : Type 0
@@ -79,28 +93,31 @@ RunsHaveHome = (drives : Geometry) (home : Home) (made : Image) (ran : List Ran)
 pub record HasToldChanges (drives : Geometry) (home : Home) (made : Image) (ran : List Ran) (t : Tale) (table : Table) : Type 0 where
   pub history : IsHistoryOf drives home made ran t
   pub version : Version
-  pub one_of : Contains (history_after_all (new_history (site_of (host_of drives home 0)) made) history.es).database.family version
+  pub one_of : Contains (log_of (history_after_all new_history history.es).databases (key_of (host_of drives home 0))).family version
   pub is_table : version.table ≡ table
   pub by : AreMade drives version.changes table
-  pub told : (change : Change) → IsSaid ran (Changed change) → Contains version.changes change
+  pub told : (change : Change) → IsSaid drives ran (Changed (key_of (host_of drives home 0)) change) → Contains version.changes change
   pub said : List Deed
-  pub are_said : AreSaid ran said
-  pub all_said : IsPart (changes_in said) (reverse version.changes)
+  pub are_said : AreSaid drives ran said
+  pub all_said : IsPart (changes_in (key_of (host_of drives home 0)) said) (reverse version.changes)
   pub asked : List Deed
-  pub are_asked : AreAsked ran asked
-  pub all_asked : IsPart (reverse version.changes) (changes_in asked)
+  pub are_asked : AreAsked drives ran asked
+  pub all_asked : IsPart (reverse version.changes) (changes_in (key_of (host_of drives home 0)) asked)
 
 -- Once a creation was told ok, every boot that can read its drive finds the database, whatever was run and crashed since; and
 -- the table that it finds has every change that was told ok.
 pub record DatabaseIsFound : Type 0 where
-  pub found : (drives : Geometry) (home : Home) (made : Image) (ran : List Ran) (t : Tale) → IsHome drives home → IsLife drives made ran t → IsSaid ran Created → IsFound (site_of (host_of drives home 0)) (last t 0) None → ⊥
+  pub found : (drives : Geometry) (home : Home) (made : Image) (ran : List Ran) (t : Tale) → IsHome drives home → IsLife drives made ran t → IsSaid drives ran (Created (key_of (host_of drives home 0))) → IsFound (site_of (host_of drives home 0)) (last t 0) None → ⊥
   pub table : (drives : Geometry) (home : Home) (made : Image) (ran : List Ran) (t : Tale) (head : Head) (slot : Slot) (mark : Mark) (newest : Table) → IsHome drives home → IsLife drives made ran t
       → IsReplica (site_of (host_of drives home 0)) (last t 0) head → IsNewest head slot → HasTable (site_of (host_of drives home 0)) (last t 0) head slot mark newest → HasToldChanges drives home made ran t newest
 
--- Each block outside the replica reads as one of the values that a history of these runs allows it: that of its last acknowledged
--- write, the one that a boot found since, or the one that the drive was made with, or one that was issued later.
+-- Each block of a volume that a boot may find reads as one of the values that a history of these runs has for it. Of a write that was told that is its value,
+-- whatever happened since, or one that was issued since it was answered.
+pub record BlocksAre (drives : Geometry) (home : Home) (made : Image) (ran : List Ran) (t : Tale) : Type 0 where
+  pub history : IsHistoryOf drives home made ran t
+  pub reads : (volume : VolId) (v : Map) → IsNamed (sites_of (host_of drives home 0)) (history_after_all new_history history.es).databases (key_of (host_of drives home 0)) volume v
+      → (b : ℕ) (x : List ℕ) → b < v.blocks → Among (readings v (last t) b) x → Among ((history_after_all new_history history.es).volumes (key_of (host_of drives home 0)) volume b).reads x
+  pub lasts : (es later : List Event) (place : ℕ) (key : Key) (volume : VolId) (at : ℕ) (blocks : List (List ℕ)) → history.es ≡ es ++ Acknowledges place key volume at blocks ∷ later → Lasts new_history es later place key volume at blocks
+
 abbrev pub BlocksHold : Type 0
-BlocksHold =
-    (drives : Geometry) (home : Home) (made : Image) (ran : List Ran) (t : Tale) → IsHome drives home → IsLife drives made ran t
-    → (is : IsHistoryOf drives home made ran t)
-    × HaveValues (site_of (host_of drives home 0)) (history_after_all (new_history (site_of (host_of drives home 0)) made) is.es).allowed (last t 0)
+BlocksHold = (drives : Geometry) (home : Home) (made : Image) (ran : List Ran) (t : Tale) → IsHome drives home → IsLife drives made ran t → BlocksAre drives home made ran t

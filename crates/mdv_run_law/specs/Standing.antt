@@ -1,32 +1,31 @@
 -- How the drive stands with its history at each moment of a run.
-use Rattle.std.specs.Prelude.{◌≡◌, ◌≢◌, ◌⊎◌, ℕ, Bool, true, false, List, [], ◌∷◌, ◌++◌, length, Option, Some, Contains}
-use Rattle.mdv_run_law.specs.Below.{OutOfMemory, Entry, IsTab, Tab, IsRefusal, is_front_of, refusal_line, ok_line, entries_reply, Script, at_end, spent, too_long, line, Head, shows, Tale, told, Everywhere, left_in, replies_in, Line, Boot, IsLine, is_firm, IsReplica, History, Deed, Created, Event, HasWoken, history_after, MayHappen, Host, site_of, identity_of, Ask, Nothing, Memory, asked_by_line, AcksBy, AcksFront, issuable, issuable_front, StandsAt, Does, Reached, Knows, IsKnown}
+use Rattle.std.specs.Prelude.{◌≡◌, ◌≢◌, ◌⊎◌, ℕ, true, List, [], ◌∷◌, ◌++◌, length, Option, Some, Contains}
+use Rattle.mdv_run_law.specs.Below.{OutOfMemory, Entry, IsTab, Tab, IsRefusal, is_front_of, refusal_line, ok_line, entries_reply, Script, at_end, spent, too_long, line, Head, shows, Tale, told, Everywhere, left_in, replies_in, Line, Boot, IsLine, is_firm, IsReplica, History, Deed, Created, Event, HasBooted, Happening, history_after, log_of, Host, key_of, site_of, identity_of, Ask, Nothing, Memory, asked_by_line, AcksBy, AcksFront, issuable, issuable_front, StandsAt, Does, Reached, Knows, IsKnown}
 use Rattle.mdv_store_law.specs.Machine as machine
 use Rattle.mdv_run_law.specs.Run.{IsNoCommand}
 
--- What the boot and the lines so far have settled for those to come: whether a call on the drive failed in the last boot, and the entries that are kept. While
--- the last reply is only just told, nothing needs to be known of them.
-pub record Context : Type 0 where
-  pub down : Bool
-  pub entries : Option (List Entry)
+-- What the boot and the lines so far have settled for those to come: the entries that are kept. While the last reply is only just told, nothing needs to be
+-- known of them.
+abbrev pub Context : Type 0
+Context = Option (List Entry)
 
 abbrev pub IsSettled : Context → Type 0
-IsSettled context = (entries : List Entry) × (context.entries ≡ Some entries)
+IsSettled context = (entries : List Entry) × (context ≡ Some entries)
 
 abbrev pub context_of : Memory → Context
-context_of memory = record { down = memory.down; entries = Some memory.entries }
+context_of memory = Some memory.entries
 
 -- what a line asks: nothing, where it isn't built
-abbrev pub Asks : List ℕ → Ask → Type 0
-Asks text ask = (IsNoCommand text × (ask ≡ Nothing)) ⊎ ((spelled : Line) × IsLine text spelled × (ask ≡ asked_by_line spelled))
+abbrev pub Asks : Host → List ℕ → Ask → Type 0
+Asks host text ask = (IsNoCommand text × (ask ≡ Nothing)) ⊎ ((spelled : Line) × IsLine text spelled × (ask ≡ asked_by_line host spelled))
 
 -- the bytes begin as the reply does that memory was wanting
 abbrev pub IsWanting : List ℕ → Type 0
 IsWanting bytes = is_front_of (refusal_line OutOfMemory) bytes ≡ true
 
 -- What a line asks, of whose reply these bytes were told; nothing, where memory may have been wanting to read it.
-abbrev pub AsksBy : List ℕ → List ℕ → Ask → Type 0
-AsksBy text bytes ask = Asks text ask ⊎ ((ask ≡ Nothing) × IsWanting bytes)
+abbrev pub AsksBy : Host → List ℕ → List ℕ → Ask → Type 0
+AsksBy host text bytes ask = Asks host text ask ⊎ ((ask ≡ Nothing) × IsWanting bytes)
 
 -- The entries that are kept behind a line with this reply: none behind a boot that was told; those of a `tab` block that was read, whose number is told; and
 -- those before, where a boot or a block was refused, and behind any other line.
@@ -41,30 +40,25 @@ abbrev pub AreIdle : Host → List Event → Type 0
 AreIdle host es = Does host [] [] es
 
 -- Events of a line that was answered by this reply: they begin what it asks only where the reply is `ok`, or tells that a call on
--- a drive failed, and else nothing; they tell exactly what the reply acknowledges, which is something only where the last boot has read the
--- drive: the deed where it is `ok`, and of a read the values that the reply tells.
--- Behind it the last boot has read the drive only where the line is a boot that did, or where it had and the line is none, or was told that memory was
--- wanting to read it.
--- And the entries that are kept then are those that the line leaves.
+-- a drive failed, and else nothing; they tell exactly what the reply acknowledges: the deed where it is `ok`, and of a read the values that the reply tells.
+-- A line that boots and is told `ok` begins a boot; and the entries that are kept then are those that the line leaves.
 pub record AreOfLine (host : Host) (text : List ℕ) (now : Context) (reply : List ℕ) (es : List Event) (then : Context) : Type 0 where
   pub ask : Ask
-  pub asks : AsksBy text reply ask
+  pub asks : AsksBy host text reply ask
   pub done : List Deed
   pub acks : AcksBy ask reply done
   pub does : Does host (issuable ask reply) done es
-  pub awake : done ≢ [] → now.down ≡ false
-  pub up : then.down ≡ false → (IsLine text Boot × HasWoken es) ⊎ ((now.down ≡ false) × ((IsLine text Boot → ⊥) ⊎ (reply ≡ refusal_line OutOfMemory)))
-  pub kept : (entries : List Entry) → then.entries ≡ Some entries → HasEntries text reply now.entries entries
+  pub boots : IsLine text Boot → reply ≡ ok_line → HasBooted (key_of host) es
+  pub kept : (entries : List Entry) → then ≡ Some entries → HasEntries text reply now entries
 
 -- Events of the line in work, by the front of its reply that was told: they begin what it asks only where that is a front of `ok`, or of the reply
 -- that a call on a drive failed, as it is before the first byte, and else nothing; and they tell what this front acknowledges.
-pub record LineInWork (host : Host) (front : List ℕ) (now : Context) (text : List ℕ) (es : List Event) : Type 0 where
+pub record LineInWork (host : Host) (front text : List ℕ) (es : List Event) : Type 0 where
   pub ask : Ask
-  pub asks : AsksBy text front ask
+  pub asks : AsksBy host text front ask
   pub done : List Deed
   pub acks : AcksFront ask front done
   pub does : Does host (issuable_front ask front) done es
-  pub awake : done ≢ [] → now.down ≡ false
 
 -- Events that come, in order, of the lines and blocks of the script that these replies answer, one for each, where the boot and the lines before them
 -- have settled this; behind them come events of what is left of the script. What a line settles is known wherever another reply came behind it.
@@ -84,39 +78,40 @@ abbrev pub InWork : Host → List ℕ → Context → Script → List Event → 
 InWork host front now at_end es = AreIdle host es
 InWork host front now (spent lines bytes) es = AreIdle host es
 InWork host front now (too_long more) es = AreIdle host es
-InWork host front now (line text more) es = ((front ≡ []) × (es ≡ [])) ⊎ (IsSettled now × LineInWork host front now text es)
+InWork host front now (line text more) es = ((front ≡ []) × (es ≡ [])) ⊎ (IsSettled now × LineInWork host front text es)
 
 -- none, and this is settled
 abbrev pub NothingLeft : Context → Context → Script → List Event → Type 0
 NothingLeft last now script es = (es ≡ []) × (now ≡ last)
 
 -- the deed was told by these replies to the script: its line's reply acknowledges it
-abbrev pub IsTold : Script → List (List ℕ) → Deed → Type 0
-IsTold at_end replies deed = ⊥
-IsTold (spent lines bytes) replies deed = ⊥
-IsTold (too_long more) [] deed = ⊥
-IsTold (too_long more) (reply ∷ replies) deed = IsTold more replies deed
-IsTold (line text more) [] deed = ⊥
-IsTold (line text more) (reply ∷ replies) deed = ((ask : Ask) × Asks text ask × (done : List Deed) × AcksBy ask reply done × Contains done deed) ⊎ IsTold more replies deed
+abbrev pub IsTold : Host → Script → List (List ℕ) → Deed → Type 0
+IsTold host at_end replies deed = ⊥
+IsTold host (spent lines bytes) replies deed = ⊥
+IsTold host (too_long more) [] deed = ⊥
+IsTold host (too_long more) (reply ∷ replies) deed = IsTold host more replies deed
+IsTold host (line text more) [] deed = ⊥
+IsTold host (line text more) (reply ∷ replies) deed = ((ask : Ask) × Asks host text ask × (done : List Deed) × AcksBy ask reply done × Contains done deed) ⊎ IsTold host more replies deed
 
 -- all that was told so, in the order of the lines, and of the next line by this front of its reply
-abbrev pub AreTold : Script → List (List ℕ) → List ℕ → List Deed → Type 0
-AreTold at_end replies front told = told ≡ []
-AreTold (spent lines bytes) replies front told = told ≡ []
-AreTold (too_long more) [] front told = told ≡ []
-AreTold (too_long more) (reply ∷ replies) front told = AreTold more replies front told
-AreTold (line text more) [] front told = (told ≡ []) ⊎ ((ask : Ask) × AsksBy text front ask × AcksFront ask front told)
-AreTold (line text more) (reply ∷ replies) front told = (ask : Ask) × AsksBy text reply ask × (done : List Deed) × AcksBy ask reply done × (rest : List Deed) × AreTold more replies front rest × (told ≡ done ++ rest)
+abbrev pub AreTold : Host → Script → List (List ℕ) → List ℕ → List Deed → Type 0
+AreTold host at_end replies front told = told ≡ []
+AreTold host (spent lines bytes) replies front told = told ≡ []
+AreTold host (too_long more) [] front told = told ≡ []
+AreTold host (too_long more) (reply ∷ replies) front told = AreTold host more replies front told
+AreTold host (line text more) [] front told = (told ≡ []) ⊎ ((ask : Ask) × AsksBy host text front ask × AcksFront ask front told)
+AreTold host (line text more) (reply ∷ replies) front told =
+    (ask : Ask) × AsksBy host text reply ask × (done : List Deed) × AcksBy ask reply done × (rest : List Deed) × AreTold host more replies front rest × (told ≡ done ++ rest)
 
 -- What the lines may have begun, in their order: each what it asks, where its reply is `ok` or tells that a call failed; and the next
 -- one, of whose reply this front was told, where that is a front of one of these, as it is before the first byte.
-abbrev pub AreBegun : Script → List (List ℕ) → List ℕ → List Deed → Type 0
-AreBegun at_end replies front begun = begun ≡ []
-AreBegun (spent lines bytes) replies front begun = begun ≡ []
-AreBegun (too_long more) [] front begun = begun ≡ []
-AreBegun (too_long more) (reply ∷ replies) front begun = AreBegun more replies front begun
-AreBegun (line text more) [] front begun = (begun ≡ []) ⊎ ((ask : Ask) × AsksBy text front ask × (begun ≡ issuable_front ask front))
-AreBegun (line text more) (reply ∷ replies) front begun = (ask : Ask) × AsksBy text reply ask × (rest : List Deed) × AreBegun more replies front rest × (begun ≡ issuable ask reply ++ rest)
+abbrev pub AreBegun : Host → Script → List (List ℕ) → List ℕ → List Deed → Type 0
+AreBegun host at_end replies front begun = begun ≡ []
+AreBegun host (spent lines bytes) replies front begun = begun ≡ []
+AreBegun host (too_long more) [] front begun = begun ≡ []
+AreBegun host (too_long more) (reply ∷ replies) front begun = AreBegun host more replies front begun
+AreBegun host (line text more) [] front begun = (begun ≡ []) ⊎ ((ask : Ask) × AsksBy host text front ask × (begun ≡ issuable_front ask front))
+AreBegun host (line text more) (reply ∷ replies) front begun = (ask : Ask) × AsksBy host text reply ask × (rest : List Deed) × AreBegun host more replies front rest × (begun ≡ issuable ask reply ++ rest)
 
 -- the events of a run, of which these bytes were told: those of its boot, and those of the lines so far
 pub record AreOfRun (host : Host) (script : Script) (bytes : List ℕ) (es : List Event) : Type 0 where
@@ -124,13 +119,12 @@ pub record AreOfRun (host : Host) (script : Script) (bytes : List ℕ) (es : Lis
   pub lines : List Event
   pub both : es ≡ boot ++ lines
   pub idle : AreIdle host boot
-  pub down : Bool
-  pub woken : down ≡ false → HasWoken boot
-  pub come : ComeOf host (InWork host (left_in bytes)) (record { down = down; entries = Some [] }) script (replies_in bytes) lines
+  pub booted : HasBooted (key_of host) boot
+  pub come : ComeOf host (InWork host (left_in bytes)) (Some []) script (replies_in bytes) lines
 
 -- from a history by some events of such a kind to one that the drive stands with, of which more is known
 abbrev pub Goes : Host → (List Event → Type 0) → (List Event → History → Type 0) → Tale → History → Type 0
-Goes host Come After m h = machine.Goes history_after (MayHappen (site_of host)) Come (λ g. StandsAt host g m) After h
+Goes host Come After m h = machine.Goes history_after (Happening host) Come (λ g. StandsAt host g m) After h
 
 -- whatever a crash leaves is a replica, with a table, of the database that a creation of this run made
 pub record ShowsMade (host : Host) (t : Tale) : Type 0 where
@@ -140,13 +134,13 @@ pub record ShowsMade (host : Host) (t : Tale) : Type 0 where
 -- A moment of a run of that script that began at t: the drive stands with each history that it stood with at the start, gone on
 -- by the events of the boot and of the lines so far, in their order; each line's events begin what it asks only where it was answered
 -- `ok`, or that a call failed, or where no more of its reply was told than a front of one of these, and tell exactly what its reply
--- acknowledges: a deed where it is `ok`, and of a read the values that it tells, each of which its block may have. Wherever one is told, the last boot
--- before it has read the drive, since when each block has one value until it is written. Where a creation was told, whatever a crash leaves is a replica of a
+-- acknowledges: a deed where it is `ok`, and of a read the values that it tells, each of which its block may have. Blocks of a volume are read and written only
+-- where the last boot has found one value of each, or the volume was made since. Where a creation was told, whatever a crash leaves is a replica of a
 -- database that this run made.
 pub record RunMoment (host : Host) (script : Script) (t m : Tale) : Type 0 where
   pub bytes : List ℕ
   pub is_told : told m ≡ told t ++ bytes
-  pub made : IsTold script (replies_in bytes) Created → ShowsMade host m
+  pub made : IsTold host script (replies_in bytes) (Created (key_of host)) → ShowsMade host m
   pub stands : (h : History) → StandsAt host h t → Goes host (AreOfRun host script bytes) Reached m h
 
 -- what is left of a script behind so many replies
@@ -167,7 +161,7 @@ pub record AreReplies (bytes : List ℕ) : Type 0 where
 pub record LinesMoment (host : Host) (script : Script) (first : Memory) (t m : Tale) : Type 0 where
   pub bytes : List ℕ
   pub is_told : told m ≡ told t ++ bytes
-  pub made : Knows host first t → IsTold script (replies_in bytes) Created → ShowsMade host m
+  pub made : Knows host first t → IsTold host script (replies_in bytes) (Created (key_of host)) → ShowsMade host m
   pub goes : (h : History) → IsKnown host first h t → Goes host (ComeOf host (InWork host (left_in bytes)) (context_of first) script (replies_in bytes)) Reached m h
 
 -- a history that has the database that a creation of this run made
@@ -175,8 +169,8 @@ pub record HasMade (host : Host) (memory : Memory) (t : Tale) : Type 0 where
   pub history : History
   pub known : IsKnown host memory history t
   pub number : ℕ
-  pub issued : history.database.issued ≡ Some (identity_of host number)
-  pub firm : is_firm history.database ≡ true
+  pub issued : (log_of history.databases (key_of host)).issued ≡ Some (identity_of host number)
+  pub firm : is_firm (log_of history.databases (key_of host)) ≡ true
 
 -- lines and their replies, told whole, that led from one memory to the other, and from one script to what is left of it
 pub record RanTo (host : Host) (script : Script) (first now : Memory) (left : Script) (t u : Tale) : Type 0 where
@@ -185,5 +179,5 @@ pub record RanTo (host : Host) (script : Script) (first now : Memory) (left : Sc
   pub replies : AreReplies bytes
   pub left_is : behind script (replies_in bytes) ≡ left
   pub knows : Knows host first t → Knows host now u
-  pub made : Knows host first t → IsTold script (replies_in bytes) Created → HasMade host now u
+  pub made : Knows host first t → IsTold host script (replies_in bytes) (Created (key_of host)) → HasMade host now u
   pub goes : (h : History) → IsKnown host first h t → Goes host (ComeOf host (NothingLeft (context_of now)) (context_of first) script (replies_in bytes)) (λ es after. IsKnown host now after u) u h

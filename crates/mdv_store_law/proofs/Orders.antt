@@ -2,17 +2,11 @@
 use Rattle.std.proofs.Common.{◌≡◌, ◌⊎◌, inl, inr, true, false, List, [], ◌∷◌, ◌++◌, map, reverse, refl, sym, ◌∙◌, ap, subst, append_assoc, Option, Some, None, Contains, arith}
 use Rattle.std.proofs.lemmas.List.{append-nil, reverse-append}
 use Rattle.mdv_store_law.specs.Below.{Identity, Geometry, Mark, Change, Table}
-use Rattle.mdv_store_law.specs.Log.{Version, Log, Event, Issued, Writing, Written, Told, with_asked, answered, log_after, log_after_all, is_firm, IsFirst, IsNext, Extends, IsUntold, IsTellable, IsCourse, asks_of, begun_by, tells, told_by, IsLog}
+use Rattle.mdv_store_law.specs.Log.{Version, Log, Event, Issued, Writing, Written, Told, with_asked, answered, log_after, log_after_all, is_firm, IsFirst, IsNext, Extends, IsUntold, IsTellable, IsCourse, asks_of, begun_by, changes_of, tells, told_by, IsLog}
 use Rattle.mdv_store_law.specs.Part.{IsPart}
 use Rattle.mdv_store_law.proofs.Families.{contains_first, contains_behind, contains_cases, written_firm}
 use Rattle.mdv_store_law.proofs.Logs.{is_log_after}
 use Rattle.mdv_store_law.proofs.Parts.{part_itself, part_more}
-
--- the changes among what is told, or begun
-abbrev pub changes_of : List (Option Change) → List Change
-changes_of [] = []
-changes_of (None ∷ told) = changes_of told
-changes_of (Some change ∷ told) = change ∷ changes_of told
 
 pub changes_more : (some more : List (Option Change)) → changes_of (some ++ more) ≡ changes_of some ++ changes_of more
 changes_more [] more = refl

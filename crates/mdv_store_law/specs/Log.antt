@@ -153,6 +153,12 @@ begins (Told which before) = []
 abbrev pub begun_by : List Event → List (Option Change)
 begun_by = all_of begins
 
+-- the changes among these creations and changes
+abbrev pub changes_of : List (Option Change) → List Change
+changes_of [] = []
+changes_of (None ∷ asked) = changes_of asked
+changes_of (Some change ∷ asked) = change ∷ changes_of asked
+
 -- a creation that an event issues is such a one
 abbrev pub IsIssue : (Identity → Type 0) → Event → Type 0
 IsIssue Which (Issued identity) = Which identity

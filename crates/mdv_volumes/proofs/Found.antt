@@ -30,7 +30,8 @@ only_found newest older v rising written found = ⊎_elim (λ here. sym here)
     (λ behind. absurd (All-head (λ (w : Version). w.is_written ≡ true → IsBelow v.mark w.mark → ⊥) newest older found.1 written (All-contains (λ (w : Version). IsBelow w.mark newest.mark) older v rising.0 behind)))
     (contains_cases newest v older found.0)
 
-older_found : (v : Version) (older : List Version) (w : Version) → MayBeFound (v ∷ older) w → (v ≡ w) ⊎ MayBeFound older w
+-- what is found behind one table more is that one, or was found before
+pub older_found : (v : Version) (older : List Version) (w : Version) → MayBeFound (v ∷ older) w → (v ≡ w) ⊎ MayBeFound older w
 older_found v older w found = ⊎_elim (λ here. inl here) (λ behind. inr (behind, All-tail (λ (x : Version). x.is_written ≡ true → IsBelow w.mark x.mark → ⊥) v older found.1)) (contains_cases v w older found.0)
 
 pub none_found : (v : Version) → MayBeFound [] v → ⊥

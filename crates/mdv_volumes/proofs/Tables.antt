@@ -1,5 +1,5 @@
 -- Where the volumes of a table of the geometry lie.
-use Rattle.std.proofs.Common.{◌≡◌, ◌⊎◌, inl, inr, ℕ, ◌+◌, ◌<◌, false, List, [], ◌∷◌, ◌++◌, length, get_or, map, Contains, Option, Some, None, refl, sym, ◌∙◌, ap, subst, arith}
+use Rattle.std.proofs.Common.{◌≡◌, ◌⊎◌, inl, inr, ⊎_elim, Bool, true, nat_lt, if◌then◌else◌, ℕ, ◌+◌, ◌<◌, false, List, [], ◌∷◌, ◌++◌, length, get_or, map, Contains, Option, Some, None, refl, sym, ◌∙◌, ap, subst, arith}
 use Rattle.std.specs.Prelude.{AllPairs}
 use Rattle.std.proofs.lemmas.Bool.{cases_lt}
 use Rattle.std.proofs.lemmas.List.{get_or-map, get_or_default, length-map}
@@ -24,6 +24,7 @@ use Rattle.mdv_name.specs.SliceIndex.{slice_at}
 use Rattle.mdv_name.proofs.Finding.{slice_at-none, slice_at-some}
 use Rattle.mdv_base.specs.declared.refusal.Refusal.TheVariants.{NameTaken, NoSuchSlice}
 use Rattle.mdv_volumes.specs.Below.{AreApart, AreDisjoint, Base, Component, Geometry, HasSlice, HasVolume, IsDisjoint, IsAfter, IsOfGeometry, IsSound, MakeStripe, Map, Slice, SliceAt, SliceName, Stripe, Table, VolId, Volume, VolumeKind, area_of, area_of_map, run_map}
+use Rattle.mdv_volumes.proofs.Lists.{contains_behind, contains_first, first_or_behind}
 use Rattle.mdv_volumes.specs.Tables.{AreLaid, ArePlain, IsBaseMap, IsClear, IsKindMap, IsMapOf, Sites, TablesLie}
 
 -- a volume lies on all blocks of one slice
@@ -201,10 +202,35 @@ module _ (g : Geometry) (old next : Table) (volume : VolId) (slice : SliceName) 
     | inr old_one ↦ inl (record { of = map.of; has = (old_one, map.has.1); kind = map.kind })
   ]
 
+  still_has : (vs : List Volume) (of : Volume) → Contains vs of → Contains (with_volume stripe vs) of
+  still_has [] of has = absurd (omega (arith, has.1))
+  still_has (w ∷ ws) of has = by (λ behind. still_has ws of behind) (nat_lt stripe.number.0 w.number.0) where
+    by : (Contains ws of → Contains (with_volume stripe ws) of) → (lt : Bool) → Contains (if lt then stripe ∷ w ∷ ws else w ∷ with_volume stripe ws) of
+    by rest true = contains_behind stripe of (w ∷ ws) has
+    by rest false = ⊎_elim (λ here. subst (λ (x : Volume). Contains (w ∷ with_volume stripe ws) x) here (contains_first w (with_volume stripe ws))) (λ behind. contains_behind w of (with_volume stripe ws) (rest behind)) (first_or_behind w of ws has)
+
+  has_new : (vs : List Volume) → Contains (with_volume stripe vs) stripe
+  has_new [] = contains_first stripe []
+  has_new (w ∷ ws) = by (has_new ws) (nat_lt stripe.number.0 w.number.0) where
+    by : Contains (with_volume stripe ws) stripe → (lt : Bool) → Contains (if lt then stripe ∷ w ∷ ws else w ∷ with_volume stripe ws) stripe
+    by rest true = contains_first stripe (w ∷ ws)
+    by rest false = contains_behind w stripe (with_volume stripe ws) rest
+
+  new_lies : IsOfGeometry g next → (v : Map) × IsMapOf g next volume v
+  new_lies is =
+      let has = subst (λ (p : Plan). Contains p.volumes stripe) (sym after.1) (has_new old.plan.volumes) in
+      let found = some_kind g stripe.kind (All-contains (λ (w : Volume). IsKindOf g w.kind) next.plan.volumes stripe is.kinds has) in
+      (found.0, record { of = stripe; has = (has, refl); kind = found.1 })
+
+  of_next : (other : VolId) (v : Map) → IsMapOf g old other v → IsMapOf g next other v
+  of_next other v map = record { of = map.of; has = (subst (λ (p : Plan). Contains p.volumes map.of) (sym after.1) (still_has old.plan.volumes map.of map.has.0), map.has.1); kind = map.kind }
+
 pub tables_lie : TablesLie
 tables_lie = record {
   laid = λ sites g table sound plain is. laid g sound table is sites plain;
   some = λ g table of is has. let found = some_kind g of.kind (All-contains (λ (w : Volume). IsKindOf g w.kind) table.plan.volumes of is.kinds has) in (found.0, record { of = of; has = (has, refl); kind = found.1 });
   new = λ g old next volume slice v sound after map. never_taken g old next volume slice after (slice_at g.slices slice) refl sound map.of map.has;
+  lies = λ g old next volume slice after is. new_lies g old next volume slice after is;
   made = λ g old next volume slice other v after map. of_old g old next volume slice after other v map;
+  stays = λ g old next volume slice other v after map. of_next g old next volume slice after other v map;
 }

@@ -13,7 +13,8 @@ use Rattle.mdv_volumes.specs.Tables.{Sites}
 use Rattle.mdv_volumes.proofs.Databases.{key_is, key_itself}
 use Rattle.mdv_volumes.proofs.Lifting.{databases_go}
 
-one_deed : (key : Key) (asked : Option Change) (before : List Change) → map (deed_of key) (log.told_by (log.Told (log.with_asked asked []) before ∷ [])) ≡ deed_of key asked ∷ []
+-- the newest change or creation is told as one deed
+pub one_deed : (key : Key) (asked : Option Change) (before : List Change) → map (deed_of key) (log.told_by (log.Told (log.with_asked asked []) before ∷ [])) ≡ deed_of key asked ∷ []
 one_deed key None before = refl
 one_deed key (Some change) before = refl
 

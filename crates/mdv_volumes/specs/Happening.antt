@@ -136,7 +136,7 @@ begins Crashes = []
 abbrev pub issued_by : List Event → List Deed
 issued_by = all_of begins
 
--- a creation that an event issues is such a one
+-- no run ends by the event, and no drive begins anew; and a creation that it issues is such a one
 abbrev pub IsIssue : (Identity → Type 0) → Event → Type 0
 IsIssue Which (Creation key identity) = Which identity
 IsIssue Which (OfDatabase key identity e) = Unit {0}
@@ -145,9 +145,9 @@ IsIssue Which (Reads key volume at blocks) = Unit {0}
 IsIssue Which (Acknowledges place key volume at blocks) = Unit {0}
 IsIssue Which (Shows place key volume at blocks) = Unit {0}
 IsIssue Which (Boots key) = Unit {0}
-IsIssue Which Stops = Unit {0}
-IsIssue Which Crashes = Unit {0}
+IsIssue Which Stops = ⊥
+IsIssue Which Crashes = ⊥
 
--- The events tell these deeds, and begin only deeds that are asked, in that order and each once; and each creation is such a one.
+-- The events of a run tell these deeds, and begin only deeds that are asked, in that order and each once; and each creation is such a one.
 abbrev pub Adds : (Identity → Type 0) → List Deed → List Deed → List Event → Type 0
 Adds Which = machine.Adds tells begins (IsIssue Which)

@@ -128,12 +128,13 @@ pub record IsReady (sites : Sites) (h : History) (key : Key) (site : Site) (t : 
   pub apart : (other : Key) (volume beside : VolId) (v w : Map) → (key ≡ other → ⊥) → IsMapOf site.drives table volume v → IsNamed sites h.databases other beside w → AreDisjoint v w
   pub follows : (volume : VolId) (v : Map) → IsMapOf site.drives table volume v → Follows v (h.volumes key volume) t
 
--- the events of a key's log happened to the history; what was told of other keys and of volumes stays
+-- the events of a key's log happened to the history; what was told of other keys and of volumes stays, and what a boot has found of them
 pub record IsLifted (sites : Sites) (h : History) (key : Key) (es : List log.Event) (m : Tale) : Type 0 where
   pub happens : Happens sites h (lifted key (identity_in (current_of h.databases key)) es) (map (deed_of key) (log.begun_by es)) (map (deed_of key) (log.told_by es)) m
   pub own : log_of (history_after_all h (lifted key (identity_in (current_of h.databases key)) es)).databases key ≡ log.log_after_all (log_of h.databases key) es
   pub others : (other : Key) → (key ≡ other → ⊥) → log_of (history_after_all h (lifted key (identity_in (current_of h.databases key)) es)).databases other ≡ log_of h.databases other
   pub volumes : (history_after_all h (lifted key (identity_in (current_of h.databases key)) es)).volumes ≡ h.volumes
+  pub woken : (history_after_all h (lifted key (identity_in (current_of h.databases key)) es)).woken ≡ h.woken
 
 -- A key's log goes on, with nothing done outside the place of its database: so does the history, if each table that is made by a change is ready.
 abbrev pub DatabasesGo : Type 0

@@ -44,6 +44,8 @@ pub record TablesLie : Type 0 where
   pub laid : (sites : Sites) (g : Geometry) (table : Table) → IsSound g → ArePlain sites g → IsOfGeometry g table → AreLaid sites g table
   -- each of them has a map
   pub some : (g : Geometry) (table : Table) (of : Volume) → IsOfGeometry g table → Contains table.plan.volumes of → (v : Map) × IsMapOf g table of.number v
-  -- a change makes one that the table before didn't have, and leaves the others where they lay
+  -- a change makes one that the table before didn't have, which has a map, and leaves the others where they lay
   pub new : (g : Geometry) (old next : Table) (volume : VolId) (slice : SliceName) (v : Map) → IsSound g → IsAfter g (MakeStripe volume slice) old.plan next.plan → IsMapOf g old volume v → ⊥
+  pub lies : (g : Geometry) (old next : Table) (volume : VolId) (slice : SliceName) → IsAfter g (MakeStripe volume slice) old.plan next.plan → IsOfGeometry g next → (v : Map) × IsMapOf g next volume v
   pub made : (g : Geometry) (old next : Table) (volume : VolId) (slice : SliceName) (other : VolId) (v : Map) → IsAfter g (MakeStripe volume slice) old.plan next.plan → IsMapOf g next other v → IsMapOf g old other v ⊎ (other ≡ volume)
+  pub stays : (g : Geometry) (old next : Table) (volume : VolId) (slice : SliceName) (other : VolId) (v : Map) → IsAfter g (MakeStripe volume slice) old.plan next.plan → IsMapOf g old other v → IsMapOf g next other v

@@ -17,7 +17,7 @@ use Rattle.mdv_shelf.proofs.Moments.{moments_weaker}
 use Rattle.mdv_engine_law.proofs.Plain.{bad_line_plain}
 use Rattle.mdv_engine_law.proofs.Staying.{turn_stays}
 use Rattle.mdv_run_law.proofs.Turning.{line_moment, line_ran}
-use Rattle.mdv_run_law.proofs.Waking.{command_entries, executed_awake, tab_awake, tab_entries}
+use Rattle.mdv_run_law.proofs.Entries.{command_entries, tab_entries}
 use Rattle.mdv_run.specs.Promise.{LineEnd}
 use Rattle.mdv_shelf.proofs.InTime.{in_time_of_on}
 use Rattle.mdv_shelf.proofs.Noted.{moment_weaker}
@@ -43,8 +43,8 @@ returns-in-Ok-Command-clause-moments g c = λ more.
     let old = c.args.engine.now.state in
     let command = c.in-Ok-Command.command in
     let is : IsLine c.args.line.now (words.Exec c.in-Ok-Command.command) = rw c.in-Ok-Command.field-0-is at c.in-Ok-Command.ensures.value in
-    moments_weaker (TurnMoment host (asked_by command) old) (LinesMoment host (line c.args.line.now more) old) _ _
-    (λ t m turn. line_moment host c.args.line.now (asked_by command) more old t m turn (inl (inr (words.Exec command, is, refl)))) c.exec.ensures.moments.each
+    moments_weaker (TurnMoment host (asked_by host command) old) (LinesMoment host (line c.args.line.now more) old) _ _
+    (λ t m turn. line_moment host c.args.line.now (asked_by host command) more old t m turn (inl (inr (words.Exec command, is, refl))) (inl (no_boot c.args.line.now (words.Exec command) is (λ same. cc (same))))) c.exec.ensures.moments.each
 
 pub returns-in-Ok-Command-clause-end : goal.returns-in-Ok-Command-clause-end
 returns-in-Ok-Command-clause-end g c = λ t told.
@@ -60,19 +60,16 @@ returns-in-Ok-Command-clause-end g c = λ t told.
       end.0,
       end.1,
       record {
-        answered = λ knows. line_executed c.args.line.now (words.Exec command) is drive replies made host old new c.exec.result t end.0 (end.2.answered knows) (turn_writes host (asked_by command) old _ _ c.exec.ensures.moments.each t end.0 told end.1);
-        ran = λ on more. line_ran host c.args.line.now (asked_by command) more old new t end.0 (end.2.turned on) (inl (inr (words.Exec command, is, refl))) (inl (no_boot c.args.line.now (words.Exec command) is (λ same. cc (same))))
-            (λ knows. (
-              executed_awake drive replies made host command old new c.exec.result t end.0 (end.2.answered knows) on,
-              command_entries drive replies made host old new c.exec.result t end.0 c.args.line.now (end.2.turned on).bytes (end.2.turned on).is_told command is (end.2.answered knows) on,
-            ));
+        answered = λ knows. line_executed c.args.line.now (words.Exec command) is drive replies made host old new c.exec.result t end.0 (end.2.answered knows) (turn_writes host (asked_by host command) old _ _ c.exec.ensures.moments.each t end.0 told end.1);
+        ran = λ on more. line_ran host c.args.line.now (asked_by host command) more old new t end.0 (end.2.turned on) (inl (inr (words.Exec command, is, refl))) (inl (no_boot c.args.line.now (words.Exec command) is (λ same. cc (same))))
+            (λ knows. command_entries drive replies made host old new c.exec.result t end.0 c.args.line.now (end.2.turned on).bytes (end.2.turned on).is_told command is (end.2.answered knows) on);
         knows = end.2.knows;
       },
     )
 
 pub returns-in-Ok-Command-clause-stays : goal.returns-in-Ok-Command-clause-stays
 returns-in-Ok-Command-clause-stays g c = record {
-  home = turn_stays c.args.engine.now.host (asked_by c.in-Ok-Command.command) c.args.engine.now.state _ _ c.exec.ensures.moments.each;
+  home = turn_stays c.args.engine.now.host (asked_by c.args.engine.now.host c.in-Ok-Command.command) c.args.engine.now.state _ _ c.exec.ensures.moments.each;
   told = c.exec.ensures.counted.told;
   given = c.exec.ensures.counted.given;
   rests = c.exec.ensures.moments.rests;
@@ -100,7 +97,7 @@ returns-in-Ok-Tab-clause-moments g c = λ more.
     let old = c.args.engine.now.state in
     let is : IsLine c.args.line.now (words.Tab c.in-Ok-Tab.lines.now) = rw c.in-Ok-Tab.field-0-is at c.in-Ok-Tab.ensures.value in
     moments_weaker (TurnMoment host Nothing old) (LinesMoment host (line c.args.line.now more) old) _ _
-    (λ t m turn. line_moment host c.args.line.now Nothing more old t m turn (inl (inr (words.Tab c.in-Ok-Tab.lines.now, is, refl)))) c.keep_tab.ensures.moments.each
+    (λ t m turn. line_moment host c.args.line.now Nothing more old t m turn (inl (inr (words.Tab c.in-Ok-Tab.lines.now, is, refl))) (inl (no_boot c.args.line.now (words.Tab c.in-Ok-Tab.lines.now) is (λ same. cc (same))))) c.keep_tab.ensures.moments.each
 
 pub returns-in-Ok-Tab-clause-end : goal.returns-in-Ok-Tab-clause-end
 returns-in-Ok-Tab-clause-end g c = λ t told.
@@ -118,10 +115,7 @@ returns-in-Ok-Tab-clause-end g c = λ t told.
       record {
         answered = λ knows. line_executed c.args.line.now (words.Tab lines) is drive replies made host old new c.keep_tab.result t end.0 end.2.answered end.2.kept;
         ran = λ on more. line_ran host c.args.line.now Nothing more old new t end.0 (end.2.turned on) (inl (inr (words.Tab lines, is, refl))) (inl (no_boot c.args.line.now (words.Tab lines) is (λ same. cc (same))))
-            (λ knows. (
-              tab_awake drive replies made host lines old new c.keep_tab.result t end.0 end.2.answered,
-              tab_entries drive replies made host old new c.keep_tab.result t end.0 c.args.line.now (end.2.turned on).bytes (end.2.turned on).is_told lines is end.2.answered on,
-            ));
+            (λ knows. tab_entries drive replies made host old new c.keep_tab.result t end.0 c.args.line.now (end.2.turned on).bytes (end.2.turned on).is_told lines is end.2.answered on);
         knows = λ kept. end.2.knows;
       },
     )
@@ -154,8 +148,9 @@ pub returns-in-Err-BadLine-clause-moments : goal.returns-in-Err-BadLine-clause-m
 returns-in-Err-BadLine-clause-moments g c = λ more.
     let host = c.args.engine.now.host in
     let old = c.args.engine.now.state in
+    let never : IsNoCommand c.args.line.now = rw c.in-Err-BadLine.field-0-is at c.in-Err-BadLine.ensures.fault in
     moments_weaker (TurnMoment host Nothing old) (LinesMoment host (line c.args.line.now more) old) _ _
-    (λ t m turn. line_moment host c.args.line.now Nothing more old t m turn (inl (inl (rw c.in-Err-BadLine.field-0-is at c.in-Err-BadLine.ensures.fault, refl)))) (c.refuse.ensures.moments.line Nothing).each
+    (λ t m turn. line_moment host c.args.line.now Nothing more old t m turn (inl (inl (never, refl))) (inl (never Boot))) (c.refuse.ensures.moments.line Nothing).each
 
 pub returns-in-Err-BadLine-clause-end : goal.returns-in-Err-BadLine-clause-end
 returns-in-Err-BadLine-clause-end g c =
@@ -172,7 +167,7 @@ returns-in-Err-BadLine-clause-end g c =
       end.1,
       record {
         answered = λ knows. record { answer = refusing BadLine; done = inl (never, c.refuse.ensures.answer.calm, refused_down host old BadLine bad_line_plain replies c.refuse.result t end.0 end.2); calls = inl (never, between_of g.B.Shelf.calls g.B.Shelf.written _ _ 1 0 1 1 0 (omega arith) (omega arith) (omega arith) c.refuse.ensures.counted.once); writes = inl end.2.kept; replied = end.2.replied };
-        ran = λ on more. line_ran host c.args.line.now Nothing more old old t end.0 (refused_turned host old BadLine bad_line_plain replies c.refuse.result t end.0 end.2 Nothing on) (inl (inl (never, refl))) (inl (never Boot)) (λ knows. (λ up. up, refused_keeps host old BadLine bad_line_plain replies c.refuse.result t end.0 end.2 c.args.line.now Nothing on));
+        ran = λ on more. line_ran host c.args.line.now Nothing more old old t end.0 (refused_turned host old BadLine bad_line_plain replies c.refuse.result t end.0 end.2 Nothing on) (inl (inl (never, refl))) (inl (never Boot)) (λ knows. refused_keeps host old BadLine bad_line_plain replies c.refuse.result t end.0 end.2 c.args.line.now Nothing on);
         knows = λ kept. refused_knows host old BadLine bad_line_plain replies c.refuse.result t end.0 end.2;
       },
     )))
@@ -202,11 +197,7 @@ returns-in-Err-BadLine-clause-answer g c = record {
 
 -- a boot
 pub returns-in-Ok-Boot-clause-moments : goal.returns-in-Ok-Boot-clause-moments
-returns-in-Ok-Boot-clause-moments g c = λ more.
-    let host = c.args.engine.now.host in
-    let old = c.args.engine.now.state in
-    moments_weaker (TurnMoment host Nothing old) (LinesMoment host (line c.args.line.now more) old) _ _
-    (λ t m turn. line_moment host c.args.line.now Nothing more old t m turn (inl (inr (Boot, rw c.in-Ok-Boot.field-0-is at c.in-Ok-Boot.ensures.value, refl)))) c.boot_anew.ensures.moments
+returns-in-Ok-Boot-clause-moments g c = λ more. c.boot_anew.ensures.moments c.args.line.now more (rw c.in-Ok-Boot.field-0-is at c.in-Ok-Boot.ensures.value)
 
 pub returns-in-Ok-Boot-clause-end : goal.returns-in-Ok-Boot-clause-end
 returns-in-Ok-Boot-clause-end g c = c.boot_anew.ensures.end c.args.line.now (rw c.in-Ok-Boot.field-0-is at c.in-Ok-Boot.ensures.value)

@@ -1,11 +1,11 @@
 use Rattle.mdv_run.proofs.Counting.{boot_calls, opened_took, over_calls}
 use Rattle.mdv_run.specs.Calls.{OpenedTook}
 use Rattle.mdv_engine_law.specs.declared.answer.Outcome.TheVariants as outcome
-use Rattle.std.proofs.Common.{◌≡◌, ◌≤◌, ◌+◌, [], inl, inr, Option, refl, sym, ◌∙◌, ap, subst, arith}
+use Rattle.std.proofs.Common.{◌≡◌, ◌≤◌, ◌+◌, ℕ, List, [], inl, inr, Option, refl, sym, ◌∙◌, ap, subst, arith}
 use Rattle.mdv_engine_law.specs.Line.{Nothing}
 use Rattle.std.proofs.lemmas.List.{append-nil}
 use Rattle.mdv_shelf.specs.Shelves.{DriveFailures, GivingFailed}
-use Rattle.mdv_run.specs.Below.{OnDrive, OnReplies, Moments, Ends, told, Boot, Host, StaysHome, BootMoment, BootedTo, TurnMoment, Engine, IsWell, Knows, IsRebooted, Tale, kept_at}
+use Rattle.mdv_run.specs.Below.{IsLine, LinesMoment, Memory, Script, line, OnDrive, OnReplies, Moments, Ends, told, Boot, Host, StaysHome, BootMoment, BootedTo, TurnMoment, Engine, IsWell, Knows, IsRebooted, Tale, kept_at}
 use Rattle.mdv_run.specs.Promise.{LineEnd}
 use Rattle.mdv_run.proofs.Answering.{uncut_replied, line_executed, accepted_ok, accepted_turned, ended_reply, reply_more, told_reply, turn_writes}
 use Rattle.std.specs.Option.{option_map}
@@ -31,19 +31,25 @@ use Rattle.mdv_store_law.specs.Site.{area_of}
 use Rattle.mdv_engine_law.proofs.Efforts.{boot_too}
 use Rattle.mdv_engine_law.proofs.Knowing.{knows_kept}
 use Rattle.mdv_engine_law.proofs.Staying.{both_stay, boot_stays, turn_stays}
-use Rattle.mdv_run_law.proofs.Booting.{boot_turn, booted_turn, booted_ran}
+use Rattle.mdv_run_law.proofs.Booting.{boot_line, boot_turn, booted_line, booted_turn, booted_ran}
 use Rattle.mdv_shelf.proofs.InTime.{in_time_both, in_time_of_on}
 use Rattle.mdv_run.proofs.Keeping.{drive_apart, replies_apart}
 use Rattle.mdv_run.proofs.session.boot_anew.Goals as goal
 
+-- a boot, and then the telling of it
+module _ (host other : Host) (same : other ≡ host) (old new : Memory) (a b c : Option Tale) (boots : Moments (BootMoment host) a b) (booted : Ends (BootedTo host new) a b) (turns : Moments (TurnMoment other Nothing new) b c) where
+  both_turns : Moments (TurnMoment host Nothing old) a c
+  both_turns = moments_after (BootMoment host) (BootedTo host new) (TurnMoment other Nothing new) (TurnMoment host Nothing old) a b c (λ t m moment. boot_turn host old t m moment)
+      (λ t u m up turn. booted_turn host old new t u up m (subst (λ (h : Host). TurnMoment h Nothing new u m) same turn)) boots booted turns
+
+  both_lines : (text : List ℕ) (more : Script) → IsLine text Boot → Moments (LinesMoment host (line text more) old) a c
+  both_lines text more is = moments_after (BootMoment host) (BootedTo host new) (TurnMoment other Nothing new) (LinesMoment host (line text more) old) a b c (λ t m moment. boot_line host text more is old t m moment)
+      (λ t u m up turn. booted_line host old new t u up text more is m (subst (λ (h : Host). TurnMoment h Nothing new u m) same turn)) boots booted turns
+
 pub returns-in-Ok-clause-moments : goal.returns-in-Ok-clause-moments
-returns-in-Ok-clause-moments g c =
-    let host = c.args.engine.now.host in
-    let old = c.args.engine.now.state in
-    let new = c.reboot.new.self.state in
-    moments_after (BootMoment host) (BootedTo host new) (TurnMoment c.reboot.new.self.host Nothing new) (TurnMoment host Nothing old) _ _ _ (λ t m moment. boot_turn host old t m moment)
-    (λ t u m booted turn. booted_turn host old new t u booted m (subst (λ (h : Host). TurnMoment h Nothing new u m) c.in-Ok.ensures.answer.host turn))
-    c.reboot.ensures.moments (λ t is. (let up = c.in-Ok.ensures.end t is in (up.0, up.1, up.2.booted refl))) c.accept.ensures.moments.each
+returns-in-Ok-clause-moments g c = λ text more is.
+    both_lines c.args.engine.now.host c.reboot.new.self.host c.in-Ok.ensures.answer.host c.args.engine.now.state c.reboot.new.self.state _ _ _ c.reboot.ensures.moments
+    (λ t start. (let up = c.in-Ok.ensures.end t start in (up.0, up.1, up.2.booted refl))) c.accept.ensures.moments.each text more is
 
 pub returns-in-Ok-clause-end : goal.returns-in-Ok-clause-end
 returns-in-Ok-clause-end g c = λ text boots.
@@ -67,7 +73,7 @@ returns-in-Ok-clause-end g c = λ text boots.
             (calm_before _ _ _ (c.reboot.ensures.kept.others OnReplies replies_apart)).some
             (ap told (some_is _ up.0 quiet.0 up.1 quiet.1) ∙ quiet.2.quiet) up.2.rebooted end.2
             (boot_too (made_of g.B.Shelf c.args.bench.now c.reboot.new.shelf) (and_more 1 made) (with_more g.B.Shelf.calls g.B.Shelf.written _ _ _ 1 c.accept.ensures.counted.once) host accepted new (contents t) up.2.calls))
-            (turn_writes host Nothing old _ _ (returns-in-Ok-clause-moments g c) t end.0 is end.1);
+            (turn_writes host Nothing old _ _ (both_turns host c.reboot.new.self.host c.in-Ok.ensures.answer.host old new _ _ _ c.reboot.ensures.moments (λ s start. (let there = c.in-Ok.ensures.end s start in (there.0, there.1, there.2.booted refl))) c.accept.ensures.moments.each) t end.0 is end.1);
         ran = λ on more. booted_ran host old new t up.0 (up.2.booted refl) text more boots c.in-Ok.ensures.answer.fresh end.0 (accepted_turned host new _ c.accept.result up.0 end.0 end.2 on) (accepted_ok host new _ c.accept.result up.0 end.0 end.2 on);
         knows = λ kept known. knows_kept host up.0 end.0 end.2.kept new (up.2.booted refl).knows;
       },
@@ -117,10 +123,10 @@ returns-in-Err-clause-end g c = λ text boots t is.
     )
 
 pub returns-in-Err-clause-moments : goal.returns-in-Err-clause-moments
-returns-in-Err-clause-moments g c =
+returns-in-Err-clause-moments g c = λ text more is.
     let host = c.args.engine.now.host in
     let old = c.args.engine.now.state in
-    moments_weaker (BootMoment host) (TurnMoment host Nothing old) _ _ (λ t m moment. boot_turn host old t m moment) c.reboot.ensures.moments
+    moments_weaker (BootMoment host) (LinesMoment host (line text more) old) _ _ (λ t m moment. boot_line host text more is old t m moment) c.reboot.ensures.moments
 
 pub returns-in-Err-clause-stays : goal.returns-in-Err-clause-stays
 returns-in-Err-clause-stays g c = λ text boots. record {

@@ -28,7 +28,7 @@ pub returns-clause-moments : goal.returns-clause-moments
 returns-clause-moments g c = λ lines more.
     let host = c.args.engine.now.host in
     let old = c.args.engine.now.state in
-    moments_weaker (TurnMoment host Nothing old) (LinesMoment host (line (tab_text lines) more) old) _ _ (λ t m turn. line_moment host (tab_text lines) Nothing more old t m turn (inl (inr (words.Tab lines, refl, refl)))) (c.refuse.ensures.moments.line Nothing).each
+    moments_weaker (TurnMoment host Nothing old) (LinesMoment host (line (tab_text lines) more) old) _ _ (λ t m turn. line_moment host (tab_text lines) Nothing more old t m turn (inl (inr (words.Tab lines, refl, refl))) (inl (no_boot (tab_text lines) (words.Tab lines) refl (λ same. cc (same))))) (c.refuse.ensures.moments.line Nothing).each
 
 pub returns-clause-end : goal.returns-clause-end
 returns-clause-end g c = λ lines many.
@@ -52,7 +52,7 @@ returns-clause-end g c = λ lines many.
           replied = end.2.replied;
         };
         ran = λ on more. line_ran host text Nothing more old old t end.0 (refused_turned host old TooMany too_many_plain replies c.refuse.result t end.0 end.2 Nothing on) (inl (inr (words.Tab lines, refl, refl))) (inl (no_boot text (words.Tab lines) refl (λ same. cc (same))))
-            (λ knows. (λ up. up, refused_keeps host old TooMany too_many_plain replies c.refuse.result t end.0 end.2 text Nothing on));
+            (λ knows. refused_keeps host old TooMany too_many_plain replies c.refuse.result t end.0 end.2 text Nothing on);
         knows = λ kept. refused_knows host old TooMany too_many_plain replies c.refuse.result t end.0 end.2;
       },
     )))

@@ -20,7 +20,7 @@ use Rattle.mdv_engine.proofs.engine.Engine.exec.Goals as goal
 pub returns-clause-moments : goal.returns-clause-moments
 returns-clause-moments g c =
     let host = c.args.self.now.host in
-    let asked = asked_by c.args.command.now in
+    let asked = asked_by c.args.self.now.host c.args.command.now in
     let old = c.args.self.now.state in
     let new = c.carry_out-answer.new.self.state in
     let answer = c.carry_out-answer.result in
@@ -29,7 +29,7 @@ returns-clause-moments g c =
     record {
       each = moments_after (CarryMoment host asked old) (Carried host asked old new answer) (TellMoment (text_of answer)) (TurnMoment host asked old) _ _ _
           (λ t m carry. turn_carry host asked old t m carry)
-          (λ t u m both tell. turn_tell host asked old new answer (λ on some. says.awake on) says.free says.plain t u both.0 both.1 m tell)
+          (λ t u m both tell. turn_tell host asked old new answer says.free says.plain t u both.0 both.1 m tell)
           c.carry_out-answer.ensures.moments (carried_ends host asked old new answer _ _ c.carry_out-answer.ensures.moments carried) c.tell.ensures.fronts;
       fronts = fronts_then g.B.Shelf g.met.B.Shelf.telling _ _ _ (CarriesOut host c.args.command.now) host old answer new
           (λ failed more cause kept next is. came_more failed more cause host kept next answer c.args.command.now is)
@@ -44,7 +44,7 @@ returns-clause-moments g c =
 pub returns-clause-end : goal.returns-clause-end
 returns-clause-end g c = λ t is.
     let host = c.args.self.now.host in
-    let asked = asked_by c.args.command.now in
+    let asked = asked_by c.args.self.now.host c.args.command.now in
     let old = c.args.self.now.state in
     let new = c.carry_out-answer.new.self.state in
     let answer = c.carry_out-answer.result in
@@ -62,7 +62,7 @@ returns-clause-end g c = λ t is.
             quiet (done.2.carry.answered known) end.2
             (replied_calls g.B.Shelf.calls g.B.Shelf.written _ _ _ _ c.args.command.now new.opened answer c.tell.result _ c.tell.ensures.answers.1 c.tell.ensures.counted.once c.tell.ensures.counted.silent
             (command_calls g.B.Shelf.tale g.B.Shelf.calls g.B.Shelf.written _ _ c.args.command.now new.opened answer c.carry_out-answer.ensures.counted));
-        turned = λ on. turned host asked old new _ t done.0 end.0 quiet answer says.plain (λ on some. says.awake on) says.free done.2.carry.carried c.tell.result on end.2;
+        turned = λ on. turned host asked old new _ t done.0 end.0 quiet answer says.plain says.free done.2.carry.carried c.tell.result on end.2;
         knows = λ on. knows_after host asked old new _ t done.0 end.0 quiet answer done.2.carry.carried c.tell.result on end.2;
         quiet = λ still.
             let same = quiet_told g.B.Shelf.tale g.B.Shelf.calls g.B.Shelf.written _ _ c.args.command.now new.opened _ answer c.tell.result _ c.tell.ensures.answers.1 still c.carry_out-answer.ensures.counted in
@@ -115,7 +115,7 @@ returns-clause-counted g c =
           none_at_most g.B.Shelf.tale g.B.Shelf.calls g.B.Shelf.written _ _ 0 0
           (same ∙ spent_told g.B.Shelf.tale g.B.Shelf.calls g.B.Shelf.written _ _ c.args.command.now opened _ c.carry_out-answer.result c.tell.ensures.answers.0 (rw is at answers) by);
       told = λ on. told_behind g.B.Shelf g.met.B.Shelf.telling _ _ _ c.carry_out-answer.ensures.kept.goes
-          (moments_weaker (CarryMoment c.args.self.now.host (asked_by c.args.command.now) c.args.self.now.state) (λ t m. told m ≡ told t) _ _ (λ t m moment. moment.quiet) c.carry_out-answer.ensures.moments)
+          (moments_weaker (CarryMoment c.args.self.now.host (asked_by c.args.self.now.host c.args.command.now) c.args.self.now.state) (λ t m. told m ≡ told t) _ _ (λ t m moment. moment.quiet) c.carry_out-answer.ensures.moments)
           (told_once g.B.Shelf _ _ c.tell.ensures.kept.goes c.tell.ensures.counted.one (c.tell.ensures.counted.once (not_lost c.tell.result on)) (replied_more _ _ c.carry_out-answer.ensures.answer.plain c.tell.result on _ _ c.tell.ensures.told) (c.tell.ensures.counted.calm on));
       given = λ uncut. elim (whole_or_lost c.tell.result uncut) [
         | inl on ↦ calm_given g.B.Shelf.faults _ _ _ (c.carry_out-answer.ensures.kept.others OnReplies (λ is. absurd (cc (is)))) (c.tell.ensures.kept.keeps.no_fewer_faults OnReplies) (c.tell.ensures.counted.calm on OnReplies)

@@ -1,7 +1,7 @@
 use Rattle.std.proofs.Common.{◌≡◌, ◌∙◌, ◌+◌, ◌≤◌, List, ℕ, Bool, false, Option, Some, None, Err, refl, sym, ap, subst, arith, rules}
 use Rattle.mdv_engine_law.specs.Line.{ToDo}
 use Rattle.mdv_shelf.specs.Shelves.{DriveFailures}
-use Rattle.mdv_engine.specs.Below.{Failures, SliceName, Create, Local, IoFault, OutOfMemory, Ends, Moments, Tale, place_of, PlaceAt, IsPlaceOf, Geometry, IsCreated, Log, is_firm, Site, Newest, Anything, GoesMaking, IsOpened, ShowsNothing, Created, IsQuiet, IsSafe, first_newest, Answer, IsReady, identity_of, site_of, Memory, CameTo, IsAllowed, kept_at, CarriedTo, CarryMoment, Knows}
+use Rattle.mdv_engine.specs.Below.{Failures, SliceName, Create, Local, IoFault, OutOfMemory, Ends, Moments, Tale, place_of, PlaceAt, IsPlaceOf, Geometry, IsCreated, Log, is_firm, Site, Newest, Anything, GoesMaking, IsOpened, ShowsNothing, Created, IsQuiet, IsSafe, first_newest, Answer, IsReady, identity_of, key_of, site_of, Memory, CameTo, IsAllowed, kept_at, CarriedTo, CarryMoment, Knows}
 use Rattle.mdv_database.specs.Database as database
 use Rattle.mdv_store_law.specs.Standing.{ShowsReplica}
 use Rattle.mdv_engine_law.specs.Answers.{accepted, refusing}
@@ -24,7 +24,7 @@ abbrev Creates : SliceName → Bool → Failures → Answer → Memory → Optio
 Creates slice force failures answer next a b x = Ends (λ t u. Knows x.host x.state t → CameTo failures x.host (kept_at x.state t) (Create slice force) answer (kept_at next u)) a b
 
 abbrev Carries : Answer → Memory → Option Tale → Option Tale → Engine → Type 0
-Carries answer next a b x = Ends (CarriedTo x.host (ToDo Created) x.state answer next) a b
+Carries answer next a b x = Ends (CarriedTo x.host (ToDo (Created (key_of x.host))) x.state answer next) a b
 
 -- `e` is what the engine's fields are, `v` the engine
 module _ (sizes : List ℕ) (e v : Engine) (is : e ≡ v) (readied : IsReady v.host sizes) (at : PlaceAt) (at_is : at ≡ place_of e.host.home) (roomy : 8208 ≤ v.host.home.blocks) (closed : v.state.opened ≡ None) (awake : v.state.down ≡ false) (a b : Option Tale)
@@ -66,8 +66,8 @@ module _ (sizes : List ℕ) (e v : Engine) (is : e ≡ v) (readied : IsReady v.h
       (lost_leaves e.host sizes ready at at_is e.state room none up a b quiet (on_ours (λ drives. Ends (λ _ u. ShowsReplica (site drives) (identity_of e.host e.state.begun) u) a b) shows))
 
   module _ (stays : OnEach (λ drives. Moments (Goes (λ s. Anything) drives) a b)) where
-    moments : Moments (CarryMoment v.host (ToDo Created) v.state) a b
-    moments = subst (λ (x : Engine). Moments (CarryMoment x.host (ToDo Created) x.state) a b) is
+    moments : Moments (CarryMoment v.host (ToDo (Created (key_of v.host))) v.state) a b
+    moments = subst (λ (x : Engine). Moments (CarryMoment x.host (ToDo (Created (key_of x.host))) x.state) a b) is
         (making_moments e.host sizes ready at at_is e.state room none up a b quiet (on_ours (λ drives. Moments (Goes (λ s. Anything) drives) a b) stays))
 
     lost : (next : Memory) → Carries (Over (ended.Lost 0 1)) next a b v
@@ -123,7 +123,7 @@ pub returns-in-Err-Lost-clause-moments : goal.returns-in-Err-Lost-clause-moments
 returns-in-Err-Lost-clause-moments g c = moments _ _ _ c.self.view_is c.requires.ready c.place_at.result c.place_at.ensures c.requires.room c.requires.none c.requires.up _ _ (create_quiet _ _ _ _ _ _ c.create.ensures.moments) (create_goes _ _ _ _ _ _ c.create.ensures.moments)
 
 pub returns-in-Err-Memory-clause-moments : goal.returns-in-Err-Memory-clause-moments
-returns-in-Err-Memory-clause-moments g c = moments_still c.args.self.now.host (ToDo Created) c.args.self.now.state _ _ (ap g.S.Shelf.tale (rw (c.in-Err-Memory.is ∙ ap Err c.in-Err-Memory.field-0-is) at c.create.ensures.counted))
+returns-in-Err-Memory-clause-moments g c = moments_still c.args.self.now.host (ToDo (Created (key_of c.args.self.now.host))) c.args.self.now.state _ _ (ap g.S.Shelf.tale (rw (c.in-Err-Memory.is ∙ ap Err c.in-Err-Memory.field-0-is) at c.create.ensures.counted))
 
 pub returns-in-Ok-clause-end : goal.returns-in-Ok-clause-end
 returns-in-Ok-clause-end g c = λ slice force free.
@@ -150,8 +150,7 @@ pub returns-in-Ok-clause-answer : goal.returns-in-Ok-clause-answer
 returns-in-Ok-clause-answer g c = record {
   plain = tt;
   cause = (subst (λ (p : PlaceAt). (DriveFailures g.S.Shelf c.args.shelf.now c.create.new.shelf p.drive.0).none) c.place_at.ensures c.in-Ok.ensures.answer.0);
-  awake = λ on. c.requires.up;
-  free = λ on has. c.requires.none;
+  free = λ on has. (c.requires.none, c.requires.up);
   host = same_host _ _ c.self.view_is;
   well = search rules;
   begun = search rules;
@@ -161,8 +160,7 @@ pub returns-in-Err-Failed-clause-answer : goal.returns-in-Err-Failed-clause-answ
 returns-in-Err-Failed-clause-answer g c = record {
   plain = fault_plain;
   cause = (subst (λ (p : PlaceAt). (DriveFailures g.S.Shelf c.args.shelf.now c.create.new.shelf p.drive.0).some) c.place_at.ensures (rw c.in-Err-Failed.field-0-is at c.in-Err-Failed.ensures.answer));
-  awake = λ on. c.requires.up;
-  free = λ on has. c.requires.none;
+  free = λ on has. (c.requires.none, c.requires.up);
   host = same_host _ _ c.self.view_is;
   well = search rules;
   begun = search rules;
@@ -172,8 +170,7 @@ pub returns-in-Err-Lost-clause-answer : goal.returns-in-Err-Lost-clause-answer
 returns-in-Err-Lost-clause-answer g c = record {
   plain = tt;
   cause = ((subst (λ (p : PlaceAt). (DriveFailures g.S.Shelf c.args.shelf.now c.create.new.shelf p.drive.0).some) c.place_at.ensures (rw c.in-Err-Lost.field-0-is at c.in-Err-Lost.ensures.answer)), refl, refl);
-  awake = λ on. c.requires.up;
-  free = λ on has. c.requires.none;
+  free = λ on has. (c.requires.none, c.requires.up);
   host = same_host _ _ c.self.view_is;
   well = search rules;
   begun = search rules;
@@ -183,8 +180,7 @@ pub returns-in-Err-Memory-clause-answer : goal.returns-in-Err-Memory-clause-answ
 returns-in-Err-Memory-clause-answer g c = record {
   plain = memory_plain;
   cause = (subst (λ (p : PlaceAt). (DriveFailures g.S.Shelf c.args.shelf.now c.create.new.shelf p.drive.0).none) c.place_at.ensures (rw c.in-Err-Memory.field-0-is at c.in-Err-Memory.ensures.answer));
-  awake = λ on. c.requires.up;
-  free = λ on has. c.requires.none;
+  free = λ on has. (c.requires.none, c.requires.up);
   host = same_host _ _ c.self.view_is;
   well = search rules;
   begun = search rules;

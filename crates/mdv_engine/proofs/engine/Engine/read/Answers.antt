@@ -3,30 +3,28 @@ use Rattle.mdv_engine_law.specs.Commands as came
 use Rattle.mdv_engine_law.specs.Line.{ToSee}
 use Rattle.mdv_words.specs.declared.command.Command.TheVariants as command
 use Rattle.mdv_shelf.specs.Shelves.{DriveFailures}
-use Rattle.mdv_engine.specs.Below.{values_reply}
+use Rattle.mdv_engine.specs.Below.{key_of, values_reply}
 use Rattle.mdv_engine_law.specs.Answers.{telling}
 use Rattle.mdv_engine_law.specs.declared.answer.Outcome.TheVariants as outcome
 use Rattle.mdv_engine_law.proofs.Transfer.{saw}
 use Rattle.mdv_engine.proofs.Blocks.{moments_still, refused_carried, unread_line, unread_cause, unread_plain}
 use Rattle.mdv_engine.proofs.Ending.{command_ends, refused_answer}
-use Rattle.mdv_engine.proofs.Places.{awake_blocks}
 use Rattle.mdv_engine.proofs.engine.Engine.read.Goals as goal
 
 pub returns-in-Ok-clause-moments : goal.returns-in-Ok-clause-moments
-returns-in-Ok-clause-moments g c = moments_still c.args.self.now.host (ToSee c.args.volume c.args.at c.args.count) c.args.self.now.state _ _ c.values.ensures.same
+returns-in-Ok-clause-moments g c = moments_still c.args.self.now.host (ToSee (key_of c.args.self.now.host) c.args.volume c.args.at c.args.count) c.args.self.now.state _ _ c.values.ensures.same
 
 pub returns-in-Ok-clause-end : goal.returns-in-Ok-clause-end
 returns-in-Ok-clause-end g c =
     let read = c.in-Ok.ensures.ok in
     command_ends _ c.args.self.now (command.Read c.args.volume c.args.at c.args.count) (outcome.Values c.in-Ok.text) c.args.self.now _ _
     (λ t start. (t, c.values.ensures.same ∙ start, λ known. came.done read.calm read.allowed (read.block, read.there, ap telling (read.as_told ∙ ap (values_reply c.args.at) (read.as_there t start)), record { memory = refl; content = λ drive block. refl })))
-    (λ t start. (t, c.values.ensures.same ∙ start, saw c.args.self.now.host (g.S.Shelf.sizes c.args.shelf.now) c.requires.ready c.args.self.now.state c.args.volume c.args.at c.args.count read.block (omega arith) read.there t c.in-Ok.text (read.as_told ∙ ap (values_reply c.args.at) (read.as_there t start))))
+    (λ t start. (t, c.values.ensures.same ∙ start, saw c.args.self.now.host (g.S.Shelf.sizes c.args.shelf.now) c.requires.ready c.args.self.now.state c.args.volume c.args.at c.args.count read.block (omega arith) read.there c.requires.well.sound t c.in-Ok.text (read.as_told ∙ ap (values_reply c.args.at) (read.as_there t start))))
 
 pub returns-in-Ok-clause-answer : goal.returns-in-Ok-clause-answer
 returns-in-Ok-clause-answer g c = record {
   plain = inl (record { at = c.args.at; blocks = c.in-Ok.ensures.ok.blocks; is = c.in-Ok.ensures.ok.as_told });
   cause = c.in-Ok.ensures.ok.calm;
-  awake = λ on. awake_blocks c.args.self.now.host c.args.self.now.state c.args.volume c.args.at c.args.count c.requires.well.sound c.in-Ok.ensures.ok.block c.in-Ok.ensures.ok.there;
   free = λ on has. absurd (omega (arith, has.1));
   host = refl;
   well = c.requires.well;
@@ -34,7 +32,7 @@ returns-in-Ok-clause-answer g c = record {
 }
 
 pub returns-in-Err-clause-moments : goal.returns-in-Err-clause-moments
-returns-in-Err-clause-moments g c = moments_still c.args.self.now.host (ToSee c.args.volume c.args.at c.args.count) c.args.self.now.state _ _ c.values.ensures.same
+returns-in-Err-clause-moments g c = moments_still c.args.self.now.host (ToSee (key_of c.args.self.now.host) c.args.volume c.args.at c.args.count) c.args.self.now.state _ _ c.values.ensures.same
 
 pub returns-in-Err-clause-answer : goal.returns-in-Err-clause-answer
 returns-in-Err-clause-answer g c =
@@ -47,7 +45,7 @@ returns-in-Err-clause-end g c =
     let failures = DriveFailures g.S.Shelf c.args.shelf.now c.values.new.shelf 0 in
     command_ends _ c.args.self.now (command.Read c.args.volume c.args.at c.args.count) (outcome.Refused c.in-Err.refusal) c.args.self.now _ _
     (λ t start. (t, c.values.ensures.same ∙ start, λ known. unread_line c.args.self.now.host c.args.self.now.state c.args.volume c.args.at c.args.count failures t c.in-Err.refusal c.in-Err.ensures.err))
-    (refused_carried c.args.self.now.host (ToSee c.args.volume c.args.at c.args.count) c.args.self.now.state _ _ c.values.ensures.same c.in-Err.refusal)
+    (refused_carried c.args.self.now.host (ToSee (key_of c.args.self.now.host) c.args.volume c.args.at c.args.count) c.args.self.now.state _ _ c.values.ensures.same c.in-Err.refusal)
 
 pub returns-in-Ok-clause-counted : goal.returns-in-Ok-clause-counted
 returns-in-Ok-clause-counted g c = record { exactly = c.in-Ok.ensures.counted; few = omega arith }

@@ -1,11 +1,10 @@
 use Rattle.std.proofs.Common.{◌∷◌, [], ap, refl, arith}
 use Rattle.mdv_words.specs.declared.command.Command.TheVariants as command
 use Rattle.mdv_shelf.specs.Shelves.{DriveFailures}
-use Rattle.mdv_engine.specs.Below.{Wrote}
+use Rattle.mdv_engine.specs.Below.{Wrote, key_of}
 use Rattle.mdv_engine_law.specs.declared.answer.Outcome.TheVariants as outcome
 use Rattle.mdv_engine.proofs.Blocks.{torn_of, unwritten, unwritten_cause, unwritten_plain, write_moments, written_carried, written_line}
 use Rattle.mdv_engine.proofs.Ending.{command_ends, no_creation, refused_answer}
-use Rattle.mdv_engine.proofs.Places.{awake_blocks}
 use Rattle.mdv_engine.proofs.engine.Engine.write.Goals as goal
 
 pub returns-in-Ok-clause-moments : goal.returns-in-Ok-clause-moments
@@ -21,8 +20,7 @@ pub returns-in-Ok-clause-answer : goal.returns-in-Ok-clause-answer
 returns-in-Ok-clause-answer g c = rw (c.write_blocks.ensures.same) (record {
   plain = tt;
   cause = c.in-Ok.ensures.put.calm;
-  awake = λ on. awake_blocks c.args.self.now.host c.args.self.now.state c.args.volume c.args.at 1 c.requires.well.sound c.in-Ok.ensures.put.putting.block c.in-Ok.ensures.put.putting.there;
-  free = λ on has. absurd (no_creation (Wrote c.args.volume c.args.at (c.args.block.now ∷ [])) (λ is. absurd (cc (is))) has);
+  free = λ on has. absurd (no_creation (key_of c.args.self.now.host) (Wrote (key_of c.args.self.now.host) c.args.volume c.args.at (c.args.block.now ∷ [])) (λ is. absurd (cc (is))) has);
   host = refl;
   well = c.requires.well;
   begun = omega arith;

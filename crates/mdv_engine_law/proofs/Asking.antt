@@ -1,0 +1,89 @@
+-- The one table that a change makes, whichever events of the log it came by.
+use Rattle.std.proofs.Common.{◌≡◌, ◌⊎◌, inl, inr, ⊎_elim, true, false, List, [], ◌∷◌, Option, Some, None, refl, sym, ◌∙◌, ap, subst}
+use Rattle.mdv_base.specs.declared.mark.Mark.{Mark}
+use Rattle.mdv_store_law.specs.Log as log
+use Rattle.mdv_store_law.specs.Log.{IsBegun, IsLog, IsMade, Log, Version, answered, log_after}
+use Rattle.mdv_store_law.specs.Part.{IsPart}
+use Rattle.mdv_store_law.proofs.Families.{answered_rising}
+use Rattle.mdv_store_law.proofs.Logs.{is_log_after}
+use Rattle.mdv_table.specs.declared.change.Change.{Change}
+use Rattle.mdv_table.specs.declared.table.Table.{Table}
+use Rattle.mdv_name.specs.declared.geometry.Geometry.{Geometry}
+use Rattle.mdv_volumes.specs.Happening.{MayBeFound}
+use Rattle.mdv_volumes.specs.HistoryLaws.{IsAsked}
+use Rattle.mdv_volumes.proofs.Found.{newest_found, older_found, only_found}
+use Rattle.mdv_engine_law.proofs.Lifting.{asked_change}
+
+-- what a change makes of a table is one table
+made_one : (g : Geometry) (change : Change) (old a b : Table) → IsMade g (Some change) old a → IsMade g (Some change) old b → a ≡ b
+made_one g change old a b one other =
+    let plan : a.plan ≡ b.plan = one.0.1 ∙ sym other.0.1 in
+    let status : a.status ≡ b.status = one.1 ∙ sym other.1 in
+    λ i. record { plan = plan i; status = status i }
+
+none_left : (es : List log.Event) (table : Table) → IsPart (log.begun_by es) [] → IsAsked es table → ⊥
+none_left es table within is = let asked = asked_change es table is in empty (log.begun_by es) asked.0 within asked.1
+  where
+    empty : (l : List (Option Change)) (change : Change) → IsPart l [] → IsPart (Some change ∷ []) l → ⊥
+    empty [] change within is = is
+    empty (x ∷ l) change within is = within
+
+module _ (g : Geometry) (change : Change) (newest table : Table) (made : IsMade g (Some change) newest table) where
+  -- a boot finds this table alone, and there is one
+  pub record Alone (lg : Log) : Type 0 where
+    pub some : IsBegun lg.family
+    pub each : (v : Version) → MayBeFound lg.family v → v.table ≡ newest
+
+  never_empty : (f : List Version) → IsBegun f → f ≡ [] → ⊥
+  never_empty [] some none = some
+  never_empty (v ∷ older) some none = cc (none)
+
+  -- so it is with a table that is written without a change
+  written_alone : (lg : Log) (before : List Change) (other : Table) (mark : Mark) → log.MayHappen g lg (log.Writing mark None before other) → Alone lg → Alone (log_after lg (log.Writing mark None before other))
+  written_alone lg before other mark may alone = record {
+    some = tt;
+    each = λ v found. ⊎_elim (λ here. ap (λ (w : Version). w.table) (sym here) ∙ same may.1) (λ old. alone.each v old) (older_found (record { mark = mark; table = other; changes = before; is_written = false }) lg.family v found);
+  }
+    where
+      same : log.IsFirst lg.issued lg.family None before other ⊎ log.IsNext g lg.family None before other → other ≡ newest
+      same (inl first) = absurd (never_empty lg.family alone.some first.none)
+      same (inr next) = next.made ∙ alone.each next.parent (next.one_of, next.not_older)
+
+  -- and with an answer to it
+  answered_alone : (lg : Log) → IsLog g lg → Alone lg → Alone (log_after lg log.Written)
+  answered_alone lg is alone = record { some = some lg.family alone.some; each = each lg.family alone.some is.rising alone.each }
+    where
+      some : (f : List Version) → IsBegun f → IsBegun (answered f)
+      some [] begun = begun
+      some (v ∷ older) begun = tt
+
+      each : (f : List Version) → IsBegun f → log.IsRising f → ((v : Version) → MayBeFound f v → v.table ≡ newest) → (v : Version) → MayBeFound (answered f) v → v.table ≡ newest
+      each [] begun rising all v found = absurd begun
+      each (w ∷ older) begun rising all v found =
+          let is = only_found (record w { is_written = true }) older v (answered_rising (w ∷ older) rising) refl found in
+          ap (λ (x : Version). x.table) is ∙ all w (newest_found w older rising)
+
+  asked_here : (lg : Log) (mark : Mark) (c : Change) (before : List Change) (other : Table) → log.MayHappen g lg (log.Writing mark (Some c) before other) → Alone lg → c ≡ change → other ≡ table
+  asked_here lg mark c before other may alone same = by may.1 where
+    by : log.IsFirst lg.issued lg.family (Some c) before other ⊎ log.IsNext g lg.family (Some c) before other → other ≡ table
+    by (inl first) = absurd (cc (first.unasked))
+    by (inr next) =
+        made_one g change newest other table
+        (subst (λ (old : Table). IsMade g (Some change) old other) (alone.each next.parent (next.one_of, next.not_older)) (subst (λ (x : Change). IsMade g (Some x) next.parent.table other) same next.made)) made
+
+  -- each table that a change makes is that one
+  pub asked_is : (lg : Log) (es : List log.Event) → IsLog g lg → Alone lg → log.IsCourse g lg es → IsPart (log.begun_by es) (Some change ∷ []) → (other : Table) → IsAsked es other → other ≡ table
+  asked_is lg [] is alone course within other asked = absurd asked
+  asked_is lg (log.Issued identity ∷ es) is alone course (inl same) other asked = absurd (cc (same.0))
+  asked_is lg (log.Issued identity ∷ es) is alone course (inr none) other asked = absurd none
+  asked_is lg (log.Writing mark None before written ∷ es) is alone course within other (inl asked) = absurd asked
+  asked_is lg (log.Writing mark None before written ∷ es) is alone course within other (inr asked) =
+      asked_is (log_after lg (log.Writing mark None before written)) es (is_log_after g lg (log.Writing mark None before written) is course.0) (written_alone lg before written mark course.0 alone) course.1 within other asked
+  asked_is lg (log.Writing mark (Some c) before written ∷ es) is alone course (inl same) other (inl asked) = sym asked ∙ asked_here lg mark c before written course.0 alone (cc (same.0))
+  asked_is lg (log.Writing mark (Some c) before written ∷ es) is alone course (inl same) other (inr asked) = absurd (none_left es other same.1 asked)
+  asked_is lg (log.Writing mark (Some c) before written ∷ es) is alone course (inr none) other asked = absurd none
+  asked_is lg (log.Written ∷ es) is alone course within other (inl asked) = absurd asked
+  asked_is lg (log.Written ∷ es) is alone course within other (inr asked) = asked_is (log_after lg log.Written) es (is_log_after g lg log.Written is course.0) (answered_alone lg is alone) course.1 within other asked
+  asked_is lg (log.Told which before ∷ es) is alone course within other (inl asked) = absurd asked
+  asked_is lg (log.Told which before ∷ es) is alone course within other (inr asked) =
+      asked_is (log_after lg (log.Told which before)) es (is_log_after g lg (log.Told which before) is course.0) (record { some = alone.some; each = alone.each }) course.1 within other asked

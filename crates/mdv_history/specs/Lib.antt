@@ -1,4 +1,0 @@
-pub mod Below
-pub mod History
-pub mod Standing
-pub mod Laws
