@@ -1,13 +1,12 @@
 -- What a run made, told by a history.
-use Rattle.std.proofs.Common.{◌≡◌, ℕ, true, false, List, [], ◌∷◌, Option, Some, None, IfSome, Contains, refl, sym, ◌∙◌, ap, subst, arith}
-use Rattle.std.specs.List.{list_any}
-use Rattle.mdv_run_law.specs.Below.{Identity, Key, Geometry, Tale, last, Site, Version, Log, answered, empty_log, is_firm, IsLog, Newest, IsNewestIn, nothing, replica, History, Deed, Created, Event, Happening, new_history, history_after, history_after_all, log_of, told_by, Host, key_of, site_of, sites_of, identity_of, Memory, StandsAt, IsOfRun, Does, Knows, IsKnown}
+use Rattle.std.proofs.Common.{◌≡◌, ℕ, true, List, [], ◌∷◌, Option, Some, None, IfSome, Contains, refl, sym, ◌∙◌, ap, subst, arith}
+use Rattle.mdv_run_law.specs.Below.{Identity, Key, Geometry, Tale, last, Site, Log, empty_log, is_firm, IsLog, Newest, IsNewestIn, nothing, replica, History, Deed, Created, Event, Happening, new_history, history_after, history_after_all, log_of, told_by, Host, key_of, site_of, sites_of, identity_of, Memory, StandsAt, IsOfRun, Does, Knows, IsKnown}
 use Rattle.mdv_store_law.specs.Machine as machine
 use Rattle.mdv_store_law.specs.Standing as database
 use Rattle.mdv_store_law.specs.Log as log
 use Rattle.mdv_shelf.proofs.Everywhere.{last_image}
 use Rattle.mdv_store_law.proofs.Covering.{nothing_covers}
-use Rattle.mdv_store_law.proofs.Logs.{told_acknowledges, told_firm, is_log_after_all}
+use Rattle.mdv_store_law.proofs.Logs.{told_acknowledges, told_firm, is_log_after_all, firm_stays}
 use Rattle.mdv_volumes.specs.HistoryLaws.{AreWoken, database_deeds, log_events_of}
 use Rattle.mdv_volumes.specs.Tables.{IsSite}
 use Rattle.mdv_volumes.proofs.Found.{none_found}
@@ -35,20 +34,14 @@ shows_made host number h m ours stands = record {
   same : (identity : Identity) → Some identity ≡ Some (identity_of host number) → identity ≡ identity_of host number
   same identity is = cc
 
-firm_answered : (family : List Version) → list_any (λ v. v.is_written) family ≡ true → list_any (λ v. v.is_written) (answered family) ≡ true
-firm_answered [] is = is
-firm_answered (v ∷ older) is = refl
-
 -- a firm log stays one of the same database
 log_stays : (host : Host) (number : ℕ) (g : Geometry) (lg : Log) (es : List log.Event) → log.IsCourse g lg es → IsOurs host number lg → IsOurs host number (log.log_after_all lg es)
 log_stays host number g lg [] course ours = ours
 log_stays host number g lg (log.Issued identity ∷ es) course ours = absurd (let firm = ours.firm in let not = course.0 in cc (firm, not))
 log_stays host number g lg (log.Writing mark asked before table ∷ es) course ours =
-    log_stays host number g (log.log_after lg (log.Writing mark asked before table)) es course.1 (record { issued = ours.issued; firm = firm_begun lg.family ours.firm })
-  where
-    firm_begun : (family : List Version) → list_any (λ v. v.is_written) family ≡ true → list_any (λ v. v.is_written) (record { mark = mark; table = table; changes = log.with_asked asked before; is_written = false } ∷ family) ≡ true
-    firm_begun family is = is
-log_stays host number g lg (log.Written ∷ es) course ours = log_stays host number g (log.log_after lg log.Written) es course.1 (record { issued = ours.issued; firm = firm_answered lg.family ours.firm })
+    let e = log.Writing mark asked before table in
+    log_stays host number g (log.log_after lg e) es course.1 (record { issued = ours.issued; firm = firm_stays g lg e course.0 ours.firm })
+log_stays host number g lg (log.Written ∷ es) course ours = log_stays host number g (log.log_after lg log.Written) es course.1 (record { issued = ours.issued; firm = firm_stays g lg log.Written course.0 ours.firm })
 log_stays host number g lg (log.Told which before ∷ es) course ours = log_stays host number g (log.log_after lg (log.Told which before)) es course.1 (record { issued = ours.issued; firm = ours.firm })
 
 pub ours_stays : (host : Host) (number : ℕ) (h : History) (es : List Event) → machine.IsCourse history_after (Happening host) h es → IsOurs host number (log_of h.databases (key_of host)) → IsOurs host number (log_of (history_after_all h es).databases (key_of host))

@@ -68,6 +68,10 @@ written_firm (v ∷ older) w has written = elim (contains_cases v w older has) [
   | inr behind ↦ (let rest = written_firm older w behind written in rw rest (or_true v.is_written))
 ]
 
+pub firm_answered : (family : List Version) → list_any (λ v. v.is_written) family ≡ true → list_any (λ v. v.is_written) (answered family) ≡ true
+firm_answered [] is = is
+firm_answered (v ∷ older) is = refl
+
 -- once the newest table's write is answered
 pub answered_rising : (family : List Version) → IsRising family → IsRising (answered family)
 answered_rising [] is = is

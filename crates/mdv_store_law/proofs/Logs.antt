@@ -6,7 +6,7 @@ use Rattle.mdv_store_law.specs.Log.{Version, Log, Event, Issued, Writing, Writte
 use Rattle.mdv_store_law.specs.Laws.{CoursesAreLogs}
 use Rattle.mdv_store_law.specs.Site.{Site, Newest}
 use Rattle.mdv_store_law.specs.Standing.{nothing, replica, Covers, IsNewestIn}
-use Rattle.mdv_store_law.proofs.Families.{extends_itself, extends_more, extends_asked, made_next, contains_first, contains_behind, extends_written, newest_extends, written_firm, answered_rising, answered_descended, answered_made, answered_held}
+use Rattle.mdv_store_law.proofs.Families.{extends_itself, extends_more, extends_asked, made_next, contains_first, contains_behind, extends_written, newest_extends, written_firm, firm_answered, answered_rising, answered_descended, answered_made, answered_held}
 
 -- a table that begins to be written
 module _ (g : Geometry) (log : Log) (is : IsLog g log) (mark : Mark) (asked : Option Change) (before : List Change) (table : Table) where
@@ -98,6 +98,13 @@ told_covers site log which before m covers image is = elim (covers image is) [
 -- what was told is firm
 pub told_firm : (g : Geometry) (log : Log) (told : List Change) → IsLog g log → log.acknowledged ≡ Some told → is_firm log ≡ true
 told_firm g log told is same = let held = is.held told same in written_firm log.family held.by held.one_of held.written
+
+-- a firm log stays firm
+pub firm_stays : (g : Geometry) (log : Log) (e : Event) → MayHappen g log e → is_firm log ≡ true → is_firm (log_after log e) ≡ true
+firm_stays g log (Issued identity) may firm = absurd (cc (firm, may))
+firm_stays g log (Writing mark asked before table) may firm = firm
+firm_stays g log Written may firm = firm_answered log.family firm
+firm_stays g log (Told which before) may firm = firm
 
 -- what was told stays so, and more may be
 pub told_stays : (g : Geometry) (log : Log) (es : List Event) (told : List Change) → IsLog g log → IsCourse g log es → log.acknowledged ≡ Some told

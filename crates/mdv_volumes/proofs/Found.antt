@@ -1,12 +1,13 @@
 -- Which tables a boot may find, as a log goes on.
-use Rattle.std.proofs.Common.{◌≡◌, ◌⊎◌, inl, inr, ⊎_elim, true, false, List, [], ◌∷◌, Option, Some, None, refl, sym, ap, subst, arith}
+use Rattle.std.proofs.Common.{◌≡◌, ◌⊎◌, inl, inr, ⊎_elim, true, false, List, [], ◌∷◌, Option, Some, None, Contains, refl, sym, ap, subst, arith}
+use Rattle.std.specs.List.{list_any}
 use Rattle.std.proofs.lemmas.List.Elements.{All-cons, All-contains, All-head, All-tail}
 use Rattle.mdv_base.specs.Mark.{IsBelow}
 use Rattle.mdv_base.specs.declared.mark.Mark.{Mark}
 use Rattle.mdv_store_law.specs.Log as log
-use Rattle.mdv_store_law.specs.Log.{IsLog, IsNotOlder, IsRising, Log, Version, answered, log_after}
-use Rattle.mdv_store_law.proofs.Families.{answered_rising, contains_cases, contains_first}
-use Rattle.mdv_store_law.proofs.Logs.{is_log_after}
+use Rattle.mdv_store_law.specs.Log.{IsLog, IsMade, IsNotOlder, IsRising, Log, Version, answered, is_firm, log_after}
+use Rattle.mdv_store_law.proofs.Families.{answered_rising, contains_cases, contains_first, written_firm}
+use Rattle.mdv_store_law.proofs.Logs.{firm_stays, is_log_after}
 use Rattle.mdv_volumes.specs.Below.{Change, Geometry, Table}
 use Rattle.mdv_volumes.specs.Happening.{MayBeFound}
 use Rattle.mdv_volumes.specs.HistoryLaws.{AsksTable, IsAsked}
@@ -37,8 +38,8 @@ older_found v older w found = ⊎_elim (λ here. inl here) (λ behind. inr (behi
 pub none_found : (v : Version) → MayBeFound [] v → ⊥
 none_found v found = omega (arith, found.0.1)
 
-module _ (g : Geometry) (P : Table → Type 0) (none : (table : Table) → table.plan.volumes ≡ [] → P table) where
-  abbrev AllFound : List Version → Type 0
+module _ (P : Table → Type 0) where
+  abbrev pub AllFound : List Version → Type 0
   AllFound family = (v : Version) → MayBeFound family v → P v.table
 
   written_found : (family : List Version) → log.IsBegun family → IsRising family → AllFound family → AllFound (answered family)
@@ -51,20 +52,65 @@ module _ (g : Geometry) (P : Table → Type 0) (none : (table : Table) → table
   begun_found lg mark asked before table here all v found = ⊎_elim (λ new. subst P (ap (λ (w : Version). w.table) new) here) (λ old. all v old)
       (older_found (record { mark = mark; table = table; changes = log.with_asked asked before; is_written = false }) lg.family v found)
 
+module _ (g : Geometry) (P : Table → Type 0) (none : (table : Table) → table.plan.volumes ≡ [] → P table) where
   next_table : (lg : Log) (asked : Option Change) (before : List Change) (mark : Mark) (table : Table) → log.IsFirst lg.issued lg.family asked before table ⊎ log.IsNext g lg.family asked before table
-      → AllFound lg.family → ((other : Table) → AsksTable (log.Writing mark asked before table) other → P other) → P table
+      → AllFound P lg.family → ((other : Table) → AsksTable (log.Writing mark asked before table) other → P other) → P table
   next_table lg asked before mark table (inl first) all new = none table first.empty
   next_table lg None before mark table (inr next) all new = subst P (sym next.made) (all next.parent (next.one_of, next.not_older))
   next_table lg (Some change) before mark table (inr next) all new = new table refl
 
-  found_step : (lg : Log) (e : log.Event) → IsLog g lg → log.MayHappen g lg e → AllFound lg.family → ((table : Table) → AsksTable e table → P table) → AllFound (log_after lg e).family
+  found_step : (lg : Log) (e : log.Event) → IsLog g lg → log.MayHappen g lg e → AllFound P lg.family → ((table : Table) → AsksTable e table → P table) → AllFound P (log_after lg e).family
   found_step lg (log.Issued identity) is may all new = λ v found. absurd (none_found v found)
-  found_step lg (log.Writing mark asked before table) is may all new = begun_found lg mark asked before table (next_table lg asked before mark table may.1 all new) all
-  found_step lg log.Written is may all new = written_found lg.family may is.rising all
+  found_step lg (log.Writing mark asked before table) is may all new = begun_found P lg mark asked before table (next_table lg asked before mark table may.1 all new) all
+  found_step lg log.Written is may all new = written_found P lg.family may is.rising all
   found_step lg (log.Told which before) is may all new = all
 
   -- each table that a boot may find in the end is so, where those at the start are, and those that were asked
-  pub found_all : (lg : Log) (es : List log.Event) → IsLog g lg → log.IsCourse g lg es → AllFound lg.family → ((table : Table) → IsAsked es table → P table) → AllFound (log.log_after_all lg es).family
+  pub found_all : (lg : Log) (es : List log.Event) → IsLog g lg → log.IsCourse g lg es → AllFound P lg.family → ((table : Table) → IsAsked es table → P table) → AllFound P (log.log_after_all lg es).family
   found_all lg [] is course all new = all
   found_all lg (e ∷ es) is course all new =
       found_all (log_after lg e) es (is_log_after g lg e is course.0) course.1 (found_step lg e is course.0 all (λ table asks. new table (inl asks))) (λ table asks. new table (inr asks))
+
+module _ (g : Geometry) (P : Table → Type 0) where
+  -- a table was written, and each that a boot may find is so
+  pub record AreLasting (lg : Log) : Type 0 where
+    pub is_log : IsLog g lg
+    pub firm : is_firm lg ≡ true
+    pub all : AllFound P lg.family
+
+  pub lasting_at : (lg : Log) (newest : Version) (older : List Version) → IsLog g lg → lg.family ≡ newest ∷ older → newest.is_written ≡ true → P newest.table → AreLasting lg
+  lasting_at lg newest older is family written here = record {
+    is_log = is;
+    firm = written_firm lg.family newest (subst (λ (f : List Version). Contains f newest) (sym family) (contains_first newest older)) written;
+    all = λ v found.
+        let same = only_found newest older v (subst IsRising family is.rising) written (subst (λ (f : List Version). MayBeFound f v) family found) in
+        subst P (sym (ap (λ (w : Version). w.table) same)) here;
+  }
+
+  -- so a boot finds one
+  pub some_lasts : (lg : Log) → AreLasting lg → (v : Version) × MayBeFound lg.family v × P v.table
+  some_lasts lg are = by lg.family are.is_log.rising are.firm are.all where
+    by : (family : List Version) → IsRising family → list_any (λ v. v.is_written) family ≡ true → AllFound P family → (v : Version) × MayBeFound family v × P v.table
+    by [] rising firm all = absurd (cc firm)
+    by (newest ∷ older) rising firm all = let found = newest_found newest older rising in (newest, found, all newest found)
+
+-- and what no change takes from a table stays so
+module _ (g : Geometry) (P : Table → Type 0) (stays : (asked : Option Change) (old next : Table) → IsMade g asked old next → P old → P next) where
+  next_lasts : (lg : Log) (asked : Option Change) (before : List Change) (table : Table) → AreLasting g P lg → log.IsFirst lg.issued lg.family asked before table ⊎ log.IsNext g lg.family asked before table → P table
+  next_lasts lg asked before table are (inl first) = let firm = subst (λ (f : List Version). list_any (λ v. v.is_written) f ≡ true) first.none are.firm in absurd (cc firm)
+  next_lasts lg asked before table are (inr next) = stays asked next.parent.table table next.made (are.all next.parent (next.one_of, next.not_older))
+
+  all_step : (lg : Log) (e : log.Event) → log.MayHappen g lg e → AreLasting g P lg → AllFound P (log_after lg e).family
+  all_step lg (log.Issued identity) may are = λ v found. absurd (none_found v found)
+  all_step lg (log.Writing mark asked before table) may are = begun_found P lg mark asked before table (next_lasts lg asked before table are may.1) are.all
+  all_step lg log.Written may are = written_found P lg.family may are.is_log.rising are.all
+  all_step lg (log.Told which before) may are = are.all
+
+  -- whatever happens to the log
+  pub lasting_all : (lg : Log) (es : List log.Event) → log.IsCourse g lg es → AreLasting g P lg → AreLasting g P (log.log_after_all lg es)
+  lasting_all lg [] course are = are
+  lasting_all lg (e ∷ es) course are = lasting_all (log_after lg e) es course.1 (record {
+    is_log = is_log_after g lg e are.is_log course.0;
+    firm = firm_stays g lg e course.0 are.firm;
+    all = all_step lg e course.0 are;
+  })

@@ -13,4 +13,5 @@ pub mod Restarts
 pub mod Lifting
 pub mod Telling
 pub mod Waking
+pub mod Lasting
 pub mod Told

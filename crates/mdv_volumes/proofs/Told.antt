@@ -11,10 +11,11 @@ use Rattle.mdv_volumes.specs.Events.{Answers, Begins, Flushes, GoesOn, IsNoCrash
 use Rattle.mdv_volumes.specs.Events as lives
 use Rattle.mdv_volumes.specs.Happening.{IsCourse, MayHappen}
 use Rattle.mdv_volumes.specs.History.{Acknowledges, Boots, Crashes, Creation, Deed, Event, History, OfDatabase, OfVolume, Reads, Saw, Shows, Stops, Wrote, answered_after, events_at, events_of, history_after, history_after_all, is_within, untold_after}
-use Rattle.mdv_volumes.specs.HistoryLaws.{Lasts, ToldWritesLast}
+use Rattle.mdv_volumes.specs.HistoryLaws.{HasLogs, Lasts, ToldWritesLast}
 use Rattle.mdv_volumes.specs.LogLaws.{MayBe}
 use Rattle.mdv_volumes.specs.Tables.{Sites}
 use Rattle.mdv_volumes.proofs.Databases.{volume_itself, volume_key, volume_number}
+use Rattle.mdv_volumes.proofs.Lasting.{range_goes, still_logs}
 use Rattle.mdv_volumes.proofs.Lists.{all_both, all_front, all_rest, course_front, course_rest, first_or_behind, in_filter, in_without}
 use Rattle.mdv_volumes.proofs.Lives.{volumes_live}
 use Rattle.mdv_volumes.proofs.Logs.{writes_last}
@@ -165,7 +166,7 @@ module _ (key : Key) (volume : VolId) (at : ℕ) (blocks : List (List ℕ)) wher
       let next : Kept (past ++ e ∷ []) (history_after h e) = record { answered = answered_step sites past h kept e course.0; untold = untold_step sites past h kept e course.0 } in
       subst (λ (l : List Event). Kept l (history_after_all (history_after h e) es)) (append_assoc past (e ∷ []) es) (kept_all sites (past ++ e ∷ []) (history_after h e) es next course.1)
 
-module _ (sites : Sites) (h : History) (es later : List Event) (place : ℕ) (key : Key) (volume : VolId) (at : ℕ) (blocks : List (List ℕ)) (none_answered : h.answered ≡ []) (none_untold : h.untold ≡ [])
+module _ (sites : Sites) (h : History) (es later : List Event) (place : ℕ) (key : Key) (volume : VolId) (at : ℕ) (blocks : List (List ℕ)) (logs : HasLogs sites h) (none_answered : h.answered ≡ []) (none_untold : h.untold ≡ [])
     (course : IsCourse sites h (es ++ Acknowledges place key volume at blocks ∷ later)) where
   none_there : (deeds : List Deed) (deed : Deed) → deeds ≡ [] → Contains deeds deed → ⊥
   none_there deeds deed none has = let there = subst (λ (l : List Deed). Contains l deed) none has in omega (arith, there.1)
@@ -229,6 +230,24 @@ module _ (sites : Sites) (h : History) (es later : List Event) (place : ℕ) (ke
   own_course = course_rest lives.log_after lives.MayHappen (h.volumes key volume) past own
       (subst (λ (l : List VolumeEvent). lives.IsCourse (h.volumes key volume) l) all_events (volumes_live.may key volume sites h (es ++ Acknowledges place key volume at blocks ∷ later) course))
 
+  -- from its answer on the log of no block of the write begins anew
+  since_course : IsCourse sites (history_after_all h was_flushed.before) (OfVolume key volume (Answers at blocks) ∷ (since ++ Acknowledges place key volume at blocks ∷ later))
+  since_course =
+      let parted = append_assoc was_flushed.before (OfVolume key volume (Answers at blocks) ∷ since) (Acknowledges place key volume at blocks ∷ later) in
+      course_rest history_after (MayHappen sites) h was_flushed.before (OfVolume key volume (Answers at blocks) ∷ (since ++ Acknowledges place key volume at blocks ∷ later))
+      (subst (IsCourse sites h) (ap (λ (l : List Event). l ++ Acknowledges place key volume at blocks ∷ later) was_flushed.is ∙ parted) course)
+
+  before_course : IsCourse sites h was_flushed.before
+  before_course = course_front history_after (MayHappen sites) h was_flushed.before (OfVolume key volume (Answers at blocks) ∷ since)
+      (subst (IsCourse sites h) was_flushed.is (course_front history_after (MayHappen sites) h es (Acknowledges place key volume at blocks ∷ later) course))
+
+  since_goes : (k : ℕ) → k < length blocks → lives.AllGoOn (at + k) (events_of key volume (since ++ later))
+  since_goes k lt =
+      let h_then : History = history_after (history_after_all h was_flushed.before) (OfVolume key volume (Answers at blocks)) in
+      let same = all_more (events_at key volume) since (Acknowledges place key volume at blocks ∷ later) ∙ sym (all_more (events_at key volume) since later) in
+      subst (lives.AllGoOn (at + k)) same
+      (range_goes sites h_then (since ++ Acknowledges place key volume at blocks ∷ later) key volume at (length blocks) k (still_logs sites h was_flushed.before before_course logs) since_course.0.1 lt since_course.1)
+
   own_goes : (b : ℕ) → lives.AllGoOn b (events_of key volume (since ++ later)) → lives.AllGoOn b (between ++ rest)
   own_goes b goes =
       let all = subst (lives.AllGoOn b) later_events goes in
@@ -247,9 +266,9 @@ module _ (sites : Sites) (h : History) (es later : List Event) (place : ℕ) (ke
     before = was_flushed.before;
     since = since;
     is = was_flushed.is;
-    lasts = λ k x lt goes may. ⊎_elim (λ one. inl one) (λ issued. inr (subst (λ (l : List (List ℕ)). Among l x) (own_issued (at + k)) issued))
-        (writes_last.acknowledged start at blocks between rest was_flushed.from was_flushed.count k x lt own_course (own_goes (at + k) goes) was_flushed.calm (own_range k lt) (subst (λ (l : VolumeLog). MayBe l (at + k) x) own_log may));
+    lasts = λ k x lt may. ⊎_elim (λ one. inl one) (λ issued. inr (subst (λ (l : List (List ℕ)). Among l x) (own_issued (at + k)) issued))
+        (writes_last.acknowledged start at blocks between rest was_flushed.from was_flushed.count k x lt own_course (own_goes (at + k) (since_goes k lt)) was_flushed.calm (own_range k lt) (subst (λ (l : VolumeLog). MayBe l (at + k) x) own_log may));
   }
 
 pub told_writes_last : ToldWritesLast
-told_writes_last sites h es later place key volume at blocks none_answered none_untold course = told_lasts sites h es later place key volume at blocks none_answered none_untold course
+told_writes_last sites h es later place key volume at blocks logs none_answered none_untold course = told_lasts sites h es later place key volume at blocks logs none_answered none_untold course

@@ -94,7 +94,7 @@ module _ (sites : Sites) (h : History) (key : Key) (volume : VolId) (at : ℕ) (
 
   pub written_goes : IsWritten sites h key volume at blocks u
   written_goes = record {
-    happens = record { course = ((tt, range), ((last_issued, tt), ((tt, tt), tt))); begins = refl; tells = refl; stands = third_stands };
+    happens = record { course = ((tt, range), ((last_issued, range), ((tt, tt), tt))); begins = refl; tells = refl; stands = third_stands };
     untold = let is = within_itself in rw is (contains_one (Wrote key volume at blocks) (filter (is_within key volume at (length blocks)) h.answered) h.untold);
   }
 

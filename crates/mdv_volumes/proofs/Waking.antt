@@ -167,7 +167,7 @@ beginnings_go sites h key volume from v t free front stands =
     let goes = beginnings_stand.grown v from (h.volumes key volume) t front in
     record {
       happens = record {
-        course = ((goes.course.0, free), tt);
+        course = ((goes.course.0, λ w named. let le = free w named in omega (arith, le)), tt);
         begins = refl;
         tells = refl;
         stands = noted sites h key volume (Begins from (opening v t)) t stands (λ w named. below_follows w from (h.volumes key volume) (opening v t) t (free w named) (stands.volumes key volume w named));

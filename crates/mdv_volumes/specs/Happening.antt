@@ -62,11 +62,11 @@ pub record MayBegin (sites : Sites) (databases : List Database) (key : Key) : Ty
   pub is_site : IsSite sites key site
   pub free : is_firm (log_of databases key) ≡ false
 
--- Blocks are issued of a volume that the one table has which a boot may find; a log begins where no table that a boot may find has the
+-- Blocks are issued, and answered, of a volume that the one table has which a boot may find; a log begins where no table that a boot may find has the
 -- volume with blocks from there on; drives begin anew all at once.
 abbrev pub IsPlaced : Sites → History → Key → VolId → VolumeEvent → Type 0
 IsPlaced sites h key volume (Issues at blocks) = HasRange sites h.databases key volume at (length blocks)
-IsPlaced sites h key volume (Answers at blocks) = Unit {0}
+IsPlaced sites h key volume (Answers at blocks) = HasRange sites h.databases key volume at (length blocks)
 IsPlaced sites h key volume (Flushes at count) = Unit {0}
 IsPlaced sites h key volume (Begins from logs) = (v : Map) → IsNamed sites h.databases key volume v → v.blocks ≤ from
 IsPlaced sites h key volume lives.Crashes = ⊥

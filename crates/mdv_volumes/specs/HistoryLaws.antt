@@ -226,11 +226,15 @@ pub record Lasts (h : History) (es later : List Event) (place : ℕ) (key : Key)
   pub before : List Event
   pub since : List Event
   pub is : es ≡ before ++ OfVolume key volume (Answers at blocks) ∷ since
-  pub lasts : (k : ℕ) (x : List ℕ) → k < length blocks → lives.AllGoOn (at + k) (events_of key volume (since ++ later))
+  pub lasts : (k : ℕ) (x : List ℕ) → k < length blocks
       → MayBe ((history_after_all h (es ++ Acknowledges place key volume at blocks ∷ later)).volumes key volume) (at + k) x
       → (x ≡ slice_index_or blocks k []) ⊎ Among (lives.issued_to (at + k) (events_of key volume (since ++ later))) x
 
+-- of each key the family of tables is one, and what was told is firm
+abbrev pub HasLogs : Sites → History → Type 0
+HasLogs sites h = (key : Key) (site : Site) → IsSite sites key site → log.IsLog site.drives (log_of h.databases key)
+
 -- so it is of every write that is told, from a history of which nothing was done and untold
 abbrev pub ToldWritesLast : Type 0
-ToldWritesLast = (sites : Sites) (h : History) (es later : List Event) (place : ℕ) (key : Key) (volume : VolId) (at : ℕ) (blocks : List (List ℕ)) → h.answered ≡ [] → h.untold ≡ []
+ToldWritesLast = (sites : Sites) (h : History) (es later : List Event) (place : ℕ) (key : Key) (volume : VolId) (at : ℕ) (blocks : List (List ℕ)) → HasLogs sites h → h.answered ≡ [] → h.untold ≡ []
     → IsCourse sites h (es ++ Acknowledges place key volume at blocks ∷ later) → Lasts h es later place key volume at blocks
