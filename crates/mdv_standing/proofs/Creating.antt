@@ -349,7 +349,7 @@ module _ (Spells : List ℕ → Table → Type 0) (site : Site) (identity : Iden
 
   pub begins : Turned Spells site identity (issued_log identity) from image (λ es. es ≡ NextLists spots ∷ []) (IsCreating spots [])
   begins =
-      let world = world_none Spells site identity image none in
+      let world = world_none Spells site identity (issued_log identity) refl image none in
       record {
         events = NextLists spots ∷ [];
         are = refl;

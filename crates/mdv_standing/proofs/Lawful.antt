@@ -63,10 +63,10 @@ module _ (Spells : List ℕ → Table → Type 0) (site : Site) (identity : Iden
       everywhere_apart (λ image. (w : Core) × IsWorld Spells site identity log w image) (site_area site) area t m (world_same log) apart kept each
 
   -- nothing has happened, and no replica is found
-  pub world_none : (image : Image) → HasNone Spells site identity image → IsWorld Spells site identity empty_log (start (is_set site.key)) image
-  world_none image none = record {
+  pub world_none : (log : Log) → log.family ≡ [] → (image : Image) → HasNone Spells site identity image → IsWorld Spells site identity log (start (is_set site.key)) image
+  world_none log empty image none = record {
     reached = ([], tt, refl);
-    matches = matches_empty site empty_log (start (is_set site.key)) refl refl refl refl refl refl;
+    matches = matches_empty site log (start (is_set site.key)) empty refl refl refl refl refl;
     shows = record {
       each = λ line k first head own. absurd (none line k first head own);
       only = λ p place holds. absurd (false≢true holds);
@@ -85,7 +85,7 @@ pub new_drives_stand : (Spells : List ℕ → Table → Type 0) (g : Geometry) (
     → Stands Spells g site identity empty_log (restarted image told)
 new_drives_stand Spells g site identity image told none = record {
   is_log = record { rising = tt; made = All-nil (λ (v : Version). AreMade g v.changes v.table); descended = tt; held = λ told same. absurd (cc (same)) };
-  covers = everywhere_begun (λ other. (w : Core) × IsWorld Spells site identity empty_log w other) (record { block = image; told = told }) (start (is_set site.key), world_none Spells site identity image none);
+  covers = everywhere_begun (λ other. (w : Core) × IsWorld Spells site identity empty_log w other) (record { block = image; told = told }) (start (is_set site.key), world_none Spells site identity empty_log refl image none);
 }
 
 -- a list's places are no seats

@@ -9,3 +9,4 @@ pub mod Taking
 pub mod Committing
 pub mod Lawful
 pub mod Creating
+pub mod Holding

@@ -6,3 +6,5 @@ pub mod Laws
 pub mod Adopting
 pub mod Committing
 pub mod Creating
+pub mod Databases
+pub mod Holding

@@ -1,3 +1,4 @@
+ghost use Rattle.mdv_standing.specs.Holding.{DatabasesStand};
 ghost use Rattle.mdv_standing.specs.Creating.{CreationsGo};
 ghost use Rattle.mdv_standing.specs.Committing.{CommitsGo};
 ghost use Rattle.mdv_standing.specs.Adopting.{AdoptionsGo};
@@ -42,4 +43,10 @@ pub fn commits_go()
 /// While a database is created, each image goes on showing a world of its log: by places that are formatted, and the first table that is written.
 pub fn creations_go()
     ensures { CreationsGo }
+{}
+
+/// What a crash leaves of drives that stand with all databases does; drives without a replica stand with none; and a creation of an identity
+/// that none has may begin.
+pub fn databases_stand()
+    ensures { DatabasesStand }
 {}

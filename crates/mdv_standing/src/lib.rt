@@ -4,6 +4,6 @@
 mod law;
 
 pub use law::{
-    adoptions_go, commits_go, crashes_stand, creations_go, finds_hold, frames, new_drives_stand,
-    nothing_holds,
+    adoptions_go, commits_go, crashes_stand, creations_go, databases_stand, finds_hold, frames,
+    new_drives_stand, nothing_holds,
 };
