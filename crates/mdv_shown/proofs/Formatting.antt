@@ -451,7 +451,7 @@ module _ {Table : Type 0} (Spells : List ℕ → Table → Type 0) (site : Site)
       another (sym (ap (λ (n : Head). n.master.key) same) ∙ own.found.of_key) (sym (ap (λ (n : Head). n.master.identity) same) ∙ own.of_identity)
 
   module _ (blocks count number : ℕ) (before : Option Master) (f : IsFormat theirs other old line blocks count 0 number) (known : FirstIs site old line before) where
-    others_first : MayFormat (place_on line blocks count 0) (master_on theirs other line blocks count 0) number old new
+    pub others_first : MayFormat (place_on line blocks count 0) (master_on theirs other line blocks count 0) number old new
         → Shows Spells site identity tables w new ⊎ Shows Spells site identity tables (after_all w (wiped_all (lost_with line before))) new
     others_first (untouched same) = inl (shows_same Spells site identity tables w.family w.places old new same shows)
     others_first (blanked outside blank) =
@@ -464,7 +464,7 @@ module _ {Table : Type 0} (Spells : List ℕ → Table → Type 0) (site : Site)
         ]))
 
   module _ (k number : ℕ) (first : Master) (some : 0 < k) (f : IsFormat theirs other old line first.blocks first.count k number) (has : HasFirst site old line first) where
-    others_later : MayFormat (place_on line first.blocks first.count k) (master_on theirs other line first.blocks first.count k) number old new
+    pub others_later : MayFormat (place_on line first.blocks first.count k) (master_on theirs other line first.blocks first.count k) number old new
         → Shows Spells site identity tables w new ⊎ Shows Spells site identity tables (after_all w (wiped_all (spots_behind line first k))) new
     others_later (untouched same) = inl (shows_same Spells site identity tables w.family w.places old new same shows)
     others_later (blanked outside blank) = inr (later_blank Spells site identity tables w old new line shows k first (omega (arith, f.lies.least, f.within)) has outside blank)

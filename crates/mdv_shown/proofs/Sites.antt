@@ -1,5 +1,5 @@
 -- The slices of a site share no block: those of one drive are known by their numbers.
-use Rattle.std.proofs.Common.{◌≡◌, inl, inr, ◌<◌, ◌==◌, ◌&&◌, ℕ, zero, suc, ◌+◌, Bool, true, false, refl, sym, ◌∙◌, ap, subst, List, [], ◌∷◌, slice_get, filter, Contains, Option, None, Some, arith}
+use Rattle.std.proofs.Common.{◌≡◌, ◌⊎◌, inl, inr, ◌<◌, ◌==◌, ◌&&◌, ℕ, zero, suc, ◌+◌, Bool, true, false, refl, sym, ◌∙◌, ap, subst, List, [], ◌∷◌, slice_get, filter, Contains, Option, None, Some, arith}
 use Rattle.std.proofs.lemmas.Bool.Decides.{nat_tests}
 use Rattle.std.proofs.lemmas.Bool.{and_parts, and_from, cases_Bool, cond-true, cond-false, false_from_ne_true, false≢true, leb-true, not-true, not_from_false}
 use Rattle.std.proofs.lemmas.List.Elements.{All-contains, All-contains_itself, All-filter, filter_passes}
@@ -96,43 +96,44 @@ lie_apart a b none drive block in_a in_b =
     let meet : share_a_block a.at b.at ≡ true = grind (arith, nat_tests, x, y) in
     false≢true (sym none ∙ meet)
 
-module _ (g : Geometry) (key : Key) (sound : IsSound g) where
-  -- a slice of the site
-  taken : (line : SliceLine) → Contains (lines_of g key) line → Contains g.slices line × (takes_replicas g line ≡ true) × (is_reached_at g key line.at.drive.0 ≡ true)
-  taken line has =
-      let found = in_filter (is_line_of g key) g.slices line has in
-      let parts = and_parts (is_slice_of key line.name && is_reached_at g key line.at.drive.0) (takes_replicas g line) found.1 in
-      (found.0, parts.1, (and_parts (is_slice_of key line.name) (is_reached_at g key line.at.drive.0) parts.0).1)
+-- a slice of a site
+taken : (g : Geometry) (key : Key) (line : SliceLine) → Contains (lines_of g key) line → Contains g.slices line × (takes_replicas g line ≡ true)
+taken g key line has =
+    let found = in_filter (is_line_of g key) g.slices line has in
+    (found.0, (and_parts (is_slice_of key line.name && is_reached_at g key line.at.drive.0) (takes_replicas g line) found.1).1)
 
-  pub site_is : IsSite (site_of g key)
-  site_is = record {
-    apart = λ a b in_a in_b.
-        let x = taken a in_a in
-        let y = taken b in_b in
-        let of_a = and_parts (a.at.db && nat_le 32 a.at.blocks) (not (meets_db g a.name)) x.1 in
-        let of_b = and_parts (b.at.db && nat_le 32 b.at.blocks) (not (meets_db g b.name)) y.1 in
-        elim (cases_Bool (same_slice b.name a.name)) [
-          | inl same ↦
-              let named : b.name ≡ a.name = same_slice-equal b.name a.name same in
-              let lies : a.at ≡ b.at = sound.once a.name a.at b.at x.0 (subst (λ (s : SliceName). HasSlice g.slices s b.at) named y.0) in
-              inl (λ i. record { name = sym named i; at = lies i })
-          | inr other ↦
-              let apart_names : overlap g b.name a.name ≡ false = false_from_ne_true (overlap g b.name a.name) (λ over.
-              let db = (and_parts b.at.db (nat_le 32 b.at.blocks) of_b.0).0 in
-              let meets = any_has (is_other_db g a.name) g.slices b y.0
-              (and_from (b.at.db && not (same_slice b.name a.name)) (overlap g b.name a.name) (and_from b.at.db (not (same_slice b.name a.name)) db (not_from_false (same_slice b.name a.name) other)) over) in
-              false≢true (sym (not-true (meets_db g a.name) of_a.1) ∙ meets)) in
-              let at_a : slice_at g.slices a.name ≡ Some a.at = (slice_at-some g a.name a.at sound).1 x.0 in
-              let at_b : slice_at g.slices b.name ≡ Some b.at = (slice_at-some g b.name b.at sound).1 y.0 in
-              let none : share_a_block b.at a.at ≡ false = sym (ap (λ (o : Option SliceAt). overlap_at o (slice_at g.slices a.name)) at_b ∙ ap (overlap_at (Some b.at)) at_a) ∙ apart_names in
-              inr (λ drive block has_a has_b. lie_apart b a none drive block has_b has_a)
-        ];
-    long = λ line has.
-        let x = taken line has in
-        let parts = and_parts (line.at.db && nat_le 32 line.at.blocks) (not (meets_db g line.name)) x.1 in
-        let least = leb-true 32 line.at.blocks (and_parts line.at.db (nat_le 32 line.at.blocks) parts.0).1 in
-        omega (arith, least);
-  }
+-- two slices that take replicas, whosever they are, are one or apart
+pub lines_apart : (g : Geometry) → IsSound g → (key other : Key) (a b : SliceLine) → Contains (lines_of g key) a → Contains (lines_of g other) b → (a ≡ b) ⊎ AreApart (line_area a) (line_area b)
+lines_apart g sound key other a b in_a in_b =
+    let x = taken g key a in_a in
+    let y = taken g other b in_b in
+    let of_a = and_parts (a.at.db && nat_le 32 a.at.blocks) (not (meets_db g a.name)) x.1 in
+    let of_b = and_parts (b.at.db && nat_le 32 b.at.blocks) (not (meets_db g b.name)) y.1 in
+    elim (cases_Bool (same_slice b.name a.name)) [
+      | inl same ↦
+          let named : b.name ≡ a.name = same_slice-equal b.name a.name same in
+          let lies : a.at ≡ b.at = sound.once a.name a.at b.at x.0 (subst (λ (s : SliceName). HasSlice g.slices s b.at) named y.0) in
+          inl (λ i. record { name = sym named i; at = lies i })
+      | inr differs ↦
+          let apart_names : overlap g b.name a.name ≡ false = false_from_ne_true (overlap g b.name a.name) (λ over.
+          let db = (and_parts b.at.db (nat_le 32 b.at.blocks) of_b.0).0 in
+          let meets = any_has (is_other_db g a.name) g.slices b y.0
+          (and_from (b.at.db && not (same_slice b.name a.name)) (overlap g b.name a.name) (and_from b.at.db (not (same_slice b.name a.name)) db (not_from_false (same_slice b.name a.name) differs)) over) in
+          false≢true (sym (not-true (meets_db g a.name) of_a.1) ∙ meets)) in
+          let at_a : slice_at g.slices a.name ≡ Some a.at = (slice_at-some g a.name a.at sound).1 x.0 in
+          let at_b : slice_at g.slices b.name ≡ Some b.at = (slice_at-some g b.name b.at sound).1 y.0 in
+          let none : share_a_block b.at a.at ≡ false = sym (ap (λ (o : Option SliceAt). overlap_at o (slice_at g.slices a.name)) at_b ∙ ap (overlap_at (Some b.at)) at_a) ∙ apart_names in
+          inr (λ drive block has_a has_b. lie_apart b a none drive block has_b has_a)
+    ]
+
+pub site_is : (g : Geometry) (key : Key) → IsSound g → IsSite (site_of g key)
+site_is g key sound = record {
+  apart = lines_apart g sound key key;
+  long = λ line has.
+      let parts = and_parts (line.at.db && nat_le 32 line.at.blocks) (not (meets_db g line.name)) (taken g key line has).1 in
+      let least = leb-true 32 line.at.blocks (and_parts line.at.db (nat_le 32 line.at.blocks) parts.0).1 in
+      omega (arith, least);
+}
 
 -- a drive that replicas may lie on is brought up
 reached_from : (key : Key) (lines : List DriveLine) (n d : ℕ) → is_reached_line key (slice_get lines d) ≡ true → Contains (drives_from key n lines) (record { 0 = n + d })
@@ -157,7 +158,7 @@ reached_from key (line ∷ lines) n (suc d) is =
 
 pub law_sites : SitesAre
 law_sites = record {
-  sites = λ g key sound. site_is g key sound;
+  sites = site_is;
   brought = λ g key line has.
       let found = in_filter (is_line_of g key) g.slices line has in
       let parts = and_parts (is_slice_of key line.name && is_reached_at g key line.at.drive.0) (takes_replicas g line) found.1 in

@@ -75,7 +75,7 @@ wiped_is : (spots : List Spot) (w : Core) (next : FamilyTable) → w.stage ≡ C
 wiped_is [] w next e = refl
 wiped_is (p ∷ ps) w next e = ap (λ (v : Core). after_all v (wiped_all ps)) (ap (wiped_at w p) e) ∙ wiped_is ps (without w p) next e
 
-since_wiped : (spots : List Spot) (xs : List SpotState) (q : Spot) → (place_at (wipe_each xs spots) q).since ≡ (place_at xs q).since
+pub since_wiped : (spots : List Spot) (xs : List SpotState) (q : Spot) → (place_at (wipe_each xs spots) q).since ≡ (place_at xs q).since
 since_wiped [] xs q = refl
 since_wiped (p ∷ ps) xs q = since_wiped ps (change_at xs p wiped) q ∙ ap (λ (x : SpotState). x.since) (wipe_at xs p q) ∙ wiped_since p (place_at xs q)
 

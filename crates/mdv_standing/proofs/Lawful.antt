@@ -145,7 +145,7 @@ module _ (Spells : List ℕ → Table → Type 0) (site : Site) (identity : Iden
       subst (λ (x : Option ℕ). NewestIs Spells (tables_of log.family) w.family (place_on o.line o.first.blocks o.first.count o.number) (image o.line.at.drive.0) o.head x) here with.newest in
       false≢true (sym (none o.line o.number o.first o.head o.own) ∙ opens o.head n.slot (table_at w.family i).mark n.is.shows.bytes n.is.shows.gate)
 
-  not_firm : (f : ℕ) → w.firm ≡ Some f → ⊥
+  pub not_firm : (f : ℕ) → w.firm ≡ Some f → ⊥
   not_firm f e =
       let s = standing site w world.reached in
       let held = s.held f e world.matches.there in

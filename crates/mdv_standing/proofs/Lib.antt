@@ -10,3 +10,4 @@ pub mod Committing
 pub mod Lawful
 pub mod Creating
 pub mod Holding
+pub mod Others

@@ -8,3 +8,4 @@ pub mod Committing
 pub mod Creating
 pub mod Databases
 pub mod Holding
+pub mod Others

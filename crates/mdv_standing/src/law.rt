@@ -1,3 +1,4 @@
+ghost use Rattle.mdv_standing.specs.Others.{OthersGo};
 ghost use Rattle.mdv_standing.specs.Holding.{DatabasesStand};
 ghost use Rattle.mdv_standing.specs.Creating.{CreationsGo};
 ghost use Rattle.mdv_standing.specs.Committing.{CommitsGo};
@@ -49,4 +50,10 @@ pub fn creations_go()
 /// that none has may begin.
 pub fn databases_stand()
     ensures { DatabasesStand }
+{}
+
+/// What is claimed or written for one database leaves the world of each other one. What is formatted for it leaves it, or takes what lay there
+/// and behind it of one that shows no table.
+pub fn others_go()
+    ensures { OthersGo }
 {}

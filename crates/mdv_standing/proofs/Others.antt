@@ -1,0 +1,255 @@
+-- What is written for another database.
+use Rattle.std.proofs.Common.{◌≡◌, ◌⊎◌, inl, inr, ⊎_elim, ℕ, zero, suc, ◌+◌, ◌-◌, ◌*◌, ◌<◌, ◌≤◌, ◌^◌, true, false, List, [], ◌∷◌, length, refl, sym, ◌∙◌, ap, subst, Contains, Option, None, Some, arith}
+use Rattle.std.proofs.lemmas.Bool.{and_from, cases_Bool, cond-false, cond-true, false_from_ne_true, not_from_false}
+use Rattle.std.proofs.lemmas.List.Folds.{Any-from_list_any}
+use Rattle.std.specs.Prelude.{max, nat_le, not, slice_index_or}
+use Rattle.mdv_name.specs.Sound.{IsSound}
+use Rattle.mdv_replica.specs.Images.{SameOutside, blanked, closed, filled, formatted, untouched}
+use Rattle.mdv_replica.specs.Replica.{slot_area}
+use Rattle.mdv_shelf.specs.Area.{AreApart, range}
+use Rattle.mdv_shelf.proofs.Frame.{within_range}
+use Rattle.mdv_quorum.specs.May.{MayAll, is_firm_in, may_wipe}
+use Rattle.mdv_quorum.specs.World.{crashed, wiped_at, without}
+use Rattle.mdv_shown.specs.Formats.{lost_with}
+use Rattle.mdv_shown.specs.Found.{Counts}
+use Rattle.mdv_shown.specs.Others.{IsOther}
+use Rattle.mdv_shown.specs.Shown.{ShowsPlaces}
+use Rattle.mdv_shown.specs.Site.{line_area}
+use Rattle.mdv_shown.specs.Sites.{site_of}
+use Rattle.mdv_shown.specs.Wipes.{spots_behind, spots_from, wiped_all}
+use Rattle.mdv_shown.proofs.Elsewhere.{in_range, range_has}
+use Rattle.mdv_shown.proofs.Formatting.{others_first, others_later}
+use Rattle.mdv_shown.proofs.Framed.{shows_rest}
+use Rattle.mdv_shown.proofs.Others.{other_claims, other_slots}
+use Rattle.mdv_shown.proofs.Sites.{lines_apart, site_is}
+use Rattle.mdv_shown.proofs.Wiped.{IsWiped, all_wiped}
+use Rattle.mdv_shown.proofs.Writes.{slot_within}
+use Rattle.mdv_standing.specs.Below.{Claims, Core, Crash, FamilyTable, FirstIs, Geometry, HasFirst, Head, Identity, Image, IsFormat, IsTable, Key, Log, Mark, Master, MayClaim, MayFill, MayFormat, PlaceAt, Reading, Shows, Site, SliceLine, Slot, Spot, Stage, Table, after_all, is_in, master_on, place_at, place_on, site_area, spot_on}
+use Rattle.mdv_standing.specs.Laws.{ShowsNoTable}
+use Rattle.mdv_standing.specs.Matching.{Matches, tables_of}
+use Rattle.mdv_standing.specs.Others.{Anything, IsAnother, IsBeside, IsLoss}
+use Rattle.mdv_standing.specs.Worlds.{IsWorld, Turned}
+use Rattle.mdv_standing.proofs.Reaching.{reached_more}
+use Rattle.mdv_standing.proofs.Lawful.{not_firm}
+use Rattle.mdv_standing.proofs.Creating.{places_agree, since_wiped, wipe_each}
+
+-- a list has the slice, or all of its slices lie apart from it
+apart_or_in : (xs : List SliceLine) (L : SliceLine) → ((b : SliceLine) → Contains xs b → (L ≡ b) ⊎ AreApart (line_area L) (line_area b)) → Contains xs L ⊎ ((b : SliceLine) → Contains xs b → AreApart (line_area L) (line_area b))
+apart_or_in [] L each = inr (λ b has. absurd (omega (arith, has.1)))
+apart_or_in (x ∷ xs) L each =
+    elim (each x (0, omega arith, refl)) [
+      | inl here ↦ inl (0, omega arith, sym here)
+      | inr apart ↦ elim (apart_or_in xs L (λ b has. each b (suc has.0, omega (arith, has.1), has.2))) [
+        | inl more ↦ inl (suc more.0, omega (arith, more.1), more.2)
+        | inr all ↦ inr (λ b has. by b has.0 has.1 has.2 apart all)
+      ]
+    ]
+  where
+    by : (b : SliceLine) (k : ℕ) → k < length (x ∷ xs) → slice_index_or (x ∷ xs) k b ≡ b → AreApart (line_area L) (line_area x) → ((c : SliceLine) → Contains xs c → AreApart (line_area L) (line_area c)) → AreApart (line_area L) (line_area b)
+    by b zero lt e apart all = subst (λ (l : SliceLine). AreApart (line_area L) (line_area l)) e apart
+    by b (suc k) lt e apart all = all b (k, omega (arith, lt), e)
+
+-- what is done on a slice that isn't one of the site's leaves the blocks of the site
+site_kept : (site : Site) (L : SliceLine) (old new : Image) → ((b : SliceLine) → Contains site.lines b → AreApart (line_area L) (line_area b)) → SameOutside (line_area L) old new
+    → (drive block : ℕ) → site_area site drive block ≡ true → new drive block ≡ old drive block
+site_kept site L old new apart outside drive block is =
+    let found = Any-from_list_any (λ (line : SliceLine). range line.at.drive.0 (line.at.start + 16) (line.at.blocks - 16) drive block) site.lines is in
+    let b = found.1 in
+    let r = in_range b.at.drive.0 (b.at.start + 16) (b.at.blocks - 16) drive block found.4 in
+    let its : line_area b drive block ≡ true =
+    subst (λ (d : ℕ). range b.at.drive.0 b.at.start b.at.blocks d block ≡ true) r.0 (range_has b.at.drive.0 b.at.start b.at.blocks block (omega (arith, r.1)) (omega (arith, r.1, r.2))) in
+    outside drive block (false_from_ne_true (line_area L drive block) (λ has. apart b (found.0, found.2, found.3) drive block has its))
+
+module _ (Spells : List ℕ → Table → Type 0) (g : Geometry) (key : Key) (identity : Identity) (log : Log) (w : Core) (old new : Image) where
+  abbrev site : Site
+  site = site_of g key
+
+  -- the slice isn't one on which a boot of this key looks
+  world_apart : (L : SliceLine) → ((b : SliceLine) → Contains site.lines b → AreApart (line_area L) (line_area b)) → SameOutside (line_area L) old new → IsWorld Spells site identity log w old → IsWorld Spells site identity log w new
+  world_apart L apart outside world = record {
+    reached = world.reached;
+    matches = world.matches;
+    shows = shows_rest Spells site identity (tables_of log.family) w.family w.places old new (site_kept site L old new apart outside) world.shows;
+  }
+
+  module _ (other : Key) (line : SliceLine) (k : ℕ) (first : Master) (head : Head) (is : IsBeside Spells g key identity other old line k first head) (world : IsWorld Spells site identity log w old) where
+    abbrev at : PlaceAt
+    at = place_on line first.blocks first.count k
+
+    cases : Contains site.lines line ⊎ ((b : SliceLine) → Contains site.lines b → AreApart (line_area line) (line_area b))
+    cases = apart_or_in site.lines line (λ b has. lines_apart g is.sound other key line b is.found.one_of has)
+
+    least : 16 ≤ first.blocks
+    least = is.found.located.lies.least
+
+    inside : (drive block : ℕ) → line_area line drive block ≡ false → range line.at.drive.0 (at.first + 1) (first.blocks - 1) drive block ≡ false
+    inside drive block out = (let within = is.found.within in within_range line.at.drive.0 (at.first + 1) (first.blocks - 1) line.at.start line.at.blocks drive block (omega arith) (omega (arith, within, least)) out)
+
+    as_other : Contains site.lines line → IsOther Spells site identity old line k first head
+    as_other has = record {
+      site_is = site_is g key is.sound;
+      found = record { one_of = has; located = is.found.located; numbered = is.found.numbered; within = is.found.within; before = λ j lt. (let c = is.found.before j lt in (c.0, record { readable = c.1.readable; length = c.1.length })); here = record { readable = is.found.here.readable; length = is.found.here.length }; of_key = refl };
+      other = λ same. is.another (sym is.found.of_key ∙ same);
+    }
+
+    stays : Shows Spells site identity (tables_of log.family) w new → IsWorld Spells site identity log w new
+    stays shows = record { reached = world.reached; matches = world.matches; shows = shows }
+
+    pub claims_leave : (number : ℕ) → number < 2 ^ 63 → MayClaim at number old new → IsWorld Spells site identity log w new
+    claims_leave number small change = elim cases [
+      | inl has ↦ stays (other_claims Spells site identity line k first head old new (as_other has) (tables_of log.family) w number small world.shows change)
+      | inr apart ↦ world_apart line apart (⊎_elim (λ same drive block out. same drive block)
+          (λ (c : Claims at number old new) drive block out. c.elsewhere drive block (within_range line.at.drive.0 (at.first + 1) 1 (at.first + 1) (first.blocks - 1) drive block (omega arith) (omega (arith, least)) (inside drive block out))) change) world
+    ]
+
+    pub slots_leave : (slot : Slot) (mark : Mark) (bytes : ℕ) (body : List (List ℕ)) → IsTable (Counts Spells) at mark bytes body → MayFill at slot mark bytes body old new → IsWorld Spells site identity log w new
+    slots_leave slot mark bytes body table change = elim cases [
+      | inl has ↦ stays (other_slots Spells site identity line k first head old new (as_other has) (tables_of log.family) w slot mark bytes body table world.shows change)
+      | inr apart ↦ world_apart line apart (λ drive block out. outside change drive block (slot_within at slot (length body) drive block table.in_slot least (inside drive block out))) world
+    ]
+      where
+        outside : MayFill at slot mark bytes body old new → SameOutside (slot_area at slot (length body)) old new
+        outside (untouched same) = λ drive block out. same drive block
+        outside (closed others shut) = others
+        outside (filled fills) = fills.elsewhere
+
+-- Places of a slice are blanked in a world that has no firm table, behind a crash.
+cut_is : (spots : List Spot) (w : Core) → w.stage ≡ Reading [] → after_all w (wiped_all spots) ≡ record w { places = wipe_each w.places spots }
+cut_is [] w e = refl
+cut_is (p ∷ ps) w e = ap (λ (v : Core). after_all v (wiped_all ps)) (ap (wiped_at w p) e) ∙ cut_is ps (without w p) e
+
+pub ArePlaces : List Spot → Type 0
+ArePlaces [] = Unit {0}
+ArePlaces (p ∷ ps) = (p.mediator ≡ false) × ArePlaces ps
+
+cut_may : (spots : List Spot) (w : Core) → w.stage ≡ Reading [] → w.firm ≡ None → ArePlaces spots → MayAll w (wiped_all spots)
+unfolding ArePlaces
+cut_may [] w e none are = tt
+cut_may (p ∷ ps) w e none are = (
+  subst (λ (s : Stage). may_wipe w p s ≡ true) (sym e) (and_from (not p.mediator) (not (is_firm_in w.family w.firm p)) (not_from_false p.mediator are.0)
+      (not_from_false (is_firm_in w.family w.firm p) (ap (λ (o : Option ℕ). is_firm_in w.family o p) none))),
+  subst (λ (v : Core). MayAll v (wiped_all ps)) (sym (ap (wiped_at w p) e)) (cut_may ps (without w p) e none are.1),
+)
+
+from_places : (line : SliceLine) (b k n : ℕ) → ArePlaces (spots_from line b k n)
+unfolding ArePlaces
+from_places line b k zero = tt
+from_places line b k (suc n) =
+    let rest = spots_from line b (k + 1) n in
+    elim (cases_Bool (nat_le (16 + k * b + b) line.at.blocks)) [
+      | inl fits ↦ subst ArePlaces (sym (cond-true (nat_le (16 + k * b + b) line.at.blocks) (spot_on line b k ∷ rest) rest fits)) (refl, from_places line b (k + 1) n)
+      | inr past ↦ subst ArePlaces (sym (cond-false (nat_le (16 + k * b + b) line.at.blocks) (spot_on line b k ∷ rest) rest past)) (from_places line b (k + 1) n)
+    ]
+
+lost_places : (line : SliceLine) (before : Option Master) → ArePlaces (lost_with line before)
+unfolding ArePlaces
+lost_places line None = tt
+lost_places line (Some first) = from_places line first.blocks 0 (max 1 first.count - 0)
+
+module _ (Spells : List ℕ → Table → Type 0) (site : Site) (identity : Identity) (log : Log) (w : Core) (old new : Image) (world : IsWorld Spells site identity log w old) (none : ShowsNoTable Spells site identity old) where
+  no_firm : w.firm ≡ None
+  no_firm = by w.firm refl
+    where
+      by : (o : Option ℕ) → w.firm ≡ o → w.firm ≡ None
+      by None e = e
+      by (Some f) e = absurd (not_firm Spells site identity log w old world none f e)
+
+  pub loses : (spots : List Spot) → ArePlaces spots → Shows Spells site identity (tables_of log.family) (after_all w (wiped_all spots)) new → Turned Spells site identity log w new IsLoss Anything
+  loses spots are shows =
+      let es = Crash ∷ wiped_all spots in
+      let fits : MayAll w es = (refl, cut_may spots (crashed w) refl no_firm are) in
+      let leads : after_all w es ≡ record (crashed w) { places = wipe_each w.places spots } = cut_is spots (crashed w) refl in
+      let m = world.matches in
+      record {
+        events = es;
+        are = inr (spots, refl);
+        may = fits;
+        world = record {
+          reached = reached_more site w es world.reached fits;
+          matches = subst (Matches site log) (sym leads) (record {
+            kind = m.kind;
+            book = m.book;
+            as_many = m.as_many;
+            each = m.each;
+            answered = m.answered;
+            dropped = λ p i e. m.dropped p i (sym (since_wiped spots w.places p) ∙ e);
+            reused = m.reused;
+            there = m.there;
+          });
+          shows = subst (λ (v : Core). Shows Spells site identity (tables_of log.family) v new) (sym leads) (cut_shows shows leads);
+        };
+        known = tt;
+      }
+    where
+      cut_shows : Shows Spells site identity (tables_of log.family) (after_all w (wiped_all spots)) new → after_all w (Crash ∷ wiped_all spots) ≡ record (crashed w) { places = wipe_each w.places spots }
+          → Shows Spells site identity (tables_of log.family) (record (crashed w) { places = wipe_each w.places spots }) new
+      cut_shows shown leads =
+          let a : IsWiped w (after_all w (wiped_all spots)) spots = all_wiped w spots in
+          let b : IsWiped (crashed w) (record (crashed w) { places = wipe_each w.places spots }) spots = subst (λ (v : Core). IsWiped (crashed w) v spots) leads (all_wiped (crashed w) spots) in
+          places_agree Spells site identity (tables_of log.family) w.family (after_all w (wiped_all spots)).places (wipe_each w.places spots) new
+          (λ q. record {
+            holds = elim (cases_Bool (is_in spots q)) [
+              | inl inside ↦ false_from_ne_true (place_at (wipe_each w.places spots) q).holds (λ h. b.gone q inside h) ∙ sym (false_from_ne_true (place_at (after_all w (wiped_all spots)).places q).holds (λ h. a.gone q inside h))
+              | inr out ↦ b.kept q out ∙ sym (a.kept q out)
+            ];
+            claim = b.claim q ∙ sym (a.claim q);
+            newest = b.newest q ∙ sym (a.newest q);
+          })
+          (subst (λ (f : List FamilyTable). ShowsPlaces Spells site identity (tables_of log.family) f (after_all w (wiped_all spots)).places new) a.family shown)
+
+  pub keeps : Shows Spells site identity (tables_of log.family) w new → Turned Spells site identity log w new IsLoss Anything
+  keeps shows = record { events = []; are = inl refl; may = tt; world = record { reached = world.reached; matches = world.matches; shows = shows }; known = tt }
+
+module _ (Spells : List ℕ → Table → Type 0) (g : Geometry) (key : Key) (identity : Identity) (log : Log) (w : Core) (old new : Image) (other : Key) (its : Identity) (line : SliceLine) (sound : IsSound g) (another : IsAnother key identity other its)
+    (world : IsWorld Spells (site_of g key) identity log w old) (none : ShowsNoTable Spells (site_of g key) identity old) where
+  abbrev mine : Site
+  mine = site_of g key
+
+  beside : (blocks count k number : ℕ) → IsFormat (site_of g other) its old line blocks count k number → ((b : SliceLine) → Contains mine.lines b → AreApart (line_area line) (line_area b))
+      → MayFormat (place_on line blocks count k) (master_on (site_of g other) its line blocks count k) number old new → Turned Spells mine identity log w new IsLoss Anything
+  beside blocks count k number f apart change =
+      keeps Spells mine identity log w old new world none
+      (world_apart Spells g key identity log w old new line apart (λ drive block out. outside change drive block
+      (within_range line.at.drive.0 (line.at.start + (16 + k * blocks)) 4 line.at.start line.at.blocks drive block (omega arith) (omega (arith, f.within, f.lies.least)) out)) world).shows
+    where
+      outside : MayFormat (place_on line blocks count k) (master_on (site_of g other) its line blocks count k) number old new → SameOutside (range line.at.drive.0 (line.at.start + (16 + k * blocks)) 4) old new
+      outside (untouched same) = λ drive block out. same drive block
+      outside (blanked others blank) = others
+      outside (formatted formats) = formats.elsewhere
+
+  in_mine : (blocks count k number : ℕ) → IsFormat (site_of g other) its old line blocks count k number → Contains mine.lines line → IsFormat (record mine { key = other }) its old line blocks count k number
+  in_mine blocks count k number f has = record {
+    site_is = (let is = site_is g key sound in record { apart = is.apart; long = is.long });
+    one_of = has;
+    within = f.within;
+    numbered = f.numbered;
+    form = f.form;
+    lies = f.lies;
+    small = f.small;
+    behind = f.behind;
+  }
+
+  pub first_formats_take : (blocks count number : ℕ) (before : Option Master) → IsFormat (site_of g other) its old line blocks count 0 number → FirstIs (site_of g other) old line before
+      → MayFormat (place_on line blocks count 0) (master_on (site_of g other) its line blocks count 0) number old new → Turned Spells mine identity log w new IsLoss Anything
+  first_formats_take blocks count number before f known change = elim (apart_or_in mine.lines line (λ b has. lines_apart g sound other key line b f.one_of has)) [
+    | inr apart ↦ beside blocks count 0 number f apart change
+    | inl has ↦ elim (others_first Spells mine identity (tables_of log.family) w old new line world.shows other its (λ k i. another k i) blocks count number before (in_mine blocks count 0 number f has) (first_mine before known) change) [
+      | inl same ↦ keeps Spells mine identity log w old new world none same
+      | inr lost ↦ loses Spells mine identity log w old new world none (lost_with line before) (lost_places line before) lost
+    ]
+  ]
+    where
+      first_mine : (o : Option Master) → FirstIs (site_of g other) old line o → FirstIs mine old line o
+      first_mine None is = is
+      first_mine (Some m) is = is
+
+  pub later_formats_take : (k number : ℕ) (first : Master) → 0 < k → IsFormat (site_of g other) its old line first.blocks first.count k number → HasFirst (site_of g other) old line first
+      → MayFormat (place_on line first.blocks first.count k) (master_on (site_of g other) its line first.blocks first.count k) number old new → Turned Spells mine identity log w new IsLoss Anything
+  later_formats_take k number first some f has_first change = elim (apart_or_in mine.lines line (λ b has. lines_apart g sound other key line b f.one_of has)) [
+    | inr apart ↦ beside first.blocks first.count k number f apart change
+    | inl has ↦ elim (others_later Spells mine identity (tables_of log.family) w old new line world.shows other its (λ c i. another c i) k number first some (in_mine first.blocks first.count k number f has)
+        (record { site_is = site_is g key sound; one_of = has; located = has_first.located }) change) [
+          | inl same ↦ keeps Spells mine identity log w old new world none same
+          | inr lost ↦ loses Spells mine identity log w old new world none (spots_behind line first k) (from_places line first.blocks k (max 1 first.count - k)) lost
+        ]
+  ]
