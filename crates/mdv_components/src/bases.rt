@@ -71,7 +71,8 @@ pub(crate) fn use_cause(
     None
 }
 
-fn no_pool(plan: &Plan, pool: Option<PoolId>) -> bool
+/// Whether a pool is named that the plan doesn't have.
+pub fn no_pool(plan: &Plan, pool: Option<PoolId>) -> bool
     ensures { result ≡ spec_no_pool plan.now pool }
 {
     match pool {
@@ -163,7 +164,8 @@ fn is_leaf_kind(kind: &VolumeKind) -> bool
     }
 }
 
-fn is_no_leaf(plan: &Plan, base: Base) -> bool
+/// Whether the base is neither a slice nor a soft partition on a slice.
+pub fn is_no_leaf(plan: &Plan, base: Base) -> bool
     ensures { result ≡ spec_is_no_leaf plan.now base }
 {
     match base {

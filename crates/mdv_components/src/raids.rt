@@ -21,8 +21,8 @@ use std::alloc::{AllocError, Global};
 // The fewest columns.
 const LEAST_COLUMNS: usize = 3;
 
-// How many blocks at the front of each column are for prewrites.
-const PREWRITE_BLOCKS: u64 = 136;
+/// How many blocks at the front of each column are for prewrites.
+pub const PREWRITE_BLOCKS: u64 = 136;
 
 /// The first cause for which the volume is refused.
 pub fn refuse_raid(

@@ -6,10 +6,11 @@ ghost use Rattle.mdv_components.specs.Room.{okay_part as spec_okay_part};
 ghost use Rattle.mdv_plan.specs.Slices.{IsSound};
 ghost use Rattle.mdv_components.specs.Room.{behind as spec_behind, behind_all as spec_behind_all};
 ghost use Rattle.mdv_components.specs.Room.{behind_replicas as spec_behind_replicas, first_block as spec_first_block};
-ghost use Rattle.mdv_components.specs.Room.{run_blocks, kind_blocks as spec_kind_blocks, start_of as spec_start_of, room_of as spec_room_of};
+ghost use Rattle.mdv_components.specs.Room.{run_blocks, kind_blocks as spec_kind_blocks, start_of as spec_start_of, room_of as spec_room_of, volume_blocks as spec_volume_blocks};
+ghost use Rattle.mdv_components.specs.Bases.{volume_of as spec_volume_of};
 
 use crate::bases::volume_of;
-use mdv_base::{Place, Places, SliceName};
+use mdv_base::{Place, Places, SliceName, VolId};
 use mdv_extent::Run;
 use mdv_name::{Geometry, SliceAt};
 use mdv_plan::{
@@ -59,7 +60,8 @@ fn behind_replicas(lists: &Lists, slice: SliceName) -> u64
     }
 }
 
-fn first_block(lists: &Lists, slice: SliceName, at: SliceAt) -> u64
+/// The first block of a slice that isn't for replicas: behind block 16 and all replicas where it is set aside for some, else block 0.
+pub fn first_block(lists: &Lists, slice: SliceName, at: SliceAt) -> u64
     ensures { result ≡ spec_first_block lists.now slice at }
 {
     if at.db {
@@ -85,6 +87,16 @@ fn kind_blocks(kind: &VolumeKind) -> u64
     match kind {
         VolumeKind::Soft(soft) => soft_blocks(soft.extents.as_slice()),
         _ => 0,
+    }
+}
+
+/// The blocks of the soft partition of this number, of which no more than 2^63 count; a volume of another kind has none here.
+pub fn soft_blocks_of(plan: &Plan, volume: VolId) -> u64
+    ensures { result ≡ spec_volume_blocks (spec_volume_of plan.now volume) }
+{
+    match volume_of(plan, volume) {
+        Some(volume) => kind_blocks(&volume.kind),
+        None => 0,
     }
 }
 
@@ -115,10 +127,7 @@ pub fn room_of(geometry: &Geometry, plan: &Plan, base: Base) -> u64
                 .saturating_sub(first_block(&plan.lists, slice, at)),
             None => 0,
         },
-        Base::Volume(volume) => match volume_of(plan, volume) {
-            Some(volume) => kind_blocks(&volume.kind),
-            None => 0,
-        },
+        Base::Volume(volume) => soft_blocks_of(plan, volume),
     }
 }
 

@@ -24,8 +24,8 @@ fn run_of_any(table: &Table, volumes: &[VolId], block: u64) -> u64
     0
 }
 
-// Whether none of the volumes has a usable copy of some block below the last. It goes from run to run.
-fn has_bare(table: &Table, volumes: &[VolId], blocks: u64) -> bool
+/// Whether none of the volumes has a usable copy of some block below the last. It goes from run to run.
+pub fn has_bare(table: &Table, volumes: &[VolId], blocks: u64) -> bool
     ensures { result ≡ any_below (is_bare table.now volumes.now) blocks }
 {
     let mut block: u64 = 0;

@@ -18,7 +18,7 @@ pub struct Leg {
 }
 
 /// Those of a mirror, in order.
-pub(crate) type Legs = Listed<Leg, MAX_SUBMIRRORS>;
+pub type Legs = Listed<Leg, MAX_SUBMIRRORS>;
 
 /// Whether each of them is offline, in order.
 pub(crate) type Flags = Listed<bool, MAX_SUBMIRRORS>;
@@ -79,7 +79,7 @@ fn flags_behind(flags: &[bool]) -> &[bool]
 }
 
 /// The submirrors of the mirror.
-pub(crate) fn legs_of(alloc: Global, table: &Table, mirror: VolId) -> Result<Legs, AllocError>
+pub fn legs_of(alloc: Global, table: &Table, mirror: VolId) -> Result<Legs, AllocError>
     ensures { IfOk result (λ made. made ≡ spec_legs_of table.now mirror) }
 {
     let flags = flags_of(&table.status, mirror);

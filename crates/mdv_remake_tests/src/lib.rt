@@ -4,6 +4,8 @@
 #[cfg(test)]
 mod extent_tests;
 #[cfg(test)]
+mod fitting_tests;
+#[cfg(test)]
 mod print_tests;
 #[cfg(test)]
 mod tables;

@@ -7,7 +7,7 @@ use std::alloc::Global;
 use std::test::Fail;
 
 // Each is what is printed of the table that it makes.
-const TEXTS: &[&[u8]] = &[
+pub(crate) const TEXTS: &[&[u8]] = &[
     b"",
     b"d10 1 1 c0t0d0s0
 ",

@@ -33,7 +33,8 @@ const REPLICAS: SliceName = SliceName {
     slice: 7,
 };
 
-fn drives(alloc: Global) -> Result<Geometry, Fail>
+/// The table of drives.
+pub(crate) fn drives(alloc: Global) -> Result<Geometry, Fail>
     ensures { IfOk result IsSound }
 {
     let geometry = Geometry::read(alloc, DRIVES)?;

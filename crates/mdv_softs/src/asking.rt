@@ -125,8 +125,8 @@ fn contains_soft(plan: &Plan, kind: &VolumeKind) -> bool
     }
 }
 
-// Whether the base is a soft partition, or contains one.
-pub(crate) fn is_nested(plan: &Plan, base: Base) -> bool
+/// Whether the base is a soft partition, or contains one.
+pub fn is_nested(plan: &Plan, base: Base) -> bool
     ensures { result ≡ spec_is_nested plan.now base }
 {
     match base {

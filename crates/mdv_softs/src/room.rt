@@ -80,7 +80,8 @@ fn raid_blocks(raid: &Raid) -> u64
         .min(MOST_BLOCKS)
 }
 
-fn kind_blocks(kind: &VolumeKind) -> u64
+/// The blocks of a volume on which soft partitions may lie, of which no more than 2^63 count; a soft partition has none.
+pub fn kind_blocks(kind: &VolumeKind) -> u64
     ensures value { result ≡ spec_kind_blocks kind.now }
     ensures most { result ≤ 2 ^ 63 }
 {

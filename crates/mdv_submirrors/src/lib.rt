@@ -12,4 +12,4 @@ pub use attaching::{
 };
 pub use joining::{all_joined, note_all, status_at};
 pub use mirrors::{MirrorAsked, mirror_on, mirror_status, refuse_mirror};
-pub use sizes::{is_no_stripe, is_no_volume, row_blocks, stripe_blocks};
+pub use sizes::{blocks_of, is_no_stripe, is_no_volume, row_blocks, stripe_blocks};

@@ -50,8 +50,8 @@ pub fn stripe_blocks(kind: &VolumeKind) -> u64
     }
 }
 
-// The blocks of a stripe or concatenation.
-pub(crate) fn blocks_of(plan: &Plan, volume: VolId) -> u64
+/// The blocks of the stripe or concatenation of this number; a volume of another kind has none here.
+pub fn blocks_of(plan: &Plan, volume: VolId) -> u64
     ensures { result ≡ spec_blocks_of plan.now volume }
 {
     match volume_of(plan, volume) {

@@ -1,0 +1,11 @@
+pub mod Below
+pub mod Beside
+pub mod Decoded
+pub mod Firsts
+pub mod Keys
+pub mod Fit
+pub mod OnBases
+pub mod Parts
+pub mod Places
+pub mod Runs
+pub mod Starts

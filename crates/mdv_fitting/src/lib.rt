@@ -1,0 +1,14 @@
+//! Whether a table fits a table of drives, and the tables of a table of drives by their texts.
+#![tactic(auto)]
+
+mod bases;
+mod beside;
+mod decoding;
+mod extents;
+mod fit;
+mod key;
+mod parts;
+mod places;
+
+pub use decoding::decode;
+pub use fit::fits;

@@ -1,0 +1,3 @@
+mod Beside
+mod Firsts
+mod Sets
