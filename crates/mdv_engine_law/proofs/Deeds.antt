@@ -56,8 +56,8 @@ module _ (host : Host) (memory : Memory) (u v : Tale) (kept : KeptOutside nowher
   told_one (Changed key change) can =
       let same = only_key host key can.site can.is_site in
       subst (λ (k : Key). Goes host [] (Changed k change ∷ []) Known v h) (sym same) (newest_told (Some change) (subst (λ (k : Key). IsTellable (sites_of host) h k (Some change)) same can))
-  told_one (Wrote key volume at blocks) can = tells (Wrote key volume at blocks) (Acknowledges can.0 key volume at blocks) (record {
-    course = ((can.1, can.2), tt);
+  told_one (Wrote key volume at blocks) can = tells (Wrote key volume at blocks) (Acknowledges can.untold.0 key volume at blocks) (record {
+    course = (((can.untold.1, can.untold.2), can.range, can.only), tt);
     begins = refl;
     tells = refl;
     stands = record { databases = here.stands.databases; laid = here.stands.laid; apart = here.stands.apart; volumes = here.stands.volumes };

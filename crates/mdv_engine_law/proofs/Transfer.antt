@@ -213,7 +213,7 @@ module _ (host : Host) (sizes : List ℕ) (ready : IsReady host sizes) (memory :
           still (history_after_all h es) stands refl (λ other.
               count_kept second (key_of host) volume (Flushes at (length blocks)) (λ n. refl) (key_of host) other ∙ count_kept first (key_of host) volume (Answers at blocks) (λ n. refl) (key_of host) other
               ∙ count_kept h (key_of host) volume (Issues at blocks) (λ n. refl) (key_of host) other),
-          done.untold,
+          done.can_tell,
         )
 
   pub writing_moment : StaysHome host t m → CarryMoment host (ToDo wrote) memory t m

@@ -208,7 +208,7 @@ module _ (drives : Geometry) (home : Home) where
       blocks_are = record {
         history = is;
         reads = λ volume v named b x lt among. (is.stands.stands.volumes key volume v named).reads b x lt among;
-        lasts = λ es later place other volume at blocks same. told_writes_last (sites_of host) new_history es later place other volume at blocks (λ k site is_site. empty_is_log site.drives) refl refl (subst (IsCourse (sites_of host) new_history) same its_may);
+        lasts = λ es later place other volume at blocks same. told_writes_last (sites_of host) new_history es later place other volume at blocks (λ k site is_site. empty_is_log site.drives) (subst (IsCourse (sites_of host) new_history) same its_may);
       }
 
 pub lives_stand : LivesStand

@@ -26,7 +26,7 @@ answer_among b log at blocks last is =
     subst (λ (i : ℕ). Among (log i).reads (slice_index_or blocks (b - at) [])) (sym place.is)
     (subst (λ (l : List (List ℕ)). Among l (slice_index_or blocks (b - at) [])) (sym newest.1) (inl (ap (λ (i : ℕ). slice_index_or blocks i []) same)))
 
-the_one : {y z : List ℕ} → Among (z ∷ []) y → y ≡ z
+pub the_one : {y z : List ℕ} → Among (z ∷ []) y → y ≡ z
 the_one (inl is) = is
 the_one (inr none) = absurd none
 

@@ -50,8 +50,8 @@ module _ (sites : Sites) (h : History) (t : Tale) (apart : AreSitesApart sites) 
 pub tells_go : TellsGo
 tells_go sites h (Created key) t apart can stands = told_by_database sites h t apart stands key None can
 tells_go sites h (Changed key change) t apart can stands = told_by_database sites h t apart stands key (Some change) can
-tells_go sites h (Wrote key volume at blocks) t apart can stands = told_one sites h t apart stands (Wrote key volume at blocks) (Acknowledges can.0 key volume at blocks) (record {
-  course = ((can.1, can.2), tt);
+tells_go sites h (Wrote key volume at blocks) t apart can stands = told_one sites h t apart stands (Wrote key volume at blocks) (Acknowledges can.untold.0 key volume at blocks) (record {
+  course = (((can.untold.1, can.untold.2), can.range, can.only), tt);
   begins = refl;
   tells = refl;
   stands = record { databases = stands.databases; laid = stands.laid; apart = stands.apart; volumes = stands.volumes };

@@ -1,20 +1,22 @@
 -- Blocks of a volume are written and read.
-use Rattle.std.proofs.Common.{◌≡◌, ℕ, true, false, List, [], ◌∷◌, ◌++◌, filter, length, Contains, refl, sym, subst, arith}
+use Rattle.std.proofs.Common.{◌≡◌, ◌+◌, ◌<◌, ℕ, true, false, List, [], ◌∷◌, ◌++◌, filter, length, slice_index_or, Contains, refl, sym, ◌∙◌, ap, subst, arith}
 use Rattle.std.proofs.lemmas.Bool.Decides.{nat_tests}
 use Rattle.mdv_map.proofs.Covering.{areas_cover}
 use Rattle.mdv_map.proofs.Following.{answers_follow, flushes_follow, issues_follow}
 use Rattle.mdv_store_law.specs.Standing as database
 use Rattle.mdv_store_law.proofs.Frame.{frames}
-use Rattle.mdv_volumes.specs.Below.{AllOnDisk, AllRead, AreApart, AreLastIssued, Area, Follows, IsDisjoint, Key, Map, Rewriting, Site, Tale, VolId, VolumeLog, area_of, area_of_map}
+use Rattle.mdv_volumes.specs.Below.{AllOnDisk, AllRead, AreApart, AreLastIssued, Area, Follows, IsDisjoint, Key, Map, Rewriting, Site, Tale, VolId, VolumeLog, area_of, area_of_map, is_among, only}
 use Rattle.mdv_volumes.specs.Databases.{is_volume, log_of}
 use Rattle.mdv_volumes.specs.Events.{Answers, Flushes, Issues, VolumeEvent}
 use Rattle.mdv_volumes.specs.Events as lives
-use Rattle.mdv_volumes.specs.Happening.{HasRange, IsNamed}
+use Rattle.mdv_volumes.specs.Happening.{HasRange, HaveOnly, IsNamed}
 use Rattle.mdv_volumes.specs.Histories.{Happens, Stands}
-use Rattle.mdv_volumes.specs.History.{Wrote, OfVolume, History, history_after, is_within}
+use Rattle.mdv_volumes.specs.History.{Wrote, OfVolume, History, events_of, history_after, is_within}
 use Rattle.mdv_volumes.specs.HistoryLaws.{IsWritten, ReadsGo, WritesGo}
 use Rattle.mdv_volumes.specs.Tables.{IsSite, Sites}
 use Rattle.mdv_volumes.proofs.Databases.{volume_itself}
+use Rattle.mdv_volumes.proofs.Lives.{volumes_live}
+use Rattle.mdv_volumes.proofs.Logs.{writes_last}
 use Rattle.mdv_volumes.proofs.Standing.{frames_stand, reads_stand, writes_stand}
 use Rattle.mdv_volumes.proofs.Volumes.{after_own, other_map, same_map, stands_after, there_found, there_named}
 
@@ -61,6 +63,9 @@ module _ (sites : Sites) (h : History) (key : Key) (volume : VolId) (e : VolumeE
   pub noted : ((w : Map) → IsNamed sites h.databases key volume w → Follows w (lives.log_after (h.volumes key volume) e) t) → Stands sites (history_after h (OfVolume key volume e)) t
   noted own = stands_after sites h key volume e t t stands stands.databases own (λ other beside w away named. stands.volumes other beside w named)
 
+among_own : (at count k : ℕ) → k < count → is_among at count (at + k) ≡ true
+among_own at count k lt = grind (arith, nat_tests)
+
 contains_one : {A : Type 0} (x : A) (xs ys : List A) → Contains ((x ∷ xs) ++ ys) x
 contains_one x xs ys = (0, omega arith, refl)
 
@@ -92,10 +97,26 @@ module _ (sites : Sites) (h : History) (key : Key) (volume : VolId) (at : ℕ) (
   within_itself : is_within key volume at (length blocks) (Wrote key volume at blocks) ≡ true
   within_itself = let here = volume_itself key volume in rw here (grind (arith, nat_tests))
 
+  -- then each block has its value alone
+  abbrev settled : List VolumeEvent
+  settled = Answers at blocks ∷ Flushes at (length blocks) ∷ []
+
+  settled_events : events_of key volume (OfVolume key volume (Answers at blocks) ∷ OfVolume key volume (Flushes at (length blocks)) ∷ []) ≡ settled
+  settled_events = let here = volume_itself key volume in rw here refl
+
+  have_only : HaveOnly ((history_after second (OfVolume key volume (Flushes at (length blocks)))).volumes key volume) at blocks
+  have_only k lt =
+      let is = volumes_live.is key volume first (OfVolume key volume (Answers at blocks) ∷ OfVolume key volume (Flushes at (length blocks)) ∷ []) ∙ ap (lives.log_after_all (first.volumes key volume)) settled_events in
+      subst (λ (l : VolumeLog). l (at + k) ≡ only (slice_index_or blocks k [])) (sym is) (writes_last.flushed (first.volumes key volume) at blocks [] at (length blocks) k lt (last_issued, tt) tt tt refl (among_own at (length blocks) k lt))
+
   pub written_goes : IsWritten sites h key volume at blocks u
   written_goes = record {
     happens = record { course = ((tt, range), ((last_issued, range), ((tt, tt), tt))); begins = refl; tells = refl; stands = third_stands };
-    untold = let is = within_itself in rw is (contains_one (Wrote key volume at blocks) (filter (is_within key volume at (length blocks)) h.answered) h.untold);
+    can_tell = record {
+      untold = let is = within_itself in rw is (contains_one (Wrote key volume at blocks) (filter (is_within key volume at (length blocks)) h.answered) h.untold);
+      range = range;
+      only = have_only;
+    };
   }
 
 pub writes_go : WritesGo

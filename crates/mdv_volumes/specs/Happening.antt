@@ -1,6 +1,6 @@
 -- When each event of a history may happen, what it tells and what it begins.
 use Rattle.std.specs.Prelude.{◌≡◌, ℕ, ◌+◌, ◌<◌, ◌≤◌, true, false, List, [], ◌∷◌, length, map, slice_index_or, Option, None, Some, Contains}
-use Rattle.mdv_volumes.specs.Below.{Change, Identity, IsNotOlder, Key, Map, Site, Version, VolId, is_firm}
+use Rattle.mdv_volumes.specs.Below.{Change, Identity, IsNotOlder, Key, Map, Site, Version, VolId, VolumeLog, is_firm, only}
 use Rattle.mdv_store_law.specs.Log as log
 use Rattle.mdv_store_law.specs.Machine.{all_of}
 use Rattle.mdv_store_law.specs.Machine as machine
@@ -76,13 +76,17 @@ IsPlaced sites h key volume (Woke count content) = Unit {0}
 abbrev pub IsUntoldAt : List Deed → ℕ → Deed → Type 0
 IsUntoldAt deeds place deed = (place < length deeds) × (slice_index_or deeds place deed ≡ deed)
 
--- when each event may happen
+-- each of these blocks has this one value, by reads and by crashes
+abbrev pub HaveOnly : VolumeLog → ℕ → List (List ℕ) → Type 0
+HaveOnly log at blocks = (k : ℕ) → k < length blocks → log (at + k) ≡ only (slice_index_or blocks k [])
+
+-- When each event may happen. A write is told while its values are all that its blocks may have, whatever crashes.
 abbrev pub MayHappen : Sites → History → Event → Type 0
 MayHappen sites h (Creation key identity) = MayBegin sites h.databases key
 MayHappen sites h (OfDatabase key identity e) = IsOfCurrent sites h.databases key identity e
 MayHappen sites h (OfVolume key volume e) = lives.MayHappen (h.volumes key volume) e × IsPlaced sites h key volume e
 MayHappen sites h (Reads key volume at blocks) = HasRange sites h.databases key volume at (length blocks) × AreReadable (h.volumes key volume) at blocks
-MayHappen sites h (Acknowledges place key volume at blocks) = IsUntoldAt h.untold place (Wrote key volume at blocks)
+MayHappen sites h (Acknowledges place key volume at blocks) = IsUntoldAt h.untold place (Wrote key volume at blocks) × HasRange sites h.databases key volume at (length blocks) × HaveOnly (h.volumes key volume) at blocks
 MayHappen sites h (Shows place key volume at blocks) = IsUntoldAt h.untold place (Saw key volume at blocks)
 MayHappen sites h (Boots key) = Unit {0}
 MayHappen sites h Stops = Unit {0}

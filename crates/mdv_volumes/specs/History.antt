@@ -140,8 +140,8 @@ woken_after woken (Reads key volume at blocks) other beside = woken other beside
 woken_after woken (Acknowledges place key volume at blocks) other beside = woken other beside
 woken_after woken (Shows place key volume at blocks) other beside = woken other beside
 woken_after woken (Boots key) other beside = if same_key key other then 0 else woken other beside
-woken_after woken Stops other beside = woken other beside
-woken_after woken Crashes other beside = woken other beside
+woken_after woken Stops other beside = 0
+woken_after woken Crashes other beside = 0
 
 abbrev pub history_after : History → Event → History
 history_after h e = record {

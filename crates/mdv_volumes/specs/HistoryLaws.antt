@@ -9,7 +9,7 @@ use Rattle.mdv_store_law.specs.Standing as database
 use Rattle.mdv_volumes.specs.Databases.{Database, current_of, log_of, same_key}
 use Rattle.mdv_volumes.specs.Events.{Answers, Begins, Flushes, Issues, Woke}
 use Rattle.mdv_volumes.specs.Events as lives
-use Rattle.mdv_volumes.specs.Happening.{HasRange, IsCourse, IsNamed, IsThere, deed_of, issued_by, told_by}
+use Rattle.mdv_volumes.specs.Happening.{HasRange, HaveOnly, IsCourse, IsNamed, IsThere, deed_of, issued_by, told_by}
 use Rattle.mdv_volumes.specs.Histories.{Happens, Stands}
 use Rattle.mdv_volumes.specs.LogLaws.{MayBe}
 use Rattle.mdv_volumes.specs.History.{Deed, Created, Changed, Wrote, Saw, Event, Creation, OfDatabase, OfVolume, Reads, Acknowledges, Shows, Boots, Stops, Crashes, History, events_of, history_after, history_after_all}
@@ -38,10 +38,16 @@ pub record VolumesLive : Type 0 where
 abbrev pub write_of : Key → VolId → ℕ → List (List ℕ) → List Event
 write_of key volume at blocks = OfVolume key volume (Issues at blocks) ∷ OfVolume key volume (Answers at blocks) ∷ OfVolume key volume (Flushes at (length blocks)) ∷ []
 
+-- a write that is done, and isn't told: the newest table has its blocks, and each has just its value
+pub record CanAcknowledge (sites : Sites) (h : History) (key : Key) (volume : VolId) (at : ℕ) (blocks : List (List ℕ)) : Type 0 where
+  pub untold : Contains h.untold (Wrote key volume at blocks)
+  pub range : HasRange sites h.databases key volume at (length blocks)
+  pub only : HaveOnly (h.volumes key volume) at blocks
+
 -- a write is done, and can be told
 pub record IsWritten (sites : Sites) (h : History) (key : Key) (volume : VolId) (at : ℕ) (blocks : List (List ℕ)) (u : Tale) : Type 0 where
   pub happens : Happens sites h (write_of key volume at blocks) (Wrote key volume at blocks ∷ []) [] u
-  pub untold : Contains (history_after_all h (write_of key volume at blocks)).untold (Wrote key volume at blocks)
+  pub can_tell : CanAcknowledge sites (history_after_all h (write_of key volume at blocks)) key volume at blocks
 
 -- what happens to the log of one key
 abbrev pub log_events_at : Key → Event → List log.Event
@@ -152,7 +158,7 @@ pub record IsTellable (sites : Sites) (h : History) (key : Key) (asked : Option 
 abbrev pub CanTell : Sites → Deed → History → Type 0
 CanTell sites (Created key) h = IsTellable sites h key None
 CanTell sites (Changed key change) h = IsTellable sites h key (Some change)
-CanTell sites (Wrote key volume at blocks) h = Contains h.untold (Wrote key volume at blocks)
+CanTell sites (Wrote key volume at blocks) h = CanAcknowledge sites h key volume at blocks
 CanTell sites (Saw key volume at blocks) h = Contains h.untold (Saw key volume at blocks)
 
 -- it was told, and nothing else happened
@@ -220,21 +226,17 @@ abbrev pub BeginningsGo : Type 0
 BeginningsGo = (sites : Sites) (h : History) (key : Key) (volume : VolId) (from : ℕ) (v : Map) (t : Tale) → ((w : Map) → IsNamed sites h.databases key volume w → w.blocks ≤ from) → Follows (record v { blocks = from }) (h.volumes key volume) t
     → Stands sites h t → IsBegun sites h key volume from v t
 
--- A write of blocks was answered among these events. Behind them it was told, and later ones came: whatever happened, a read gives of each of its blocks, and
--- a crash leaves, what was written, or what was issued since it was answered.
+-- A write of blocks was told behind these events, and later ones came: whatever happened, a read gives of each of its blocks, and a crash leaves, what was
+-- written, or what was issued since it was told.
 pub record Lasts (h : History) (es later : List Event) (place : ℕ) (key : Key) (volume : VolId) (at : ℕ) (blocks : List (List ℕ)) : Type 0 where
-  pub before : List Event
-  pub since : List Event
-  pub is : es ≡ before ++ OfVolume key volume (Answers at blocks) ∷ since
-  pub lasts : (k : ℕ) (x : List ℕ) → k < length blocks
-      → MayBe ((history_after_all h (es ++ Acknowledges place key volume at blocks ∷ later)).volumes key volume) (at + k) x
-      → (x ≡ slice_index_or blocks k []) ⊎ Among (lives.issued_to (at + k) (events_of key volume (since ++ later))) x
+  pub lasts : (k : ℕ) (x : List ℕ) → k < length blocks → MayBe ((history_after_all h (es ++ Acknowledges place key volume at blocks ∷ later)).volumes key volume) (at + k) x
+      → (x ≡ slice_index_or blocks k []) ⊎ Among (lives.issued_to (at + k) (events_of key volume later)) x
 
 -- of each key the family of tables is one, and what was told is firm
 abbrev pub HasLogs : Sites → History → Type 0
 HasLogs sites h = (key : Key) (site : Site) → IsSite sites key site → log.IsLog site.drives (log_of h.databases key)
 
--- so it is of every write that is told, from a history of which nothing was done and untold
+-- so it is of every write that is told
 abbrev pub ToldWritesLast : Type 0
-ToldWritesLast = (sites : Sites) (h : History) (es later : List Event) (place : ℕ) (key : Key) (volume : VolId) (at : ℕ) (blocks : List (List ℕ)) → HasLogs sites h → h.answered ≡ [] → h.untold ≡ []
+ToldWritesLast = (sites : Sites) (h : History) (es later : List Event) (place : ℕ) (key : Key) (volume : VolId) (at : ℕ) (blocks : List (List ℕ)) → HasLogs sites h
     → IsCourse sites h (es ++ Acknowledges place key volume at blocks ∷ later) → Lasts h es later place key volume at blocks
