@@ -10,3 +10,5 @@ pub mod Others
 pub mod Formatted
 pub mod Formatting
 pub mod Choice
+pub mod Kept
+pub mod Made

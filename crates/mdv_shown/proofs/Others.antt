@@ -1,10 +1,9 @@
 -- What an image shows of one database where another's replica was claimed or written.
-use Rattle.std.proofs.Common.{◌≡◌, inl, inr, ⊎_elim, ℕ, ◌+◌, ◌-◌, ◌<◌, ◌≤◌, ◌^◌, refl, sym, ◌∙◌, ap, subst, List, length, arith}
-use Rattle.mdv_shown.specs.Below.{Identity, Mark, SliceLine, IsReadable, IsTable, IsMasterAt, Master, Head, PlaceAt, Slot, Closed, Open, claimed_head, with_slot, gate_at, slot_area, slot_blocks, block_of, gate_text, with_blocks}
-use Rattle.mdv_shown.specs.Below.{Claims, Fills, MayClaim, MayFill, untouched, closed, filled, Image, SameOutside, range, Core, place_at, SpotState, Version}
-use Rattle.mdv_shelf.proofs.Frame.{before_range, within_range}
+use Rattle.std.proofs.Common.{◌≡◌, inl, inr, ⊎_elim, ℕ, ◌+◌, ◌<◌, ◌≤◌, ◌^◌, refl, sym, ◌∙◌, ap, subst, List}
+use Rattle.mdv_shown.specs.Below.{Identity, Mark, SliceLine, IsReadable, IsTable, Master, Head, PlaceAt, Slot, with_blocks}
+use Rattle.mdv_shown.specs.Below.{MayClaim, MayFill, untouched, closed, filled, Image, Core, place_at, SpotState, Version}
 use Rattle.mdv_replica.proofs.Heads.{one_head}
-use Rattle.mdv_replica.proofs.Showing.{readable_with_claim, readable_closed, readable_filled, own_place}
+use Rattle.mdv_replica.proofs.Showing.{own_place}
 use Rattle.mdv_shown.specs.Site.{Site, size_on, place_on, spot_on}
 use Rattle.mdv_shown.specs.Found.{Counts, IsOwn}
 use Rattle.mdv_shown.specs.Shown.{ShowsPlaces, Shows}
@@ -13,7 +12,7 @@ use Rattle.mdv_shown.specs.Others.{IsOther, OthersGo}
 use Rattle.mdv_shown.proofs.Elsewhere.{IsThere, there_of, elsewhere}
 use Rattle.mdv_shown.proofs.Rewritten.{place_same}
 use Rattle.mdv_shown.proofs.Framed.{shows_same}
-use Rattle.mdv_shown.proofs.Writes.{master_slotted, slot_within}
+use Rattle.mdv_shown.proofs.Kept.{IsRewrite, claim_rewrites, closed_rewrites, filled_rewrites, located_new}
 
 module _ {Table : Type 0} (Spells : List ℕ → Table → Type 0) (site : Site) (identity : Identity) (L : SliceLine) (K : ℕ) (F : Master) (head : Head) (old new : Image)
     (is : IsOther Spells site identity old L K F head) where
@@ -46,21 +45,14 @@ module _ {Table : Type 0} (Spells : List ℕ → Table → Type 0) (site : Site)
       (subst (λ (i : ℕ). IsOwn Spells site identity L i image first n) e.1
       (subst (λ (l : SliceLine). IsOwn Spells site identity l k image first n) e.0 own)))
 
-  module _ (next : Head) (behind : SameOutside (range L.at.drive.0 (at.first + 1) (F.blocks - 1)) old new) (now : IsReadable (Counts Spells) at (size_on site L) (new L.at.drive.0) next) (master : next.master ≡ head.master) where
-    located_new : IsMasterAt (place_on L 8192 0 0) (size_on site L) (new L.at.drive.0 (L.at.start + 16)) F
-    located_new = record {
-      form = there.located.form;
-      spelled = behind L.at.drive.0 (L.at.start + 16) (before_range L.at.drive.0 (at.first + 1) (F.blocks - 1) (L.at.start + 16) (omega arith)) ∙ there.located.spelled;
-      lies = there.located.lies;
-    }
-
-    there_new : IsThere Spells site L K (new L.at.drive.0) F next
-    there_new = record { one_of = there.one_of; located = located_new; numbered = there.numbered; within = there.within; here = record { readable = now; length = ap (λ (m : Master). m.blocks) master ∙ there.here.length } }
+  module _ (r : IsRewrite Spells site L K F head old new is.found) where
+    there_new : IsThere Spells site L K (new L.at.drive.0) F r.next
+    there_new = record { one_of = there.one_of; located = located_new Spells site L K F head old new is.found r; numbered = there.numbered; within = there.within; here = record { readable = r.now; length = ap (λ (m : Master). m.blocks) r.master ∙ there.here.length } }
 
     pub others_show : (tables : ℕ → Table) (family : List Version) (places : List SpotState) → ShowsPlaces Spells site identity tables family places old → ShowsPlaces Spells site identity tables family places new
     others_show tables family places shows = record {
-      each = λ line k first h own. elim (elsewhere Spells site is.site_is new old L K F head there (λ drive block out. sym (behind drive block out)) located_new line k first h own.found) [
-        | inl e ↦ absurd (not_there new next now master line k first h e own)
+      each = λ line k first h own. elim (elsewhere Spells site is.site_is new old L K F head there (λ drive block out. sym (r.behind drive block out)) (located_new Spells site L K F head old new is.found r) line k first h own.found) [
+        | inl e ↦ absurd (not_there new r.next r.now r.master line k first h e own)
         | inr kept ↦
             place_same Spells tables family (place_on line first.blocks first.count k) (old line.at.drive.0) (new line.at.drive.0) h (place_at places (spot_on line first.blocks k)) own.found.located.lies.least
             (λ block from to. sym (kept.same block from to))
@@ -68,7 +60,7 @@ module _ {Table : Type 0} (Spells : List ℕ → Table → Type 0) (site : Site)
       ];
       only = λ q kind holds.
           let was = shows.only q kind holds in
-          elim (elsewhere Spells site is.site_is old new L K F next there_new behind there.located was.line was.number was.first was.head was.own.found) [
+          elim (elsewhere Spells site is.site_is old new L K F r.next there_new r.behind there.located was.line was.number was.first was.head was.own.found) [
             | inl e ↦ absurd (not_there old head there.here.readable refl was.line was.number was.first was.head e was.own)
             | inr kept ↦ record {
               line = was.line;
@@ -85,31 +77,14 @@ module _ {Table : Type 0} (Spells : List ℕ → Table → Type 0) (site : Site)
   pub other_claims : (tables : ℕ → Table) (w : Core) (number : ℕ) → number < 2 ^ 63 → Shows Spells site identity tables w old → MayClaim at number old new → Shows Spells site identity tables w new
   other_claims tables w number small shows change = ⊎_elim
       (λ same. shows_same Spells site identity tables w.family w.places old new same shows)
-      (λ (claims : Claims at number old new).
-      others_show (claimed_head head number)
-      (λ drive block out. claims.elsewhere drive block (within_range L.at.drive.0 (at.first + 1) 1 (at.first + 1) (F.blocks - 1) drive block (omega arith) (omega (arith, least)) out))
-      (readable_with_claim (Counts Spells) at (size_on site L) old new head there.here.readable number small claims)
-      refl tables w.family w.places shows)
+      (λ claims. others_show (claim_rewrites Spells site L K F head old new is.found number small claims) tables w.family w.places shows)
       change
 
   pub other_slots : (tables : ℕ → Table) (w : Core) (slot : Slot) (mark : Mark) (bytes : ℕ) (body : List (List ℕ)) → IsTable (Counts Spells) at mark bytes body → Shows Spells site identity tables w old
       → MayFill at slot mark bytes body old new → Shows Spells site identity tables w new
   other_slots tables w slot mark bytes body table shows (untouched same) = shows_same Spells site identity tables w.family w.places old new same shows
-  other_slots tables w slot mark bytes body table shows (closed others shut) =
-      others_show (with_slot head slot Closed)
-      (λ drive block out. others drive block (slot_within at slot (length body) drive block table.in_slot least out))
-      (readable_closed (Counts Spells) at (size_on site L) old new head there.here.readable slot (length body)
-      (subst (λ (b : ℕ). length body ≤ slot_blocks b) (sym there.here.length) table.in_slot)
-      (subst (λ (p : PlaceAt). SameOutside (slot_area p slot (length body)) old new) sized others)
-      (subst (λ (p : PlaceAt). new L.at.drive.0 (gate_at p slot) ≡ block_of (gate_text Closed)) sized shut))
-      (master_slotted head slot Closed) tables w.family w.places shows
-  other_slots tables w slot mark bytes body table shows (filled fills) =
-      others_show (with_slot head slot (Open mark bytes))
-      (λ drive block out. fills.elsewhere drive block (slot_within at slot (length body) drive block table.in_slot least out))
-      (readable_filled (Counts Spells) at (size_on site L) old new head there.here.readable slot mark bytes body
-      (subst (λ (p : PlaceAt). IsTable (Counts Spells) p mark bytes body) sized table)
-      (subst (λ (p : PlaceAt). Fills p slot mark bytes body old new) sized fills))
-      (master_slotted head slot (Open mark bytes)) tables w.family w.places shows
+  other_slots tables w slot mark bytes body table shows (closed others shut) = others_show (closed_rewrites Spells site L K F head old new is.found slot mark bytes body table others shut) tables w.family w.places shows
+  other_slots tables w slot mark bytes body table shows (filled fills) = others_show (filled_rewrites Spells site L K F head old new is.found slot mark bytes body table fills) tables w.family w.places shows
 
 pub law_others : (T : Type 0) → OthersGo T
 law_others T = record {

@@ -10,3 +10,4 @@ pub mod Wipes
 pub mod Others
 pub mod Formats
 pub mod Choice
+pub mod Kept

@@ -1,3 +1,4 @@
+ghost use Rattle.mdv_shown.specs.Kept.{FoundsStay, FormatsStay};
 ghost use Rattle.mdv_shown.specs.Choice.{BootsChoose};
 ghost use Rattle.mdv_shown.specs.Sites.{SitesAre};
 ghost use Rattle.mdv_shown.specs.Laws.{ShowsOne, NewestIsOne, ShowsKept, ShowsFilled, ShowsSome};
@@ -67,4 +68,11 @@ pub fn frames<T>()
 /// number is theirs. So where more than half of each of its lists was read, the boot may claim under one more.
 pub fn boots_choose<T>()
     ensures { BootsChoose T }
+{}
+
+/// While a replica is claimed, written or blanked, nothing is found that wasn't before, under the same master, whosever it is. While a place is
+/// formatted, nothing but a replica of that database.
+pub fn founds_stay<T>()
+    ensures written { FoundsStay T }
+    ensures formatted { FormatsStay T }
 {}

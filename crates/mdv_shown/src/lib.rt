@@ -6,7 +6,7 @@ mod law;
 mod site;
 
 pub use law::{
-    boots_choose, claims_go, formats_go, frames, others_go, sites_are, slots_go, slots_show,
-    tables_begin, wipes_go,
+    boots_choose, claims_go, formats_go, founds_stay, frames, others_go, sites_are, slots_go,
+    slots_show, tables_begin, wipes_go,
 };
 pub use site::{LEAST_BLOCKS, Site, site_of, takes_replicas};

@@ -10,4 +10,7 @@ pub mod Committing
 pub mod Lawful
 pub mod Creating
 pub mod Holding
+pub mod Within
 pub mod Others
+pub mod Turning
+pub mod Knowing

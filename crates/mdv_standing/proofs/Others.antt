@@ -1,13 +1,11 @@
 -- What is written for another database.
-use Rattle.std.proofs.Common.{◌≡◌, ◌⊎◌, inl, inr, ⊎_elim, ℕ, zero, suc, ◌+◌, ◌-◌, ◌*◌, ◌<◌, ◌≤◌, ◌^◌, true, false, List, [], ◌∷◌, length, refl, sym, ◌∙◌, ap, subst, Contains, Option, None, Some, arith}
+use Rattle.std.proofs.Common.{◌≡◌, ◌⊎◌, inl, inr, ℕ, zero, suc, ◌+◌, ◌-◌, ◌*◌, ◌<◌, ◌^◌, true, false, List, [], ◌∷◌, refl, sym, ◌∙◌, ap, subst, Contains, Option, None, Some, arith}
 use Rattle.std.proofs.lemmas.Bool.{and_from, cases_Bool, cond-false, cond-true, false_from_ne_true, not_from_false}
 use Rattle.std.proofs.lemmas.List.Folds.{Any-from_list_any}
-use Rattle.std.specs.Prelude.{max, nat_le, not, slice_index_or}
+use Rattle.std.specs.Prelude.{max, nat_le, not}
 use Rattle.mdv_name.specs.Sound.{IsSound}
-use Rattle.mdv_replica.specs.Images.{SameOutside, blanked, closed, filled, formatted, untouched}
-use Rattle.mdv_replica.specs.Replica.{slot_area}
+use Rattle.mdv_replica.specs.Images.{SameOutside}
 use Rattle.mdv_shelf.specs.Area.{AreApart, range}
-use Rattle.mdv_shelf.proofs.Frame.{within_range}
 use Rattle.mdv_quorum.specs.May.{MayAll, is_firm_in, may_wipe}
 use Rattle.mdv_quorum.specs.World.{crashed, wiped_at, without}
 use Rattle.mdv_shown.specs.Formats.{lost_with}
@@ -23,31 +21,15 @@ use Rattle.mdv_shown.proofs.Framed.{shows_rest}
 use Rattle.mdv_shown.proofs.Others.{other_claims, other_slots}
 use Rattle.mdv_shown.proofs.Sites.{lines_apart, site_is}
 use Rattle.mdv_shown.proofs.Wiped.{IsWiped, all_wiped}
-use Rattle.mdv_shown.proofs.Writes.{slot_within}
-use Rattle.mdv_standing.specs.Below.{Claims, Core, Crash, FamilyTable, FirstIs, Geometry, HasFirst, Head, Identity, Image, IsFormat, IsTable, Key, Log, Mark, Master, MayClaim, MayFill, MayFormat, PlaceAt, Reading, Shows, Site, SliceLine, Slot, Spot, Stage, Table, after_all, is_in, master_on, place_at, place_on, site_area, spot_on}
+use Rattle.mdv_standing.specs.Below.{Core, Crash, FamilyTable, FirstIs, Geometry, HasFirst, Head, Identity, Image, IsFormat, IsTable, Key, Log, Mark, Master, MayClaim, MayFill, MayFormat, PlaceAt, Reading, Shows, Site, SliceLine, Slot, Spot, Stage, Table, after_all, is_in, master_on, place_at, place_on, site_area, spot_on}
 use Rattle.mdv_standing.specs.Laws.{ShowsNoTable}
 use Rattle.mdv_standing.specs.Matching.{Matches, tables_of}
 use Rattle.mdv_standing.specs.Others.{Anything, IsAnother, IsBeside, IsLoss}
 use Rattle.mdv_standing.specs.Worlds.{IsWorld, Turned}
 use Rattle.mdv_standing.proofs.Reaching.{reached_more}
 use Rattle.mdv_standing.proofs.Lawful.{not_firm}
+use Rattle.mdv_standing.proofs.Within.{apart_or_in, claim_within, fill_within, format_for, format_within, found_for}
 use Rattle.mdv_standing.proofs.Creating.{places_agree, since_wiped, wipe_each}
-
--- a list has the slice, or all of its slices lie apart from it
-apart_or_in : (xs : List SliceLine) (L : SliceLine) → ((b : SliceLine) → Contains xs b → (L ≡ b) ⊎ AreApart (line_area L) (line_area b)) → Contains xs L ⊎ ((b : SliceLine) → Contains xs b → AreApart (line_area L) (line_area b))
-apart_or_in [] L each = inr (λ b has. absurd (omega (arith, has.1)))
-apart_or_in (x ∷ xs) L each =
-    elim (each x (0, omega arith, refl)) [
-      | inl here ↦ inl (0, omega arith, sym here)
-      | inr apart ↦ elim (apart_or_in xs L (λ b has. each b (suc has.0, omega (arith, has.1), has.2))) [
-        | inl more ↦ inl (suc more.0, omega (arith, more.1), more.2)
-        | inr all ↦ inr (λ b has. by b has.0 has.1 has.2 apart all)
-      ]
-    ]
-  where
-    by : (b : SliceLine) (k : ℕ) → k < length (x ∷ xs) → slice_index_or (x ∷ xs) k b ≡ b → AreApart (line_area L) (line_area x) → ((c : SliceLine) → Contains xs c → AreApart (line_area L) (line_area c)) → AreApart (line_area L) (line_area b)
-    by b zero lt e apart all = subst (λ (l : SliceLine). AreApart (line_area L) (line_area l)) e apart
-    by b (suc k) lt e apart all = all b (k, omega (arith, lt), e)
 
 -- what is done on a slice that isn't one of the site's leaves the blocks of the site
 site_kept : (site : Site) (L : SliceLine) (old new : Image) → ((b : SliceLine) → Contains site.lines b → AreApart (line_area L) (line_area b)) → SameOutside (line_area L) old new
@@ -79,16 +61,10 @@ module _ (Spells : List ℕ → Table → Type 0) (g : Geometry) (key : Key) (id
     cases : Contains site.lines line ⊎ ((b : SliceLine) → Contains site.lines b → AreApart (line_area line) (line_area b))
     cases = apart_or_in site.lines line (λ b has. lines_apart g is.sound other key line b is.found.one_of has)
 
-    least : 16 ≤ first.blocks
-    least = is.found.located.lies.least
-
-    inside : (drive block : ℕ) → line_area line drive block ≡ false → range line.at.drive.0 (at.first + 1) (first.blocks - 1) drive block ≡ false
-    inside drive block out = (let within = is.found.within in within_range line.at.drive.0 (at.first + 1) (first.blocks - 1) line.at.start line.at.blocks drive block (omega arith) (omega (arith, within, least)) out)
-
     as_other : Contains site.lines line → IsOther Spells site identity old line k first head
     as_other has = record {
       site_is = site_is g key is.sound;
-      found = record { one_of = has; located = is.found.located; numbered = is.found.numbered; within = is.found.within; before = λ j lt. (let c = is.found.before j lt in (c.0, record { readable = c.1.readable; length = c.1.length })); here = record { readable = is.found.here.readable; length = is.found.here.length }; of_key = refl };
+      found = found_for g other key line has Spells k (old line.at.drive.0) first head is.found;
       other = λ same. is.another (sym is.found.of_key ∙ same);
     }
 
@@ -98,20 +74,14 @@ module _ (Spells : List ℕ → Table → Type 0) (g : Geometry) (key : Key) (id
     pub claims_leave : (number : ℕ) → number < 2 ^ 63 → MayClaim at number old new → IsWorld Spells site identity log w new
     claims_leave number small change = elim cases [
       | inl has ↦ stays (other_claims Spells site identity line k first head old new (as_other has) (tables_of log.family) w number small world.shows change)
-      | inr apart ↦ world_apart line apart (⊎_elim (λ same drive block out. same drive block)
-          (λ (c : Claims at number old new) drive block out. c.elsewhere drive block (within_range line.at.drive.0 (at.first + 1) 1 (at.first + 1) (first.blocks - 1) drive block (omega arith) (omega (arith, least)) (inside drive block out))) change) world
+      | inr apart ↦ world_apart line apart (claim_within line k first.blocks first.count old new is.found.within is.found.located.lies.least number change) world
     ]
 
     pub slots_leave : (slot : Slot) (mark : Mark) (bytes : ℕ) (body : List (List ℕ)) → IsTable (Counts Spells) at mark bytes body → MayFill at slot mark bytes body old new → IsWorld Spells site identity log w new
     slots_leave slot mark bytes body table change = elim cases [
       | inl has ↦ stays (other_slots Spells site identity line k first head old new (as_other has) (tables_of log.family) w slot mark bytes body table world.shows change)
-      | inr apart ↦ world_apart line apart (λ drive block out. outside change drive block (slot_within at slot (length body) drive block table.in_slot least (inside drive block out))) world
+      | inr apart ↦ world_apart line apart (fill_within line k first.blocks first.count old new is.found.within is.found.located.lies.least slot mark bytes body table.in_slot change) world
     ]
-      where
-        outside : MayFill at slot mark bytes body old new → SameOutside (slot_area at slot (length body)) old new
-        outside (untouched same) = λ drive block out. same drive block
-        outside (closed others shut) = others
-        outside (filled fills) = fills.elsewhere
 
 -- Places of a slice are blanked in a world that has no firm table, behind a crash.
 cut_is : (spots : List Spot) (w : Core) → w.stage ≡ Reading [] → after_all w (wiped_all spots) ≡ record w { places = wipe_each w.places spots }
@@ -209,31 +179,13 @@ module _ (Spells : List ℕ → Table → Type 0) (g : Geometry) (key : Key) (id
       → MayFormat (place_on line blocks count k) (master_on (site_of g other) its line blocks count k) number old new → Turned Spells mine identity log w new IsLoss Anything
   beside blocks count k number f apart change =
       keeps Spells mine identity log w old new world none
-      (world_apart Spells g key identity log w old new line apart (λ drive block out. outside change drive block
-      (within_range line.at.drive.0 (line.at.start + (16 + k * blocks)) 4 line.at.start line.at.blocks drive block (omega arith) (omega (arith, f.within, f.lies.least)) out)) world).shows
-    where
-      outside : MayFormat (place_on line blocks count k) (master_on (site_of g other) its line blocks count k) number old new → SameOutside (range line.at.drive.0 (line.at.start + (16 + k * blocks)) 4) old new
-      outside (untouched same) = λ drive block out. same drive block
-      outside (blanked others blank) = others
-      outside (formatted formats) = formats.elsewhere
-
-  in_mine : (blocks count k number : ℕ) → IsFormat (site_of g other) its old line blocks count k number → Contains mine.lines line → IsFormat (record mine { key = other }) its old line blocks count k number
-  in_mine blocks count k number f has = record {
-    site_is = (let is = site_is g key sound in record { apart = is.apart; long = is.long });
-    one_of = has;
-    within = f.within;
-    numbered = f.numbered;
-    form = f.form;
-    lies = f.lies;
-    small = f.small;
-    behind = f.behind;
-  }
+      (world_apart Spells g key identity log w old new line apart (format_within line k blocks count old new f.within f.lies.least (master_on (site_of g other) its line blocks count k) number change) world).shows
 
   pub first_formats_take : (blocks count number : ℕ) (before : Option Master) → IsFormat (site_of g other) its old line blocks count 0 number → FirstIs (site_of g other) old line before
       → MayFormat (place_on line blocks count 0) (master_on (site_of g other) its line blocks count 0) number old new → Turned Spells mine identity log w new IsLoss Anything
   first_formats_take blocks count number before f known change = elim (apart_or_in mine.lines line (λ b has. lines_apart g sound other key line b f.one_of has)) [
     | inr apart ↦ beside blocks count 0 number f apart change
-    | inl has ↦ elim (others_first Spells mine identity (tables_of log.family) w old new line world.shows other its (λ k i. another k i) blocks count number before (in_mine blocks count 0 number f has) (first_mine before known) change) [
+    | inl has ↦ elim (others_first Spells mine identity (tables_of log.family) w old new line world.shows other its (λ k i. another k i) blocks count number before (format_for g other key line has sound its old blocks count 0 number f) (first_mine before known) change) [
       | inl same ↦ keeps Spells mine identity log w old new world none same
       | inr lost ↦ loses Spells mine identity log w old new world none (lost_with line before) (lost_places line before) lost
     ]
@@ -247,7 +199,7 @@ module _ (Spells : List ℕ → Table → Type 0) (g : Geometry) (key : Key) (id
       → MayFormat (place_on line first.blocks first.count k) (master_on (site_of g other) its line first.blocks first.count k) number old new → Turned Spells mine identity log w new IsLoss Anything
   later_formats_take k number first some f has_first change = elim (apart_or_in mine.lines line (λ b has. lines_apart g sound other key line b f.one_of has)) [
     | inr apart ↦ beside first.blocks first.count k number f apart change
-    | inl has ↦ elim (others_later Spells mine identity (tables_of log.family) w old new line world.shows other its (λ c i. another c i) k number first some (in_mine first.blocks first.count k number f has)
+    | inl has ↦ elim (others_later Spells mine identity (tables_of log.family) w old new line world.shows other its (λ c i. another c i) k number first some (format_for g other key line has sound its old first.blocks first.count k number f)
         (record { site_is = site_is g key sound; one_of = has; located = has_first.located }) change) [
           | inl same ↦ keeps Spells mine identity log w old new world none same
           | inr lost ↦ loses Spells mine identity log w old new world none (spots_behind line first k) (from_places line first.blocks k (max 1 first.count - k)) lost

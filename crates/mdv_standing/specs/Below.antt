@@ -19,7 +19,7 @@ pub use Rattle.mdv_quorum.specs.declared.machine.Core.{Core}
 pub use Rattle.mdv_quorum.specs.declared.machine.Stage.{Stage}
 pub use Rattle.mdv_quorum.specs.declared.machine.Stage.TheVariants.{Claiming, Creating, Reading, Ready, Writing}
 pub use Rattle.mdv_replica.specs.Form.{IsSpareSlot, IsTable, gate_of, shows}
-pub use Rattle.mdv_replica.specs.Images.{Claims, Fills, Formats, MayClaim, MayFill, MayFormat}
+pub use Rattle.mdv_replica.specs.Images.{Claims, Fills, Formats, MayClaim, MayFill, MayFormat, MayWipe}
 pub use Rattle.mdv_replica.specs.declared.forms.Gate.TheVariants.{Open}
 pub use Rattle.mdv_replica.specs.declared.forms.Master.{Master}
 pub use Rattle.mdv_replica.specs.declared.replica.Head.{Head}

@@ -1,5 +1,5 @@
 ghost use Rattle.mdv_standing.specs.Others.{OthersGo};
-ghost use Rattle.mdv_standing.specs.Holding.{DatabasesStand};
+ghost use Rattle.mdv_standing.specs.Holding.{DatabasesStand, KnownStay};
 ghost use Rattle.mdv_standing.specs.Creating.{CreationsGo};
 ghost use Rattle.mdv_standing.specs.Committing.{CommitsGo};
 ghost use Rattle.mdv_standing.specs.Adopting.{AdoptionsGo};
@@ -56,4 +56,9 @@ pub fn databases_stand()
 /// and behind it of one that shows no table.
 pub fn others_go()
     ensures { OthersGo }
+{}
+
+/// Whatever is written, each replica that is found stays one of a database that was begun.
+pub fn known_stay()
+    ensures { KnownStay }
 {}
