@@ -14,3 +14,4 @@ pub mod Within
 pub mod Others
 pub mod Turning
 pub mod Knowing
+pub mod Stores

@@ -27,6 +27,7 @@ module _ (Spells : List ℕ → Table → Type 0) (site : Site) (identity : Iden
   pub covers_known : (Known : Image → Core → Type 0) (log : Log) (t : Tale) → CoversWith Spells site identity Known log t → Covers Spells site identity log t
   covers_known Known log t covers image is = (let w = covers image is in (w.0, w.1))
 
-  pub known_weaker : (Known Less : Image → Core → Type 0) (log : Log) (t : Tale) → ((image : Image) (w : Core) → IsImage t image → Known image w → Less image w) → CoversWith Spells site identity Known log t
-      → CoversWith Spells site identity Less log t
-  known_weaker Known Less log t weaker covers image is = (let w = covers image is in (w.0, w.1, weaker image w.0 is w.2))
+  -- less is known
+  pub known_weaker : (Known Less : Image → Core → Type 0) (log : Log) (t : Tale) → ((image : Image) (w : Core) → IsImage t image → IsWorld Spells site identity log w image → Known image w → Less image w)
+      → CoversWith Spells site identity Known log t → CoversWith Spells site identity Less log t
+  known_weaker Known Less log t weaker covers image is = (let w = covers image is in (w.0, w.1, weaker image w.0 is w.1 w.2))

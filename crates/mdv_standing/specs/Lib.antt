@@ -9,3 +9,4 @@ pub mod Creating
 pub mod Databases
 pub mod Holding
 pub mod Others
+pub mod Turning

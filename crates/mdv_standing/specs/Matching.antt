@@ -30,12 +30,18 @@ abbrev pub lists_of : Site → Version → SpotLists
 lists_of site v = spots_of site v.table.plan.lists
 
 -- of a set's table without mediators half of a list never suffices
-abbrev pub by_majority_of : Site → Version → Bool
-by_majority_of site v = is_set site.key && is_none (lists_of site v).mediators
+abbrev pub by_majority_on : Site → Table → Bool
+by_majority_on site table = is_set site.key && is_none (spots_of site table.plan.lists).mediators
 
--- the version as the votes count it where a boot writes it
+abbrev pub by_majority_of : Site → Version → Bool
+by_majority_of site v = by_majority_on site v.table
+
+-- a table as the votes count it where a boot writes it
+abbrev pub voted_table : Site → Table → FamilyTable
+voted_table site table = record no_table { lists = spots_of site table.plan.lists; by_majority = by_majority_on site table }
+
 abbrev pub voted_of : Site → Version → FamilyTable
-voted_of site v = record no_table { lists = lists_of site v; by_majority = by_majority_of site v }
+voted_of site v = voted_table site v.table
 
 -- The family's table is this version of the log. `book` says which change a number of the plan stands for: none for the creation's.
 pub record IsVersionAt (site : Site) (book : ℕ → Option Change) (limit : ℕ) (t : FamilyTable) (v : Version) : Type 0 where

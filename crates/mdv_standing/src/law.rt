@@ -1,3 +1,4 @@
+ghost use Rattle.mdv_standing.specs.Turning.{BootsTurn, WritesTurn};
 ghost use Rattle.mdv_standing.specs.Others.{OthersGo};
 ghost use Rattle.mdv_standing.specs.Holding.{DatabasesStand, KnownStay};
 ghost use Rattle.mdv_standing.specs.Creating.{CreationsGo};
@@ -61,4 +62,11 @@ pub fn others_go()
 /// Whatever is written, each replica that is found stays one of a database that was begun.
 pub fn known_stay()
     ensures { KnownStay }
+{}
+
+/// The same of all images at once, call by call: a log and the worlds of its images go on together while a boot claims and writes, and while any
+/// table is written.
+pub fn stores_turn()
+    ensures boots { BootsTurn }
+    ensures writes { WritesTurn }
 {}

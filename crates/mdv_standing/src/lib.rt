@@ -5,5 +5,5 @@ mod law;
 
 pub use law::{
     adoptions_go, commits_go, crashes_stand, creations_go, databases_stand, finds_hold, frames,
-    known_stay, new_drives_stand, nothing_holds, others_go,
+    known_stay, new_drives_stand, nothing_holds, others_go, stores_turn,
 };
