@@ -15,3 +15,4 @@ pub mod Others
 pub mod Turning
 pub mod Knowing
 pub mod Stores
+pub mod Rest

@@ -47,7 +47,7 @@ module _ (Spells : List ℕ → Table → Type 0) (g : Geometry) (key : Key) (id
   site = site_of g key
 
   -- the slice isn't one on which a boot of this key looks
-  world_apart : (L : SliceLine) → ((b : SliceLine) → Contains site.lines b → AreApart (line_area L) (line_area b)) → SameOutside (line_area L) old new → IsWorld Spells site identity log w old → IsWorld Spells site identity log w new
+  pub world_apart : (L : SliceLine) → ((b : SliceLine) → Contains site.lines b → AreApart (line_area L) (line_area b)) → SameOutside (line_area L) old new → IsWorld Spells site identity log w old → IsWorld Spells site identity log w new
   world_apart L apart outside world = record {
     reached = world.reached;
     matches = world.matches;

@@ -10,3 +10,4 @@ pub mod Databases
 pub mod Holding
 pub mod Others
 pub mod Turning
+pub mod Rest

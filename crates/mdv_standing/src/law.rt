@@ -1,3 +1,4 @@
+ghost use Rattle.mdv_standing.specs.Rest.{DatabasesTurn};
 ghost use Rattle.mdv_standing.specs.Turning.{BootsTurn, WritesTurn};
 ghost use Rattle.mdv_standing.specs.Others.{OthersGo};
 ghost use Rattle.mdv_standing.specs.Holding.{DatabasesStand, KnownStay};
@@ -69,4 +70,9 @@ pub fn known_stay()
 pub fn stores_turn()
     ensures boots { BootsTurn }
     ensures writes { WritesTurn }
+{}
+
+/// While one database is written, all others stand; and with that one, whose log may have gone on, all do.
+pub fn databases_turn()
+    ensures { DatabasesTurn }
 {}
