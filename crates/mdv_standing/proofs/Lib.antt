@@ -16,3 +16,4 @@ pub mod Turning
 pub mod Knowing
 pub mod Stores
 pub mod Rest
+pub mod Forming

@@ -11,3 +11,4 @@ pub mod Holding
 pub mod Others
 pub mod Turning
 pub mod Rest
+pub mod Forming

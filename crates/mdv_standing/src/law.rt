@@ -1,3 +1,4 @@
+ghost use Rattle.mdv_standing.specs.Forming.{CreationsTurn};
 ghost use Rattle.mdv_standing.specs.Rest.{DatabasesTurn};
 ghost use Rattle.mdv_standing.specs.Turning.{BootsTurn, WritesTurn};
 ghost use Rattle.mdv_standing.specs.Others.{OthersGo};
@@ -65,11 +66,12 @@ pub fn known_stay()
     ensures { KnownStay }
 {}
 
-/// The same of all images at once, call by call: a log and the worlds of its images go on together while a boot claims and writes, and while any
-/// table is written.
+/// The same of all images at once, call by call: a log and the worlds of its images go on together while a boot claims and writes, while
+/// places are formatted for a creation, and while any table is written.
 pub fn stores_turn()
     ensures boots { BootsTurn }
     ensures writes { WritesTurn }
+    ensures creations { CreationsTurn }
 {}
 
 /// While one database is written, all others stand; and with that one, whose log may have gone on, all do.
