@@ -8,7 +8,7 @@ use Rattle.mdv_replica.proofs.Showing.{readable_with_claim, readable_closed, rea
 use Rattle.mdv_shown.specs.Site.{Site, IsSite, size_on, place_on}
 use Rattle.mdv_shown.specs.Found.{Counts, IsFound}
 use Rattle.mdv_shown.specs.Laws.{Reads}
-use Rattle.mdv_shown.specs.Kept.{AreFoundBefore, FoundsStay}
+use Rattle.mdv_shown.specs.Kept.{AreFoundBefore, AreFoundStill, FoundsLast, FoundsStay}
 use Rattle.mdv_shown.proofs.Elsewhere.{IsThere, there_of, elsewhere, found_kept}
 use Rattle.mdv_shown.proofs.Writes.{master_slotted, slot_within}
 
@@ -83,6 +83,17 @@ module _ {Table : Type 0} (Spells : List ℕ → Table → Type 0) (site : Site)
       lies = there.located.lies;
     }
 
+    pub there_new : IsThere Spells site L K (new L.at.drive.0) F r.next
+    there_new = record { one_of = there.one_of; located = located_new; numbered = there.numbered; within = there.within; here = record { readable = r.now; length = ap (λ (m : Master). m.blocks) r.master ∙ there.here.length } }
+
+    -- each other one is still found
+    found_still : IsSite site → AreFoundStill Spells site L K old new
+    found_still ok line k first h found =
+        elim (elsewhere Spells site ok old new L K F r.next there_new r.behind there.located line k first h found) [
+          | inl e ↦ inl (e.0, e.1)
+          | inr kept ↦ inr (record { found = kept.found; same = kept.same })
+        ]
+
     -- what is found at its number has its master
     same_master : (h : Head) → IsFound Spells site L K (new L.at.drive.0) F h → head.master ≡ h.master
     same_master h found =
@@ -109,6 +120,12 @@ module _ {Table : Type 0} (Spells : List ℕ → Table → Type 0) (site : Site)
   same_before : IsSame old new → AreFoundBefore Spells site old new
   same_before same line k first h found = (h, found_kept Spells site line (new line.at.drive.0) (old line.at.drive.0) first k h (λ block from to. sym (same line.at.drive.0 block)) found, refl)
 
+  same_still : IsSame old new → AreFoundStill Spells site L K old new
+  same_still same line k first h found = inr (record {
+    found = found_kept Spells site line (old line.at.drive.0) (new line.at.drive.0) first k h (λ block from to. same line.at.drive.0 block) found;
+    same = λ block from to. same line.at.drive.0 block;
+  })
+
   pub claims_before : IsSite site → (number : ℕ) → number < 2 ^ 63 → MayClaim at number old new → AreFoundBefore Spells site old new
   claims_before ok number small change = ⊎_elim same_before (λ claims. found_before (claim_rewrites number small claims) ok) change
 
@@ -117,8 +134,22 @@ module _ {Table : Type 0} (Spells : List ℕ → Table → Type 0) (site : Site)
   slots_before ok slot mark bytes body table (closed others shut) = found_before (closed_rewrites slot mark bytes body table others shut) ok
   slots_before ok slot mark bytes body table (filled fills) = found_before (filled_rewrites slot mark bytes body table fills) ok
 
+  pub claims_still : IsSite site → (number : ℕ) → number < 2 ^ 63 → MayClaim at number old new → AreFoundStill Spells site L K old new
+  claims_still ok number small change = ⊎_elim same_still (λ claims. found_still (claim_rewrites number small claims) ok) change
+
+  pub slots_still : IsSite site → (slot : Slot) (mark : Mark) (bytes : ℕ) (body : List (List ℕ)) → IsTable (Counts Spells) at mark bytes body → MayFill at slot mark bytes body old new → AreFoundStill Spells site L K old new
+  slots_still ok slot mark bytes body table (untouched same) = same_still same
+  slots_still ok slot mark bytes body table (closed others shut) = found_still (closed_rewrites slot mark bytes body table others shut) ok
+  slots_still ok slot mark bytes body table (filled fills) = found_still (filled_rewrites slot mark bytes body table fills) ok
+
 pub law_stay : (T : Type 0) → FoundsStay T
 law_stay T = record {
   claims = λ read site old new line k first head number ok its small change. claims_before (Reads read) site line k first head old new its ok number small change;
   slots = λ read site old new line k first head slot mark bytes body ok its table change. slots_before (Reads read) site line k first head old new its ok slot mark bytes body table change;
+}
+
+pub law_last : (T : Type 0) → FoundsLast T
+law_last T = record {
+  claims = λ read site old new line k first head number ok its small change. claims_still (Reads read) site line k first head old new its ok number small change;
+  slots = λ read site old new line k first head slot mark bytes body ok its table change. slots_still (Reads read) site line k first head old new its ok slot mark bytes body table change;
 }

@@ -12,7 +12,7 @@ use Rattle.mdv_shown.specs.Others.{IsOther, OthersGo}
 use Rattle.mdv_shown.proofs.Elsewhere.{IsThere, there_of, elsewhere}
 use Rattle.mdv_shown.proofs.Rewritten.{place_same}
 use Rattle.mdv_shown.proofs.Framed.{shows_same}
-use Rattle.mdv_shown.proofs.Kept.{IsRewrite, claim_rewrites, closed_rewrites, filled_rewrites, located_new}
+use Rattle.mdv_shown.proofs.Kept.{IsRewrite, claim_rewrites, closed_rewrites, filled_rewrites, located_new, there_new}
 
 module _ {Table : Type 0} (Spells : List ℕ → Table → Type 0) (site : Site) (identity : Identity) (L : SliceLine) (K : ℕ) (F : Master) (head : Head) (old new : Image)
     (is : IsOther Spells site identity old L K F head) where
@@ -46,9 +46,6 @@ module _ {Table : Type 0} (Spells : List ℕ → Table → Type 0) (site : Site)
       (subst (λ (l : SliceLine). IsOwn Spells site identity l k image first n) e.0 own)))
 
   module _ (r : IsRewrite Spells site L K F head old new is.found) where
-    there_new : IsThere Spells site L K (new L.at.drive.0) F r.next
-    there_new = record { one_of = there.one_of; located = located_new Spells site L K F head old new is.found r; numbered = there.numbered; within = there.within; here = record { readable = r.now; length = ap (λ (m : Master). m.blocks) r.master ∙ there.here.length } }
-
     pub others_show : (tables : ℕ → Table) (family : List Version) (places : List SpotState) → ShowsPlaces Spells site identity tables family places old → ShowsPlaces Spells site identity tables family places new
     others_show tables family places shows = record {
       each = λ line k first h own. elim (elsewhere Spells site is.site_is new old L K F head there (λ drive block out. sym (r.behind drive block out)) (located_new Spells site L K F head old new is.found r) line k first h own.found) [
@@ -60,7 +57,7 @@ module _ {Table : Type 0} (Spells : List ℕ → Table → Type 0) (site : Site)
       ];
       only = λ q kind holds.
           let was = shows.only q kind holds in
-          elim (elsewhere Spells site is.site_is old new L K F r.next there_new r.behind there.located was.line was.number was.first was.head was.own.found) [
+          elim (elsewhere Spells site is.site_is old new L K F r.next (there_new Spells site L K F head old new is.found r) r.behind there.located was.line was.number was.first was.head was.own.found) [
             | inl e ↦ absurd (not_there old head there.here.readable refl was.line was.number was.first was.head e was.own)
             | inr kept ↦ record {
               line = was.line;

@@ -1,4 +1,4 @@
-ghost use Rattle.mdv_shown.specs.Kept.{FoundsStay, FormatsStay};
+ghost use Rattle.mdv_shown.specs.Kept.{FoundsLast, FoundsStay, FormatsStay};
 ghost use Rattle.mdv_shown.specs.Choice.{BootsChoose};
 ghost use Rattle.mdv_shown.specs.Sites.{SitesAre};
 ghost use Rattle.mdv_shown.specs.Laws.{ShowsOne, NewestIsOne, ShowsKept, ShowsFilled, ShowsSome};
@@ -71,8 +71,9 @@ pub fn boots_choose<T>()
 {}
 
 /// While a replica is claimed, written or blanked, nothing is found that wasn't before, under the same master, whosever it is. While a place is
-/// formatted, nothing but a replica of that database.
+/// formatted, nothing but a replica of that database. What is claimed or written leaves each other replica as it was.
 pub fn founds_stay<T>()
     ensures written { FoundsStay T }
+    ensures kept { FoundsLast T }
     ensures formatted { FormatsStay T }
 {}
