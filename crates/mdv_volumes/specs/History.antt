@@ -1,5 +1,5 @@
 -- What a host's drives have lived through: the databases that were begun there, the blocks of volumes, and what was done and isn't told.
-use Rattle.std.specs.Prelude.{ℕ, ◌+◌, Bool, false, not, ◌&&◌, nat_le, if◌then◌else◌, List, [], ◌∷◌, ◌++◌, filter, length, take, drop}
+use Rattle.std.specs.Prelude.{ℕ, ◌+◌, Bool, false, not, ◌&&◌, nat_le, if◌then◌else◌, List, [], ◌∷◌, ◌++◌, filter, length, take, drop, min}
 use Rattle.mdv_volumes.specs.Below.{Change, Identity, Key, VolId, VolumeLog}
 use Rattle.mdv_store_law.specs.Log as log
 use Rattle.mdv_store_law.specs.Machine.{after_all, all_of}
@@ -128,7 +128,7 @@ abbrev pub woken_by : VolumeEvent → ℕ → ℕ
 woken_by (Issues at blocks) count = count
 woken_by (Answers at blocks) count = count
 woken_by (Flushes at number) count = count
-woken_by (Begins from logs) count = count
+woken_by (Begins from logs) count = min count from
 woken_by lives.Crashes count = count
 woken_by (Woke number content) count = number
 
