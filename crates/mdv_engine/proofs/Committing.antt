@@ -230,7 +230,7 @@ module _ (host : Host) (sizes : List ℕ) (ready : IsReady host sizes) (at : Pla
   -- nothing was done: the text is too long, or the count would reach its limit
   module _ (a b : Option Tale) (same : b ≡ a) where
     full_is : (bytes room : ℕ) → bytes ≡ length (record_text next) → room ≡ record_room newest → ReplicaFull (bytes_after host newest stripe) (record_room newest) ≡ ReplicaFull bytes room
-    full_is bytes room bytes_are room_is = λ i. ReplicaFull (sym (bytes_are ∙ length_is) i) (sym room_is i)
+    full_is long space bytes_are room_is = λ i. ReplicaFull (sym (bytes_are ∙ length_is) i) (sym room_is i)
 
     pub long_answer : (failures : Failures) → failures.none → (bytes room : ℕ) → record_room newest < length (record_text next) → bytes ≡ length (record_text next) → room ≡ record_room newest → Ends (Comes failures (refusing (ReplicaFull bytes room)) memory) a b
     long_answer failures calm bytes room long bytes_are room_is t start =

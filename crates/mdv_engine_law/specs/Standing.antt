@@ -84,7 +84,7 @@ pub record IsKnown (host : Host) (memory : Memory) (h : History) (t : Tale) : Ty
   pub woken : IfSome memory.opened (λ newest. AreWoken (site_of host) newest.table (is_up host memory) h (key_of host))
   pub knows : Knows host memory t
 
--- a moment of a boot: nothing is told, nothing outside the replica's blocks is touched, and each history goes on with nothing asked, by the boot's beginning first
+-- a moment of a boot: nothing is told, nothing outside the replica's blocks is touched, and each history goes on with nothing asked, by events among which the boot begins
 pub record BootMoment (host : Host) (t m : Tale) : Type 0 where
   pub kept : KeptOutside (area_of (site_of host)) t m
   pub quiet : told m ≡ told t

@@ -124,6 +124,10 @@ pub record LineStays {B : Type 0} (shelf : Shelf B) (host : Host) (replied uncut
   pub rests : RestsOnceTold shelf old new
   pub tells : Tells
 
+-- the same of a line that is given as something, by which it has one of these texts: a front of its reply is told as of each of them
+abbrev pub LinesStay : {B : Type 0} → Shelf B → Engine → (List ℕ → List ℕ) → (List ℕ → Type 0) → B → B → Reply → Type 0
+LinesStay shelf engine text_of Is bench on given = LineStays shelf engine.host (IsReplied given) (IsUncut given) ((x : List ℕ) → Is x → LineTells shelf engine (text_of x) bench on) bench on
+
 -- one line, in the end: its answer and its reply, what is left of the script, and what is known of the drive then
 pub record LineEnd (drive : Failures) (replies : Type 0) (made : Made) (host : Host) (text : List ℕ) (old new : Memory) (reply : Reply) (t u : Tale) : Type 0 where
   pub answered : Knows host old t → LineAnswered drive replies made host text old new reply t u

@@ -15,7 +15,7 @@ ghost use Rattle.mdv_run_law.specs.Usage.{IsUsed};
 ghost use Rattle.mdv_run_law.specs.Run.{status_at, status_of};
 ghost use Rattle.mdv_run_law.specs.Standing.{LinesMoment};
 ghost use Rattle.mdv_run.specs.Calls.{ItemCalls, OpenedTook, TextCalls};
-ghost use Rattle.mdv_run.specs.Promise.{BootReplies, HasRun, HaveRun, IsUncut, IsUntouched, IsUsageOf, LineEnds, LineReplies, LineStays, LineTells, OfEachUse, TurnAnswers, TurnEnds, TurnTells};
+ghost use Rattle.mdv_run.specs.Promise.{BootReplies, HasRun, HaveRun, IsUncut, IsUntouched, IsUsageOf, LineEnds, LineReplies, LineStays, LineTells, LinesStay, OfEachUse, TurnAnswers, TurnEnds, TurnTells};
 ghost use Rattle.mdv_run.specs.Turns.{IsOn, turn_of as spec_turn_of};
 
 use mdv_base::{DriveNo, Failed, Refusal};
@@ -220,7 +220,7 @@ fn answer_item<B: Bench>(
     requires begun { engine.old.state.begun + 1 < 2 ^ 32 }
     ensures moments { (text : List ℕ) → IsItem text reader.now.item → (more : Script) → AtEachTale B.Shelf (LinesMoment engine.old.host (line_of text more) engine.old.state) bench.old bench.new }
     ensures end { (text : List ℕ) → IsItem text reader.now.item → LineEnds B.Shelf bench.old bench.new engine.old.host text engine.old.state engine.new.state result }
-    ensures stays { LineStays B.Shelf engine.old.host (IsReplied result) (IsUncut result) ((text : List ℕ) → IsItem text reader.now.item → LineTells B.Shelf engine.old text bench.old bench.new) bench.old bench.new }
+    ensures stays { LinesStay B.Shelf engine.old (λ text. text) (λ text. IsItem text reader.now.item) bench.old bench.new result }
     ensures answer { LineReplies B.Shelf engine.old bench.old bench.new (ItemCalls reader.now.item) engine.new result }
     ensures kept { KeptInTime B.Shelf bench.old bench.new }
 {
@@ -256,7 +256,7 @@ fn refuse_tab<B: Bench>(engine: &mut Engine, bench: &mut B) -> Reply
     requires { IsWell engine.old.host engine.old.state }
     ensures moments { (lines : List ℕ) (more : Script) → AtEachTale B.Shelf (LinesMoment engine.old.host (line_of (tab_text lines) more) engine.old.state) bench.old bench.new }
     ensures end { (lines : List ℕ) → 65536 < length lines → LineEnds B.Shelf bench.old bench.new engine.old.host (tab_text lines) engine.old.state engine.new.state result }
-    ensures stays { LineStays B.Shelf engine.old.host (IsReplied result) (IsUncut result) ((lines : List ℕ) → 65536 < length lines → LineTells B.Shelf engine.old (tab_text lines) bench.old bench.new) bench.old bench.new }
+    ensures stays { LinesStay B.Shelf engine.old tab_text (λ lines. 65536 < length lines) bench.old bench.new result }
     ensures answer { LineReplies B.Shelf engine.old bench.old bench.new (λ n. 1 ≤ n) engine.new result }
     ensures kept { KeptInTime B.Shelf bench.old bench.new }
 {
