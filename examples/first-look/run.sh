@@ -5,6 +5,8 @@
 set -eu
 here=$(cd "$(dirname "$0")" && pwd)
 top=$(cd "$here/../.." && pwd)
+# shellcheck source=../show.sh source-path=SCRIPTDIR
+. "$here/../show.sh"
 
 work=$(mktemp -d)
 trap 'rm -rf "$work"' EXIT
@@ -23,14 +25,7 @@ fi
 status=0
 "${run[@]}" < "$here/script" > "$work/told" 2> "$work/says" || status=$?
 
-# Each line of the script, and beside it its reply, of which `ok` or a refusal is the last line.
-while IFS= read -r line <&3; do
-  while IFS= read -r reply <&4; do
-    printf '%-26s %s\n' "$line" "$reply"
-    line=
-    case $reply in ok | refused*) break ;; esac
-  done
-done 3< "$here/script" 4< "$work/told"
+show "$here/script" "$work/told"
 echo "status $status"
 
 if [ "$status" -ne 0 ] || ! cmp "$work/told" "$here/replies"; then

@@ -1,3 +1,4 @@
+mod Members
 mod Names
 pub mod Order
 pub mod Causes

@@ -1,5 +1,5 @@
 /// A drive of a shelf, numbered from 0 in the order of the table of drives.
-#[derive(Clone, Copy, Debug, PartialEq, Eq)]
+#[derive(Clone, Copy, Debug, PartialEq, Eq, Default)]
 pub struct DriveNo(pub u32);
 
 /// A call on a drive, or a giving of reply bytes, that failed. It says nothing of the cause: the

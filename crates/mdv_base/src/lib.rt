@@ -4,6 +4,7 @@
 
 mod block;
 mod drive;
+mod drive_set;
 mod flags;
 mod mark;
 mod name;
@@ -13,6 +14,7 @@ mod state_word;
 
 pub use block::{BLOCK_BYTES, Block, ZERO_BLOCK};
 pub use drive::{DriveName, DriveNo, Failed, SliceName};
+pub use drive_set::{DriveSet, MAX_DRIVES};
 pub use flags::Flags;
 pub use mark::{Identity, Mark, NUMBER_LIMIT};
 pub use name::{Key, NAME_BYTES, Name, Named, PoolId, VolId};

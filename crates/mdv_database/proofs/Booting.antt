@@ -1,24 +1,25 @@
--- What a boot leaves: its look, and its adoption.
-use Rattle.std.proofs.Common.{◌≡◌, ℕ, ◌+◌, ◌<◌, ◌≤◌, ◌^◌, List, [], length, slice_index_or, refl, sym, ◌∙◌, subst, Option, Some, None, Ok, Err}
+-- What a boot leaves at its place: its look, and its adoption.
+use Rattle.std.proofs.Common.{◌≡◌, ◌≢◌, ℕ, ◌+◌, ◌<◌, ◌≤◌, ◌^◌, List, [], length, slice_index_or, refl, sym, ◌∙◌, subst, Option, Some, None, Ok, Err}
 use Rattle.mdv_base.proofs.Causes.{IsWithin}
-use Rattle.mdv_database.specs.Below.{Failures, record_text, Mark, Key, Geometry, KeptOutside, nowhere, Moments, Ends, IsSynced, Tale, last, PlaceAt, Slot, IsSpareSlot, greatest, Leaves, Claims, with_blocks, Table, IsSound, Adopts, drawn, NoCreation, Site, IsFound, IsTableAt, Anything, Newest, GoesOnTo, IsOpened, ShowsNothing, IsAdopted, MayTake, Takes, Rewriting, Rewritten, Rewrites, adopted_newest}
-use Rattle.mdv_shelf.proofs.Moments.{moments_after, moments_end, moments_none, moments_weaker, ends_both, ends_more}
+use Rattle.mdv_database.specs.Below.{Failures, record_text, Mark, Key, Geometry, KeptOutside, nowhere, Moments, Ends, IsSynced, Tale, last, PlaceAt, Slot, IsSpareSlot, greatest, Leaves, Claims, with_blocks, Table, IsSound, Adopts, drawn, Site, IsFound, IsTableAt, Newest, GoesOnTo, IsOpened, ShowsNothing, IsAdopted, MayTake, Takes, Rewriting, Rewritten, Rewrites, adopted_newest}
+use Rattle.mdv_shelf.proofs.Moments.{grew_weaker, moments_end, moments_none, moments_weaker}
+use Rattle.mdv_shelf.proofs.Frame.{kept_outside_same}
 use Rattle.mdv_shelf.proofs.Everywhere.{image_synced}
 use Rattle.mdv_replica.proofs.Leaving.{leaves_more}
 use Rattle.mdv_store_law.proofs.Adopting.{adoptions_go}
-use Rattle.mdv_store_law.proofs.Covering.{kept_covers, kept_goes_on, goes_from_more, not_firm}
+use Rattle.mdv_store_law.proofs.Covering.{kept_goes_on, not_firm}
 use Rattle.mdv_database.specs.declared.database.BootEnd.{BootEnd}
 use Rattle.mdv_database.specs.declared.database.BootEnd.TheVariants.{Adopted, Empty, Down, Lost, Spent, Memory}
 use Rattle.mdv_database.specs.declared.looking.Found.{Found}
-use Rattle.mdv_database.specs.Boot.{AdoptEnds, AdoptMoment, BootAnswer, BootEnds, BootMoment, BootedBy, IsAdoption, RewriteEnds, RewriteMoment}
-use Rattle.mdv_database.specs.Database.{IfAdopted, IsBooted, IsBootedTo, IsCertain, IsDrawn, IsFoundIn, IsInHand, IsLookedAt, IsQuiet, IsUnwritten, site_of}
-use Rattle.mdv_database.specs.Looks.{LookEnds}
+use Rattle.mdv_database.specs.Boot.{AdoptEnds, AdoptMoment, BootedBy, HereEnds, IsAdoption, PlaceAnswer, PlaceEnds, PlaceMoment, RewriteEnds, RewriteMoment}
+use Rattle.mdv_database.specs.Database.{IfAdopted, IsBooted, IsBootedTo, IsDrawn, IsFoundIn, IsInHand, IsLookedAt, IsQuiet, IsRefusal, site_of}
+use Rattle.mdv_database.specs.Looks.{Finds}
 use Rattle.mdv_shelf.specs.Made.{Made}
 use Rattle.mdv_store_law.specs.Effort.{open_slots}
 use Rattle.mdv_database.specs.declared.body.ReadFault.TheVariants.{Memory as Wanting}
 use Rattle.mdv_store_law.specs.Effort.{blocks_for}
 use Rattle.mdv_database.proofs.Counting.{AdoptsBy}
-use Rattle.mdv_database.proofs.Quiet.{quiet_more, quiet_same, quiet_sized, unwritten_quiet}
+use Rattle.mdv_database.proofs.Quiet.{quiet_same, quiet_sized}
 
 -- a claim, and then the table
 module _ (at : PlaceAt) (slot : Slot) (mark : Mark) (table : Table) where
@@ -84,12 +85,6 @@ pub adopt_spent : (at : PlaceAt) (sizes : List ℕ) (found : Found) (told : Opti
 adopt_spent at sizes found told t is =
     (t, is, record { synced = tt; adopted = λ drives key was. tt; goes = λ drives key was log covers known. record { es = []; course = tt; come = record { tells = refl; issues = tt; begins = tt }; stands = covers; after = tt }; refuses = λ so. refl })
 
--- what a look leaves: the drive is synced, and no block was written
-pub record HasLooked (site : Site) (found : Option Found) (t u : Tale) : Type 0 where
-  pub synced : IsSynced site.at.drive.0 u
-  pub unwritten : IsUnwritten t u
-  pub is_found : IsLookedAt site (last t site.at.drive.0) found
-
 pub if_adopted_weaker : (end : BootEnd) (P Q : Newest → Type 0) → ((newest : Newest) → P newest → Q newest) → IfAdopted end P → IfAdopted end Q
 if_adopted_weaker (Adopted newest) P Q weaker is = weaker newest is
 if_adopted_weaker Empty P Q weaker is = tt
@@ -98,27 +93,20 @@ if_adopted_weaker Lost P Q weaker is = tt
 if_adopted_weaker Spent P Q weaker is = tt
 if_adopted_weaker Memory P Q weaker is = tt
 
-same_contents : (drive : ℕ) (t u : Tale) → IsUnwritten t u → last u drive ≡ last t drive
-same_contents drive t u is = λ i block. (is.kept drive block refl).last i
-
--- a boot's look leaves the drives as they are
-look_moment : (site : Site) (t m : Tale) → IsUnwritten t m → BootMoment site t m
-look_moment site t m is = record { quiet = unwritten_quiet site.at t m is; goes = kept_goes_on site t m is.kept }
+-- what a look finds of the blocks as they are
+abbrev pub Gave : Site → Option Tale → Option Found → Type 0
+Gave site told found = (t : Tale) → told ≡ Some t → IsLookedAt site (last t site.at.drive.0) found
 
 -- what is adopted is drawn from what was found
 module _ (drives : Geometry) (key : Key) (at : PlaceAt) (sizes : List ℕ) (found : Found) where
   abbrev site_there : Site
   site_there = site_of drives key at sizes
 
-  found_in : (t u : Tale) → IsSound drives → HasLooked site_there (Some found) t u → IsFoundIn site_there found u
-  found_in t u sound looked = record {
-    sound = sound;
-    synced = looked.synced;
-    the = subst (λ (c : ℕ → List ℕ). IsLookedAt site_there c (Some found)) (sym (same_contents at.drive.0 t u looked.unwritten)) looked.is_found;
-  }
+  found_in : (t : Tale) → IsSound drives → IsSynced at.drive.0 t → IsLookedAt site_there (last t at.drive.0) (Some found) → IsFoundIn site_there found t
+  found_in t sound synced the = record { sound = sound; synced = synced; the = the }
 
   module _ (before failures : Failures) (so : IsWithin before failures) where
-    pub adoption_answer : (answer : BootEnd) → IsAdoption before sizes at found answer → IsTableAt drives (with_blocks at found.head.master.blocks).place found.table → BootAnswer failures drives sizes at answer
+    pub adoption_answer : (answer : BootEnd) → IsAdoption before sizes at found answer → IsTableAt drives (with_blocks at found.head.master.blocks).place found.table → PlaceAnswer failures drives sizes at answer
     adoption_answer (Adopted newest) is table =
         record { table = subst (λ (n : Newest). IsTableAt drives (with_blocks at n.blocks).place n.table) (sym is.1.is) table; laid = is.1.laid; cause = so.none is.0 }
     adoption_answer Empty is table = absurd is
@@ -137,13 +125,13 @@ module _ (drives : Geometry) (key : Key) (at : PlaceAt) (sizes : List ℕ) (foun
       adoption_shown Spent content is the = record { head = found.head; replica = the.replica; shown = the.shown; spent = is.1 }
       adoption_shown Memory content is the = absurd is
 
-      certain : (answer : BootEnd) (u : Tale) → IsAdoption before sizes at found answer → IfAdopted answer (λ newest. IsSynced at.drive.0 u) → IsCertain answer → IsSynced at.drive.0 u
-      certain (Adopted newest) u is synced known = synced
-      certain Empty u is synced known = absurd is
-      certain Down u is synced known = absurd known
-      certain Lost u is synced known = absurd known
-      certain Spent u is synced known = absurd known
-      certain Memory u is synced known = absurd known
+      still_synced : (answer : BootEnd) (t u : Tale) → IsAdoption before sizes at found answer → IfAdopted answer (λ newest. IsSynced at.drive.0 u) → (IsRefusal answer → u ≡ t) → IsSynced at.drive.0 t → answer ≢ Lost → IsSynced at.drive.0 u
+      still_synced (Adopted newest) t u is synced refuses was never = synced
+      still_synced Empty t u is synced refuses was never = absurd is
+      still_synced Down t u is synced refuses was never = absurd is
+      still_synced Lost t u is synced refuses was never = absurd (never refl)
+      still_synced Spent t u is synced refuses was never = subst (λ (w : Tale). IsSynced at.drive.0 w) (sym (refuses tt)) was
+      still_synced Memory t u is synced refuses was never = absurd is
 
       never_empty : (answer : BootEnd) → IsAdoption before sizes at found answer → answer ≡ Empty → ⊥
       never_empty answer is same = subst (IsAdoption before sizes at found) same is
@@ -154,7 +142,7 @@ module _ (drives : Geometry) (key : Key) (at : PlaceAt) (sizes : List ℕ) (foun
         head = found.head;
         replica = the.replica;
         shown = the.shown;
-        calls = subst (λ (n : Newest). made.exactly (11 + open_slots found.head) (3 + blocks_for (length (record_text n.table)))) (sym is.1.is) by;
+        calls = subst (λ (n : Newest). made.exactly (9 + open_slots found.head) (3 + blocks_for (length (record_text n.table)))) (sym is.1.is) by;
       }
       adopted_by made Empty content is the by = absurd is
       adopted_by made Down content is the by = absurd is
@@ -162,100 +150,104 @@ module _ (drives : Geometry) (key : Key) (at : PlaceAt) (sizes : List ℕ) (foun
       adopted_by made Spent content is the by = record { head = found.head; replica = the.replica; shown = the.shown; spent = is.1; calls = by }
       adopted_by made Memory content is the by = absurd is
 
-      adopted_boot : (made : Made) (answer : BootEnd) (t u v : Tale) → AdoptsBy made (open_slots found.head) (3 + blocks_for (length (record_text found.table))) answer → IsSound drives → IsAdoption before sizes at found answer → HasLooked site_there (Some found) t u → AdoptEnds at sizes found answer u v → BootEnds failures made site_there answer t v
-      adopted_boot made answer t u v by sound is looked ends =
-          let was = found_in t u sound looked in
+      adopted_place : (answer : BootEnd) (t u : Tale) → IsSound drives → IsAdoption before sizes at found answer → IsLookedAt site_there (last t at.drive.0) (Some found) → AdoptEnds at sizes found answer t u → IsSynced at.drive.0 t → PlaceEnds failures site_there answer t u
+      adopted_place answer t u sound is the ends synced =
+          let was = found_in t sound synced the in
           record {
-            shown = adoption_shown answer (last t at.drive.0) is looked.is_found;
-            synced = certain answer v is ends.synced;
-            adopted = if_adopted_weaker answer (λ newest. IsAdopted site_there (last u at.drive.0) newest v × IsOpened site_there newest v) (λ newest. IsAdopted site_there (last t at.drive.0) newest v)
-                (λ newest both. subst (λ (c : ℕ → List ℕ). IsAdopted site_there c newest v) (same_contents at.drive.0 t u looked.unwritten) both.0) (ends.adopted drives key was);
-            opened = if_adopted_weaker answer (λ newest. IsAdopted site_there (last u at.drive.0) newest v × IsOpened site_there newest v) (λ newest. IsOpened site_there newest v) (λ newest both. both.1) (ends.adopted drives key was);
+            shown = adoption_shown answer (last t at.drive.0) is the;
+            adopted = if_adopted_weaker answer (λ newest. IsAdopted site_there (last t at.drive.0) newest u × IsOpened site_there newest u) (λ newest. IsAdopted site_there (last t at.drive.0) newest u) (λ newest both. both.0) (ends.adopted drives key was);
+            opened = if_adopted_weaker answer (λ newest. IsAdopted site_there (last t at.drive.0) newest u × IsOpened site_there newest u) (λ newest. IsOpened site_there newest u) (λ newest both. both.1) (ends.adopted drives key was);
             empty = λ same. absurd (never_empty answer is same);
-            goes = goes_from_more site_there Anything NoCreation [] (IsBootedTo answer) t u v looked.unwritten.kept (ends.goes drives key was);
-            refuses = λ refused. subst (λ (w : Tale). KeptOutside nowhere t w) (sym (ends.refuses refused)) looked.unwritten.kept;
-            booted = adopted_by made answer (last t at.drive.0) is looked.is_found by;
+            goes = ends.goes drives key was;
+            refuses = λ refused. subst (λ (w : Tale). KeptOutside nowhere t w) (sym (ends.refuses refused)) (kept_outside_same nowhere t);
           }
 
-      pub adopted_ends : (made : Made) (answer : BootEnd) (old mid new : Option Tale) → AdoptsBy made (open_slots found.head) (3 + blocks_for (length (record_text found.table))) answer → IsSound drives → IsAdoption before sizes at found answer → Ends (HasLooked site_there (Some found)) old mid → Ends (AdoptEnds at sizes found answer) mid new
-          → Ends (BootEnds failures made site_there answer) old new
-      adopted_ends made answer old mid new by sound is = ends_more (HasLooked site_there (Some found)) (AdoptEnds at sizes found answer) (BootEnds failures made site_there answer) old mid new (λ t u v was ends. adopted_boot made answer t u v by sound is was ends)
+      pub adopted_ends : (made : Made) (answer : BootEnd) (old new : Option Tale) → AdoptsBy made (open_slots found.head) (3 + blocks_for (length (record_text found.table))) answer → IsSound drives → IsAdoption before sizes at found answer → Gave site_there old (Some found) → Ends (AdoptEnds at sizes found answer) old new
+          → Ends (HereEnds failures made site_there answer) old new
+      adopted_ends made answer old new by sound is gave ends t told_so =
+          let end = ends t told_so in
+          let the = gave t told_so in (
+            end.0,
+            end.1,
+            record {
+              place = adopted_place answer t end.0 sound is the end.2;
+              synced = still_synced answer t end.0 is end.2.synced end.2.refuses;
+              booted = adopted_by made answer (last t at.drive.0) is the by;
+            },
+          )
 
-  pub adopted_moments : (old mid new : Option Tale) → IsSound drives → Moments IsUnwritten old mid → Ends (HasLooked site_there (Some found)) old mid → Moments (AdoptMoment at sizes found) mid new → Moments (BootMoment site_there) old new
-  adopted_moments old mid new sound = moments_after IsUnwritten (HasLooked site_there (Some found)) (AdoptMoment at sizes found) (BootMoment site_there) old mid new (look_moment site_there)
-      (λ t u m was adopting. record {
-        quiet = quiet_more at t u m (unwritten_quiet at t u was.unwritten) adopting.quiet;
-        goes = goes_from_more site_there Anything NoCreation [] Anything t u m was.unwritten.kept (adopting.goes drives key (found_in t u sound was));
-      })
+  pub adopted_moments : (old new : Option Tale) → IsSound drives → Gave site_there old (Some found) → Moments (AdoptMoment at sizes found) old new → Moments (PlaceMoment site_there) old new
+  adopted_moments old new sound gave moments t told_so =
+      let grew = moments t told_so in
+      let the = gave t told_so in (
+        grew.0,
+        grew.1,
+        grew_weaker (AdoptMoment at sizes found t) (PlaceMoment site_there t) t grew.0 (λ m adopting. record { quiet = adopting.quiet; goes = λ synced. adopting.goes drives key (found_in t sound synced the) }) grew.2,
+      )
 
-module _ (site : Site) (old new : Option Tale) (looked : Moments IsUnwritten old new) where
-  pub looked_moments : Moments (BootMoment site) old new
-  looked_moments = moments_weaker IsUnwritten (BootMoment site) old new (look_moment site) looked
+-- where nothing was adopted, nor the place found empty, and no block was written
+pub refused_place : (failures : Failures) (site : Site) (answer : BootEnd) (t u : Tale) → IsBooted failures site (last t site.at.drive.0) answer → ((P : Newest → Type 0) → IfAdopted answer P) → answer ≢ Empty → GoesOnTo site (IsBootedTo answer) t u
+    → KeptOutside nowhere t u → PlaceEnds failures site answer t u
+refused_place failures site answer t u shown none some goes kept = record {
+  shown = shown;
+  adopted = none (λ newest. IsAdopted site (last t site.at.drive.0) newest u);
+  opened = none (λ newest. IsOpened site newest u);
+  empty = λ e. absurd (some e);
+  goes = goes;
+  refuses = λ refused. kept;
+}
 
-  -- what a look that was answered leaves
-  pub looked_from : (made : Made) (found : Option Found) → Ends (LookEnds made site (Ok found)) old new → Ends (HasLooked site found) old new
-  looked_from made found ends =
-      ends_both IsUnwritten (LookEnds made site (Ok found)) (HasLooked site found) old new (λ t u kept look. record { synced = look.synced; unwritten = kept; is_found = look.finds.found }) (moments_end IsUnwritten old new looked) ends
+-- nothing is done at the place but reads
+module _ (site : Site) (old new : Option Tale) (same : new ≡ old) where
+  pub read_moments : Moments (PlaceMoment site) old new
+  read_moments = moments_none (PlaceMoment site) old new same (λ t. record { quiet = quiet_same site.at t; goes = λ synced. kept_goes_on site t t (kept_outside_same nowhere t) })
 
   -- nothing was found
-  nothing_found : (t u : Tale) → HasLooked site None t u → ShowsNothing site u
-  nothing_found t u was image is =
-      subst (λ (c : ℕ → List ℕ). IsFound site c None) (sym (image_synced site.at.drive.0 u was.synced image is ∙ same_contents site.at.drive.0 t u was.unwritten)) was.is_found
+  nothing_found : (t : Tale) → IsFound site (last t site.at.drive.0) None → IsSynced site.at.drive.0 t → ShowsNothing site t
+  nothing_found t none synced image is = subst (λ (c : ℕ → List ℕ). IsFound site c None) (sym (image_synced site.at.drive.0 t synced image is)) none
 
-  empty_goes_on : (t u : Tale) → HasLooked site None t u → GoesOnTo site (IsBootedTo Empty) t u
-  empty_goes_on t u was log covers known =
-      let after = kept_covers site log t u was.unwritten.kept covers in
-      record { es = []; course = tt; come = record { tells = refl; issues = tt; begins = tt }; stands = after; after = not_firm site log u after (nothing_found t u was) }
+  empty_goes_on : (t : Tale) → IsFound site (last t site.at.drive.0) None → IsSynced site.at.drive.0 t → GoesOnTo site (IsBootedTo Empty) t t
+  empty_goes_on t none synced log covers known = record { es = []; course = tt; come = record { tells = refl; issues = tt; begins = tt }; stands = covers; after = not_firm site log t covers (nothing_found t none synced) }
 
-  pub empty_ends : (failures : Failures) (made : Made) → Ends (LookEnds made site (Ok None)) old new → Ends (BootEnds failures made site Empty) old new
-  empty_ends failures made ends t is =
-      let end = looked_from made None ends t is in (
-        end.0,
-        end.1,
+  pub empty_ends : (failures : Failures) (made : Made) → ((t : Tale) → old ≡ Some t → Finds made site (last t site.at.drive.0) (Ok None)) → Ends (HereEnds failures made site Empty) old new
+  empty_ends failures made gave t is =
+      let finds = gave t is in (
+        t,
+        same ∙ is,
         record {
-          shown = end.2.is_found;
-          synced = λ known. end.2.synced;
-          adopted = tt;
-          opened = tt;
-          empty = λ same. nothing_found t end.0 end.2;
-          goes = empty_goes_on t end.0 end.2;
-          refuses = λ refused. end.2.unwritten.kept;
-          booted = (ends t is).2.finds.looked;
+          place = λ synced. record {
+            shown = finds.found;
+            adopted = tt;
+            opened = tt;
+            empty = λ e. nothing_found t finds.found synced;
+            goes = empty_goes_on t finds.found synced;
+            refuses = λ refused. kept_outside_same nowhere t;
+          };
+          synced = λ synced never. synced;
+          booted = finds.looked;
         },
       )
 
   -- the look failed, or memory was wanting
-  pub down_ends : (failures : Failures) (made : Made) → failures.some → made.within 1 5 0 → Ends (BootEnds failures made site Down) old new
-  down_ends failures made so calls t is =
-      let end = moments_end IsUnwritten old new looked t is in (
-        end.0,
-        end.1,
-        record {
-          shown = so;
-          synced = λ known. absurd known;
-          adopted = tt;
-          opened = tt;
-          empty = λ same. absurd (cc (same));
-          goes = kept_goes_on site t end.0 end.2.kept;
-          refuses = λ refused. end.2.kept;
-          booted = calls;
-        },
-      )
+  pub down_ends : (failures : Failures) (made : Made) → failures.some → made.within 0 3 0 → Ends (HereEnds failures made site Down) old new
+  down_ends failures made so calls t is = (
+    t,
+    same ∙ is,
+    record {
+      place = λ synced. refused_place failures site Down t t so (λ P. tt) (λ e. cc (e)) (kept_goes_on site t t (kept_outside_same nowhere t)) (kept_outside_same nowhere t);
+      synced = λ synced never. synced;
+      booted = calls;
+    },
+  )
 
-  pub memory_ends : (failures : Failures) (made : Made) → Ends (LookEnds made site (Err Wanting)) old new → Ends (BootEnds failures made site Memory) old new
-  memory_ends failures made ends t is =
-      let end = moments_end IsUnwritten old new looked t is in
-      let wanting = (ends t is).2.finds.looked in (
-        end.0,
-        end.1,
+  pub memory_ends : (failures : Failures) (made : Made) → ((t : Tale) → old ≡ Some t → Finds made site (last t site.at.drive.0) (Err Wanting)) → Ends (HereEnds failures made site Memory) old new
+  memory_ends failures made gave t is =
+      let wanting = (gave t is).looked in (
+        t,
+        same ∙ is,
         record {
-          shown = wanting.headed;
-          synced = λ known. absurd known;
-          adopted = tt;
-          opened = tt;
-          empty = λ same. absurd (cc (same));
-          goes = kept_goes_on site t end.0 end.2.kept;
-          refuses = λ refused. end.2.kept;
+          place = λ synced. refused_place failures site Memory t t wanting.headed (λ P. tt) (λ e. cc (e)) (kept_goes_on site t t (kept_outside_same nowhere t)) (kept_outside_same nowhere t);
+          synced = λ synced never. synced;
           booted = wanting;
         },
       )

@@ -1,5 +1,5 @@
 -- How the calls of a look, an adoption and a boot add up.
-use Rattle.std.proofs.Common.{◌≡◌, ℕ, zero, suc, ◌+◌, ◌-◌, ◌<◌, ◌≤◌, ◌^◌, min, ◌||◌, true, refl, sym, ap, subst, ◌∙◌, Some, None, Option, Result, Ok, Err, IfOk, IfSome, IsErrAnd, arith}
+use Rattle.std.proofs.Common.{◌≡◌, ℕ, List, zero, suc, ◌+◌, ◌-◌, ◌<◌, ◌≤◌, ◌^◌, min, ◌||◌, true, refl, sym, ap, subst, ◌∙◌, Some, None, Option, Result, Ok, Err, IfOk, IfSome, IsErrAnd, arith}
 use Rattle.mdv_shelf.specs.Calls.{RoseBy}
 use Rattle.mdv_shelf.specs.Shelves.{MadeCalls, MadeCallsAtMost}
 use Rattle.mdv_shelf.specs.Between.{RoseByAtLeast}
@@ -15,10 +15,12 @@ use Rattle.mdv_database.specs.declared.looking.Held.{Held}
 use Rattle.mdv_database.specs.declared.looking.Held.TheVariants.{Nothing, Kept, Other}
 use Rattle.mdv_database.specs.declared.database.CommitFault.{CommitFault}
 use Rattle.mdv_database.specs.declared.database.CommitFault.TheVariants as unwritten
-use Rattle.mdv_database.specs.Below.{Gate, Closed, Open, Ghosts, Head, Slot, First, Second, gate_of, other_slot, shows}
+use Rattle.mdv_database.specs.Below.{Gate, Closed, Open, Ghosts, Head, Slot, First, Second, Site, gate_of, other_slot, shows}
 use Rattle.mdv_replica.specs.Form.{is_open}
-use Rattle.mdv_database.specs.Counts.{AreReadFor, MadeCallsBetween, MadeReads, head_reads, IsAdoptionCounted, IsBootCounted, IsCommitCounted, IsFindCounted, IsHeldCounted, IsLookCounted}
-use Rattle.mdv_shelf.specs.Made.{Made, made_of}
+use Rattle.mdv_database.specs.Counts.{AreReadFor, MadeCallsBetween, MadeReads, head_reads, IsAdoptionCounted, IsCommitCounted, IsHeldCounted, IsLookCounted, IsPlaceCounted, made_behind}
+use Rattle.mdv_shelf.specs.Made.{Made, and_more, made_of}
+use Rattle.mdv_shelf.proofs.Made.{IsToo}
+use Rattle.mdv_database.specs.Boot.{BootedBy}
 use Rattle.mdv_store_law.specs.Effort.{open_slots, reads_of}
 use Rattle.mdv_store_law.specs.Effort.{blocks_for}
 
@@ -57,6 +59,14 @@ module _ {S : Type 0} (shelf : Ghosts S) where
   pub reads_behind : (a b c : S) (j k m : ℕ) → j + k ≡ m → MadeCalls shelf a b j 0 → MadeReads shelf b c k → MadeCalls shelf a c m 0
   reads_behind a b c j zero m all first same = subst (λ (s : S). MadeCalls shelf a s m 0) (sym same) (subst (λ (n : ℕ). MadeCalls shelf a b n 0) (omega (arith, all)) first)
   reads_behind a b c j (suc k) m all first took = took_more shelf.calls shelf.written a b c j (suc k) 0 0 m 0 all (omega arith) first took
+
+  pub reads_made : (a b : S) (k : ℕ) → 1 ≤ k → MadeReads shelf a b k → MadeCalls shelf a b k 0
+  reads_made a b zero some reads = absurd (omega (arith, some))
+  reads_made a b (suc k) some reads = reads
+
+  pub made_reads : (a b : S) (k : ℕ) → 1 ≤ k → MadeCalls shelf a b k 0 → MadeReads shelf a b k
+  made_reads a b zero some made = absurd (omega (arith, some))
+  made_reads a b (suc k) some made = made
 
   pub reads_more : (a b c : S) (j k m : ℕ) → j + k ≡ m → MadeReads shelf a b j → MadeReads shelf b c k → MadeReads shelf a c m
   reads_more a b c zero k m all same second =
@@ -104,7 +114,7 @@ module _ {S : Type 0} (shelf : Ghosts S) where
 
   -- the head's read, and then the slots'
   pub found_counted : (a b c : S) (head : Head) (first size : ℕ) (found : Result (Option Found) ReadFault) → first < size → IfOk found (λ seen. IfSome seen (λ f. f.head ≡ head))
-      → MadeReads shelf a b (head_reads first size) → AreReadFor shelf b c (open_slots head) found → IsFindCounted shelf a c found
+      → MadeReads shelf a b (head_reads first size) → AreReadFor shelf b c (open_slots head) found → IsLookCounted shelf a c found
   found_counted a b c head first size found there same one slots = by found same slots
     where
       once : MadeReads shelf a b 1
@@ -115,7 +125,7 @@ module _ {S : Type 0} (shelf : Ghosts S) where
           let most = slots_few head in
           between_then shelf.calls shelf.written a b c 1 1 0 0 (open_slots head) 0 least 3 0 (omega (arith, low)) (omega (arith, most)) (omega arith) (reads_between a b 1 1 1 (omega arith) (omega arith) once) took
 
-      by : (result : Result (Option Found) ReadFault) → IfOk result (λ seen. IfSome seen (λ f. f.head ≡ head)) → AreReadFor shelf b c (open_slots head) result → IsFindCounted shelf a c result
+      by : (result : Result (Option Found) ReadFault) → IfOk result (λ seen. IfSome seen (λ f. f.head ≡ head)) → AreReadFor shelf b c (open_slots head) result → IsLookCounted shelf a c result
       by (Ok (Some found)) same reads = reads_more a b c 1 (open_slots head) (1 + open_slots found.head) (ap (λ (h : Head). 1 + open_slots h) (sym same)) once reads
       by (Ok None) same took = few 0 (omega arith) took
       by (Err Failed) same took = few 0 (omega arith) took
@@ -124,20 +134,6 @@ module _ {S : Type 0} (shelf : Ghosts S) where
   -- the head alone, or not even that
   pub head_counted : (a b : S) (first size : ℕ) → MadeReads shelf a b (head_reads first size) → MadeCallsBetween shelf a b 0 3 0
   head_counted a b first size reads = reads_between a b (head_reads first size) 0 3 (omega arith) (omega arith) reads
-
-  -- a look makes two calls before it looks at the place
-  pub looked_counted : (a b c : S) (found : Result (Option Found) ReadFault) → MadeCalls shelf a b 2 0 → IsFindCounted shelf b c found → IsLookCounted shelf a c found
-  looked_counted a b c found two counted = by found counted
-    where
-      behind : (more least : ℕ) → least ≤ 2 + more → MadeCallsBetween shelf b c more 3 0 → MadeCallsBetween shelf a c least 5 0
-      behind more least low took =
-          between_then shelf.calls shelf.written a b c 2 2 0 more 3 0 least 5 0 low (omega arith) (omega arith) (between_of shelf.calls shelf.written a b 2 0 2 2 0 (omega arith) (omega arith) (omega arith) two) took
-
-      by : (result : Result (Option Found) ReadFault) → IsFindCounted shelf b c result → IsLookCounted shelf a c result
-      by (Ok (Some found)) reads = reads_behind a b c 2 (1 + open_slots found.head) (3 + open_slots found.head) (omega arith) two reads
-      by (Ok None) took = behind 0 2 (omega arith) took
-      by (Err Failed) took = behind 0 1 (omega arith) took
-      by (Err Memory) took = behind 1 3 (omega arith) took
 
 -- no more were counted, and then some
 pub some_behind : (k : ℕ) (a b c : Option ℕ) → RoseBy k a b → RoseByAtLeast 1 b c → RoseByAtLeast 1 a c
@@ -156,48 +152,97 @@ few_blocks bytes blocks fits few = omega (arith, fits, few)
 pub few_text : (bytes blocks : ℕ) → bytes ≤ room_of blocks → blocks ≤ 8192 → 2 + blocks_for bytes ≤ 4096
 few_text bytes blocks fits few = omega (arith, fits, few)
 
--- what is told of the calls of a boot that found a replica with so many open slots, whose adoption writes so many blocks
+-- what was counted is so behind any calls that wrote nothing
+pub within_behind : {S : Type 0} (shelf : Ghosts S) (old new : S) (least most : ℕ) → MadeCallsBetween shelf old new least most 0 → (made_behind shelf old new).within least most 0
+within_behind shelf old new least most took start before first =
+    between_then shelf.calls shelf.written start old new before before 0 least most 0 (least + before) (most + before) 0 (omega arith) (omega arith) (omega arith)
+    (between_of shelf.calls shelf.written start old before 0 before before 0 (omega arith) (omega arith) (omega arith) first) took
+
+-- what is told of the calls at a place where a replica was found with so many open slots, whose adoption writes so many blocks
 abbrev pub AdoptsBy : Made → ℕ → ℕ → BootEnd → Type 0
-AdoptsBy made slots blocks (end.Adopted newest) = made.exactly (11 + slots) blocks
+AdoptsBy made slots blocks (end.Adopted newest) = made.exactly (9 + slots) blocks
 AdoptsBy made slots blocks end.Empty = Unit {0}
 AdoptsBy made slots blocks end.Down = Unit {0}
-AdoptsBy made slots blocks end.Lost = made.within (4 + slots) (11 + slots) 4097 × made.wrote
-AdoptsBy made slots blocks end.Spent = made.exactly (3 + slots) 0
+AdoptsBy made slots blocks end.Lost = made.within (2 + slots) (9 + slots) 4097 × made.wrote
+AdoptsBy made slots blocks end.Spent = made.exactly (1 + slots) 0
 AdoptsBy made slots blocks end.Memory = Unit {0}
 
-module _ {S : Type 0} (shelf : Ghosts S) (old mid new : S) (blocks : ℕ) (few : blocks ≤ 4097) (slots : ℕ) (before : MadeCalls shelf old mid (3 + slots) 0) where
-  looked_before : MadeCallsBetween shelf old mid (3 + slots) (3 + slots) 0
-  looked_before = between_of shelf.calls shelf.written old mid (3 + slots) 0 (3 + slots) (3 + slots) 0 (omega arith) (omega arith) (omega arith) before
+module _ {S : Type 0} (shelf : Ghosts S) (mid new : S) (blocks : ℕ) (few : blocks ≤ 4097) (slots : ℕ) where
+  -- behind calls that end with the look, which wrote nothing
+  module _ (start : S) (count : ℕ) (before : MadeCalls shelf start mid count 0) where
+    so_many : MadeCallsBetween shelf start mid count count 0
+    so_many = between_of shelf.calls shelf.written start mid count 0 count count 0 (omega arith) (omega arith) (omega arith) before
 
-  boot_lost : (least most : ℕ) → least ≤ 4 + slots → 11 + slots ≤ most → MadeCallsBetween shelf mid new 1 8 blocks → MadeCallsBetween shelf old new least most 4097
-  boot_lost least most low high took = between_then shelf.calls shelf.written old mid new (3 + slots) (3 + slots) 0 1 8 blocks least most 4097 (omega (arith, low)) (omega (arith, high)) (omega (arith, few)) looked_before took
+    adopts_most : (least most : ℕ) → least ≤ 1 + count → 8 + count ≤ most → MadeCallsBetween shelf mid new 1 8 blocks → MadeCallsBetween shelf start new least most 4097
+    adopts_most least most low high took = between_then shelf.calls shelf.written start mid new count count 0 1 8 blocks least most 4097 (omega (arith, low)) (omega (arith, high)) (omega (arith, few)) so_many took
 
-  -- by its answer
-  pub boot_made : (what : BootEnd) → IsAdoptionCounted shelf mid new blocks what → AdoptsBy (made_of shelf old new) slots blocks what
-  boot_made (end.Adopted newest) took = took_more shelf.calls shelf.written old mid new (3 + slots) 8 0 blocks (11 + slots) blocks (omega arith) (omega arith) before took
-  boot_made end.Empty same = tt
-  boot_made end.Down same = tt
-  boot_made end.Lost took = (
-    boot_lost (4 + slots) (11 + slots) (omega arith) (omega arith) took.0,
-    some_behind 0 (shelf.written old) (shelf.written mid) (shelf.written new) before.in_blocks took.1,
-  )
-  boot_made end.Spent same = subst (λ (s : S). MadeCalls shelf old s (3 + slots) 0) (sym same) before
-  boot_made end.Memory same = tt
+    nothing_more : (least most : ℕ) → least ≤ count → count ≤ most → new ≡ mid → MadeCallsBetween shelf start new least most 0
+    nothing_more least most low high same =
+        between_then shelf.calls shelf.written start mid new count count 0 0 0 0 least most 0 (omega (arith, low)) (omega (arith, high)) (omega arith) so_many (between_none shelf.calls shelf.written mid new 0 0 same)
 
-  module _ (some : 1 ≤ slots) (most : slots ≤ 2) where
-    nothing_more : (least : ℕ) → least ≤ 4 → new ≡ mid → MadeCallsBetween shelf old new least 5 0
-    nothing_more least low same =
-        between_then shelf.calls shelf.written old mid new (3 + slots) (3 + slots) 0 0 0 0 least 5 0 (omega (arith, low, some)) (omega (arith, most)) (omega arith) looked_before (between_none shelf.calls shelf.written mid new 0 0 same)
+  module _ (old : S) (looked : (start : S) (before : ℕ) → MadeCalls shelf start old before 0 → MadeCalls shelf start mid (1 + slots + before) 0) where
+    -- by its answer
+    pub place_made : (what : BootEnd) → IsAdoptionCounted shelf mid new blocks what → AdoptsBy (made_behind shelf old new) slots blocks what
+    place_made (end.Adopted newest) took = λ start before first.
+        took_more shelf.calls shelf.written start mid new (1 + slots + before) 8 0 blocks (9 + slots + before) blocks (omega arith) (omega arith) (looked start before first) took
+    place_made end.Empty same = tt
+    place_made end.Down same = tt
+    place_made end.Lost took = (
+      λ start before first. adopts_most start (1 + slots + before) (looked start before first) (2 + slots + before) (9 + slots + before) (omega arith) (omega arith) took.0,
+      λ start before first. some_behind 0 (shelf.written start) (shelf.written mid) (shelf.written new) (looked start before first).in_blocks took.1,
+    )
+    place_made end.Spent same = λ start before first. subst (λ (s : S). MadeCalls shelf start s (1 + slots + before) 0) (sym same) (looked start before first)
+    place_made end.Memory same = tt
 
-    pub boot_counted : (what : BootEnd) → IsAdoptionCounted shelf mid new blocks what → IsBootCounted shelf old new what
-    boot_counted (end.Adopted newest) took =
-        between_then shelf.calls shelf.written old mid new (3 + slots) (3 + slots) 0 8 8 blocks 12 13 4097 (omega (arith, some)) (omega (arith, most)) (omega (arith, few)) looked_before
-        (between_of shelf.calls shelf.written mid new 8 blocks 8 8 blocks (omega arith) (omega arith) (omega arith) took)
-    boot_counted end.Empty same = nothing_more 2 (omega arith) same
-    boot_counted end.Down same = nothing_more 1 (omega arith) same
-    boot_counted end.Lost took = boot_lost 5 13 (omega (arith, some)) (omega (arith, most)) took.0
-    boot_counted end.Spent same = nothing_more 4 (omega arith) same
-    boot_counted end.Memory same = nothing_more 3 (omega arith) same
+  pub place_counted : (old : S) → MadeCalls shelf old mid (1 + slots) 0 → 1 ≤ slots → slots ≤ 2 → (what : BootEnd) → IsAdoptionCounted shelf mid new blocks what → IsPlaceCounted shelf old new 0 what
+  place_counted old looked some most (end.Adopted newest) took =
+      between_then shelf.calls shelf.written old mid new (1 + slots) (1 + slots) 0 8 8 blocks 10 11 4097 (omega (arith, some)) (omega (arith, most)) (omega (arith, few)) (so_many old (1 + slots) looked)
+      (between_of shelf.calls shelf.written mid new 8 blocks 8 8 blocks (omega arith) (omega arith) (omega arith) took)
+  place_counted old looked some most end.Empty same = nothing_more old (1 + slots) looked 0 3 (omega arith) (omega (arith, most)) same
+  place_counted old looked some most end.Down same = nothing_more old (1 + slots) looked 0 3 (omega arith) (omega (arith, most)) same
+  place_counted old looked some most end.Lost took = adopts_most old (1 + slots) looked 3 11 (omega (arith, some)) (omega (arith, most)) took.0
+  place_counted old looked some most end.Spent same = nothing_more old (1 + slots) looked 2 3 (omega (arith, some)) (omega (arith, most)) same
+  place_counted old looked some most end.Memory same = nothing_more old (1 + slots) looked 1 3 (omega arith) (omega (arith, most)) same
+
+-- what was counted at the place, behind so many calls that wrote nothing
+pub boot_counted : {S : Type 0} (shelf : Ghosts S) (old mid new : S) (brought : ℕ) → MadeCalls shelf old mid brought 0 → (what : BootEnd) → IsPlaceCounted shelf mid new 0 what → IsPlaceCounted shelf old new brought what
+boot_counted {S} shelf old mid new brought before what counted = by what counted
+  where
+    behind : (least most blocks : ℕ) → MadeCallsBetween shelf mid new least most blocks → MadeCallsBetween shelf old new (brought + least) (brought + most) blocks
+    behind least most blocks took =
+        between_then shelf.calls shelf.written old mid new brought brought 0 least most blocks (brought + least) (brought + most) blocks (omega arith) (omega arith) (omega arith)
+        (between_of shelf.calls shelf.written old mid brought 0 brought brought 0 (omega arith) (omega arith) (omega arith) before) took
+
+    from_none : (most : ℕ) → MadeCallsBetween shelf old new (brought + 0) most 0 → MadeCallsBetween shelf old new brought most 0
+    from_none most took = let none : brought + 0 ≡ brought = omega arith in subst (λ (n : ℕ). MadeCallsBetween shelf old new n most 0) none took
+
+    by : (end : BootEnd) → IsPlaceCounted shelf mid new 0 end → IsPlaceCounted shelf old new brought end
+    by (end.Adopted newest) took = behind 10 11 4097 took
+    by end.Empty took = from_none (brought + 3) (behind 0 3 0 took)
+    by end.Down took = from_none (brought + 3) (behind 0 3 0 took)
+    by end.Lost took = behind 3 11 4097 took
+    by end.Spent took = behind 2 3 0 took
+    by end.Memory took = behind 1 3 0 took
+
+-- and told of the whole stretch
+pub made_too : {S : Type 0} (shelf : Ghosts S) (old mid new : S) (brought : ℕ) → MadeCalls shelf old mid brought 0 → IsToo (made_behind shelf mid new) (and_more brought (made_of shelf old new))
+made_too shelf old mid new brought before = record {
+  exactly = λ count blocks took. took old brought before;
+  within = λ least most blocks took. took old brought before;
+  wrote = λ wrote. wrote old brought before;
+}
+
+pub booted_too : (one other : Made) → IsToo one other → (site : Site) (content : ℕ → List ℕ) (what : BootEnd) → BootedBy one site content what → BootedBy other site content what
+booted_too one other too site content (end.Adopted newest) by = record { head = by.head; replica = by.replica; shown = by.shown; calls = too.exactly _ _ by.calls }
+booted_too one other too site content end.Empty by = record {
+  beyond = λ behind. too.exactly _ _ (by.beyond behind);
+  headless = λ there none. too.exactly _ _ (by.headless there none);
+  headed = λ headed. too.within _ _ _ (by.headed headed);
+}
+booted_too one other too site content end.Down by = too.within _ _ _ by
+booted_too one other too site content end.Lost by = record { head = by.head; replica = by.replica; shown = by.shown; calls = too.within _ _ _ by.calls; wrote = too.wrote by.wrote }
+booted_too one other too site content end.Spent by = record { head = by.head; replica = by.replica; shown = by.shown; spent = by.spent; calls = too.exactly _ _ by.calls }
+booted_too one other too site content end.Memory by = record { headed = by.headed; calls = too.within _ _ _ by.calls }
 
 -- a commit never takes more than six calls, whatever it answers
 pub commit_at_most : {S T : Type 0} (shelf : Ghosts S) (old new : S) (bytes : ℕ) (result : Result T CommitFault) → IsCommitCounted shelf old new bytes result → MadeCallsAtMost shelf old new 6 4096

@@ -5,7 +5,6 @@ use Rattle.mdv_shelf.proofs.Between.{between_of, between_then}
 use Rattle.mdv_store_law.specs.Adoptable.{IsHeaded}
 use Rattle.mdv_store_law.specs.Effort.{EmptyBy}
 use Rattle.mdv_database.specs.Counts.{AreReadFor, MadeCallsBetween, MadeReads, head_reads, made_behind}
-use Rattle.mdv_shelf.specs.Made.{made_of}
 use Rattle.mdv_store_law.specs.Effort.{open_slots}
 use Rattle.mdv_database.specs.Looks.{LookedBy}
 use Rattle.mdv_database.specs.declared.body.ReadFault.{ReadFault}
@@ -47,24 +46,25 @@ not_found site content head is never other replica shown =
     let same = one_head site.at site.size (content site.at.first) (content (site.at.first + 1)) (content (site.at.first + 2)) (content (site.at.first + 3)) other head replica.readable.of_head is in
     never (subst (λ (h : Head). (h.master.key ≡ site.key) × (shows h ≡ true)) same (replica.of_key, shown))
 
--- the read of the head, behind the two calls before it
+-- the read of the head, behind calls that wrote nothing
 module _ {S : Type 0} (shelf : Ghosts S) (site : Site) (content : ℕ → List ℕ) (old mid : S) (reads : MadeReads shelf old mid (head_reads site.at.first site.size)) where
-  three : site.at.first < site.size → (start : S) → MadeCalls shelf start old 2 0 → MadeCalls shelf start mid 3 0
-  three there start two =
+  one_more : site.at.first < site.size → (start : S) (before : ℕ) → MadeCalls shelf start old before 0 → MadeCalls shelf start mid (1 + before) 0
+  one_more there start before first =
       let is_one : head_reads site.at.first site.size ≡ 1 = omega (arith, there) in
-      reads_behind shelf start old mid 2 1 3 (omega arith) two (subst (λ (n : ℕ). MadeReads shelf old mid n) is_one reads)
+      reads_behind shelf start old mid before 1 (1 + before) (omega arith) first (subst (λ (n : ℕ). MadeReads shelf old mid n) is_one reads)
 
   there_is : (head : Head) → IsHead site.at site.size content head → site.at.first < site.size
   there_is head is = let within = is.lies.within in let least = is.lies.least in omega (arith, within, least)
 
   -- no slot was read
-  pub headless_by : EmptyBy (made_behind shelf 2 old mid) site content
+  pub headless_by : EmptyBy (made_behind shelf old mid) site content
   headless_by = record {
-    beyond = λ behind start two.
+    beyond = λ behind start before first.
         let is_none : head_reads site.at.first site.size ≡ 0 = omega (arith, behind) in
-        reads_behind shelf start old mid 2 0 2 (omega arith) two (subst (λ (n : ℕ). MadeReads shelf old mid n) is_none reads);
-    headless = λ there none. three there;
-    headed = λ headed start two. between_of shelf.calls shelf.written start mid 3 0 3 (3 + open_slots headed.head) 0 (omega arith) (omega arith) (omega arith) (three (there_is headed.head headed.is) start two);
+        reads_behind shelf start old mid before 0 (0 + before) (omega arith) first (subst (λ (n : ℕ). MadeReads shelf old mid n) is_none reads);
+    headless = λ there none. one_more there;
+    headed = λ headed start before first.
+        between_of shelf.calls shelf.written start mid (1 + before) 0 (1 + before) (1 + open_slots headed.head + before) 0 (omega arith) (omega arith) (omega arith) (one_more (there_is headed.head headed.is) start before first);
   }
 
   -- the slots of a head that shows a table were
@@ -72,31 +72,24 @@ module _ {S : Type 0} (shelf : Ghosts S) (site : Site) (content : ℕ → List �
     abbrev headed : IsHeaded site content
     headed = record { head = head; is = of_head; of_key = of_key; shown = shown }
 
-    few_slots : MadeCallsBetween shelf mid new 0 (open_slots head) 0 → (start : S) → MadeCalls shelf start old 2 0 → MadeCallsBetween shelf start new 3 (3 + open_slots head) 0
-    few_slots took start two =
-        between_then shelf.calls shelf.written start mid new 3 3 0 0 (open_slots head) 0 3 (3 + open_slots head) 0 (omega arith) (omega arith) (omega arith)
-        (between_of shelf.calls shelf.written start mid 3 0 3 3 0 (omega arith) (omega arith) (omega arith) (three (there_is head of_head) start two)) took
+    few_slots : MadeCallsBetween shelf mid new 0 (open_slots head) 0 → (start : S) (before : ℕ) → MadeCalls shelf start old before 0 → MadeCallsBetween shelf start new (1 + before) (1 + open_slots head + before) 0
+    few_slots took start before first =
+        between_then shelf.calls shelf.written start mid new (1 + before) (1 + before) 0 0 (open_slots head) 0 (1 + before) (1 + open_slots head + before) 0 (omega arith) (omega arith) (omega arith)
+        (between_of shelf.calls shelf.written start mid (1 + before) 0 (1 + before) (1 + before) 0 (omega arith) (omega arith) (omega arith) (one_more (there_is head of_head) start before first)) took
 
-    empty_by : MadeCallsBetween shelf mid new 0 (open_slots head) 0 → EmptyBy (made_behind shelf 2 old new) site content
+    empty_by : MadeCallsBetween shelf mid new 0 (open_slots head) 0 → EmptyBy (made_behind shelf old new) site content
     empty_by took = record {
       beyond = λ behind. absurd (omega (arith, behind, there_is head of_head));
       headless = λ there none. absurd (none headed);
       headed = λ other.
-          subst (λ (h : Head). (start : S) → MadeCalls shelf start old 2 0 → MadeCallsBetween shelf start new 3 (3 + open_slots h) 0)
+          subst (λ (h : Head). (start : S) (before : ℕ) → MadeCalls shelf start old before 0 → MadeCallsBetween shelf start new (1 + before) (1 + open_slots h + before) 0)
           (one_head site.at site.size (content site.at.first) (content (site.at.first + 1)) (content (site.at.first + 2)) (content (site.at.first + 3)) head other.head of_head other.is) (few_slots took);
     }
 
-    pub headed_by : (found : Result (Option Found) ReadFault) → IfOk found (λ seen. IfSome seen (λ f. f.head ≡ head)) → AreReadFor shelf mid new (open_slots head) found → LookedBy (made_behind shelf 2 old new) site content found
-    headed_by (Ok (Some found)) same slots = λ start two.
-        reads_behind shelf start mid new 3 (open_slots head) (3 + open_slots found.head) (ap (λ (h : Head). 3 + open_slots h) (sym same)) (three (there_is head of_head) start two) slots
+    pub headed_by : (found : Result (Option Found) ReadFault) → IfOk found (λ seen. IfSome seen (λ f. f.head ≡ head)) → AreReadFor shelf mid new (open_slots head) found → LookedBy (made_behind shelf old new) site content found
+    headed_by (Ok (Some found)) same slots = λ start before first.
+        let all : 1 + before + open_slots head ≡ 1 + open_slots found.head + before = omega (arith, ap open_slots same) in
+        reads_behind shelf start mid new (1 + before) (open_slots head) (1 + open_slots found.head + before) all (one_more (there_is head of_head) start before first) slots
     headed_by (Ok None) same took = empty_by took
     headed_by (Err Failed) same took = tt
     headed_by (Err Memory) same took = record { headed = headed; calls = few_slots took }
-
--- a look that makes these two calls first
-pub looked_by : {S : Type 0} (shelf : Ghosts S) (site : Site) (content : ℕ → List ℕ) (old mid new : S) (found : Result (Option Found) ReadFault) → MadeCalls shelf old mid 2 0
-    → LookedBy (made_behind shelf 2 mid new) site content found → LookedBy (made_of shelf old new) site content found
-looked_by shelf site content old mid new (Ok (Some found)) two by = by old two
-looked_by shelf site content old mid new (Ok None) two by = record { beyond = λ behind. by.beyond behind old two; headless = λ there none. by.headless there none old two; headed = λ headed. by.headed headed old two }
-looked_by shelf site content old mid new (Err Failed) two by = tt
-looked_by shelf site content old mid new (Err Memory) two by = record { headed = by.headed; calls = by.calls old two }

@@ -1,7 +1,9 @@
 pub mod Bodies
+pub mod Bringing
 pub mod Booting
 pub mod Committing
 pub mod Counting
 pub mod Finding
+pub mod Joining
 pub mod Making
 pub mod Quiet

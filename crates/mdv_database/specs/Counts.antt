@@ -1,11 +1,14 @@
 -- How many calls on the drive a boot, a creation and a commit make, and how many blocks they write.
-use Rattle.std.specs.Prelude.{◌≡◌, ℕ, zero, suc, ◌+◌, ◌-◌, ◌≤◌, min, Option, Some, None, Result, Ok, Err}
+use Rattle.std.specs.Prelude.{◌≡◌, ℕ, zero, suc, ◌+◌, ◌-◌, ◌≤◌, min, false, List, Option, Some, None, Result, Ok, Err}
+use Rattle.mdv_base.specs.declared.drive.DriveNo.{DriveNo}
+use Rattle.mdv_base.specs.DriveSet.{Drives, has_drive}
 use Rattle.mdv_shelf.specs.Between.{RoseByAtLeast, TookBetween}
 use Rattle.mdv_shelf.specs.Made.{Made}
 use Rattle.mdv_shelf.specs.Shelves.{MadeCalls}
 use Rattle.mdv_database.specs.Below.{Gate, Ghosts}
 use Rattle.mdv_database.specs.declared.database.BootEnd.{BootEnd}
 use Rattle.mdv_database.specs.declared.database.BootEnd.TheVariants as end
+use Rattle.mdv_database.specs.declared.database.Booted.{Booted}
 use Rattle.mdv_database.specs.declared.database.CreateFault.{CreateFault}
 use Rattle.mdv_database.specs.declared.database.CreateFault.TheVariants as unmade
 use Rattle.mdv_database.specs.declared.database.CommitFault.{CommitFault}
@@ -15,18 +18,18 @@ use Rattle.mdv_database.specs.declared.body.ReadFault.TheVariants.{Failed, Memor
 use Rattle.mdv_database.specs.declared.looking.Found.{Found}
 use Rattle.mdv_database.specs.declared.looking.Held.{Held}
 use Rattle.mdv_database.specs.declared.looking.Held.TheVariants.{Nothing, Kept, Other}
-use Rattle.mdv_store_law.specs.Effort.{blocks_for, open_slots, reads_of}
+use Rattle.mdv_store_law.specs.Effort.{BroughtUpBy, blocks_for, open_slots, reads_of}
 
 -- it took so many calls at least, and so many at most, and wrote no more than so many blocks
 abbrev pub MadeCallsBetween : {S : Type 0} → Ghosts S → S → S → ℕ → ℕ → ℕ → Type 0
 MadeCallsBetween shelf old new least most blocks = TookBetween shelf.calls shelf.written old new least most blocks
 
--- The same of a longer stretch, whose first calls were so many and wrote nothing.
-abbrev pub made_behind : {S : Type 0} → Ghosts S → ℕ → S → S → Made
-made_behind {S} shelf before old new = record {
-  exactly = λ calls blocks. (start : S) → MadeCalls shelf start old before 0 → MadeCalls shelf start new calls blocks;
-  within = λ least most blocks. (start : S) → MadeCalls shelf start old before 0 → MadeCallsBetween shelf start new least most blocks;
-  wrote = (start : S) → MadeCalls shelf start old before 0 → RoseByAtLeast 1 (shelf.written start) (shelf.written new);
+-- The same of a longer stretch, whose first calls wrote nothing: these come on top of them.
+abbrev pub made_behind : {S : Type 0} → Ghosts S → S → S → Made
+made_behind {S} shelf old new = record {
+  exactly = λ calls blocks. (start : S) (before : ℕ) → MadeCalls shelf start old before 0 → MadeCalls shelf start new (calls + before) blocks;
+  within = λ least most blocks. (start : S) (before : ℕ) → MadeCalls shelf start old before 0 → MadeCallsBetween shelf start new (least + before) (most + before) blocks;
+  wrote = (start : S) (before : ℕ) → MadeCalls shelf start old before 0 → RoseByAtLeast 1 (shelf.written start) (shelf.written new);
 }
 
 -- exactly so many reads; where there is none the shelf is as it was
@@ -52,19 +55,11 @@ AreReadFor shelf old new slots (Ok None) = MadeCallsBetween shelf old new 0 slot
 AreReadFor shelf old new slots (Err fault) = MadeCallsBetween shelf old new 0 slots 0
 
 -- where a table was found, the head and each open slot of it were read; else no more than two slots, and the head at least for want of memory
-abbrev pub IsFindCounted : {S : Type 0} → Ghosts S → S → S → Result (Option Found) ReadFault → Type 0
-IsFindCounted shelf old new (Ok (Some found)) = MadeReads shelf old new (1 + open_slots found.head)
-IsFindCounted shelf old new (Ok None) = MadeCallsBetween shelf old new 0 3 0
-IsFindCounted shelf old new (Err Failed) = MadeCallsBetween shelf old new 0 3 0
-IsFindCounted shelf old new (Err Memory) = MadeCallsBetween shelf old new 1 3 0
-
--- A look reads the drive's first block, syncs the drive, and reads the head and each open slot. Where it finds none it makes no more
--- than it would for two, and the first two at least, unless one of these fails.
 abbrev pub IsLookCounted : {S : Type 0} → Ghosts S → S → S → Result (Option Found) ReadFault → Type 0
-IsLookCounted shelf old new (Ok (Some found)) = MadeCalls shelf old new (3 + open_slots found.head) 0
-IsLookCounted shelf old new (Ok None) = MadeCallsBetween shelf old new 2 5 0
-IsLookCounted shelf old new (Err Failed) = MadeCallsBetween shelf old new 1 5 0
-IsLookCounted shelf old new (Err Memory) = MadeCallsBetween shelf old new 3 5 0
+IsLookCounted shelf old new (Ok (Some found)) = MadeReads shelf old new (1 + open_slots found.head)
+IsLookCounted shelf old new (Ok None) = MadeCallsBetween shelf old new 0 3 0
+IsLookCounted shelf old new (Err Failed) = MadeCallsBetween shelf old new 0 3 0
+IsLookCounted shelf old new (Err Memory) = MadeCallsBetween shelf old new 1 3 0
 
 -- A table that is written anew takes eight calls, the claim's and the slot's; where one failed one at least and no more, and it began to
 -- write; none where the number is spent.
@@ -76,15 +71,27 @@ IsAdoptionCounted shelf old new blocks end.Lost = MadeCallsBetween shelf old new
 IsAdoptionCounted shelf old new blocks end.Spent = new ≡ old
 IsAdoptionCounted shelf old new blocks end.Memory = new ≡ old
 
--- A boot reads the drive's first block, syncs the drive, and looks at the four blocks of the head and at the open slots, one
--- or two. An adoption is eight calls more.
-abbrev pub IsBootCounted : {S : Type 0} → Ghosts S → S → S → BootEnd → Type 0
-IsBootCounted shelf old new (end.Adopted newest) = MadeCallsBetween shelf old new 12 13 4097
-IsBootCounted shelf old new end.Empty = MadeCallsBetween shelf old new 2 5 0
-IsBootCounted shelf old new end.Down = MadeCallsBetween shelf old new 1 5 0
-IsBootCounted shelf old new end.Lost = MadeCallsBetween shelf old new 5 13 4097
-IsBootCounted shelf old new end.Spent = MadeCallsBetween shelf old new 4 5 0
-IsBootCounted shelf old new end.Memory = MadeCallsBetween shelf old new 3 5 0
+-- Behind so many calls a boot looks at the four blocks of the head and at the open slots, one or two. An adoption is eight calls more.
+abbrev pub IsPlaceCounted : {S : Type 0} → Ghosts S → S → S → ℕ → BootEnd → Type 0
+IsPlaceCounted shelf old new before (end.Adopted newest) = MadeCallsBetween shelf old new (before + 10) (before + 11) 4097
+IsPlaceCounted shelf old new before end.Empty = MadeCallsBetween shelf old new before (before + 3) 0
+IsPlaceCounted shelf old new before end.Down = MadeCallsBetween shelf old new before (before + 3) 0
+IsPlaceCounted shelf old new before end.Lost = MadeCallsBetween shelf old new (before + 3) (before + 11) 4097
+IsPlaceCounted shelf old new before end.Spent = MadeCallsBetween shelf old new (before + 2) (before + 3) 0
+IsPlaceCounted shelf old new before end.Memory = MadeCallsBetween shelf old new (before + 1) (before + 3) 0
+
+-- so many reads and syncs brought these drives up
+pub record IsBringingCounted {S : Type 0} (shelf : Ghosts S) (old new : S) (drives : List DriveNo) (up : Drives) : Type 0 where
+  pub calls : ℕ
+  pub by : BroughtUpBy drives up calls
+  pub made : MadeReads shelf old new calls
+
+-- a boot brings its drives up, and then looks at its place, where that drive is up
+pub record IsBootCounted {S : Type 0} (shelf : Ghosts S) (old new : S) (drives : List DriveNo) (here : DriveNo) (answer : Booted) : Type 0 where
+  pub brought : ℕ
+  pub by : BroughtUpBy drives answer.up brought
+  pub calls : IsPlaceCounted shelf old new brought answer.end
+  pub down : has_drive answer.up here ≡ false → MadeCallsBetween shelf old new brought brought 0
 
 -- A creation takes twelve calls, six of them for the format. One that failed there took no more than these, and one that is
 -- lost took them and one more at least. Without memory it makes none.

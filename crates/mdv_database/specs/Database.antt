@@ -96,15 +96,6 @@ IsRefusal end.Lost = ⊥
 IsRefusal end.Spent = Unit {0}
 IsRefusal end.Memory = Unit {0}
 
--- a boot that knows what the drive holds
-abbrev pub IsCertain : BootEnd → Type 0
-IsCertain (end.Adopted newest) = Unit {0}
-IsCertain end.Empty = Unit {0}
-IsCertain end.Down = ⊥
-IsCertain end.Lost = ⊥
-IsCertain end.Spent = ⊥
-IsCertain end.Memory = ⊥
-
 -- what is known of the log after a boot
 abbrev pub IsBootedTo : BootEnd → Log → Type 0
 IsBootedTo (end.Adopted newest) log = IsNewestIn newest log

@@ -2,6 +2,7 @@ pub mod Below
 pub mod Open
 pub mod Slots
 pub mod Database
+pub mod Bringing
 pub mod Counts
 pub mod Boot
 pub mod Looks

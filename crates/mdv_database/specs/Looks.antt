@@ -1,6 +1,6 @@
 -- What the reads of a place answer, and what they leave.
 use Rattle.std.specs.Prelude.{◌≡◌, ℕ, ◌+◌, true, List, slice_index_or, Option, Some, None, Result, Ok, Err, IfOk, IfErr, IfSome, OnOk}
-use Rattle.mdv_database.specs.Below.{Failures, Geometry, Head, PlaceAt, IsHead, with_blocks, shows, Ghosts, IsSynced, Tale, last, Site, IsTableAt}
+use Rattle.mdv_database.specs.Below.{Failures, Geometry, Head, PlaceAt, IsHead, with_blocks, shows, Ghosts, Tale, Site, IsTableAt}
 use Rattle.mdv_database.specs.declared.body.ReadFault.{ReadFault}
 use Rattle.mdv_database.specs.declared.body.ReadFault.TheVariants.{Failed, Memory}
 use Rattle.mdv_database.specs.declared.looking.Found.{Found}
@@ -34,7 +34,7 @@ pub record IsHeadThere (at : PlaceAt) (size : ℕ) (content : ℕ → List ℕ) 
 
 -- the calls of a look, by its answer and what the blocks held; of one that failed no more is said than how many it made
 abbrev pub LookedBy : Made → Site → (ℕ → List ℕ) → Result (Option Found) ReadFault → Type 0
-LookedBy made site content (Ok (Some found)) = made.exactly (3 + open_slots found.head) 0
+LookedBy made site content (Ok (Some found)) = made.exactly (1 + open_slots found.head) 0
 LookedBy made site content (Ok None) = EmptyBy made site content
 LookedBy made site content (Err Failed) = Unit {0}
 LookedBy made site content (Err Memory) = WantingBy made site content
@@ -43,8 +43,3 @@ LookedBy made site content (Err Memory) = WantingBy made site content
 pub record Finds (made : Made) (site : Site) (content : ℕ → List ℕ) (result : Result (Option Found) ReadFault) : Type 0 where
   pub found : IfOk result (IsLookedAt site content)
   pub looked : LookedBy made site content result
-
--- a look that is answered says what the drive held, which no crash takes back then
-pub record LookEnds (made : Made) (site : Site) (result : Result (Option Found) ReadFault) (t u : Tale) : Type 0 where
-  pub finds : Finds made site (last t site.at.drive.0) result
-  pub synced : OnOk result (IsSynced site.at.drive.0 u)

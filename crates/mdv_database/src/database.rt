@@ -1,7 +1,8 @@
-ghost use Rattle.std.specs.Prelude.{◌≡◌, ◌<◌, ◌≤◌, ◌+◌, ◌^◌, length, slice_index_or, IfErr, OnOk};
+ghost use Rattle.std.specs.Prelude.{◌≡◌, ◌<◌, ◌≤◌, ◌+◌, ◌^◌, Contains, length, slice_index_or, IfErr, OnOk};
 ghost use Rattle.mdv_name.specs.declared.geometry.Geometry.{Geometry as Drives};
 ghost use Rattle.mdv_record.specs.Text.{record_text};
 ghost use Rattle.mdv_shelf.specs.Calls.{OnDrive};
+ghost use Rattle.mdv_shelf.specs.Drives.{AreDrives, KeptAmong};
 ghost use Rattle.mdv_shelf.specs.Shelves.{AtEachTale, AtEnd, DriveFailures, KeptOn};
 ghost use Rattle.mdv_shelf.specs.Between.{MakesCalls};
 ghost use Rattle.mdv_replica.specs.Form.{room_of};
@@ -10,18 +11,21 @@ ghost use Rattle.mdv_replica.specs.Replica.{IsPlaced, slot_blocks};
 ghost use Rattle.mdv_table.specs.Slices.{IsSound};
 ghost use Rattle.mdv_table.specs.Table.{IsPlaceOf};
 ghost use Rattle.mdv_store_law.specs.Site.{IsTableAt};
-ghost use Rattle.mdv_database.specs.Boot.{AdoptEnds, AdoptMoment, BootAnswer, BootEndsAs, BootMoment, IsAdoption, RewriteEnds, RewriteMoment};
+ghost use Rattle.mdv_database.specs.Boot.{AdoptEnds, AdoptMoment, BootAnswer, BootEndsAs, BootMoment, HereEndsAs, IsAdoption, IsCleanIn, PlaceAnswer, PlaceMoment, RewriteEnds, RewriteMoment, is_answered as spec_is_answered};
 ghost use Rattle.mdv_database.specs.Commit.{CommitAnswer, CommitDone, CommitMoment, IsOver};
-ghost use Rattle.mdv_database.specs.Counts.{IsAdoptionCounted, IsBootCounted, IsCommitCounted, IsCreationCounted};
+ghost use Rattle.mdv_database.specs.Counts.{IsAdoptionCounted, IsBootCounted, IsCommitCounted, IsCreationCounted, IsPlaceCounted};
 ghost use Rattle.mdv_database.specs.Create.{CreateAnswer, CreateEnds, CreateMoment};
 ghost use Rattle.mdv_database.specs.Database.{IsOnDrive, IsInHand, IsLaid, site_of, first_table as spec_first_table};
 ghost use Rattle.mdv_store_law.specs.Effort.{blocks_for};
 ghost use Rattle.mdv_database.specs.Write.{WriteAnswer};
 
 use crate::body::{Body, ReadFault};
+use crate::drives::bring_up;
 use crate::head::{at_length, greatest_of, other_slot};
 use crate::looking::{Found, look};
-use mdv_base::{BLOCK_BYTES, Failed, Identity, Key, Mark, NUMBER_LIMIT, Place, Places};
+use mdv_base::{
+    BLOCK_BYTES, DriveNo, DriveSet, Failed, Identity, Key, Mark, NUMBER_LIMIT, Place, Places,
+};
 use mdv_name::Geometry;
 use mdv_record::{TooLong, text_bytes};
 use mdv_replica::{PlaceAt, Slot, format, write_claim};
@@ -52,14 +56,14 @@ impl Model for Database {
     ghost invariant = { λ d. IsOpen d.blocks d.mark d.body };
 }
 
-/// What a boot came to.
+/// What a boot came to at the database's place.
 #[derive(Drop)]
 pub enum BootEnd {
     /// A table was found and written anew under the drawn number.
     Adopted(Database),
     /// No readable replica shows a table.
     Empty,
-    /// A read or the sync of the drive failed, so nothing is known of what it holds.
+    /// The place's drive isn't up, or a read of it failed, so nothing is known of what it holds.
     Down,
     /// A table was found, and writing it anew failed.
     Lost,
@@ -67,6 +71,16 @@ pub enum BootEnd {
     Spent,
     /// Memory was refused; nothing was written.
     Memory,
+}
+
+/// What a boot came to.
+#[derive(Drop)]
+pub struct Booted {
+    pub end: BootEnd,
+    /// Those of the host's own drives of which the first block was read, and which were synced then.
+    pub up: DriveSet,
+    /// No call of the boot failed, on any drive.
+    pub clean: bool,
 }
 
 /// Why a creation failed: before the table was written, in writing it, or for want of memory before
@@ -109,9 +123,58 @@ impl From<TooLong> for CommitFault {
     }
 }
 
-/// Looks for a replica of the database at its place. One that shows a table is adopted: the boot draws one
-/// more than the greatest number there, and writes it and the newest table under it.
+/// Brings the host's own drives up, in their order: it reads the first block of each and syncs it, whatever came of those
+/// before. Where the place's drive is up, it looks there for a replica of the database. One that shows a table is adopted: the
+/// boot draws one more than the greatest number there, and writes it and the newest table under it.
 pub fn boot<S: Shelf>(
+    shelf: &mut S,
+    alloc: Global,
+    drives: &Geometry,
+    own: &[DriveNo],
+    at: PlaceAt,
+    key: &Key,
+) -> Booted
+    requires sound { IsSound drives.now }
+    requires on_drive { IsOnDrive (S.sizes shelf.old) at }
+    requires own { AreDrives (S.sizes shelf.old) own.now }
+    requires one_of { Contains own.now at.drive }
+    ensures answer { BootAnswer (DriveFailures S.Shelf shelf.old shelf.new) drives.now (S.sizes shelf.old) own.now at result }
+    ensures moments { AtEachTale S.Shelf (BootMoment (site_of drives.now key.now at (S.sizes shelf.old))) shelf.old shelf.new }
+    ensures end { BootEndsAs S.Shelf shelf.old shelf.new (site_of drives.now key.now at (S.sizes shelf.old)) own.now result }
+    ensures counted { IsBootCounted S.Shelf shelf.old shelf.new own.now at.drive result }
+    ensures kept { KeptAmong S.Shelf shelf.old shelf.new own.now }
+{
+    let up = bring_up(shelf, own);
+    if !up.contains(at.drive) {
+        return Booted {
+            end: BootEnd::Down,
+            up,
+            clean: false,
+        };
+    }
+    let end = boot_place(shelf, alloc, drives, at, key);
+    Booted {
+        clean: is_clean(&end, own, &up),
+        end,
+        up,
+    }
+}
+
+// Whether no call at the place failed, and all of the drives are up.
+fn is_clean(end: &BootEnd, drives: &[DriveNo], up: &DriveSet) -> bool
+    ensures { IsCleanIn result end.now drives.now up.now }
+{
+    is_answered(end) && drives.iter().all(|drive| up.contains(*drive))
+}
+
+fn is_answered(end: &BootEnd) -> bool
+    ensures { result ≡ spec_is_answered end.now }
+{
+    !matches!(end, BootEnd::Down | BootEnd::Lost)
+}
+
+// Looks for a replica on the place's drive, which is up, and adopts one that shows a table.
+fn boot_place<S: Shelf>(
     shelf: &mut S,
     alloc: Global,
     drives: &Geometry,
@@ -120,10 +183,10 @@ pub fn boot<S: Shelf>(
 ) -> BootEnd
     requires sound { IsSound drives.now }
     requires on_drive { IsOnDrive (S.sizes shelf.old) at }
-    ensures answer { BootAnswer (DriveFailures S.Shelf shelf.old shelf.new at.drive.0) drives.now (S.sizes shelf.old) at result }
-    ensures moments { AtEachTale S.Shelf (BootMoment (site_of drives.now key.now at (S.sizes shelf.old))) shelf.old shelf.new }
-    ensures end { BootEndsAs S.Shelf shelf.old shelf.new (site_of drives.now key.now at (S.sizes shelf.old)) result }
-    ensures counted { IsBootCounted S.Shelf shelf.old shelf.new result }
+    ensures answer { PlaceAnswer (DriveFailures S.Shelf shelf.old shelf.new at.drive.0) drives.now (S.sizes shelf.old) at result }
+    ensures moments { AtEachTale S.Shelf (PlaceMoment (site_of drives.now key.now at (S.sizes shelf.old))) shelf.old shelf.new }
+    ensures end { HereEndsAs S.Shelf shelf.old shelf.new (site_of drives.now key.now at (S.sizes shelf.old)) result }
+    ensures counted { IsPlaceCounted S.Shelf shelf.old shelf.new 0 result }
     ensures kept { KeptOn S.Shelf shelf.old shelf.new (OnDrive at.drive.0) }
 {
     match look(shelf, alloc, drives, at, key) {

@@ -4,7 +4,8 @@
 
 mod body;
 mod database;
+mod drives;
 mod head;
 mod looking;
 
-pub use database::{BootEnd, CommitFault, CreateFault, Database, boot, create};
+pub use database::{BootEnd, Booted, CommitFault, CreateFault, Database, boot, create};

@@ -2,21 +2,20 @@
 ghost use Rattle.std.specs.Prelude.{◌≡◌, true, slice_index_or, IfOk, IfSome};
 ghost use Rattle.mdv_base.specs.Causes.{HasCause};
 ghost use Rattle.mdv_shelf.specs.Calls.{OnDrive};
-ghost use Rattle.mdv_shelf.specs.Shelves.{AtEachTale, AtEnd, DriveFailures, KeptOn};
+ghost use Rattle.mdv_shelf.specs.Shelves.{DriveFailures, KeptOn};
 ghost use Rattle.mdv_shelf.specs.Tale.{last};
 ghost use Rattle.mdv_replica.specs.Form.{IsSpareSlot, shows};
 ghost use Rattle.mdv_replica.specs.Replica.{IsFormed, IsPlaced, slot_blocks};
 ghost use Rattle.mdv_table.specs.Slices.{IsSound};
-ghost use Rattle.mdv_database.specs.Counts.{AreReadFor, IsFindCounted, IsHeldCounted, IsLookCounted, MadeReads, head_reads, made_behind};
-ghost use Rattle.mdv_shelf.specs.Made.{made_of};
+ghost use Rattle.mdv_database.specs.Counts.{AreReadFor, IsHeldCounted, IsLookCounted, MadeReads, head_reads, made_behind};
 ghost use Rattle.mdv_store_law.specs.Effort.{open_slots};
-ghost use Rattle.mdv_database.specs.Database.{IsOnDrive, IsUnwritten, site_of};
-ghost use Rattle.mdv_database.specs.Looks.{Finds, IsFoundAt, IsHeadThere, LookEnds, OnlyReads, ReadAnswer};
+ghost use Rattle.mdv_database.specs.Database.{IsOnDrive, site_of};
+ghost use Rattle.mdv_database.specs.Looks.{Finds, IsFoundAt, IsHeadThere, OnlyReads, ReadAnswer};
 ghost use Rattle.mdv_database.specs.Slots.{AreHeld, IfKept, IsFitting, IsHeld, IsTableOf};
 
 use crate::body::{Body, ReadFault};
 use crate::head::{at_length, gate_of_slot, is_of_database, other_slot, spare_slot};
-use mdv_base::{Failed, Key, ZERO_BLOCK};
+use mdv_base::{Failed, Key};
 use mdv_name::Geometry;
 use mdv_replica::{Gate, Head, PlaceAt, Slot, inspect};
 use mdv_shelf::Shelf;
@@ -41,8 +40,7 @@ pub(crate) enum Held {
     Other,
 }
 
-/// Reads the drive's first block and syncs it, so that what is read next no crash takes back, and looks for
-/// a replica that shows a table.
+/// Looks for a replica of the database that shows a table.
 pub(crate) fn look<S: Shelf>(
     shelf: &mut S,
     alloc: Global,
@@ -53,36 +51,8 @@ pub(crate) fn look<S: Shelf>(
     requires sound { IsSound drives.now }
     requires on_drive { IsOnDrive (S.sizes shelf.old) at }
     ensures answer { ReadAnswer (DriveFailures S.Shelf shelf.old shelf.new at.drive.0) (λ seen. IfSome seen (IsFoundAt drives.now (S.sizes shelf.old) at)) result }
-    ensures moments { AtEachTale S.Shelf IsUnwritten shelf.old shelf.new }
-    ensures end { AtEnd S.Shelf (LookEnds (made_of S.Shelf shelf.old shelf.new) (site_of drives.now key.now at (S.sizes shelf.old)) result) shelf.old shelf.new }
+    ensures reads { OnlyReads S.Shelf (λ t. Finds (made_behind S.Shelf shelf.old shelf.new) (site_of drives.now key.now at (S.sizes shelf.old)) (last t at.drive.0) result) shelf.old shelf.new }
     ensures counted { IsLookCounted S.Shelf shelf.old shelf.new result }
-    ensures kept { KeptOn S.Shelf shelf.old shelf.new (OnDrive at.drive.0) }
-{
-    let mut first = [ZERO_BLOCK];
-    match shelf.read(at.drive, 0, &mut first) {
-        Ok(()) => {}
-        Err(Failed) => return Err(ReadFault::Failed),
-    }
-    match shelf.sync(at.drive) {
-        Ok(()) => {}
-        Err(Failed) => return Err(ReadFault::Failed),
-    }
-    let found = find(shelf, alloc, drives, at, key)?;
-    Ok(found)
-}
-
-fn find<S: Shelf>(
-    shelf: &mut S,
-    alloc: Global,
-    drives: &Geometry,
-    at: PlaceAt,
-    key: &Key,
-) -> Result<Option<Found>, ReadFault>
-    requires sound { IsSound drives.now }
-    requires on_drive { IsOnDrive (S.sizes shelf.old) at }
-    ensures answer { ReadAnswer (DriveFailures S.Shelf shelf.old shelf.new at.drive.0) (λ seen. IfSome seen (IsFoundAt drives.now (S.sizes shelf.old) at)) result }
-    ensures reads { OnlyReads S.Shelf (λ t. Finds (made_behind S.Shelf 2 shelf.old shelf.new) (site_of drives.now key.now at (S.sizes shelf.old)) (last t at.drive.0) result) shelf.old shelf.new }
-    ensures counted { IsFindCounted S.Shelf shelf.old shelf.new result }
     ensures kept { KeptOn S.Shelf shelf.old shelf.new (OnDrive at.drive.0) }
 {
     match head_at(shelf, at) {

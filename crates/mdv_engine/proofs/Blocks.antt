@@ -1,7 +1,7 @@
 -- What a read and a write of a volume's blocks come to.
 use Rattle.mdv_engine_law.specs.Line.{Ask, ToDo}
 use Rattle.std.proofs.Common.{◌≡◌, inl, inr, ◌+◌, ℕ, List, [], ◌∷◌, Option, Some, None, Err, refl, sym, ap, ◌∙◌, subst, arith}
-use Rattle.mdv_engine.specs.Below.{Failures, VolId, Refusal, IoFault, Moments, Ends, IsSettled, Settling, Tale, Read, Write, Wrote, Host, key_of, IsReady, Memory, AreBlocksAt, CameTo, kept_at, IsPlain, CarriedTo, CarryMoment, Knows}
+use Rattle.mdv_engine.specs.Below.{AreCalm, DriveBlock, FailedOn, Outcomes, any_of, VolId, Refusal, IoFault, Moments, Ends, IsSettled, Settling, Tale, Read, Write, Wrote, Host, key_of, IsReady, Memory, AreBlocksAt, CameTo, kept_at, IsPlain, CarriedTo, CarryMoment, Knows}
 use Rattle.mdv_engine.proofs.Judged.{blocks_judged, judged_said, read_judged}
 use Rattle.mdv_shelf.proofs.Moments.{moments_end, moments_none, moments_weaker, ends_both}
 use Rattle.mdv_engine_law.specs.Commands as came
@@ -16,9 +16,10 @@ use Rattle.mdv_engine_law.proofs.Plain.{blocks_plain, fault_plain, memory_plain,
 use Rattle.mdv_engine_law.proofs.Staying.{stays_in_volume}
 use Rattle.mdv_engine_law.proofs.Transfer.{writing_moment, wrote_blocks, wrote_some}
 use Rattle.mdv_engine_law.proofs.Turning.{carry_none, refused_none}
+use Rattle.mdv_shelf.specs.Shelves.{DriveFailures}
 use Rattle.mdv_shelf.specs.declared.shelf.Shelf.{Ghosts}
 use Rattle.mdv_engine.specs.declared.engine.Engine.{Engine}
-use Rattle.mdv_engine.specs.Ends.{ArePutting, AreWritten}
+use Rattle.mdv_engine.specs.Ends.{AreTorn, AreWritten}
 use Rattle.mdv_engine.specs.Engine.{HasBlocksCause, HasReadCause, IsWell}
 
 -- a line that left all as it was
@@ -35,80 +36,80 @@ still memory t = record { memory = refl; content = λ drive block. refl }
 
 module _ (host : Host) (memory : Memory) (volume : VolId) (at count : ℕ) where
   -- a read that isn't told
-  pub unread_line : (failures : Failures) (t : Tale) (r : Refusal) → HasReadCause failures host memory volume at count r → CameTo failures host (kept_at memory t) (Read volume at count) (refusing r) (kept_at memory t)
-  unread_line failures t r (inl is) = came.refused is.0 r is.1 (refl, still memory t)
-  unread_line failures t r (inr (inl (so, has, fault))) = came.faulted so has.2 (ap refusing fault) (still memory t)
-  unread_line failures t r (inr (inr (calm, has, want))) = came.wanting calm (ap refusing want) (has.2, still memory t)
+  pub unread_line : (calls : Outcomes) (t : Tale) (r : Refusal) → HasReadCause calls host memory volume at count r → CameTo calls host (kept_at memory t) (Read volume at count) (refusing r) (kept_at memory t)
+  unread_line calls t r (inl is) = came.refused is.0 r is.1 (refl, still memory t)
+  unread_line calls t r (inr (inl (of, free, fault))) = came.faulted free (ap refusing fault) (of.place, of.failed, of.there, still memory t)
+  unread_line calls t r (inr (inr (calm, free, want))) = came.wanting calm (ap refusing want) (free, still memory t)
 
-  pub unread_plain : (failures : Failures) (r : Refusal) → HasReadCause failures host memory volume at count r → IsPlain r
-  unread_plain failures r (inl is) = refusal_plain (record { host = host; memory = memory }) (Read volume at count) r is.1
-  unread_plain failures r (inr (inl (so, has, fault))) = subst IsPlain (sym fault) fault_plain
-  unread_plain failures r (inr (inr (calm, has, want))) = subst IsPlain (sym want) memory_plain
+  pub unread_plain : (calls : Outcomes) (r : Refusal) → HasReadCause calls host memory volume at count r → IsPlain r
+  unread_plain calls r (inl is) = refusal_plain (record { host = host; memory = memory }) (Read volume at count) r is.1
+  unread_plain calls r (inr (inl (of, free, fault))) = subst IsPlain (sym fault) fault_plain
+  unread_plain calls r (inr (inr (calm, free, want))) = subst IsPlain (sym want) memory_plain
 
-  pub unwritten_plain : (failures : Failures) (r : Refusal) → HasBlocksCause failures host memory volume at count r → IsPlain r
-  unwritten_plain failures r (inl is) = first_holds IsPlain order (held_of_blocks memory.opened volume (at + count)) r (blocks_plain memory.opened volume (at + count)) is.1
-  unwritten_plain failures r (inr (so, has, fault)) = subst IsPlain (sym fault) fault_plain
+  pub unwritten_plain : (calls : Outcomes) (r : Refusal) → HasBlocksCause calls host memory volume at count r → IsPlain r
+  unwritten_plain calls r (inl is) = first_holds IsPlain order (held_of_blocks memory.opened volume (at + count)) r (blocks_plain memory.opened volume (at + count)) is.1
+  unwritten_plain calls r (inr (of, free, fault)) = subst IsPlain (sym fault) fault_plain
 
-  pub unwritten_cause : (failures : Failures) (r : Refusal) → HasBlocksCause failures host memory volume at count r → HasAnswerCause failures (refusing r)
-  unwritten_cause failures r (inl is) = judged_said failures r (blocks_judged memory.opened volume (at + count) r is.1) is.0
-  unwritten_cause failures r (inr (so, has, fault)) = subst (λ (x : Refusal). HasAnswerCause failures (refusing x)) (sym fault) so
+  pub unwritten_cause : (calls : Outcomes) (r : Refusal) → HasBlocksCause calls host memory volume at count r → HasAnswerCause (any_of calls) (refusing r)
+  unwritten_cause calls r (inl is) = judged_said (any_of calls) r (blocks_judged memory.opened volume (at + count) r is.1) is.0
+  unwritten_cause calls r (inr (of, free, fault)) = subst (λ (x : Refusal). HasAnswerCause (any_of calls) (refusing x)) (sym fault) (of.place.drive, of.failed)
 
-  pub unread_cause : (failures : Failures) (r : Refusal) → HasReadCause failures host memory volume at count r → HasAnswerCause failures (refusing r)
-  unread_cause failures r (inl is) = judged_said failures r (read_judged memory.opened volume at count r is.1) is.0
-  unread_cause failures r (inr (inl (so, has, fault))) = subst (λ (x : Refusal). HasAnswerCause failures (refusing x)) (sym fault) so
-  unread_cause failures r (inr (inr (calm, has, want))) = subst (λ (x : Refusal). HasAnswerCause failures (refusing x)) (sym want) calm
+  pub unread_cause : (calls : Outcomes) (r : Refusal) → HasReadCause calls host memory volume at count r → HasAnswerCause (any_of calls) (refusing r)
+  unread_cause calls r (inl is) = judged_said (any_of calls) r (read_judged memory.opened volume at count r is.1) is.0
+  unread_cause calls r (inr (inl (of, free, fault))) = subst (λ (x : Refusal). HasAnswerCause (any_of calls) (refusing x)) (sym fault) (of.place.drive, of.failed)
+  unread_cause calls r (inr (inr (calm, free, want))) = subst (λ (x : Refusal). HasAnswerCause (any_of calls) (refusing x)) (sym want) calm
 
 -- of one block that was written some
 pub torn_of : {S : Type 0} (shelf : Ghosts S) (old new : S) (engine : Engine) (volume : VolId) (at : ℕ) (value : List ℕ) (r : Refusal) → AreWritten shelf old new engine volume at (value ∷ []) (Err r) → r ≡ IoFault
-    → (block : ℕ) × AreBlocksAt engine.host engine.state volume at 1 block × Moments (Settling 0 block (value ∷ [])) (shelf.tale old) (shelf.tale new)
+    → (place : DriveBlock) × AreBlocksAt engine.host engine.state volume at 1 place × FailedOn place.drive (DriveFailures shelf old new) × Moments (Settling place.drive place.block (value ∷ [])) (shelf.tale old) (shelf.tale new)
 torn_of shelf old new engine volume at value r written is =
-    let put : ArePutting shelf old new engine volume at (value ∷ []) = subst (λ (x : Refusal). AreWritten shelf old new engine volume at (value ∷ []) (Err x)) is written in
-    (put.block, put.there, put.moments)
+    let torn : AreTorn shelf old new engine volume at (value ∷ []) = subst (λ (x : Refusal). AreWritten shelf old new engine volume at (value ∷ []) (Err x)) is written in
+    (torn.putting.place, torn.putting.there, torn.failed, torn.putting.moments)
 
 -- one block that is written
 module _ (host : Host) (sizes : List ℕ) (ready : IsReady host sizes) (memory : Memory) (well : IsWell host memory) (volume : VolId) (at : ℕ) (value : List ℕ) (a b : Option Tale) where
   abbrev wrote : Ask
   wrote = ToDo (Wrote (key_of host) volume at (value ∷ []))
 
-  module _ (block : ℕ) (there : AreBlocksAt host memory volume at 1 block) (free : blocks_refusal memory.opened volume (at + 1) ≡ None) (settling : Moments (Settling 0 block (value ∷ [])) a b) where
+  module _ (place : DriveBlock) (there : AreBlocksAt host memory volume at 1 place) (free : blocks_refusal memory.opened volume (at + 1) ≡ None) (settling : Moments (Settling place.drive place.block (value ∷ [])) a b) where
     pub write_moments : Moments (CarryMoment host wrote memory) a b
-    write_moments = moments_weaker (Settling 0 block (value ∷ [])) (CarryMoment host wrote memory) a b (λ t m s. writing_moment host sizes ready memory well.sound volume at block (value ∷ []) (omega arith) there t m s (stays_in_volume host sizes ready memory volume at 1 block (omega arith) there well.table t m s.outside)) settling
+    write_moments = moments_weaker (Settling place.drive place.block (value ∷ [])) (CarryMoment host wrote memory) a b (λ t m s. writing_moment host sizes ready memory volume at place (value ∷ []) (omega arith) there t m s (stays_in_volume host sizes ready memory volume at 1 place (omega arith) there well.table t m s.outside)) settling
 
     -- it is on the disk
-    module _ (settled : Ends (λ t u. IsSettled 0 block (value ∷ []) u) a b) where
-      both : Ends (λ t u. Settling 0 block (value ∷ []) t u × IsSettled 0 block (value ∷ []) u) a b
-      both = ends_both (Settling 0 block (value ∷ [])) (λ t u. IsSettled 0 block (value ∷ []) u) _ a b (λ t u s x. (s, x)) (moments_end (Settling 0 block (value ∷ [])) a b settling) settled
+    module _ (settled : Ends (λ t u. IsSettled place.drive place.block (value ∷ []) u) a b) where
+      both : Ends (λ t u. Settling place.drive place.block (value ∷ []) t u × IsSettled place.drive place.block (value ∷ []) u) a b
+      both = ends_both (Settling place.drive place.block (value ∷ [])) (λ t u. IsSettled place.drive place.block (value ∷ []) u) _ a b (λ t u s x. (s, x)) (moments_end (Settling place.drive place.block (value ∷ [])) a b settling) settled
 
-      pub written_line : (failures : Failures) → failures.none → Ends (λ t u. Knows host memory t → CameTo failures host (kept_at memory t) (Write volume at value) accepted (kept_at memory u)) a b
-      written_line failures calm t start =
-          (let end = both t start in (end.0, end.1, λ known. came.done calm free (block, there, refl, refl, are_put t end.0 block (value ∷ []) end.2.0 end.2.1)))
+      pub written_line : (calls : Outcomes) → AreCalm calls → Ends (λ t u. Knows host memory t → CameTo calls host (kept_at memory t) (Write volume at value) accepted (kept_at memory u)) a b
+      written_line calls calm t start =
+          (let end = both t start in (end.0, end.1, λ known. came.done calm free (place, there, refl, refl, are_put t end.0 place (value ∷ []) end.2.0 end.2.1)))
 
       pub written_carried : Ends (CarriedTo host wrote memory accepted memory) a b
-      written_carried t start = (let end = both t start in (end.0, end.1, wrote_blocks host sizes ready memory well.sound volume at block (value ∷ []) (omega arith) there t end.0 end.2.0 end.2.1))
+      written_carried t start = (let end = both t start in (end.0, end.1, wrote_blocks host sizes ready memory volume at place (value ∷ []) (omega arith) there t end.0 end.2.0 end.2.1))
 
     -- a call on the drive failed
-    pub torn_line : (failures : Failures) → failures.some → Ends (λ t u. Knows host memory t → CameTo failures host (kept_at memory t) (Write volume at value) (refusing IoFault) (kept_at memory u)) a b
-    torn_line failures so t start =
-        (let end = moments_end (Settling 0 block (value ∷ [])) a b settling t start in (end.0, end.1, λ known. came.faulted so free refl (block, there, refl, may_be_put t end.0 block (value ∷ []) end.2)))
+    pub torn_line : (calls : Outcomes) → FailedOn place.drive calls → Ends (λ t u. Knows host memory t → CameTo calls host (kept_at memory t) (Write volume at value) (refusing IoFault) (kept_at memory u)) a b
+    torn_line calls so t start =
+        (let end = moments_end (Settling place.drive place.block (value ∷ [])) a b settling t start in (end.0, end.1, λ known. came.faulted free refl (place, so, there, refl, may_be_put t end.0 place (value ∷ []) end.2)))
 
     pub torn_carried : Ends (CarriedTo host wrote memory (refusing IoFault) memory) a b
     torn_carried t start =
-        (let end = moments_end (Settling 0 block (value ∷ [])) a b settling t start in (end.0, end.1, wrote_some host sizes ready memory well.sound volume at block (value ∷ []) (omega arith) there t end.0 end.2))
+        (let end = moments_end (Settling place.drive place.block (value ∷ [])) a b settling t start in (end.0, end.1, wrote_some host sizes ready memory volume at place (value ∷ []) (omega arith) there t end.0 end.2))
 
   -- a write that was refused: the volume has no such block, or a call on the drive failed
-  pub record IsUnwritten (failures : Failures) (r : Refusal) : Type 0 where
+  pub record IsUnwritten (calls : Outcomes) (r : Refusal) : Type 0 where
     pub moments : Moments (CarryMoment host wrote memory) a b
-    pub line : Ends (λ t u. Knows host memory t → CameTo failures host (kept_at memory t) (Write volume at value) (refusing r) (kept_at memory u)) a b
+    pub line : Ends (λ t u. Knows host memory t → CameTo calls host (kept_at memory t) (Write volume at value) (refusing r) (kept_at memory u)) a b
     pub carried : Ends (CarriedTo host wrote memory (refusing r) memory) a b
 
-  pub unwritten : (failures : Failures) (r : Refusal) → HasBlocksCause failures host memory volume at 1 r → (r ≡ IoFault → (block : ℕ) × AreBlocksAt host memory volume at 1 block × Moments (Settling 0 block (value ∷ [])) a b)
-      → (blocks_refusal memory.opened volume (at + 1) ≡ Some r → b ≡ a) → IsUnwritten failures r
-  unwritten failures r (inl is) torn same = record {
+  pub unwritten : (calls : Outcomes) (r : Refusal) → HasBlocksCause calls host memory volume at 1 r → (r ≡ IoFault → (place : DriveBlock) × AreBlocksAt host memory volume at 1 place × FailedOn place.drive calls × Moments (Settling place.drive place.block (value ∷ [])) a b)
+      → (blocks_refusal memory.opened volume (at + 1) ≡ Some r → b ≡ a) → IsUnwritten calls r
+  unwritten calls r (inl is) torn same = record {
     moments = moments_still host wrote memory a b (same is.1);
     line = λ t start. (t, same is.1 ∙ start, λ known. came.refused is.0 r is.1 (refl, still memory t));
     carried = refused_carried host wrote memory a b (same is.1) r;
   }
-  unwritten failures r (inr (so, has, fault)) torn same =
+  unwritten calls r (inr (of, free, fault)) torn same =
       let is = torn fault in
-      subst (λ (x : Refusal). IsUnwritten failures x) (sym fault)
-      (record { moments = write_moments is.0 is.1 has.2 is.2; line = torn_line is.0 is.1 has.2 is.2 failures so; carried = torn_carried is.0 is.1 has.2 is.2 })
+      subst (λ (x : Refusal). IsUnwritten calls x) (sym fault)
+      (record { moments = write_moments is.0 is.1 free is.3; line = torn_line is.0 is.1 free is.3 calls is.2; carried = torn_carried is.0 is.1 free is.3 })

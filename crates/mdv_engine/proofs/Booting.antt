@@ -1,100 +1,238 @@
--- What a boot of the host's database leaves, told of the host.
-use Rattle.std.proofs.Common.{◌≡◌, ℕ, false, List, [], Option, Some, None, refl, sym, subst, ap, ◌∙◌}
-use Rattle.mdv_database.specs.Boot.{BootedBy}
-use Rattle.mdv_shelf.specs.Made.{Made}
+-- What a boot of the host's database comes to and leaves, told of the host.
+use Rattle.std.proofs.Common.{◌≡◌, ◌≢◌, ◌⊎◌, inl, inr, ℕ, Bool, true, false, List, Option, None, Some, Contains, refl, sym, ◌∙◌, ap, subst}
+use Rattle.std.specs.Bool.{MatchBool}
+use Rattle.mdv_database.specs.Boot.{BootAnswer, BootEnds, BootMoment as PlaceMoment, BootedBy, HasBootCause, is_answered}
 use Rattle.mdv_database.specs.declared.database.BootEnd.{BootEnd}
-use Rattle.mdv_store_law.specs.Adoptable.{IsAdoptable, IsHeaded}
-use Rattle.mdv_engine_law.specs.Line.{IsSameBeside, contents}
-use Rattle.mdv_engine.specs.Below.{Failures, place_of, PlaceAt, with_blocks, other_slot, KeptOutside, nowhere, Moments, Ends, IsSynced, Tale, last, is_firm, Site, Newest, IsFound, IsTableAt, GoesOn, GoesOnTo, IsNewestIn, IsOpened, ShowsNothing, IsAdopted, IsDrawn, IsQuiet, IsSpent, Host, IsReady, site_of, Memory, IsRebooted, IsUsedUp, adopted, empty, down, kept_at, unbooted, BootMoment, BootedTo}
-use Rattle.mdv_shelf.proofs.Moments.{moments_both, moments_weaker, moments_end, ends_both}
+use Rattle.mdv_database.specs.declared.database.BootEnd.TheVariants as found
+use Rattle.mdv_database.specs.declared.database.Booted.{Booted}
+use Rattle.mdv_home.proofs.Viewing.{is_there, there_is}
+use Rattle.mdv_name.specs.SliceIndex.{is_among}
+use Rattle.mdv_shelf.specs.Calls.{OnDrive}
+use Rattle.mdv_shelf.specs.Drives.{KeptAmong}
+use Rattle.mdv_shelf.specs.Made.{Made, and_more}
+use Rattle.mdv_shelf.specs.Shelves.{DriveFailures}
+use Rattle.mdv_shelf.specs.declared.shelf.Shelf.{Ghosts}
+use Rattle.mdv_shelf.proofs.Blocks.{both_ways}
+use Rattle.mdv_database.proofs.Bringing.{is_drive}
+use Rattle.mdv_database.specs.Database.{IfAdopted, IsBooted, IsBootedTo, IsRefusal}
+use Rattle.mdv_engine_law.specs.Efforts.{BootCalls, PlaceCalls}
+use Rattle.mdv_engine_law.specs.Line.{IsRewritten, contents}
+use Rattle.mdv_engine.specs.Below.{AreCalm, DriveNo, Outcomes, has_drive, place_of, other_slot, Answer, Ends, GoesOnTo, Moments, PlaceAt, IsAdopted, IsOpened, IsTableAt, KeptOutside, IsSynced, Memory, Tale, area_of, last, nowhere, with_blocks, Newest, IsQuiet, Host, IsReady, site_of, IsUpBy, adopted, empty, down, lost, spent, wanting, booted_with, unbooted, BootMoment}
 use Rattle.mdv_engine_law.specs.Answers.{accepted}
-use Rattle.mdv_engine_law.proofs.Booting.{boot_moment, booted, booted_adopted, booted_down, booted_empty, unread}
+use Rattle.mdv_engine_law.specs.declared.answer.Answer.TheVariants.{Over}
+use Rattle.mdv_engine_law.specs.declared.answer.Ended.TheVariants as ended
+use Rattle.mdv_engine_law.proofs.Booting.{boot_moment, booted_adopted, booted_none, booting_empty, booting_still}
 use Rattle.mdv_engine_law.proofs.Keeping.{rewritten_newest, same_beside, same_content}
-use Rattle.mdv_engine.specs.Engine.{IsWell}
-use Rattle.mdv_engine.proofs.Sites.{here, told_site, quiet_here}
+use Rattle.mdv_engine.specs.Ends.{IsBootEnd}
+use Rattle.mdv_engine.specs.Engine.{HasUpCause, IsWell}
+use Rattle.mdv_engine.proofs.Sites.{here, told_site}
+use Rattle.mdv_shelf.proofs.Moments.{ends_both, moments_end, moments_weaker}
 
-module _ (host : Host) (sizes : List ℕ) (ready : IsReady host sizes) (at : PlaceAt) (at_is : at ≡ place_of host.home) where
-  abbrev site : Site
-  site = told_site host sizes ready at at_is
+-- by each moment
+pub boot_moments : (host : Host) (sizes : List ℕ) → IsReady host sizes → (t m : Tale) → PlaceMoment (site_of host) t m → BootMoment host t m
+boot_moments host sizes ready t m is = boot_moment host sizes ready t m is.quiet.outside is.quiet.quiet is.goes
 
-  abbrev to_host : (P : Site → Type 0) → P site → P (site_of host)
-  to_host = here host sizes ready at at_is
+module _ (host : Host) (calls : Outcomes) (still : (drive : DriveNo) → (Contains host.own drive → ⊥) → (calls drive.0).none) where
+  -- no call failed on any drive where none did on the host's own
+  all_calm : ((drive : DriveNo) → Contains host.own drive → (calls drive.0).none) → AreCalm calls
+  all_calm own drive = elim (both_ways (is_among host.own (record { 0 = drive }))) [
+    | inl here ↦ own (record { 0 = drive }) (is_there host.own (record { 0 = drive }) here)
+    | inr away ↦ still (record { 0 = drive }) (λ one_of. cc (there_is host.own (record { 0 = drive }) one_of, away))
+  ]
 
-  pub boot_moments : (a b : Option Tale) → Moments (IsQuiet at) a b → Moments (GoesOn site) a b → Moments (BootMoment host) a b
-  boot_moments a b quiet goes = moments_weaker _ (BootMoment host) a b
-      (λ t m both. boot_moment host t m (quiet_here host sizes ready at at_is t m both.0) both.0.quiet (to_host (λ s. GoesOn s t m) both.1))
-      (moments_both (IsQuiet at) (GoesOn site) a b quiet goes)
+  clean_all : (answer : Booted) (clean : Bool)
+      → MatchBool clean ((is_answered answer.end ≡ true) × ((drive : DriveNo) → Contains host.own drive → (calls drive.0).none × (has_drive answer.up drive ≡ true))) ((drive : DriveNo) × Contains host.own drive × (calls drive.0).some)
+      → MatchBool clean (AreCalm calls) ((drive : DriveNo) × Contains host.own drive × (calls drive.0).some)
+  clean_all answer true is = all_calm (λ drive one_of. (is.1 drive one_of).0)
+  clean_all answer false is = is
 
-  -- a boot that adopted a replica
-  module _ (begun : ℕ) (newest : Newest) (a b : Option Tale) where
-    pub adopted_rebooted : (failures : Failures) → failures.none → Moments (IsQuiet at) a b → ((t : Tale) → a ≡ Some t → IsDrawn site (last t at.drive.0) newest) → Ends (λ t u. IsAdopted site (last t at.drive.0) newest u × IsOpened site newest u) a b
-        → Ends (λ t u. (old new : Memory) → old.begun ≡ begun → new ≡ booted (Some newest) begun → IsRebooted failures host (kept_at old t) accepted (kept_at new u)) a b
-    adopted_rebooted failures calm quiet drawn is t start =
-        let end = ends_both (λ t u. IsAdopted site (last t at.drive.0) newest u × IsOpened site newest u) (IsQuiet at) (λ t u. IsAdopted site (last t at.drive.0) newest u × IsQuiet at t u) a b (λ t u q s. (q.0, s)) is (moments_end (IsQuiet at) a b quiet) t start in
-        let of = to_host (λ s. IsDrawn s (last t s.at.drive.0) newest) (drawn t start) in
-        let by = to_host (λ s. IsAdopted s (last t s.at.drive.0) newest end.0) end.2.0 in
-        (end.0, end.1, λ old new same now. adopted calm newest refl (now ∙ ap (λ (n : ℕ). booted (Some newest) n) (sym same)) (rewritten_newest host old new t end.0 newest of.head (other_slot newest.slot) newest.table (quiet_here host sizes ready at at_is t end.0 end.2.1) of.tie of.the of.fits by))
+  module _ (sizes : List ℕ) (ready : IsReady host sizes) (answer : Booted) (is : BootAnswer calls host.drives sizes host.own (place_of host.home) answer) where
+    pub up_by : IsUpBy calls host answer.up answer.clean
+    up_by = record {
+      own = is.up;
+      others = λ drive other. (is.others drive other, still drive other);
+      calm = clean_all answer answer.clean is.clean;
+    }
 
-    pub adopted_booted : Moments (IsQuiet at) a b → Ends (λ t u. IsAdopted site (last t at.drive.0) newest u × IsOpened site newest u) a b → Ends (λ t u. IsSynced at.drive.0 u) a b → Ends (GoesOnTo site (IsNewestIn newest)) a b
-        → Ends (BootedTo host (booted (Some newest) begun)) a b
-    adopted_booted quiet is synced goes =
-        ends_both _ _ _ a b
-        (λ t u one two. booted_adopted host t u (quiet_here host sizes ready at at_is t u one.0) one.0.quiet (to_host (λ s. IsSynced s.at.drive.0 u) one.1) begun sizes ready newest (to_host (λ s. IsOpened s newest u) two.0.1) (to_host (λ s. GoesOnTo s (IsNewestIn newest) t u) two.1))
-        (ends_both (IsQuiet at) (λ t u. IsSynced at.drive.0 u) (λ t u. IsQuiet at t u × IsSynced at.drive.0 u) a b (λ t u q s. (q, s)) (moments_end (IsQuiet at) a b quiet) synced)
-        (ends_both (λ t u. IsAdopted site (last t at.drive.0) newest u × IsOpened site newest u) (GoesOnTo site (IsNewestIn newest)) (λ t u. (IsAdopted site (last t at.drive.0) newest u × IsOpened site newest u) × GoesOnTo site (IsNewestIn newest) t u) a b (λ t u q s. (q, s)) is goes)
+    -- the place's drive is up, where it was read what is there
+    up_here : (answer.end ≢ found.Down) → has_drive answer.up host.home.drive ≡ true
+    up_here other = elim (both_ways (has_drive answer.up host.home.drive)) [ inl on ↦ on | inr off ↦ absurd (other (is.here off)) ]
 
-  -- one that found nothing
-  module _ (begun : ℕ) (a b : Option Tale) where
-    pub empty_rebooted : (failures : Failures) → failures.none → ((t : Tale) → a ≡ Some t → IsFound site (last t at.drive.0) None) → Ends (KeptOutside nowhere) a b
-        → Ends (λ t u. (old new : Memory) → old.begun ≡ begun → new ≡ unbooted begun → IsRebooted failures host (kept_at old t) accepted (kept_at new u)) a b
-    empty_rebooted failures calm found kept t start =
-        let end = kept t start in
-        (end.0, end.1, λ old new same now. empty calm refl (now ∙ ap unbooted (sym same)) (to_host (λ s. IsFound s (last t s.at.drive.0) None) (found t start)) (same_content t end.0 end.2))
+    -- one that is down isn't clean
+    unclean : answer.end ≡ found.Down → answer.clean ≡ false
+    unclean so = by answer.clean is.clean where
+      by : (clean : Bool)
+          → MatchBool clean ((is_answered answer.end ≡ true) × ((drive : DriveNo) → Contains host.own drive → (calls drive.0).none × (has_drive answer.up drive ≡ true))) ((drive : DriveNo) × Contains host.own drive × (calls drive.0).some) → clean ≡ false
+      by false match = refl
+      by true match = absurd (let down = ap is_answered so in cc (down, match.0))
 
-    pub empty_booted : Moments (IsQuiet at) a b → Ends (λ t u. IsSynced at.drive.0 u) a b → Ends (λ t u. ShowsNothing site u) a b → Ends (GoesOnTo site (λ lg. is_firm lg ≡ false)) a b
-        → Ends (BootedTo host (unbooted begun)) a b
-    empty_booted quiet synced nothing goes =
-        ends_both _ _ _ a b
-        (λ t u one two. booted_empty host t u (quiet_here host sizes ready at at_is t u one.0) one.0.quiet (to_host (λ s. IsSynced s.at.drive.0 u) one.1) begun (to_host (λ s. ShowsNothing s u) two.0) (to_host (λ s. GoesOnTo s (λ lg. is_firm lg ≡ false) t u) two.1))
-        (ends_both (IsQuiet at) (λ t u. IsSynced at.drive.0 u) (λ t u. IsQuiet at t u × IsSynced at.drive.0 u) a b (λ t u q s. (q, s)) (moments_end (IsQuiet at) a b quiet) synced)
-        (ends_both (λ t u. ShowsNothing site u) (GoesOnTo site (λ lg. is_firm lg ≡ false)) (λ t u. ShowsNothing site u × GoesOnTo site (λ lg. is_firm lg ≡ false) t u) a b (λ t u q s. (q, s)) nothing goes)
+    module _ (made : Made) (begun : ℕ) (t u : Tale) (quiet : IsQuiet (place_of host.home) t u) (ends : BootEnds (calls host.home.drive.0) made (site_of host) host.own answer t u) where
+      kept : KeptOutside (area_of (site_of host)) t u
+      kept = quiet.outside
 
-    -- one that couldn't read the drive
-    pub down_rebooted : (failures : Failures) → failures.some → Ends (KeptOutside nowhere) a b
-        → Ends (λ t u. (old new : Memory) → old.begun ≡ begun → new ≡ unread begun → IsRebooted failures host (kept_at old t) accepted (kept_at new u)) a b
-    down_rebooted failures so kept t start =
-        let end = kept t start in
-        (end.0, end.1, λ old new same now. down so refl (now ∙ ap unread (sym same)) (same_content t end.0 end.2))
+      -- each drive that is up is synced, where no write failed
+      synced : (answer.end ≢ found.Lost) → (drive : DriveNo) → has_drive answer.up drive ≡ true → IsSynced drive.0 u
+      synced calm drive on = ends.synced drive on (λ so. absurd (calm so))
 
-    pub down_booted : Moments (IsQuiet at) a b → Ends (KeptOutside nowhere) a b → Ends (BootedTo host (unread begun)) a b
-    down_booted quiet kept = ends_both (KeptOutside nowhere) (IsQuiet at) (BootedTo host (unread begun)) a b (λ t u k q. booted_down host t u begun k q.quiet) kept (moments_end (IsQuiet at) a b quiet)
+      as_booted : (e : BootEnd) → answer.end ≡ e → IsBooted (calls host.home.drive.0) (site_of host) (last t host.home.drive.0) e
+      as_booted e so = subst (λ (x : BootEnd). IsBooted (calls host.home.drive.0) (site_of host) (last t host.home.drive.0) x) so ends.place.shown
 
-  -- one whose next number would reach the limit
-  pub spent_here : (t : Tale) → IsSpent site (last t at.drive.0) → IsUsedUp (site_of host) (last t)
-  spent_here t spent =
-      let of = to_host (λ s. IsSpent s (last t s.at.drive.0)) spent in
-      record { head = of.head; replica = of.replica; shown = of.shown; spent = of.spent }
+      as_counted : (e : BootEnd) → answer.end ≡ e → BootedBy (and_more ends.booted.brought made) (site_of host) (last t host.home.drive.0) e
+      as_counted e so = subst (λ (x : BootEnd). BootedBy (and_more ends.booted.brought made) (site_of host) (last t host.home.drive.0) x) so ends.booted.calls
 
-  -- one that was there to be adopted
-  pub adoptable_here : (t : Tale) → IsAdoptable site (last t at.drive.0) → IsAdoptable (site_of host) (last t 0)
-  adoptable_here t found = to_host (λ s. IsAdoptable s (last t s.at.drive.0)) found
+      as_caused : (e : BootEnd) → answer.end ≡ e → HasBootCause (calls host.home.drive.0) e
+      as_caused e so = subst (HasBootCause (calls host.home.drive.0)) so is.place.cause
 
-  -- a head that shows a table
-  pub headed_here : (t : Tale) → IsHeaded site (last t at.drive.0) → IsHeaded (site_of host) (last t 0)
-  headed_here t headed = to_host (λ s. IsHeaded s (last t s.at.drive.0)) headed
+      as_gone : (e : BootEnd) → answer.end ≡ e → GoesOnTo (site_of host) (IsBootedTo e) t u
+      as_gone e so = subst (λ (x : BootEnd). GoesOnTo (site_of host) (IsBootedTo x) t u) so ends.place.goes
 
-  -- the calls of a boot, by what the drive held
-  pub by_here : (made : Made) (end : BootEnd) (t : Tale) → BootedBy made site (last t at.drive.0) end → BootedBy made (site_of host) (contents t 0) end
-  by_here made end t by = to_host (λ s. BootedBy made s (last t s.at.drive.0) end) by
+      unwritten : (e : BootEnd) → answer.end ≡ e → IsRefusal e → KeptOutside nowhere t u
+      unwritten e so refusal = ends.place.refuses (subst IsRefusal (sym so) refusal)
 
-  -- no block outside the replica's changed
-  pub beside_here : (t u : Tale) → IsQuiet at t u → IsSameBeside (site_of host) (contents t) (contents u)
-  beside_here t u quiet = same_beside host t u (quiet_here host sizes ready at at_is t u quiet)
+      -- so is each of its own on which no call failed, for it is up
+      module _ (drive : DriveNo) (one_of : Contains host.own drive) (calm : (calls drive.0).some → ⊥) where
+        is_up_by : (drive ≡ host.home.drive) ⊎ (drive ≢ host.home.drive) → (up : Bool) → has_drive answer.up drive ≡ up → up ≡ true
+        is_up_by place true on = refl
+        is_up_by (inl same) false off =
+            absurd (calm (subst (λ (d : DriveNo). (calls d.0).some) (sym same) (as_caused found.Down (is.here (sym (ap (has_drive answer.up) same) ∙ off)))))
+        is_up_by (inr apart) false off = absurd (calm (subst (λ (b : Bool). MatchBool b (calls drive.0).none (calls drive.0).some) off (is.up drive one_of apart)))
 
--- an adopted database is in order
-pub adopted_well : (host : Host) (begun : ℕ) (newest : Newest) (at : PlaceAt) → at ≡ place_of host.home → IsTableAt host.drives (with_blocks at newest.blocks).place newest.table → IsWell host (booted (Some newest) begun) × (begun ≡ begun) × ((booted (Some newest) begun).entries ≡ [])
-adopted_well host begun newest at at_is is = (
-  record { sound = λ down. absurd (cc (down)); table = subst (λ (p : PlaceAt). IsTableAt host.drives (with_blocks p newest.blocks).place newest.table) at_is is },
-  refl,
-  refl,
-)
+        unfailed : (answer.end ≢ found.Lost) → IsSynced drive.0 u
+        unfailed other = synced other drive (is_up_by (is_drive drive host.home.drive) (has_drive answer.up drive) refl)
+
+      -- the calls of one that is answered, and of one that isn't
+      effort_of : (read : Bool) (to : Answer) (memory : Memory) → (to ≡ accepted → answer.up ≡ memory.up) → (read ≡ false → (calls host.home.drive.0).some) → PlaceCalls (and_more ends.booted.brought made) host to read memory (contents t) → BootCalls calls made host to memory (contents t)
+      effort_of read to memory tied unread place = record { up = answer.up; brought = ends.booted.brought; tied = tied; by = ends.booted.by; read = read; unread = unread; place = place }
+
+      -- it adopted a replica
+      module _ (newest : Newest) (so : answer.end ≡ found.Adopted newest) where
+        abbrev memory : Memory
+        memory = booted_with (Some newest) answer.up answer.clean begun
+
+        rewritten : IsRewritten (site_of host) (contents t) (contents u) newest
+        rewritten =
+            let drawn = as_booted (found.Adopted newest) so in
+            rewritten_newest host (unbooted begun) memory t u newest drawn.head (other_slot newest.slot) newest.table kept drawn.tie drawn.the drawn.fits
+            (subst (λ (x : BootEnd). IfAdopted x (λ n. IsAdopted (site_of host) (last t host.home.drive.0) n u)) so ends.place.adopted)
+
+        pub adopted_end : IsBootEnd calls made host (unbooted begun) accepted memory t u
+        adopted_end = record {
+          rebooted = adopted (as_caused (found.Adopted newest) so) newest answer.up answer.clean refl refl up_by (up_here (λ other. cc (so, other))) rewritten;
+          booted = λ ok. booted_adopted host t answer.up u kept quiet.quiet (synced (λ other. cc (so, other))) answer.clean begun sizes ready newest
+              (subst (λ (x : BootEnd). IfAdopted x (λ n. IsOpened (site_of host) n u)) so ends.place.opened) (as_gone (found.Adopted newest) so);
+          synced = λ ok drive one_of calm. unfailed drive one_of calm (λ other. cc (so, other));
+          effort = effort_of true accepted memory (λ ok. refl) (λ so. absurd (cc (so))) (as_counted (found.Adopted newest) so);
+        }
+
+      -- it found nothing
+      pub empty_end : answer.end ≡ found.Empty → IsBootEnd calls made host (unbooted begun) accepted (booted_with None answer.up answer.clean begun) t u
+      empty_end so =
+          let memory = booted_with None answer.up answer.clean begun in
+          record {
+            rebooted = empty (as_caused found.Empty so) answer.up answer.clean refl refl up_by (up_here (λ other. cc (so, other))) (as_booted found.Empty so) (same_content t u (unwritten found.Empty so tt));
+            booted = λ ok. booted_none host t answer.up u kept quiet.quiet (synced (λ other. cc (so, other))) answer.clean begun (λ calm. ends.place.empty so) (booting_empty host t answer.up u kept (as_gone found.Empty so));
+            synced = λ ok drive one_of calm. unfailed drive one_of calm (λ other. cc (so, other));
+            effort = effort_of true accepted memory (λ ok. refl) (λ so. absurd (cc (so))) (as_counted found.Empty so);
+          }
+
+      -- a call on the place's drive failed before anything was written there
+      pub down_end : answer.end ≡ found.Down → IsBootEnd calls made host (unbooted begun) accepted (booted_with None answer.up answer.clean begun) t u
+      down_end so =
+          let memory = booted_with None answer.up answer.clean begun in
+          let some = as_caused found.Down so in
+          record {
+            rebooted = down some answer.up refl (ap (λ (clean : Bool). booted_with None answer.up clean begun) (unclean so)) (subst (λ (clean : Bool). IsUpBy calls host answer.up clean) (unclean so) up_by) (same_content t u (unwritten found.Down so tt));
+            booted = λ ok. booted_none host t answer.up u kept quiet.quiet (synced (λ other. cc (so, other))) answer.clean begun (λ calm. absurd (cc (calm, unclean so))) (booting_still host t answer.up u (unwritten found.Down so tt));
+            synced = λ ok drive one_of calm. unfailed drive one_of calm (λ other. cc (so, other));
+            effort = effort_of false accepted memory (λ ok. refl) (λ so. some) (as_counted found.Down so);
+          }
+
+      -- the number is spent, memory was wanting, or the place is lost
+      pub spent_end : answer.end ≡ found.Spent → IsBootEnd calls made host (unbooted begun) (Over ended.Spent) (unbooted begun) t u
+      spent_end so =
+          let of = as_booted found.Spent so in
+          record {
+            rebooted = spent (as_caused found.Spent so) still refl (record { head = of.head; replica = of.replica; shown = of.shown; spent = of.spent }) (same_content t u (unwritten found.Spent so tt));
+            booted = λ ok. absurd (cc (ok));
+            synced = λ ok. absurd (cc (ok));
+            effort = effort_of true (Over ended.Spent) (unbooted begun) (λ ok. absurd (cc (ok))) (λ so. absurd (cc (so))) (as_counted found.Spent so);
+          }
+
+      pub wanting_end : answer.end ≡ found.Memory → IsBootEnd calls made host (unbooted begun) (Over ended.Memory) (unbooted begun) t u
+      wanting_end so = record {
+        rebooted = wanting (as_caused found.Memory so) still (as_booted found.Memory so) refl (same_content t u (unwritten found.Memory so tt));
+        booted = λ ok. absurd (cc (ok));
+        synced = λ ok. absurd (cc (ok));
+        effort = effort_of true (Over ended.Memory) (unbooted begun) (λ ok. absurd (cc (ok))) (λ so. absurd (cc (so))) (as_counted found.Memory so);
+      }
+
+      pub lost_end : answer.end ≡ found.Lost → IsBootEnd calls made host (unbooted begun) (Over (ended.Lost 0 1)) (unbooted begun) t u
+      lost_end so = record {
+        rebooted = lost (as_caused found.Lost so) still (as_booted found.Lost so).1 refl (same_beside host t u kept);
+        booted = λ ok. absurd (cc (ok));
+        synced = λ ok. absurd (cc (ok));
+        effort = effort_of true (Over (ended.Lost 0 1)) (unbooted begun) (λ ok. absurd (cc (ok))) (λ so. absurd (cc (so))) (as_counted found.Lost so);
+      }
+
+-- what the boot says of the place that the code computed
+module _ (host : Host) (sizes : List ℕ) (ready : IsReady host sizes) (at : PlaceAt) (at_is : at ≡ place_of host.home) (a b : Option Tale) where
+  pub moments_here : Moments (PlaceMoment (told_site host sizes ready at at_is)) a b → Moments (PlaceMoment (site_of host)) a b
+  moments_here = here host sizes ready at at_is (λ s. Moments (PlaceMoment s) a b)
+
+  pub all_moments : Moments (PlaceMoment (told_site host sizes ready at at_is)) a b → Moments (BootMoment host) a b
+  all_moments moments = moments_weaker (PlaceMoment (site_of host)) (BootMoment host) a b (boot_moments host sizes ready) (moments_here moments)
+
+  module _ (calls : Outcomes) (made : Made) (answer : Booted) where
+    pub answer_here : BootAnswer calls host.drives sizes host.own at answer → BootAnswer calls host.drives sizes host.own (place_of host.home) answer
+    answer_here is = subst (λ (p : PlaceAt). BootAnswer calls host.drives sizes host.own p answer) at_is is
+
+    -- in the end, by what is so of each that ends so
+    pub ends_here : (P : Tale → Tale → Type 0) → ((t u : Tale) → IsQuiet (place_of host.home) t u → BootEnds (calls host.home.drive.0) made (site_of host) host.own answer t u → P t u)
+        → Moments (PlaceMoment (told_site host sizes ready at at_is)) a b → Ends (BootEnds (calls at.drive.0) made (told_site host sizes ready at at_is) host.own answer) a b → Ends P a b
+    ends_here P so moments ends =
+        ends_both (PlaceMoment (site_of host)) (BootEnds (calls host.home.drive.0) made (site_of host) host.own answer) P a b (λ t u moment end. so t u moment.quiet end)
+        (moments_end (PlaceMoment (site_of host)) a b (moments_here moments)) (here host sizes ready at at_is (λ s. Ends (BootEnds (calls s.at.drive.0) made s host.own answer) a b) ends)
+
+-- no call failed on a drive that isn't one of these, where none was made but on them
+pub own_still : {S : Type 0} (shelf : Ghosts S) (old new : S) (own : List DriveNo) → KeptAmong shelf old new own → (drive : DriveNo) → (Contains own drive → ⊥) → (DriveFailures shelf old new drive.0).none
+own_still shelf old new own kept drive other = kept.others (OnDrive drive.0) (λ among.
+    let number : drive.0 ≡ among.0.0 = (let is = among.2 in cc is) in
+    let same : among.0 ≡ drive = λ i. record { 0 = (sym number) i } in
+    other (subst (Contains own) same among.1))
+
+-- a boot of the host, by what the database says of it
+module _ (host : Host) (sizes : List ℕ) (ready : IsReady host sizes) (at : PlaceAt) (at_is : at ≡ place_of host.home) (own : List DriveNo) (own_is : own ≡ host.own) (calls : Outcomes) (made : Made) (answer : Booted) (begun : ℕ) (a b : Option Tale)
+    (says : BootAnswer calls host.drives sizes own at answer) (still : (drive : DriveNo) → (Contains own drive → ⊥) → (calls drive.0).none) (moments : Moments (PlaceMoment (told_site host sizes ready at at_is)) a b)
+    (ends : Ends (BootEnds (calls at.drive.0) made (told_site host sizes ready at at_is) own answer) a b) where
+  is : BootAnswer calls host.drives sizes host.own (place_of host.home) answer
+  is = answer_here host sizes ready at at_is a b calls made answer (subst (λ (o : List DriveNo). BootAnswer calls host.drives sizes o at answer) own_is says)
+
+  still_own : (drive : DriveNo) → (Contains host.own drive → ⊥) → (calls drive.0).none
+  still_own drive other = still drive (λ one_of. other (subst (λ (o : List DriveNo). Contains o drive) own_is one_of))
+
+  all : (P : Tale → Tale → Type 0) → ((t u : Tale) → IsQuiet (place_of host.home) t u → BootEnds (calls host.home.drive.0) made (site_of host) host.own answer t u → P t u) → Ends P a b
+  all P so = ends_here host sizes ready at at_is a b calls made answer P so moments
+      (subst (λ (o : List DriveNo). Ends (BootEnds (calls at.drive.0) made (told_site host sizes ready at at_is) o answer) a b) own_is ends)
+
+  pub adopted_all : (newest : Newest) → answer.end ≡ found.Adopted newest → Ends (IsBootEnd calls made host (unbooted begun) accepted (booted_with (Some newest) answer.up answer.clean begun)) a b
+  adopted_all newest so = all _ (λ t u quiet end. adopted_end host calls still_own sizes ready answer is made begun t u quiet end newest so)
+
+  pub none_all : (answer.end ≡ found.Empty) ⊎ (answer.end ≡ found.Down) → Ends (IsBootEnd calls made host (unbooted begun) accepted (booted_with None answer.up answer.clean begun)) a b
+  none_all (inl so) = all _ (λ t u quiet end. empty_end host calls still_own sizes ready answer is made begun t u quiet end so)
+  none_all (inr so) = all _ (λ t u quiet end. down_end host calls still_own sizes ready answer is made begun t u quiet end so)
+
+  pub lost_all : answer.end ≡ found.Lost → Ends (IsBootEnd calls made host (unbooted begun) (Over (ended.Lost 0 1)) (unbooted begun)) a b
+  lost_all so = all _ (λ t u quiet end. lost_end host calls still_own sizes ready answer is made begun t u quiet end so)
+
+  pub spent_all : answer.end ≡ found.Spent → Ends (IsBootEnd calls made host (unbooted begun) (Over ended.Spent) (unbooted begun)) a b
+  spent_all so = all _ (λ t u quiet end. spent_end host calls still_own sizes ready answer is made begun t u quiet end so)
+
+  pub wanting_all : answer.end ≡ found.Memory → Ends (IsBootEnd calls made host (unbooted begun) (Over ended.Memory) (unbooted begun)) a b
+  wanting_all so = all _ (λ t u quiet end. wanting_end host calls still_own sizes ready answer is made begun t u quiet end so)
+
+  -- whether it is clean, and that what it opened is in order
+  pub clean_cause : HasUpCause calls host answer.clean
+  clean_cause = (up_by host calls still_own sizes ready answer is).calm
+
+  pub table_well : (newest : Newest) → answer.end ≡ found.Adopted newest → IsWell host (booted_with (Some newest) answer.up answer.clean begun)
+  table_well newest so = record { table = subst (λ (x : BootEnd). IfAdopted x (λ n. IsTableAt host.drives (with_blocks (place_of host.home) n.blocks).place n.table)) so is.place.table }

@@ -1,7 +1,7 @@
 -- What a commit of the host's next table leaves, told of the host.
 use Rattle.mdv_engine_law.specs.Line.{ToDo}
 use Rattle.std.proofs.Common.{◌≡◌, ◌≤◌, ◌<◌, ◌+◌, ◌^◌, ◌++◌, inl, inr, ℕ, Bool, true, false, List, [], ◌∷◌, length, Option, Some, None, refl, sym, subst, ap, ◌∙◌, arith}
-use Rattle.mdv_engine.specs.Below.{Failures, VolId, SliceName, Refusal, ReplicaFull, OutOfMemory, place_of, Geometry, record_text, PlaceAt, KeptOutside, Moments, Ends, Tale, told, area_of, Change, MakeStripe, Table, IsOfGeometry, IsWithNewest, Log, IsMade, NoCreation, Site, Newest, Anything, GoesFrom, IsOpened, next_newest, Changed, IsCommitted, IsQuiet, MayCommit, Answer, Host, IsReady, IsSound, key_of, site_of, Memory, CameTo, Answer, kept_at, record_room, IsPlain, CarriedTo, CarryMoment, Knows}
+use Rattle.mdv_engine.specs.Below.{AreCalm, FailedOn, Outcomes, VolId, SliceName, Refusal, ReplicaFull, OutOfMemory, place_of, Geometry, record_text, PlaceAt, KeptOutside, Moments, Ends, Tale, told, area_of, Change, MakeStripe, Table, IsOfGeometry, IsWithNewest, Log, IsMade, NoCreation, Site, Newest, Anything, GoesFrom, IsOpened, next_newest, Changed, IsCommitted, IsQuiet, MayCommit, Answer, Host, IsReady, key_of, site_of, Memory, CameTo, Answer, kept_at, record_room, IsPlain, CarriedTo, CarryMoment, Knows}
 use Rattle.mdv_shelf.proofs.Moments.{moments_both, moments_weaker, moments_end, some_is, ends_both}
 use Rattle.mdv_words.specs.declared.command.Command.TheVariants as command
 use Rattle.mdv_engine_law.specs.Answers.{accepted, refusing}
@@ -99,9 +99,9 @@ may_want host memory newest opened table same change free = inr ((newest, opened
 
 -- a change that is refused before anything is done
 module _ (host : Host) (memory : Memory) (volume : VolId) (slice : SliceName) where
-  pub refused_line : (failures : Failures) → failures.none → (t : Tale) (r : Refusal) → HasChangeCause host memory (MakeStripe volume slice) r → CameTo failures host (kept_at memory t) (command.MakeStripe volume slice) (refusing r) (kept_at memory t)
-  refused_line failures calm t r (inl is) = came.refused calm r is (refl, record { memory = refl; content = λ drive block. refl })
-  refused_line failures calm t r (inr (some, want)) = came.wanting calm (ap refusing want) (some, record { memory = refl; content = λ drive block. refl })
+  pub refused_line : (calls : Outcomes) → AreCalm calls → (t : Tale) (r : Refusal) → HasChangeCause host memory (MakeStripe volume slice) r → CameTo calls host (kept_at memory t) (command.MakeStripe volume slice) (refusing r) (kept_at memory t)
+  refused_line calls calm t r (inl is) = came.refused calm r is (refl, record { memory = refl; content = λ drive block. refl })
+  refused_line calls calm t r (inr (some, want)) = came.wanting calm (ap refusing want) (some, record { memory = refl; content = λ drive block. refl })
 
   pub refused_plain : (r : Refusal) → HasChangeCause host memory (MakeStripe volume slice) r → IsPlain r
   refused_plain r (inl is) = refusal_plain (record { host = host; memory = memory }) (command.MakeStripe volume slice) r is
@@ -119,19 +119,19 @@ is_made : (host : Host) (newest : Newest) (change : Change) (next : Table) → I
 is_made host newest change next is = ((is.allowed, ap (λ (t : Table). t.plan) is.is), ap (λ (t : Table). t.status) is.is)
 
 -- whichever change it is
-module _ (host : Host) (sizes : List ℕ) (ready : IsReady host sizes) (memory : Memory) (sound : IsSound memory) (newest : Newest) (opened : memory.opened ≡ Some newest) (next : Table) (placed : IsTableOf host newest.blocks next) (t m : Tale)
+module _ (host : Host) (sizes : List ℕ) (ready : IsReady host sizes) (memory : Memory) (newest : Newest) (opened : memory.opened ≡ Some newest) (next : Table) (placed : IsTableOf host newest.blocks next) (t m : Tale)
     (kept : KeptOutside (area_of (site_of host)) t m) where
   moment_of : (change : Change) → IsMade host.drives (Some change) newest.table next → told m ≡ told t → Commits host newest change Anything t m → CarryMoment host (ToDo (Changed (key_of host) change)) memory t m
-  moment_of (MakeStripe volume slice) made quiet goes = changing_moment host sizes ready memory sound newest opened volume slice next made placed t m kept quiet goes
+  moment_of (MakeStripe volume slice) made quiet goes = changing_moment host sizes ready memory newest opened volume slice next made placed t m kept quiet goes
 
   done_of : (change : Change) → IsMade host.drives (Some change) newest.table next → (IsOpened (site_of host) newest t → IsOpened (site_of host) (next_newest newest next) m) → Commits host newest change (IsCommittedTo newest change next) t m
       → CarriedTo host (ToDo (Changed (key_of host) change)) memory accepted (record memory { opened = Some (next_newest newest next) }) t m
-  done_of (MakeStripe volume slice) made opens goes = changed host sizes ready memory sound newest opened volume slice next made placed t m kept (record memory { opened = Some (next_newest newest next) }) refl refl opens goes
+  done_of (MakeStripe volume slice) made opens goes = changed host sizes ready memory newest opened volume slice next made placed t m kept (record memory { opened = Some (next_newest newest next) }) refl refl opens goes
 
   lost_of : (change : Change) → IsMade host.drives (Some change) newest.table next → (after : Memory) → Commits host newest change Anything t m → CarriedTo host (ToDo (Changed (key_of host) change)) memory (Over (ended.Lost 0 1)) after t m
-  lost_of (MakeStripe volume slice) made after goes = changed_or_lost host sizes ready memory sound newest opened volume slice next made placed t m kept 0 1 after goes
+  lost_of (MakeStripe volume slice) made after goes = changed_or_lost host sizes ready memory newest opened volume slice next made placed t m kept 0 1 after goes
 
-module _ (host : Host) (sizes : List ℕ) (ready : IsReady host sizes) (at : PlaceAt) (at_is : at ≡ place_of host.home) (memory : Memory) (sound : IsSound memory) (change : Change) (next : Table)
+module _ (host : Host) (sizes : List ℕ) (ready : IsReady host sizes) (at : PlaceAt) (at_is : at ≡ place_of host.home) (memory : Memory) (change : Change) (next : Table)
     (newest : Newest) (opened : memory.opened ≡ Some newest) (changed_is : IsChanging host newest change next) (placed : IsTableOf host newest.blocks next) where
   abbrev site : Site
   site = told_site host sizes ready at at_is
@@ -160,7 +160,7 @@ module _ (host : Host) (sizes : List ℕ) (ready : IsReady host sizes) (at : Pla
   module _ (a b : Option Tale) (quiet : Moments (IsQuiet at) a b) where
     pub changing_moments : Moments (Goes Anything) a b → Moments (CarryMoment host (ToDo (Changed (key_of host) change)) memory) a b
     changing_moments goes = moments_weaker _ (CarryMoment host (ToDo (Changed (key_of host) change)) memory) a b
-        (λ t m both. moment_of host sizes ready memory sound newest opened next placed t m (quiet_here host sizes ready at at_is t m both.0) change (is_made host newest change next changed_is) both.0.quiet (commits Anything t m both.1))
+        (λ t m both. moment_of host sizes ready memory newest opened next placed t m (quiet_here host sizes ready at at_is t m both.0) change (is_made host newest change next changed_is) both.0.quiet (commits Anything t m both.1))
         (moments_both (IsQuiet at) (Goes Anything) a b quiet goes)
 
     abbrev pub Opens : Tale → Tale → Type 0
@@ -173,7 +173,7 @@ module _ (host : Host) (sizes : List ℕ) (ready : IsReady host sizes) (at : Pla
     pub committed_carried : Ends Opens a b → Ends (Goes (IsCommitted newest (Some change) next)) a b → Ends (CarriedTo host (ToDo (Changed (key_of host) change)) memory accepted with_next) a b
     committed_carried opens goes =
         ends_both _ _ _ a b
-        (λ t u q two. done_of host sizes ready memory sound newest opened next placed t u (quiet_here host sizes ready at at_is t u q) change (is_made host newest change next changed_is)
+        (λ t u q two. done_of host sizes ready memory newest opened next placed t u (quiet_here host sizes ready at at_is t u q) change (is_made host newest change next changed_is)
         (λ now. to_host (λ s. MayCommit s newest (Some change) next t → IsOpened s (next_newest newest next) u) two.0 (may t now)) (commits_to t u two.1))
         (moments_end (IsQuiet at) a b quiet)
         (ends_both Opens (Goes (IsCommitted newest (Some change) next)) (λ t u. Opens t u × Goes (IsCommitted newest (Some change) next) t u) a b (λ t u o g. (o, g)) opens goes)
@@ -182,11 +182,11 @@ module _ (host : Host) (sizes : List ℕ) (ready : IsReady host sizes) (at : Pla
     pub lost_carried : (after : Memory) → Moments (Goes Anything) a b → Ends (CarriedTo host (ToDo (Changed (key_of host) change)) memory (Over (ended.Lost 0 1)) after) a b
     lost_carried after goes =
         ends_both (IsQuiet at) (Goes Anything) (CarriedTo host (ToDo (Changed (key_of host) change)) memory (Over (ended.Lost 0 1)) after) a b
-        (λ t u q g. lost_of host sizes ready memory sound newest opened next placed t u (quiet_here host sizes ready at at_is t u q) change (is_made host newest change next changed_is) after (commits Anything t u g))
+        (λ t u q g. lost_of host sizes ready memory newest opened next placed t u (quiet_here host sizes ready at at_is t u q) change (is_made host newest change next changed_is) after (commits Anything t u g))
         (moments_end (IsQuiet at) a b quiet) (moments_end (Goes Anything) a b goes)
 
 -- what the making of a stripe comes to
-module _ (host : Host) (sizes : List ℕ) (ready : IsReady host sizes) (at : PlaceAt) (at_is : at ≡ place_of host.home) (memory : Memory) (sound : IsSound memory) (volume : VolId) (slice : SliceName) (next : Table)
+module _ (host : Host) (sizes : List ℕ) (ready : IsReady host sizes) (at : PlaceAt) (at_is : at ≡ place_of host.home) (memory : Memory) (volume : VolId) (slice : SliceName) (next : Table)
     (newest : Newest) (opened : memory.opened ≡ Some newest) (changed_is : IsChanging host newest (MakeStripe volume slice) next) (placed : IsTableOf host newest.blocks next) where
   abbrev stripe : Change
   stripe = MakeStripe volume slice
@@ -194,8 +194,8 @@ module _ (host : Host) (sizes : List ℕ) (ready : IsReady host sizes) (at : Pla
   abbrev after_it : Memory
   after_it = record memory { opened = Some (next_newest newest next) }
 
-  abbrev Comes : Failures → Answer → Memory → Tale → Tale → Type 0
-  Comes failures answer after t u = Knows host memory t → CameTo failures host (kept_at memory t) (command.MakeStripe volume slice) answer (kept_at after u)
+  abbrev Comes : Outcomes → Answer → Memory → Tale → Tale → Type 0
+  Comes calls answer after t u = Knows host memory t → CameTo calls host (kept_at memory t) (command.MakeStripe volume slice) answer (kept_at after u)
 
   length_is : length (record_text next) ≡ bytes_after host newest stripe
   length_is = ap (λ (t : Table). length (record_text t)) changed_is.is
@@ -206,13 +206,13 @@ module _ (host : Host) (sizes : List ℕ) (ready : IsReady host sizes) (at : Pla
   -- it was committed
   module _ (a b : Option Tale) (quiet : Moments (IsQuiet at) a b) (fits : length (record_text next) ≤ record_room newest) where
     abbrev OpensHere : Tale → Tale → Type 0
-    OpensHere = Opens host sizes ready at at_is memory sound stripe next newest opened changed_is placed a b quiet
+    OpensHere = Opens host sizes ready at at_is memory stripe next newest opened changed_is placed a b quiet
 
     opens_so : (t u : Tale) → OpensHere t u → Knows host memory t → IsOpened (site_of host) (next_newest newest next) u
-    opens_so = opens_here host sizes ready at at_is memory sound stripe next newest opened changed_is placed a b quiet
+    opens_so = opens_here host sizes ready at at_is memory stripe next newest opened changed_is placed a b quiet
 
-    pub committed_answer : (failures : Failures) → failures.none → newest.mark.count + 1 < 2 ^ 63 → Ends OpensHere a b → Ends (Comes failures accepted after_it) a b
-    committed_answer failures calm less opens = ends_both (IsQuiet at) OpensHere (Comes failures accepted after_it) a b
+    pub committed_answer : (calls : Outcomes) → AreCalm calls → newest.mark.count + 1 < 2 ^ 63 → Ends OpensHere a b → Ends (Comes calls accepted after_it) a b
+    committed_answer calls calm less opens = ends_both (IsQuiet at) OpensHere (Comes calls accepted after_it) a b
         (λ t u q o. λ known. came.done calm (free fits) (
           refl,
           newest,
@@ -223,8 +223,8 @@ module _ (host : Host) (sizes : List ℕ) (ready : IsReady host sizes) (at : Pla
         (moments_end (IsQuiet at) a b quiet) opens
 
     -- a call on the drive failed
-    pub lost_answer : (failures : Failures) (after : Memory) → failures.some → Ends (Comes failures (Over (ended.Lost 0 1)) after) a b
-    lost_answer failures after so t start =
+    pub lost_answer : (calls : Outcomes) (after : Memory) → FailedOn host.home.drive.0 calls → Ends (Comes calls (Over (ended.Lost 0 1)) after) a b
+    lost_answer calls after so t start =
         (let end = moments_end (IsQuiet at) a b quiet t start in (end.0, end.1, λ known. came.over (ended.Lost 0 1) (free fits) refl (so, refl, refl, same_beside host t end.0 (quiet_here host sizes ready at at_is t end.0 end.2))))
 
   -- nothing was done: the text is too long, or the count would reach its limit
@@ -232,11 +232,11 @@ module _ (host : Host) (sizes : List ℕ) (ready : IsReady host sizes) (at : Pla
     full_is : (bytes room : ℕ) → bytes ≡ length (record_text next) → room ≡ record_room newest → ReplicaFull (bytes_after host newest stripe) (record_room newest) ≡ ReplicaFull bytes room
     full_is long space bytes_are room_is = λ i. ReplicaFull (sym (bytes_are ∙ length_is) i) (sym room_is i)
 
-    pub long_answer : (failures : Failures) → failures.none → (bytes room : ℕ) → record_room newest < length (record_text next) → bytes ≡ length (record_text next) → room ≡ record_room newest → Ends (Comes failures (refusing (ReplicaFull bytes room)) memory) a b
-    long_answer failures calm bytes room long bytes_are room_is t start =
+    pub long_answer : (calls : Outcomes) → AreCalm calls → (bytes room : ℕ) → record_room newest < length (record_text next) → bytes ≡ length (record_text next) → room ≡ record_room newest → Ends (Comes calls (refusing (ReplicaFull bytes room)) memory) a b
+    long_answer calls calm bytes room long bytes_are room_is t start =
         let behind : record_room newest < bytes_after host newest stripe = (let is = length_is in omega arith) in
         let told : change_refusal host (Some newest) stripe ≡ Some (ReplicaFull bytes room) = change_long host newest stripe changed_is.allowed behind ∙ ap (λ (r : Refusal). Some r) (full_is bytes room bytes_are room_is) in
         (t, same ∙ start, λ known. came.refused calm (ReplicaFull bytes room) (of_open host memory.opened newest stripe (Some (ReplicaFull bytes room)) opened told) (refl, record { memory = refl; content = λ drive block. refl }))
 
-    pub spent_answer : (failures : Failures) → failures.none → length (record_text next) ≤ record_room newest → 2 ^ 63 ≤ newest.mark.count + 1 → Ends (Comes failures (Over ended.Spent) memory) a b
-    spent_answer failures calm fits spent t start = (t, same ∙ start, λ known. came.over ended.Spent (free fits) refl (calm, newest, opened, spent, record { memory = refl; content = λ drive block. refl }))
+    pub spent_answer : (calls : Outcomes) → AreCalm calls → length (record_text next) ≤ record_room newest → 2 ^ 63 ≤ newest.mark.count + 1 → Ends (Comes calls (Over ended.Spent) memory) a b
+    spent_answer calls calm fits spent t start = (t, same ∙ start, λ known. came.over ended.Spent (free fits) refl (calm, newest, opened, spent, record { memory = refl; content = λ drive block. refl }))

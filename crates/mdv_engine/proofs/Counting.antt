@@ -3,7 +3,7 @@ use Rattle.std.proofs.Common.{◌≡◌, ◌≢◌, ◌⊎◌, ◌≤◌, inl, i
 use Rattle.mdv_shelf.specs.Calls.{OnReplies, Part, Took, TookAtMost}
 use Rattle.mdv_shelf.proofs.Between.{between_none}
 use Rattle.mdv_shelf.proofs.Counts.{took_at_most, took_wider}
-use Rattle.mdv_engine.specs.Below.{SliceName, Table, record_text, Failures, Refusal, IoFault, OutOfMemory, VolId, Tale, Newest, Answer, Host, Memory}
+use Rattle.mdv_engine.specs.Below.{SliceName, Table, record_text, Outcomes, Refusal, IoFault, OutOfMemory, VolId, Tale, Newest, Answer, Host, Memory}
 use Rattle.mdv_words.specs.declared.command.Command.{Command}
 use Rattle.mdv_words.specs.declared.command.Command.TheVariants.{Create, MakeStripe, Read, Write}
 use Rattle.mdv_engine_law.specs.Answers.{refusing}
@@ -15,7 +15,7 @@ use Rattle.mdv_engine_law.specs.declared.answer.Outcome.{Outcome}
 use Rattle.mdv_engine_law.specs.declared.answer.Outcome.TheVariants as outcome
 use Rattle.mdv_engine_law.specs.declared.answer.Reply.{Reply}
 use Rattle.mdv_engine_law.specs.declared.answer.Reply.TheVariants as reply
-use Rattle.mdv_engine_law.specs.Replies.{IsLost, IsReplied, IsTellingCounted, IsTold, reply_at, reply_to}
+use Rattle.mdv_engine_law.specs.Replies.{IsAccepted, IsLost, IsReplied, IsTellingCounted, IsTold, reply_at, reply_to}
 use Rattle.mdv_shelf.specs.declared.shelf.Shelf.{Ghosts}
 use Rattle.mdv_engine_law.specs.Efforts.{CommandCalls, DoneCalls, FaultCalls, LossCalls, blocks_of, calls_of, wanting_calls, written_by, replied_to}
 use Rattle.mdv_engine_law.proofs.Efforts.{command_too, done_too, fault_too}
@@ -89,6 +89,20 @@ told_lost failed (Over end) active listed piece told = by end told.0 where
   by ended.Spent is = absurd (cc (is))
   by ended.Memory is = absurd (cc (is))
 
+-- and what was told that it is done is accepted
+pub told_ok : (failed : Type 0) (answer : Answer) (piece : List ℕ) → IsTold failed answer reply.Ok piece → IsAccepted answer
+told_ok failed (Said this) piece (inl whole) = by this whole.0 where
+  by : (this : Outcome) → reply.Ok ≡ reply_to this → IsAccepted (Said this)
+  by outcome.Ok is = tt
+  by (outcome.Values text) is = tt
+  by (outcome.Refused refusal) is = absurd (cc (is))
+told_ok failed (Said this) piece (inr cut) = absurd (let is = cut.given_is in cc (is))
+told_ok failed (Over end) piece told = absurd (by end told.0) where
+  by : (end : Ended) → reply.Ok ≡ reply_at end → ⊥
+  by (ended.Lost active listed) is = absurd (cc (is))
+  by ended.Spent is = absurd (cc (is))
+  by ended.Memory is = absurd (cc (is))
+
 -- what was replied ends no run
 pub not_lost : (given : Reply) → IsReplied given → IsLost given → ⊥
 not_lost reply.Ok on lost = lost
@@ -140,10 +154,10 @@ module _ {S : Type 0} (tale : S → Option Tale) (calls written : S → Option �
     refused_counted command other opened fault same = same
 
     -- blocks that aren't read or written
-    pub blocks_counted : (command : Command) (failures : Failures) (host : Host) (memory : Memory) (volume : VolId) (at n : ℕ) (refusal : Refusal) (opened : Option Newest) → HasBlocksCause failures host memory volume at n refusal
+    pub blocks_counted : (command : Command) (outcomes : Outcomes) (host : Host) (memory : Memory) (volume : VolId) (at n : ℕ) (refusal : Refusal) (opened : Option Newest) → HasBlocksCause outcomes host memory volume at n refusal
         → (blocks_refusal memory.opened volume (at + n) ≡ Some refusal → new ≡ old) → (refusal ≡ IoFault → FaultCalls (made_by calls written old new) command) → IsCommandCounted tale calls written old new command (refusing refusal) opened
-    blocks_counted command failures host memory volume at n refusal opened (inl is) none took = refused_counted command refusal opened took (none is.1)
-    blocks_counted command failures host memory volume at n refusal opened (inr (so, has, fault)) none took = subst (λ (x : Refusal). IsCommandCounted tale calls written old new command (refusing x) opened) (sym fault) (took fault)
+    blocks_counted command outcomes host memory volume at n refusal opened (inl is) none took = refused_counted command refusal opened took (none is.1)
+    blocks_counted command outcomes host memory volume at n refusal opened (inr (of, free, fault)) none took = subst (λ (x : Refusal). IsCommandCounted tale calls written old new command (refusing x) opened) (sym fault) (took fault)
 
     fault_most : (command : Command) → FaultCalls (made_by calls written old new) command → TookAtMost calls written old new (calls_of command) (blocks_of command)
     fault_most (Create slice force) took = took_wider calls written old new 6 5 12 8 (omega arith) (omega arith) took.at_most
@@ -258,17 +272,12 @@ module _ {S : Type 0} (tale : S → Option Tale) (calls written : S → Option �
 
     -- a command that was done
     pub done_told : (failed : Type 0) (answer : Answer) (piece : List ℕ) → IsTold failed answer reply.Ok piece → IsCommandCounted tale calls written old new command answer opened → DoneCalls (made_by calls written old new) command opened
-    done_told failed (Said this) piece (inl whole) counted = by this whole.0 counted where
-      by : (this : Outcome) → reply.Ok ≡ reply_to this → IsCommandCounted tale calls written old new command (Said this) opened → DoneCalls (made_by calls written old new) command opened
-      by outcome.Ok is counted = counted
-      by (outcome.Values text) is counted = counted
-      by (outcome.Refused refusal) is counted = absurd (cc (is))
-    done_told failed (Said this) piece (inr cut) counted = absurd (let is = cut.given_is in cc (is))
-    done_told failed (Over end) piece told counted = absurd (by end told.0) where
-      by : (end : Ended) → reply.Ok ≡ reply_at end → ⊥
-      by (ended.Lost active listed) is = absurd (cc (is))
-      by ended.Spent is = absurd (cc (is))
-      by ended.Memory is = absurd (cc (is))
+    done_told failed answer piece told counted = by answer (told_ok failed answer piece told) counted where
+      by : (answer : Answer) → IsAccepted answer → IsCommandCounted tale calls written old new command answer opened → DoneCalls (made_by calls written old new) command opened
+      by (Said outcome.Ok) on counted = counted
+      by (Said (outcome.Values text)) on counted = counted
+      by (Said (outcome.Refused refusal)) on counted = absurd on
+      by (Over end) on counted = absurd on
 
 -- a commit of the next table, which is open then
 pub committed_counted : {S : Type 0} (calls written : S → Option ℕ) (old new : S) (volume : VolId) (slice : SliceName) (newest : Newest) (next : Table) → newest.table ≡ next

@@ -20,7 +20,7 @@ use Rattle.mdv_engine_law.proofs.Executing.{content_kept}
 use Rattle.mdv_engine_law.proofs.Plain.{bad_line_plain, memory_plain, too_many_plain}
 use Rattle.mdv_engine_law.proofs.Turning.{carry_none, entered_none, refused_none, turn_tell, turned}
 use Rattle.mdv_engine_law.proofs.Knowing.{knows_kept}
-use Rattle.mdv_engine.specs.Below.{Failures, Key, Refusal, Tale, Created, key_of, CarriedTo, IsPlain, Knows, OnlyReplied, TellMoment, TurnMoment, kept_at}
+use Rattle.mdv_engine.specs.Below.{AreCalm, Outcomes, Key, Refusal, Tale, Created, key_of, CarriedTo, IsPlain, Knows, OnlyReplied, TellMoment, TurnMoment, kept_at}
 use Rattle.mdv_engine.specs.declared.engine.Engine.{Engine}
 use Rattle.mdv_engine.specs.Engine.{IsWell}
 use Rattle.mdv_engine.specs.Tab.{HasKept, IsRefusalOf, TabEnd, all, none, with_entries}
@@ -53,7 +53,7 @@ module _ (lines : List ℕ) where
   kept_host old new this (none r why is now) = ap (λ (e : Engine). e.host) now
 
   pub kept_well : (old new : Engine) (this : Outcome) → HasKept old lines this new → IsWell old.host old.state → IsWell old.host new.state
-  kept_well old new this (all entries tab is now) well = subst (λ (e : Engine). IsWell old.host e.state) (sym now) (record { sound = well.sound; table = well.table })
+  kept_well old new this (all entries tab is now) well = subst (λ (e : Engine). IsWell old.host e.state) (sym now) (record { table = well.table })
   kept_well old new this (none r why is now) well = subst (λ (e : Engine). IsWell old.host e.state) (sym now) well
 
   pub kept_begun : (old new : Engine) (this : Outcome) → HasKept old lines this new → new.state.begun ≤ old.state.begun + 1
@@ -61,11 +61,11 @@ module _ (lines : List ℕ) where
   kept_begun old new this (none r why is now) = subst (λ (e : Engine). e.state.begun ≤ old.state.begun + 1) (sym now) (omega arith)
 
   -- what the block came to
-  pub kept_comes : (old new : Engine) (this : Outcome) → HasKept old lines this new → (failures : Failures) → failures.none → (content : Image)
-      → KeepsTab failures (record { memory = old.state; content = content }) lines (Said this) (record { memory = new.state; content = content })
-  kept_comes old new this (all entries tab is now) failures calm content = came.entered calm entries tab (ap Said is) (ap (λ (e : Engine). e.state) now) (λ drive block. refl)
-  kept_comes old new this (none r (inl why) is now) failures calm content = came.unfit calm r why (ap Said is, record { memory = ap (λ (e : Engine). e.state) now; content = λ drive block. refl })
-  kept_comes old new this (none r (inr want) is now) failures calm content = came.unread calm (ap Said (is ∙ ap outcome.Refused want)) (record { memory = ap (λ (e : Engine). e.state) now; content = λ drive block. refl })
+  pub kept_comes : (old new : Engine) (this : Outcome) → HasKept old lines this new → (calls : Outcomes) → AreCalm calls → (content : Image)
+      → KeepsTab calls (record { memory = old.state; content = content }) lines (Said this) (record { memory = new.state; content = content })
+  kept_comes old new this (all entries tab is now) calls calm content = came.entered calm entries tab (ap Said is) (ap (λ (e : Engine). e.state) now) (λ drive block. refl)
+  kept_comes old new this (none r (inl why) is now) calls calm content = came.unfit calm r why (ap Said is, record { memory = ap (λ (e : Engine). e.state) now; content = λ drive block. refl })
+  kept_comes old new this (none r (inr want) is now) calls calm content = came.unread calm (ap Said (is ∙ ap outcome.Refused want)) (record { memory = ap (λ (e : Engine). e.state) now; content = λ drive block. refl })
 
   -- and what it led to
   pub kept_carried : (old new : Engine) (this : Outcome) → HasKept old lines this new → (t : Tale) → CarriedTo old.host Nothing old.state (Said this) new.state t t
@@ -87,12 +87,12 @@ module _ (lines : List ℕ) where
         turn_tell old.host Nothing old.state new.state (Said this) (λ on has. absurd (none_created (key_of old.host) has)) (kept_plain old new this kept) t t (carry_none old.host Nothing old.state t) (kept_carried old new this kept t) m tell
 
     -- and once it was
-    pub kept_end : (drive : Failures) (replies : Type 0) (made : Made) (given : Reply) (t u : Tale) → drive.none → NoCalls (and_more 1 made) → OnlyReplied replies (Said this) given t u → TabEnd drive replies made old lines given new t u
-    kept_end drive replies made given t u calm none_made told = record {
+    pub kept_end : (calls : Outcomes) (replies : Type 0) (made : Made) (given : Reply) (t u : Tale) → AreCalm calls → NoCalls (and_more 1 made) → OnlyReplied replies (Said this) given t u → TabEnd calls replies made old lines given new t u
+    kept_end calls replies made given t u calm none_made told = record {
       answered = record {
         answer = Said this;
-        carried = subst (λ (content : Image). KeepsTab drive (kept_at old.state t) lines (Said this) (record { memory = new.state; content = content })) (content_kept t u told.kept) (kept_comes old new this kept drive calm (contents t));
-        calls = none_made;
+        carried = subst (λ (content : Image). KeepsTab calls (kept_at old.state t) lines (Said this) (record { memory = new.state; content = content })) (content_kept t u told.kept) (kept_comes old new this kept calls calm (contents t));
+        effort = none_made;
         replied = told.replied;
       };
       turned = λ on. turned old.host Nothing old.state new.state replies t t u refl (Said this) (kept_plain old new this kept) (λ on has. absurd (none_created (key_of old.host) has)) (kept_carried old new this kept t) given on told;

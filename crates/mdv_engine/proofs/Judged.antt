@@ -63,7 +63,7 @@ pub creation_judged : (case : Case) (slice : SliceName) (force : Bool) (r : Refu
 creation_judged case slice force r is =
     let at = slice_at case.host.drives.slices slice in
     first_holds IsJudged order (held_of_creation case slice force) r
-    (creation_held (not (is_some at)) (is_plain at) case.memory.down (not (is_some case.memory.opened) && not force) (is_some case.memory.opened) (nat_lt case.host.home.blocks 8208)) is
+    (creation_held (not (is_some at)) (is_plain at) (not case.memory.clean) (not (is_some case.memory.opened) && not force) (is_some case.memory.opened) (nat_lt case.host.home.blocks 8208)) is
 
 -- and a change
 change_held_so : (gone taken set_aside used long : Bool) (full : Refusal) → IsJudged full

@@ -7,6 +7,7 @@ pub mod Commits
 pub mod Places
 pub mod Blocks
 pub mod Counting
+pub mod Drives
 pub mod Ending
 pub mod Entering
 mod Parts

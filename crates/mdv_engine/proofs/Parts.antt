@@ -1,52 +1,17 @@
 -- What a boot, a creation and a commit of the database say, part by part.
-use Rattle.std.proofs.Common.{◌≡◌, ℕ, List, Option, Some, Ok, Err, Result, sym, subst}
-use Rattle.mdv_engine.specs.Below.{Failures, Identity, PlaceAt, KeptOutside, nowhere, Moments, Ends, IsSynced, Tale, last, IsPlaceOf, Geometry, Key, Change, Table, NoCreation, asks_of, Anything, Site, Newest, GoesFrom, GoesMaking, GoesOn, GoesOnTo, IsOpened, IsWithNewest, ShowsNothing, IsAdopted, IsQuiet, IsSafe, IsCommitted, MayCommit, first_newest, first_table, next_newest}
+use Rattle.std.proofs.Common.{◌≡◌, ℕ, List, Option, Ok, Err, Result, sym, subst}
+use Rattle.mdv_engine.specs.Below.{Identity, PlaceAt, Moments, Ends, Tale, IsPlaceOf, Geometry, Key, Change, Table, NoCreation, asks_of, Anything, Site, Newest, GoesFrom, GoesMaking, IsOpened, IsWithNewest, ShowsNothing, IsQuiet, IsSafe, IsCommitted, MayCommit, first_newest, first_table, next_newest}
 use Rattle.mdv_store_law.specs.Going.{created_head}
 use Rattle.mdv_store_law.specs.Standing.{ShowsReplica}
 use Rattle.mdv_shelf.proofs.Moments.{moments_weaker}
-use Rattle.mdv_database.specs.Database.{IsBooted, IsBootedTo, IsCertain, IsCreatedTo, IsRefusal, site_of}
-use Rattle.mdv_database.specs.Boot.{BootedBy, BootMoment, BootEnds}
-use Rattle.mdv_shelf.specs.Made.{Made}
+use Rattle.mdv_database.specs.Database.{IsCreatedTo, site_of}
 use Rattle.mdv_database.specs.Commit.{CommitMoment, CommitDone}
 use Rattle.mdv_database.specs.Create.{CreateMoment, CreateEnds}
-use Rattle.mdv_database.specs.declared.database.BootEnd.{BootEnd}
-use Rattle.mdv_database.specs.declared.database.BootEnd.TheVariants as end
 use Rattle.mdv_database.specs.declared.database.CreateFault.{CreateFault}
 use Rattle.mdv_database.specs.declared.database.CreateFault.TheVariants as unmade
 
 ends_of : (Q R : Tale → Tale → Type 0) (a b : Option Tale) → ((t u : Tale) → Q t u → R t u) → Ends Q a b → Ends R a b
 ends_of Q R a b weaker ends t is = (let end = ends t is in (end.0, end.1, weaker t end.0 end.2))
-
--- a boot
-module _ (site : Site) (a b : Option Tale) where
-  pub boot_quiet : Moments (BootMoment site) a b → Moments (IsQuiet site.at) a b
-  boot_quiet moments = moments_weaker (BootMoment site) (IsQuiet site.at) a b (λ t m is. is.quiet) moments
-
-  pub boot_goes : Moments (BootMoment site) a b → Moments (GoesOn site) a b
-  boot_goes moments = moments_weaker (BootMoment site) (GoesOn site) a b (λ t m is. is.goes) moments
-
-  module _ (failures : Failures) (calls : Made) (answer : BootEnd) (ends : Ends (BootEnds failures calls site answer) a b) where
-    pub shown : (t : Tale) → a ≡ Some t → IsBooted failures site (last t site.at.drive.0) answer
-    shown t is = (ends t is).2.shown
-
-    pub booted_by : (t : Tale) → a ≡ Some t → BootedBy calls site (last t site.at.drive.0) answer
-    booted_by t is = (ends t is).2.booted
-
-    pub synced : IsCertain answer → Ends (λ _ u. IsSynced site.at.drive.0 u) a b
-    synced certain = ends_of (BootEnds failures calls site answer) (λ _ u. IsSynced site.at.drive.0 u) a b (λ t u is. is.synced certain) ends
-
-    pub goes_to : Ends (GoesOnTo site (IsBootedTo answer)) a b
-    goes_to = ends_of (BootEnds failures calls site answer) (GoesOnTo site (IsBootedTo answer)) a b (λ t u is. is.goes) ends
-
-    pub unwritten : IsRefusal answer → Ends (KeptOutside nowhere) a b
-    unwritten refusal = ends_of (BootEnds failures calls site answer) (KeptOutside nowhere) a b (λ t u is. is.refuses refusal) ends
-
-    pub shows_nothing : answer ≡ end.Empty → Ends (λ _ u. ShowsNothing site u) a b
-    shows_nothing empty = ends_of (BootEnds failures calls site answer) (λ _ u. ShowsNothing site u) a b (λ t u is. is.empty empty) ends
-
-  pub adopted_there : (failures : Failures) (calls : Made) (newest : Newest) → Ends (BootEnds failures calls site (end.Adopted newest)) a b → Ends (λ t u. IsAdopted site (last t site.at.drive.0) newest u × IsOpened site newest u) a b
-  adopted_there failures calls newest ends =
-      ends_of (BootEnds failures calls site (end.Adopted newest)) (λ t u. IsAdopted site (last t site.at.drive.0) newest u × IsOpened site newest u) a b (λ t u is. (is.adopted, is.opened)) ends
 
 -- a creation
 module _ (at : PlaceAt) (key : Key) (sizes : List ℕ) (identity : Identity) (a b : Option Tale) where

@@ -1,5 +1,5 @@
 -- Where the blocks of a volume lie.
-use Rattle.std.proofs.Common.{◌≡◌, ◌≤◌, ◌<◌, ◌+◌, ◌^◌, ℕ, Bool, true, false, Option, Some, None, refl, sym, subst, ap, ◌∙◌, Contains, arith}
+use Rattle.std.proofs.Common.{◌≡◌, ◌≤◌, ◌<◌, ◌+◌, ◌^◌, ℕ, Bool, true, false, List, Option, Some, None, refl, sym, subst, ap, ◌∙◌, Contains, arith}
 use Rattle.std.proofs.lemmas.List.Elements.{All-contains}
 use Rattle.std.proofs.lemmas.Bool.Decides.{nat_tests}
 use Rattle.std.specs.List.{find}
@@ -8,15 +8,15 @@ use Rattle.mdv_base.specs.Order.{first_refusal, where_so}
 use Rattle.mdv_base.specs.declared.refusal.Refusal.TheVariants.{NoSuchVolume, OutOfRange}
 use Rattle.mdv_engine_law.specs.Refusals.{blocks_refusal, has_number, held_past, size_of}
 use Rattle.mdv_engine_law.proofs.Volumes.{find_is, find_none}
-use Rattle.mdv_engine.specs.Below.{VolId, SliceName, IsHomeTable, IsWithin, HasSlice, HasNoSlice, SliceAt, Table, Base, Slice, Volume, VolumeKind, Stripe, IsComponentOn, IsKindOf, IsStripeOf, IsWholeSlice, HasVolume, HasNoVolume, Newest, Host, Memory, HasVolumeOn}
-use Rattle.mdv_base.specs.declared.drive.DriveNo.{DriveNo}
+use Rattle.mdv_engine.specs.Below.{VolId, SliceName, IsReady, HasSlice, HasNoSlice, SliceAt, Table, Base, Slice, Volume, VolumeKind, Stripe, IsComponentOn, IsKindOf, IsStripeOf, IsWholeSlice, HasVolume, HasNoVolume, Newest, Host, Memory, HasVolumeOn}
 use Rattle.mdv_map.specs.Maps.{Map, run_map}
 use Rattle.mdv_volumes.specs.Tables.{IsBaseMap, IsKindMap}
-use Rattle.mdv_home.proofs.Places.{slices_within}
+use Rattle.mdv_engine_law.proofs.Ready.{in_drive}
 use Rattle.mdv_table.specs.declared.volume.Stripe.{Stripe as OneStripe}
 use Rattle.mdv_table.specs.Slices.{IsSound}
 use Rattle.mdv_engine_law.proofs.Refusing.{opened_has}
 use Rattle.mdv_engine.specs.Engine.{IsTableOf, IsWell}
+use Rattle.mdv_engine.specs.Placed.{EndsIn}
 
 -- there is one kind of volume, and one of bases
 pub stripe_is : (kind : VolumeKind) → (stripe : OneStripe) × (kind ≡ Stripe stripe)
@@ -26,7 +26,7 @@ pub slice_is : (base : Base) → (slice : SliceName) × (base ≡ Slice slice)
 slice_is (Slice slice) = (slice, refl)
 
 -- a volume on a slice
-module _ (host : Host) (home : IsHomeTable host.drives host.home) (sound : IsSound host.drives) (volume : Volume) (stripe : OneStripe) (slice : SliceName) (kind_is : volume.kind ≡ Stripe stripe) (on_is : stripe.component.on ≡ Slice slice) (kind : IsKindOf host.drives volume.kind) where
+module _ (host : Host) (sound : IsSound host.drives) (volume : Volume) (stripe : OneStripe) (slice : SliceName) (kind_is : volume.kind ≡ Stripe stripe) (on_is : stripe.component.on ≡ Slice slice) (kind : IsKindOf host.drives volume.kind) where
   whole : IsWholeSlice host.drives stripe.component slice
   whole =
       let of : IsStripeOf host.drives stripe = subst (IsKindOf host.drives) kind_is kind in
@@ -43,25 +43,23 @@ module _ (host : Host) (home : IsHomeTable host.drives host.home) (sound : IsSou
     counts : stripe.component.blocks ≡ at.blocks
     counts = whole.whole.blocks ∙ ap (λ (a : SliceAt). a.blocks) same
 
-    within : IsWithin host.home at
-    within = slices_within host.drives host.home slice at home has
-
     pub starts : stripe.component.start ≡ 0
     starts = whole.whole.start
 
-    pub lies_on : IsKindMap host.drives volume.kind (run_map 0 (at.start + stripe.component.start) stripe.component.blocks)
-    lies_on = subst (λ (k : VolumeKind). IsKindMap host.drives k map) (sym kind_is) (subst (λ (b : Base). IsBaseMap host.drives stripe.component b map) (sym on_is) (at, has, on_first)) where
+    pub lies_on : IsKindMap host.drives volume.kind (run_map at.drive.0 (at.start + stripe.component.start) stripe.component.blocks)
+    lies_on = subst (λ (k : VolumeKind). IsKindMap host.drives k map) (sym kind_is) (subst (λ (b : Base). IsBaseMap host.drives stripe.component b map) (sym on_is) (at, has, refl)) where
       map : Map
-      map = run_map 0 (at.start + stripe.component.start) stripe.component.blocks
-
-      on_first : map ≡ run_map at.drive.0 (at.start + stripe.component.start) stripe.component.blocks
-      on_first = ap (λ (d : DriveNo). run_map d.0 (at.start + stripe.component.start) stripe.component.blocks) (sym within.drive)
-
-    pub ends_within : (at.start + stripe.component.start) + stripe.component.blocks ≤ host.home.drive_blocks
-    ends_within = (let zero = starts in let count = counts in let less = within.within in omega arith)
+      map = run_map at.drive.0 (at.start + stripe.component.start) stripe.component.blocks
 
     pub ends_small : (at.start + stripe.component.start) + stripe.component.blocks ≤ 2 ^ 40
     ends_small = (let zero = starts in let count = counts in let less = (sound.each slice at has).within in omega arith)
+
+    pub ends_within : (sizes : List ℕ) → IsReady host sizes → EndsIn host at.drive.0 ((at.start + stripe.component.start) + stripe.component.blocks) sizes
+    ends_within sizes ready =
+        let lies = in_drive host sizes ready slice at has in
+        let zero = starts in
+        let count = counts in
+        let less = lies.within in record { known = lies.known; within = omega (arith, zero, count, less); small = ends_small }
 
 is_past : (size end : ℕ) → size < end → nat_lt size end ≡ true
 is_past size end past = grind (arith, nat_tests)
@@ -95,5 +93,5 @@ module _ (host : Host) (memory : Memory) (well : IsWell host memory) (newest : N
         let is : IsTableOf host newest.blocks newest.table = opened_has memory newest (λ n. IsTableOf host n.blocks n.table) opened well.table in
         All-contains (λ (v : Volume). IsKindOf host.drives v.kind) newest.table.plan.volumes volume is.of_geometry.kinds (subst (λ (t : Table). Contains t.plan.volumes volume) table_is has.0)
 
-    pub volume_on : (first blocks : ℕ) → IsKindMap host.drives volume.kind (run_map 0 first blocks) → HasVolumeOn host memory number first blocks
-    volume_on first blocks lies = (newest, opened, record { of = volume; has = (subst (λ (t : Table). Contains t.plan.volumes volume) table_is has.0, has.1); kind = lies })
+    pub volume_on : (drive first blocks : ℕ) → IsKindMap host.drives volume.kind (run_map drive first blocks) → HasVolumeOn host memory number drive first blocks
+    volume_on drive first blocks lies = (newest, opened, record { of = volume; has = (subst (λ (t : Table). Contains t.plan.volumes volume) table_is has.0, has.1); kind = lies })

@@ -7,7 +7,7 @@ use Rattle.std.specs.Prelude.{nat_lt}
 use Rattle.mdv_base.specs.Order.{first_refusal, where_so}
 use Rattle.mdv_base.specs.declared.refusal.Refusal.TheVariants.{NoDatabase, NoSuchVolume, OutOfRange, TooMany}
 use Rattle.mdv_engine_law.specs.Refusals.{blocks_refusal, has_number, held_of_blocks, held_past, read_refusal, size_of}
-use Rattle.mdv_engine.specs.Below.{Failures, VolId, Refusal, Host, Memory, Newest, Volume}
+use Rattle.mdv_engine.specs.Below.{Outcomes, VolId, Refusal, Host, Memory, Newest, Volume}
 use Rattle.mdv_engine.specs.Engine.{HasBlocksCause, HasReadCause}
 
 -- why a read of too many blocks is refused
@@ -72,6 +72,6 @@ module _ (opened : Option Newest) (volume : VolId) where
     few_is few = ap (λ (more : Bool). first_refusal (held_of_blocks opened volume (at + count) ++ where_so more TooMany)) (le-ltb 1024 count few) ∙ ap first_refusal (append-nil (held_of_blocks opened volume (at + count)))
 
 -- blocks that nothing refuses, and that aren't read
-pub cause_is : (failures : Failures) (host : Host) (memory : Memory) (volume : VolId) (at count : ℕ) (r : Refusal) → count ≤ 1024 → read_refusal memory.opened volume at count ≡ None → HasBlocksCause failures host memory volume at count r → HasReadCause failures host memory volume at count r
-cause_is failures host memory volume at count r few free (inl is) = absurd (cc (sym free ∙ few_is memory.opened volume at count few ∙ is.1))
-cause_is failures host memory volume at count r few free (inr (so, has, fault)) = inr (inl (so, (has.0, has.1, free), fault))
+pub cause_is : (calls : Outcomes) (host : Host) (memory : Memory) (volume : VolId) (at count : ℕ) (r : Refusal) → count ≤ 1024 → read_refusal memory.opened volume at count ≡ None → HasBlocksCause calls host memory volume at count r → HasReadCause calls host memory volume at count r
+cause_is calls host memory volume at count r few free (inl is) = absurd (cc (sym free ∙ few_is memory.opened volume at count few ∙ is.1))
+cause_is calls host memory volume at count r few free (inr (of, none, fault)) = inr (inl (of, free, fault))

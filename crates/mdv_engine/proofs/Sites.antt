@@ -3,16 +3,12 @@ use Rattle.std.proofs.Math.Nat.{le-min, min-le_left}
 use Rattle.mdv_home.proofs.Places.{whole_place}
 use Rattle.std.proofs.Common.{◌≡◌, ◌+◌, ◌-◌, ◌≤◌, ℕ, List, [], ◌∷◌, refl, sym, subst, ap, arith}
 use Rattle.std.proofs.lemmas.List.Elements.{All-head}
-use Rattle.mdv_engine.specs.Below.{OnDrive, Local, Place, line_of, place_of, SliceAt, PlaceAt, IsPlaced, with_blocks, KeptOutside, Tale, One, Table, IsListsOf, IsPlaceOf, Site, area_of, IsLaid, IsOnDrive, IsQuiet, Host, IsReady, site_of}
+use Rattle.mdv_engine.specs.Below.{Local, Place, line_of, place_of, SliceAt, PlaceAt, IsPlaced, with_blocks, KeptOutside, Tale, One, Table, IsListsOf, IsPlaceOf, Site, area_of, IsLaid, IsOnDrive, IsQuiet, Host, IsReady, site_of}
 use Rattle.mdv_database.specs.Database as database
-use Rattle.mdv_shelf.specs.Shelves.{KeptOn}
-use Rattle.mdv_shelf.specs.declared.shelf.Shelf.{Ghosts}
+use Rattle.std.proofs.lemmas.Option.{slice_get_within}
 use Rattle.mdv_engine_law.proofs.Lifting.{site_here}
+use Rattle.mdv_engine_law.proofs.Ready.{home_seen, home_size, size_is}
 use Rattle.mdv_engine.specs.Engine.{IsTableOf}
-
--- what is kept on the drive of the place that the code computed
-pub kept_here : {S : Type 0} {shelf : Ghosts S} {a b : S} {place : PlaceAt} (at : PlaceAt) → at ≡ place → KeptOn shelf a b (OnDrive at.drive.0) → KeptOn shelf a b (OnDrive place.drive.0)
-kept_here {S} {shelf} {a} {b} {place} at is kept = subst (λ (p : PlaceAt). KeptOn shelf a b (OnDrive p.drive.0)) is kept
 
 module _ (host : Host) (sizes : List ℕ) (ready : IsReady host sizes) (at : PlaceAt) (at_is : at ≡ place_of host.home) where
   -- the site that the database is told
@@ -28,20 +24,20 @@ module _ (host : Host) (sizes : List ℕ) (ready : IsReady host sizes) (at : Pla
 
   -- the drive has a block
   pub on_drive : IsOnDrive sizes at
-  on_drive = subst (IsOnDrive sizes) (sym at_is) (subst (λ (s : List ℕ). IsOnDrive s (place_of host.home)) (sym ready.drive) (record {
-    drive = omega arith;
-    some = (let some = ready.small.some_drive_blocks in omega arith);
-    size = (let few = ready.small.few_drive_blocks in omega arith);
-  }))
+  on_drive = subst (IsOnDrive sizes) (sym at_is) (record {
+    drive = slice_get_within sizes host.home.drive.0 host.home.drive_blocks (home_size host sizes ready);
+    some = (let some = ready.small.some_drive_blocks in let size = size_is host sizes ready in omega (arith, some, size));
+    size = (let few = ready.small.few_drive_blocks in let size = size_is host sizes ready in omega (arith, few, size));
+  })
 
   -- a replica of so many blocks lies on the drive, where the home's slice has room for it
   pub placed : (blocks : ℕ) → 16 ≤ blocks → 16 + blocks ≤ host.home.blocks → IsPlaced sizes (with_blocks at blocks)
-  placed blocks least room = subst (λ (p : PlaceAt). IsPlaced sizes (with_blocks p blocks)) (sym at_is) (subst (λ (s : List ℕ). IsPlaced s (with_blocks (place_of host.home) blocks)) (sym ready.drive) (record {
-    drive = omega arith;
+  placed blocks least room = subst (λ (p : PlaceAt). IsPlaced sizes (with_blocks p blocks)) (sym at_is) (record {
+    drive = slice_get_within sizes host.home.drive.0 host.home.drive_blocks (home_size host sizes ready);
     least = least;
-    within = (let within = ready.small.within in omega arith);
-    size = (let few = ready.small.few_drive_blocks in omega arith);
-  }))
+    within = (let within = ready.small.within in let size = size_is host sizes ready in omega (arith, within, room, size));
+    size = (let few = ready.small.few_drive_blocks in let size = size_is host sizes ready in omega (arith, few, size));
+  })
 
   -- the whole place
   pub placed_whole : 8208 ≤ host.home.blocks → IsPlaced sizes at
@@ -52,7 +48,7 @@ module _ (host : Host) (sizes : List ℕ) (ready : IsReady host sizes) (at : Pla
   place_is room = subst (λ (p : PlaceAt). IsPlaceOf host.drives p.place) (sym at_is)
       (subst (λ (n : ℕ). IsPlaceOf host.drives (record { slice = host.home.slice; start = 16; blocks = n })) (sym (whole_place host.home room)) (record {
         at = (line_of host.home).at;
-        has = ready.home.db;
+        has = home_seen host sizes ready;
         lies = record { db = refl; start = refl; least = omega arith; most = omega arith; within = omega arith };
       }))
 
@@ -66,7 +62,7 @@ module _ (host : Host) (sizes : List ℕ) (ready : IsReady host sizes) (at : Pla
       let place : Place = record { slice = host.home.slice; start = 16; blocks = blocks } in
       let listed : IsListsOf host.drives (One (place ∷ [])) = subst (IsListsOf host.drives) is.lists is.of_geometry.lists in
       let of : IsPlaceOf host.drives place = All-head (IsPlaceOf host.drives) place [] listed.1 in
-      let same : of.at ≡ (line_of host.home).at = ready.sound.once host.home.slice of.at (line_of host.home).at of.has ready.home.db in
+      let same : of.at ≡ (line_of host.home).at = ready.sound.once host.home.slice of.at (line_of host.home).at of.has (home_seen host sizes ready) in
       let within = of.lies.within in
       let counted : of.at.blocks ≡ host.home.blocks = ap (λ (a : SliceAt). a.blocks) same in
       record {

@@ -1,5 +1,7 @@
 -- The words of the crates below in which this crate speaks, so that a file of it needs one line of import.
 pub use Rattle.mdv_base.specs.Causes.{Failures}
+pub use Rattle.mdv_base.specs.DriveSet.{Drives, has_drive}
+pub use Rattle.mdv_base.specs.declared.drive.DriveNo.{DriveNo}
 pub use Rattle.mdv_base.specs.declared.drive.SliceName.{SliceName}
 pub use Rattle.mdv_base.specs.declared.mark.Identity.{Identity}
 pub use Rattle.mdv_base.specs.declared.name.Key.{Key}
@@ -14,8 +16,9 @@ pub use Rattle.mdv_database.specs.Database.{first_newest, first_table}
 pub use Rattle.mdv_database.specs.declared.database.CommitFault.{CommitFault}
 pub use Rattle.mdv_engine_law.specs.Home.{IsReady, StaysHome, identity_of, key_of, site_of}
 pub use Rattle.mdv_engine_law.specs.Commands.{CameTo, IsAllowed}
-pub use Rattle.mdv_engine_law.specs.Line.{AreBlocksAt, HasVolumeOn}
-pub use Rattle.mdv_engine_law.specs.Line.{IsRebooted, IsSound, IsTurnedDown, IsUsedUp, Kept, Memory, adopted, asked_by, blocks_of, down}
+pub use Rattle.mdv_engine_law.specs.Failing.{AreCalm, FailedOn, Outcomes, any_of}
+pub use Rattle.mdv_engine_law.specs.Line.{AreBlocksAt, HasVolumeOn, IsUpBy, booted_with, home_calls}
+pub use Rattle.mdv_engine_law.specs.Line.{IsRebooted, IsTurnedDown, IsUsedUp, Kept, Memory, adopted, asked_by, blocks_of, down}
 pub use Rattle.mdv_engine_law.specs.Line.{empty, kept_at, lost, record_room, spent, unbooted, wanting}
 pub use Rattle.mdv_engine_law.specs.Replies.{IsPlain, IsPlainAnswer, text_of}
 pub use Rattle.mdv_engine_law.specs.Standing.{BootMoment, BootedTo, CarriedTo, CarryEnd, CarryMoment, Executed, Knows, OnlyReplied, TellMoment, TellsFront, TurnMoment, Turned}
@@ -23,7 +26,8 @@ pub use Rattle.mdv_engine_law.specs.declared.answer.Answer.{Answer}
 pub use Rattle.mdv_engine_law.specs.declared.answer.Ended.{Ended}
 pub use Rattle.mdv_engine_law.specs.declared.host.Host.{Host}
 pub use Rattle.mdv_home.specs.Home.{line_of, place_of}
-pub use Rattle.mdv_home.specs.Placed.{IsHomeTable, IsWithin}
+pub use Rattle.mdv_home.specs.Placed.{IsHomeTable}
+pub use Rattle.mdv_map.specs.Maps.{DriveBlock}
 pub use Rattle.mdv_name.specs.SliceIndex.{HasNoSlice, HasSlice}
 pub use Rattle.mdv_name.specs.declared.geometry.Geometry.{Geometry}
 pub use Rattle.mdv_name.specs.declared.slice_lines.SliceAt.{SliceAt}

@@ -1,5 +1,7 @@
 -- How many calls on the drive a command and a boot make, by what they came to.
-use Rattle.std.specs.Prelude.{◌≡◌, ℕ, Bool, true, false, Option, Some, None, Result, Ok, Err}
+use Rattle.std.specs.Prelude.{◌≡◌, ◌+◌, ℕ, List, Option, Some, None, Result, Ok, Err}
+use Rattle.mdv_base.specs.DriveSet.{Drives}
+use Rattle.mdv_base.specs.declared.drive.DriveNo.{DriveNo}
 use Rattle.mdv_base.specs.declared.refusal.Refusal.{Refusal}
 use Rattle.mdv_base.specs.declared.refusal.Refusal.TheVariants.{IoFault, OutOfMemory}
 use Rattle.mdv_base.specs.declared.name.VolId.{VolId}
@@ -16,7 +18,8 @@ use Rattle.mdv_engine_law.specs.declared.answer.Answer.{Answer}
 use Rattle.mdv_engine_law.specs.declared.answer.Answer.TheVariants.{Said, Over}
 use Rattle.mdv_engine_law.specs.declared.answer.Ended.TheVariants as ended
 use Rattle.mdv_engine_law.specs.declared.answer.Outcome.TheVariants as outcome
-use Rattle.mdv_engine_law.specs.Answers.{refusing}
+use Rattle.mdv_engine_law.specs.Answers.{accepted, refusing}
+use Rattle.mdv_store_law.specs.Effort.{BroughtUpBy}
 use Rattle.mdv_engine_law.specs.declared.answer.Reply.{Reply}
 use Rattle.mdv_engine_law.specs.declared.answer.Reply.TheVariants as reply
 
@@ -58,18 +61,22 @@ IsQuietRefusal reply.Spent = ⊥
 IsQuietRefusal reply.NoMemory = ⊥
 IsQuietRefusal reply.Told = ⊥
 
--- A boot that opened a database took twelve calls or thirteen; one that found none two to five, unless it was down, and wrote nothing
--- then. One that is lost made five at least, one that is spent four, and one that wants memory three.
-abbrev pub IsOpenedCounted : {S : Type 0} → (S → Option ℕ) → (S → Option ℕ) → S → S → Option Newest → Bool → Type 0
-IsOpenedCounted calls written old new (Some newest) unread = TookBetween calls written old new 12 13 4097
-IsOpenedCounted calls written old new None false = TookBetween calls written old new 2 5 0
-IsOpenedCounted calls written old new None true = TookBetween calls written old new 1 5 0
+-- Behind the calls that brought the drives up a boot that opened a database took ten or eleven; one that found none three at most, and wrote nothing. One that
+-- is lost made three at least, one that is spent two, and one that wants memory one.
+abbrev pub IsOpenedCounted : {S : Type 0} → (S → Option ℕ) → (S → Option ℕ) → S → S → ℕ → Option Newest → Type 0
+IsOpenedCounted calls written old new brought (Some newest) = TookBetween calls written old new (brought + 10) (brought + 11) 4097
+IsOpenedCounted calls written old new brought None = TookBetween calls written old new brought (brought + 3) 0
 
-abbrev pub IsUpCounted : {S : Type 0} → (S → Option ℕ) → (S → Option ℕ) → S → S → Memory → Type 0
-IsUpCounted calls written old new memory = IsOpenedCounted calls written old new memory.opened memory.down
+abbrev pub IsPlaceCounted : {S : Type 0} → (S → Option ℕ) → (S → Option ℕ) → S → S → ℕ → Answer → Memory → Type 0
+IsPlaceCounted calls written old new brought (Said this) memory = IsOpenedCounted calls written old new brought memory.opened
+IsPlaceCounted calls written old new brought (Over (ended.Lost active listed)) memory = TookBetween calls written old new (brought + 3) (brought + 11) 4097
+IsPlaceCounted calls written old new brought (Over ended.Spent) memory = TookBetween calls written old new (brought + 2) (brought + 3) 0
+IsPlaceCounted calls written old new brought (Over ended.Memory) memory = TookBetween calls written old new (brought + 1) (brought + 3) 0
 
-abbrev pub IsBootedCounted : {S : Type 0} → (S → Option ℕ) → (S → Option ℕ) → S → S → Answer → Memory → Type 0
-IsBootedCounted calls written old new (Said this) memory = IsUpCounted calls written old new memory
-IsBootedCounted calls written old new (Over (ended.Lost active listed)) memory = TookBetween calls written old new 5 13 4097
-IsBootedCounted calls written old new (Over ended.Spent) memory = TookBetween calls written old new 4 5 0
-IsBootedCounted calls written old new (Over ended.Memory) memory = TookBetween calls written old new 3 5 0
+-- The calls of a boot: those that brought the host's drives up, of which memory has which are up where it is answered, and those at the place.
+pub record IsBootedCounted {S : Type 0} (calls written : S → Option ℕ) (old new : S) (own : List DriveNo) (answer : Answer) (memory : Memory) : Type 0 where
+  pub up : Drives
+  pub tied : answer ≡ accepted → up ≡ memory.up
+  pub brought : ℕ
+  pub by : BroughtUpBy own up brought
+  pub place : IsPlaceCounted calls written old new brought answer memory

@@ -1,12 +1,13 @@
 -- What the calls of an engine say of their answers, and of the drive in the end.
 use Rattle.mdv_engine_law.specs.Line.{Ask, deeds}
 use Rattle.std.specs.Prelude.{◌≡◌, ◌≢◌, ◌≤◌, ◌+◌, ℕ, Bool, List, [], Option, Some, None, Result, Ok, Err, IfOk, IfErr, OnOk, Contains, length}
-use Rattle.mdv_shelf.specs.Shelves.{AtEachMoment, AtEachTale, AtEnd, DriveFailures, EndsTold, GivingFailed, GivingFailures, MadeCalls, MadeCallsAtMost, RestsOnceTold}
+use Rattle.mdv_shelf.specs.Calls.{OnDrive}
+use Rattle.mdv_shelf.specs.Shelves.{AtEachMoment, AtEachTale, AtEnd, DriveFailures, EndsTold, GivingFailed, GivingFailures, KeptOn, MadeCalls, MadeCallsAtMost, RestsOnceTold}
 use Rattle.mdv_shelf.specs.declared.shelf.Shelf.{Ghosts}
 use Rattle.mdv_words.specs.declared.command.Command.{Command}
 use Rattle.mdv_words.specs.declared.command.Command.TheVariants.{Create, MakeStripe}
 use Rattle.mdv_words.specs.Line as words
-use Rattle.mdv_engine.specs.Below.{Failures, key_of, site_of, identity_of, SliceName, VolId, Refusal, IoFault, OutOfMemory, KeptOutside, nowhere, IsSettled, Settling, Tale, last, Change, Table, Created, Answer, Ended, Host, Kept, Memory, kept_at, unbooted, asked_by, blocks_of, AreBlocksAt, CameTo, IsRebooted, IsPlainAnswer, BootedTo, CarryEnd, Executed, Knows, TellMoment, TellsFront, TurnMoment, Turned, text_of}
+use Rattle.mdv_engine.specs.Below.{AreCalm, DriveBlock, FailedOn, DriveNo, Outcomes, any_of, key_of, site_of, identity_of, SliceName, VolId, Refusal, IoFault, OutOfMemory, KeptOutside, nowhere, IsSettled, IsSynced, Settling, Tale, last, Change, Table, Created, Answer, Ended, Host, Kept, Memory, kept_at, unbooted, asked_by, blocks_of, AreBlocksAt, CameTo, IsRebooted, IsPlainAnswer, BootedTo, CarryEnd, Executed, Knows, TellMoment, TellsFront, TurnMoment, Turned, text_of}
 use Rattle.mdv_store_law.specs.Site.{Newest}
 use Rattle.mdv_store_law.specs.Standing.{ShowsReplica}
 use Rattle.mdv_shelf.specs.Made.{Made, and_more, made_of}
@@ -22,7 +23,7 @@ use Rattle.mdv_engine_law.specs.declared.answer.Reply.TheVariants as reply
 use Rattle.mdv_engine_law.specs.Replies.{HasAnswerCause, HasCommandCause, IsAccepted, IsLost, IsReplied, IsReplyTo}
 use Rattle.mdv_engine.specs.declared.engine.Engine.{Engine}
 use Rattle.mdv_engine_law.specs.Efforts.{BootCalls, DoneCalls, FaultCalls, LossCalls, calls_of, wanting_calls}
-use Rattle.mdv_engine_law.specs.Standing.{IsBare}
+use Rattle.mdv_engine_law.specs.Standing.{IsBare, LeavesDone}
 use Rattle.mdv_engine_law.specs.Efforts as efforts
 use Rattle.mdv_engine.specs.Counts.{IsQuietRefusal, IsUnlooked}
 use Rattle.mdv_engine.specs.Engine.{HasBootCause, IsNextTable, IsWell, case_at}
@@ -32,14 +33,15 @@ abbrev pub LeavesMade : Host → Memory → Command → Tale → Type 0
 LeavesMade host old (Create slice force) u = ShowsReplica (site_of host) (identity_of host old.begun) u
 LeavesMade host old other u = Unit {0}
 
--- a command that was carried out: what it came to and led to, and what it left where the run is over, for a place was lost
-pub record CarriedOut (failures : Failures) (host : Host) (command : Command) (old : Memory) (answer : Answer) (new : Memory) (t u : Tale) : Type 0 where
-  pub carry : CarryEnd (λ kept a next. CameTo failures host kept command a next) host (asked_by host command) old answer new t u
+-- a command that was carried out: what it came to and led to, what it left where it was done, and where the run is over, for a place was lost
+pub record CarriedOut (calls : Outcomes) (host : Host) (command : Command) (old : Memory) (answer : Answer) (new : Memory) (t u : Tale) : Type 0 where
+  pub carry : CarryEnd (λ kept a next. CameTo calls host kept command a next) host (asked_by host command) old answer new t u
+  pub done : IsAccepted answer → LeavesDone host old command u
   pub lost : (active listed : ℕ) → answer ≡ Over (ended.Lost active listed) → LeavesMade host old command u
 
 -- the end of a command
-abbrev pub CommandEnd : Failures → Engine → Command → Answer → Engine → Tale → Tale → Type 0
-CommandEnd failures old command answer new t u = CarriedOut failures old.host command old.state answer new.state t u
+abbrev pub CommandEnd : Outcomes → Engine → Command → Answer → Engine → Tale → Tale → Type 0
+CommandEnd calls old command answer new t u = CarriedOut calls old.host command old.state answer new.state t u
 
 -- the table that the change makes of the engine's
 abbrev pub IsNext : Engine → Change → Table → Type 0
@@ -47,32 +49,32 @@ IsNext engine change next = IsNextTable engine.host engine.state change next
 
 -- the end of a stripe's making
 abbrev pub StripeEnds : {S : Type 0} → Ghosts S → S → S → Engine → VolId → SliceName → Answer → Engine → Type 0
-StripeEnds shelf from to old volume slice answer new = AtEnd shelf (CommandEnd (DriveFailures shelf from to 0) old (MakeStripe volume slice) answer new) from to
+StripeEnds shelf from to old volume slice answer new = AtEnd shelf (CommandEnd (DriveFailures shelf from to) old (MakeStripe volume slice) answer new) from to
 
 -- the end of a creation that nothing refuses
 abbrev pub CreationEnds : {S : Type 0} → Ghosts S → S → S → Engine → Answer → Engine → Type 0
 CreationEnds shelf from to old answer new =
-    (slice : SliceName) (force : Bool) → IsAllowed (case_at old) (Create slice force) → AtEnd shelf (CommandEnd (DriveFailures shelf from to 0) old (Create slice force) answer new) from to
+    (slice : SliceName) (force : Bool) → IsAllowed (case_at old) (Create slice force) → AtEnd shelf (CommandEnd (DriveFailures shelf from to) old (Create slice force) answer new) from to
 
--- What an answer says, whatever the shelf tells: its text is a reply's, it has its cause, a creation is accepted only where no database is open and the last boot has read
--- the drive; and what the engine keeps.
-pub record HasAnswered (failures : Failures) (ask : Ask) (old : Engine) (answer : Answer) (new : Engine) : Type 0 where
+-- What an answer says, whatever the shelf tells: its text is a reply's, it has its cause, a creation is accepted only where no database is open and no call failed in the last
+-- boot; and what the engine keeps.
+pub record HasAnswered (calls : Outcomes) (ask : Ask) (old : Engine) (answer : Answer) (new : Engine) : Type 0 where
   pub plain : IsPlainAnswer answer
-  pub cause : HasAnswerCause failures answer
+  pub cause : HasAnswerCause (any_of calls) answer
   pub free : IsAccepted answer → Contains (deeds ask) (Created (key_of old.host)) → IsBare old.state
   pub host : new.host ≡ old.host
   pub well : IsWell old.host new.state
   pub begun : new.state.begun ≤ old.state.begun + 1
 
 -- Each moment of a line: how the drive stands, what was told of its reply by then, and that from the first byte of that on the drives are at rest.
-pub record LineMoments {S : Type 0} (shelf : Ghosts S) (host : Host) (ask : Ask) (old : Memory) (Comes : Failures → Kept → Answer → Kept → Type 0) (from to : S) : Type 0 where
+pub record LineMoments {S : Type 0} (shelf : Ghosts S) (host : Host) (ask : Ask) (old : Memory) (Comes : Outcomes → Kept → Answer → Kept → Type 0) (from to : S) : Type 0 where
   pub each : AtEachTale shelf (TurnMoment host ask old) from to
   pub fronts : AtEachMoment shelf (λ t m. Knows host old t.tale → TellsFront Comes old t m) from to
   pub rests : RestsOnceTold shelf from to
 
--- this answer, with no call on the drive that failed, and all else as it was
-abbrev pub OnlyAnswers : Answer → Failures → Kept → Answer → Kept → Type 0
-OnlyAnswers this failures kept answer next = failures.none × (answer ≡ this) × (next ≡ kept)
+-- this answer, with no call on a drive that failed, and all else as it was
+abbrev pub OnlyAnswers : Answer → Outcomes → Kept → Answer → Kept → Type 0
+OnlyAnswers this calls kept answer next = AreCalm calls × (answer ≡ this) × (next ≡ kept)
 
 -- each moment of a line that is refused so, whatever it asks: a front of the refusal is told
 pub record RefusalMoments {S : Type 0} (shelf : Ghosts S) (host : Host) (old : Memory) (refusal : Refusal) (from to : S) : Type 0 where
@@ -80,32 +82,33 @@ pub record RefusalMoments {S : Type 0} (shelf : Ghosts S) (host : Host) (old : M
   pub tells : AtEachTale shelf (TellMoment (text_of (refusing refusal))) from to
 
 -- what a command comes to
-abbrev pub CarriesOut : Host → Command → Failures → Kept → Answer → Kept → Type 0
-CarriesOut host command failures kept answer next = CameTo failures host kept command answer next
+abbrev pub CarriesOut : Host → Command → Outcomes → Kept → Answer → Kept → Type 0
+CarriesOut host command calls kept answer next = CameTo calls host kept command answer next
 
 -- The end of a command and its reply: what it came to and with how many calls, what it led to, what is known where the run isn't lost; a refusal behind which
--- nothing was written; and what a command left that lost a place.
-pub record TurnEnd (drive : Failures) (replies : Type 0) (made : Made) (old : Engine) (command : Command) (given : Reply) (new : Engine) (t u : Tale) : Type 0 where
-  pub answered : Knows old.host old.state t → Executed drive replies made old.host (words.Exec command) old.state new.state given t u
+-- nothing was written; and what a command left that was told `ok`, and one that lost a place.
+pub record TurnEnd (calls : Outcomes) (replies : Type 0) (made : Made) (old : Engine) (command : Command) (given : Reply) (new : Engine) (t u : Tale) : Type 0 where
+  pub answered : Knows old.host old.state t → Executed calls replies made old.host (words.Exec command) old.state new.state given t u
   pub turned : IsReplied given → Turned old.host (asked_by old.host command) old.state new.state t u
   pub knows : (IsLost given → ⊥) → Knows old.host old.state t → Knows old.host new.state u
   pub quiet : IsQuietRefusal given → KeptOutside nowhere t u
+  pub done : given ≡ reply.Ok → LeavesDone old.host old.state command u
   pub lost : (active listed : ℕ) → given ≡ reply.Panic active listed → LeavesMade old.host old.state command u
 
 abbrev pub TurnEnds : {S : Type 0} → Ghosts S → S → S → Engine → Command → Reply → Engine → Type 0
-TurnEnds shelf from to old command given new = AtEnd shelf (TurnEnd (DriveFailures shelf from to 0) (GivingFailed shelf from to) (made_of shelf from to) old command given new) from to
+TurnEnds shelf from to old command given new = AtEnd shelf (TurnEnd (DriveFailures shelf from to) (GivingFailed shelf from to) (made_of shelf from to) old command given new) from to
 
 -- a reply to a command has its cause, and what the engine keeps
-pub record HasReplied (drive : Failures) (replies : Type 0) (old : Engine) (given : Reply) (new : Engine) : Type 0 where
-  pub cause : HasCommandCause drive replies given
+pub record HasReplied (calls : Outcomes) (replies : Type 0) (old : Engine) (given : Reply) (new : Engine) : Type 0 where
+  pub cause : HasCommandCause (any_of calls) replies given
   pub host : new.host ≡ old.host
   pub well : IsWell old.host new.state
   pub begun : new.state.begun ≤ old.state.begun + 1
 
--- so has one that is only told, by which no call on the drive failed, and the engine is as it was
-pub record HasOnlyReplied (drive : Failures) (replies : Type 0) (said : Outcome) (old : Engine) (given : Reply) (new : Engine) : Type 0 where
+-- so has one that is only told, by which no call on a drive failed, and the engine is as it was
+pub record HasOnlyReplied (calls : Outcomes) (replies : Type 0) (said : Outcome) (old : Engine) (given : Reply) (new : Engine) : Type 0 where
   pub cause : IsReplyTo replies said given
-  pub calm : drive.none
+  pub calm : AreCalm calls
   pub same : new ≡ old
 
 -- The calls of a command that left this open, and of its reply: as many as the command takes, and one; where it was done, just these, and just
@@ -139,26 +142,28 @@ abbrev pub left_by : Result Engine Ended → Memory
 left_by (Ok engine) = engine.state
 left_by (Err end) = unbooted 0
 
--- the end of a boot: what it came to; where it was answered, what is known; and how many calls it made, by what the drive held
-pub record IsBootEnd (failures : Failures) (made : Made) (host : Host) (old : Memory) (answer : Answer) (new : Memory) (t u : Tale) : Type 0 where
-  pub rebooted : IsRebooted failures host (kept_at old t) answer (kept_at new u)
+-- The end of a boot: what it came to; where it was answered, what is known, and that of each of the host's own drives on which no call failed a crash leaves what
+-- a read gives; and how many calls it made, by what the drive held.
+pub record IsBootEnd (calls : Outcomes) (made : Made) (host : Host) (old : Memory) (answer : Answer) (new : Memory) (t u : Tale) : Type 0 where
+  pub rebooted : IsRebooted calls host (kept_at old t) answer (kept_at new u)
   pub booted : answer ≡ accepted → BootedTo host new t u
-  pub calls : BootCalls made host answer new (contents t)
+  pub synced : answer ≡ accepted → (drive : DriveNo) → Contains host.own drive → ((calls drive.0).some → ⊥) → IsSynced drive.0 u
+  pub effort : BootCalls calls made host answer new (contents t)
 
 abbrev pub BootEndsAs : {S : Type 0} → Ghosts S → S → S → Host → Memory → Answer → Memory → Type 0
-BootEndsAs shelf from to host old answer new = AtEnd shelf (IsBootEnd (DriveFailures shelf from to 0) (made_of shelf from to) host old answer new) from to
+BootEndsAs shelf from to host old answer new = AtEnd shelf (IsBootEnd (DriveFailures shelf from to) (made_of shelf from to) host old answer new) from to
 
 -- why a boot isn't answered, and what it leaves that is
-pub record HasBootedFrom (failures : Failures) (host : Host) (begun : ℕ) (result : Result Memory Ended) : Type 0 where
-  pub cause : HasBootCause failures (kept_by begun result).down result
+pub record HasBootedFrom (calls : Outcomes) (host : Host) (begun : ℕ) (result : Result Memory Ended) : Type 0 where
+  pub cause : HasBootCause calls host (kept_by begun result).clean result
   pub well : IfOk result (λ memory. IsWell host memory × (memory.begun ≡ begun) × (memory.entries ≡ []))
 
-pub record HasBooted (failures : Failures) (host : Host) (result : Result Engine Ended) : Type 0 where
-  pub cause : HasBootCause failures (left_by result).down result
+pub record HasBooted (calls : Outcomes) (host : Host) (result : Result Engine Ended) : Type 0 where
+  pub cause : HasBootCause calls host (left_by result).clean result
   pub engine : IfOk result (λ engine. (engine.host ≡ host) × IsWell host engine.state × (engine.state.begun ≡ 0) × (engine.state.entries ≡ []))
 
-pub record HasRebooted (failures : Failures) (old : Engine) (result : Result (Unit {0}) Ended) (new : Engine) : Type 0 where
-  pub cause : HasBootCause failures new.state.down result
+pub record HasRebooted (calls : Outcomes) (old : Engine) (result : Result (Unit {0}) Ended) (new : Engine) : Type 0 where
+  pub cause : HasBootCause calls old.host new.state.clean result
   pub closed : IfErr result (λ refusal. new.state.opened ≡ None)
   pub host : new.host ≡ old.host
   pub well : IsWell old.host new.state
@@ -167,31 +172,36 @@ pub record HasRebooted (failures : Failures) (old : Engine) (result : Result (Un
 
 -- what was read is what the drive has in these blocks of the volume, and no call failed
 pub record AreRead {S : Type 0} (shelf : Ghosts S) (old new : S) (engine : Engine) (volume : VolId) (at count : ℕ) (IsTold : List (List ℕ) → Type 0) : Type 0 where
-  pub block : ℕ
-  pub there : AreBlocksAt engine.host engine.state volume at count block
+  pub place : DriveBlock
+  pub there : AreBlocksAt engine.host engine.state volume at count place
   pub allowed : read_refusal engine.state.opened volume at count ≡ None
   pub blocks : List (List ℕ)
   pub as_told : IsTold blocks
-  pub calm : (DriveFailures shelf old new 0).none
-  pub as_there : (t : Tale) → shelf.tale old ≡ Some t → blocks ≡ blocks_of (last t 0) block count
+  pub calm : AreCalm (DriveFailures shelf old new)
+  pub as_there : (t : Tale) → shelf.tale old ≡ Some t → blocks ≡ blocks_of (last t) place count
 
 -- the volume has these blocks, and at each moment each of them was old or new
 pub record ArePutting {S : Type 0} (shelf : Ghosts S) (old new : S) (engine : Engine) (volume : VolId) (at : ℕ) (blocks : List (List ℕ)) : Type 0 where
-  pub block : ℕ
-  pub there : AreBlocksAt engine.host engine.state volume at (length blocks) block
+  pub place : DriveBlock
+  pub there : AreBlocksAt engine.host engine.state volume at (length blocks) place
   pub allowed : blocks_refusal engine.state.opened volume (at + length blocks) ≡ None
-  pub moments : AtEachTale shelf (Settling 0 block blocks) old new
+  pub moments : AtEachTale shelf (Settling place.drive place.block blocks) old new
+
+-- a call on their drive failed
+pub record AreTorn {S : Type 0} (shelf : Ghosts S) (old new : S) (engine : Engine) (volume : VolId) (at : ℕ) (blocks : List (List ℕ)) : Type 0 where
+  pub putting : ArePutting shelf old new engine volume at blocks
+  pub failed : FailedOn putting.place.drive (DriveFailures shelf old new)
 
 -- they are on the disk in the end, and no call failed
 pub record ArePut {S : Type 0} (shelf : Ghosts S) (old new : S) (engine : Engine) (volume : VolId) (at : ℕ) (blocks : List (List ℕ)) : Type 0 where
   pub putting : ArePutting shelf old new engine volume at blocks
-  pub calm : (DriveFailures shelf old new 0).none
-  pub settled : AtEnd shelf (λ _ u. IsSettled 0 putting.block blocks u) old new
+  pub calm : AreCalm (DriveFailures shelf old new)
+  pub settled : AtEnd shelf (λ _ u. IsSettled putting.place.drive putting.place.block blocks u) old new
 
 -- what a write did that was answered so
 abbrev pub AreWritten : {S : Type 0} → Ghosts S → S → S → Engine → VolId → ℕ → List (List ℕ) → Result (Unit {0}) Refusal → Type 0
 AreWritten shelf old new engine volume at blocks (Ok done) = ArePut shelf old new engine volume at blocks
-AreWritten shelf old new engine volume at blocks (Err IoFault) = ArePutting shelf old new engine volume at blocks
+AreWritten shelf old new engine volume at blocks (Err IoFault) = AreTorn shelf old new engine volume at blocks
 AreWritten shelf old new engine volume at blocks (Err other) = Unit {0}
 
 -- the calls of a read or a write of blocks: just so many where it was done, one at least and no more where a call failed, and none where it was refused for
@@ -200,3 +210,7 @@ pub record AreBlocksCounted {S : Type 0} (shelf : Ghosts S) (old new : S) (calls
   pub done : OnOk result (MadeCalls shelf old new calls written)
   pub failed : result ≡ Err IoFault → (made_of shelf old new).within 1 calls written
   pub refused : IfErr result (λ refusal. blocks_refusal engine.state.opened volume (at + count) ≡ Some refusal → new ≡ old)
+
+-- nothing is written, synced or read behind a failed call on one and the same drive, and the counts of all others stay
+abbrev pub KeptOnOne : {S : Type 0} → Ghosts S → S → S → Type 0
+KeptOnOne shelf old new = (drive : ℕ) × KeptOn shelf old new (OnDrive drive)

@@ -1,6 +1,7 @@
 -- What an engine keeps, what its boots answer, and why blocks and changes are refused.
-use Rattle.std.specs.Prelude.{◌≡◌, ◌⊎◌, ◌+◌, ◌≤◌, ℕ, Bool, true, false, Option, Some, None, IfSome, Result, Ok, Err}
-use Rattle.mdv_engine.specs.Below.{Failures, VolId, Refusal, IoFault, OutOfMemory, with_blocks, Change, Table, Newest, IsTableAt, Answer, Host, site_of, Memory, IsSound, AreBlocksAt}
+use Rattle.std.specs.Prelude.{◌≡◌, ◌⊎◌, ◌+◌, ◌≤◌, ℕ, Bool, Option, Some, None, IfSome, Result, Ok, Err, Contains}
+use Rattle.std.specs.Bool.{MatchBool}
+use Rattle.mdv_engine.specs.Below.{AreCalm, DriveBlock, DriveNo, FailedOn, Outcomes, VolId, Refusal, IoFault, OutOfMemory, with_blocks, Change, Table, Newest, IsTableAt, Answer, Host, site_of, Memory, AreBlocksAt, home_calls}
 use Rattle.mdv_table.specs.Change.{table_after}
 use Rattle.mdv_table.specs.Change as table
 use Rattle.mdv_table.specs.declared.change.ApplyFault.{ApplyFault}
@@ -20,9 +21,8 @@ case_at engine = record { host = engine.host; memory = engine.state }
 abbrev pub IsTableOf : Host → ℕ → Table → Type 0
 IsTableOf host blocks table = IsTableAt host.drives (with_blocks (site_of host).at blocks).place table
 
--- a database is open only where the last boot read its drive, and its table is one of this table of drives and this place
+-- the open database's table is one of this table of drives and this place
 pub record IsWell (host : Host) (memory : Memory) : Type 0 where
-  pub sound : IsSound memory
   pub table : IfSome memory.opened (λ newest. IsTableOf host newest.blocks newest.table)
 
 -- what a boot came to, as an answer
@@ -30,39 +30,36 @@ abbrev pub boot_answer : {T : Type 0} → Result T Ended → Answer
 boot_answer (Ok booted) = accepted
 boot_answer (Err end) = Over end
 
--- a boot that is answered has not read its drive where a call failed, and there alone
-abbrev pub HasUpCause : Failures → Bool → Type 0
-HasUpCause failures true = failures.some
-HasUpCause failures false = failures.none
+-- a boot that is answered is clean where no call failed, and else one did on a drive of the host's own
+abbrev pub HasUpCause : Outcomes → Host → Bool → Type 0
+HasUpCause calls host clean = MatchBool clean (AreCalm calls) ((drive : DriveNo) × Contains host.own drive × (calls drive.0).some)
 
--- a boot is lost only where a call failed, and isn't answered for another cause only where none did; one that is answered is so
-abbrev pub HasBootCause : {T : Type 0} → Failures → Bool → Result T Ended → Type 0
-HasBootCause failures unread (Ok booted) = HasUpCause failures unread
-HasBootCause failures unread (Err end) = HasEndCause failures end
+-- a boot is lost only where a call on the place's drive failed, and isn't answered for another cause only where none did; one that is answered is so
+abbrev pub HasBootCause : {T : Type 0} → Outcomes → Host → Bool → Result T Ended → Type 0
+HasBootCause calls host clean (Ok booted) = HasUpCause calls host clean
+HasBootCause calls host clean (Err end) = HasEndCause (home_calls host calls) end
 
 -- as many blocks as are read or written at once
 pub record IsCount (count : ℕ) : Type 0 where
   pub least : 1 ≤ count
   pub most : count ≤ 1024
 
--- the volume has these blocks, and nothing refuses them
-abbrev pub HasBlocks : Host → Memory → VolId → ℕ → ℕ → Type 0
-HasBlocks host memory volume at count = (block : ℕ) × AreBlocksAt host memory volume at count block × (blocks_refusal memory.opened volume (at + count) ≡ None)
+-- the volume has these blocks, nothing refuses them, and a call on their drive failed
+pub record FailedBlocks (calls : Outcomes) (host : Host) (memory : Memory) (volume : VolId) (at count : ℕ) : Type 0 where
+  pub place : DriveBlock
+  pub there : AreBlocksAt host memory volume at count place
+  pub failed : FailedOn place.drive calls
 
--- why blocks aren't read or written: the first cause that refuses them; or the volume has them, and a call on the drive failed
-abbrev pub HasBlocksCause : Failures → Host → Memory → VolId → ℕ → ℕ → Refusal → Type 0
-HasBlocksCause failures host memory volume at count refusal =
-    (failures.none × (blocks_refusal memory.opened volume (at + count) ≡ Some refusal)) ⊎ (failures.some × HasBlocks host memory volume at count × (refusal ≡ IoFault))
+-- why blocks aren't read or written: the first cause that refuses them; or nothing does, the volume has them, and a call on their drive failed
+abbrev pub HasBlocksCause : Outcomes → Host → Memory → VolId → ℕ → ℕ → Refusal → Type 0
+HasBlocksCause calls host memory volume at count refusal =
+    (AreCalm calls × (blocks_refusal memory.opened volume (at + count) ≡ Some refusal)) ⊎ (FailedBlocks calls host memory volume at count × (blocks_refusal memory.opened volume (at + count) ≡ None) × (refusal ≡ IoFault))
 
--- the volume has these blocks, and nothing refuses a read of them
-abbrev pub HasRead : Host → Memory → VolId → ℕ → ℕ → Type 0
-HasRead host memory volume at count = (block : ℕ) × AreBlocksAt host memory volume at count block × (read_refusal memory.opened volume at count ≡ None)
-
--- why a read isn't told: the first cause that refuses it; or nothing does, and a call on the drive failed, or memory was wanting
-abbrev pub HasReadCause : Failures → Host → Memory → VolId → ℕ → ℕ → Refusal → Type 0
-HasReadCause failures host memory volume at count refusal =
-    (failures.none × (read_refusal memory.opened volume at count ≡ Some refusal))
-    ⊎ ((failures.some × HasRead host memory volume at count × (refusal ≡ IoFault)) ⊎ (failures.none × HasRead host memory volume at count × (refusal ≡ OutOfMemory)))
+-- why a read isn't told: the first cause that refuses it; or nothing does, and a call on the drive of its blocks failed, or memory was wanting
+abbrev pub HasReadCause : Outcomes → Host → Memory → VolId → ℕ → ℕ → Refusal → Type 0
+HasReadCause calls host memory volume at count refusal =
+    (AreCalm calls × (read_refusal memory.opened volume at count ≡ Some refusal))
+    ⊎ ((FailedBlocks calls host memory volume at count × (read_refusal memory.opened volume at count ≡ None) × (refusal ≡ IoFault)) ⊎ (AreCalm calls × (read_refusal memory.opened volume at count ≡ None) × (refusal ≡ OutOfMemory)))
 
 -- the table that the change makes of the open one, which says nothing against it
 pub record IsNextTable (host : Host) (memory : Memory) (change : Change) (next : Table) : Type 0 where

@@ -9,11 +9,10 @@ ghost use Rattle.mdv_words.specs.declared.command.Command.TheVariants as command
 ghost use Rattle.mdv_volumes.specs.History.{Changed};
 ghost use Rattle.mdv_engine_law.specs.Line.{ToDo};
 ghost use Rattle.mdv_engine.specs.Counts.{IsCommandCounted};
-ghost use Rattle.mdv_shelf.specs.Calls.{OnDrive};
-ghost use Rattle.mdv_shelf.specs.Shelves.{AtEachTale, AtEnd, DriveFailures, KeptOn};
+ghost use Rattle.mdv_shelf.specs.Shelves.{AtEachTale, AtEnd, DriveFailures};
 ghost use Rattle.mdv_engine_law.specs.Home.{IsReady, key_of};
 ghost use Rattle.mdv_engine_law.specs.Standing.{CarryMoment};
-ghost use Rattle.mdv_engine.specs.Ends.{CommandEnd, StripeEnds, HasAnswered, IsNext};
+ghost use Rattle.mdv_engine.specs.Ends.{CommandEnd, StripeEnds, HasAnswered, IsNext, KeptOnOne};
 ghost use Rattle.mdv_engine.specs.Engine.{HasApplyFault, HasChangeCause, IsNextTable, IsTableOf, IsWell};
 
 use crate::engine::Engine;
@@ -40,10 +39,10 @@ impl Engine {
         requires well { IsWell self.old.host self.old.state }
         requires numbered { volume.0 < 8192 }
         ensures moments { AtEachTale S.Shelf (CarryMoment self.old.host (ToDo (Changed (key_of self.old.host) (Change.MakeStripe volume slice))) self.old.state) shelf.old shelf.new }
-        ensures end { AtEnd S.Shelf (CommandEnd (DriveFailures S.Shelf shelf.old shelf.new 0) self.old (command.MakeStripe volume slice) result self.new) shelf.old shelf.new }
-        ensures answer { HasAnswered (DriveFailures S.Shelf shelf.old shelf.new 0) (ToDo (Changed (key_of self.old.host) (Change.MakeStripe volume slice))) self.old result self.new }
+        ensures end { AtEnd S.Shelf (CommandEnd (DriveFailures S.Shelf shelf.old shelf.new) self.old (command.MakeStripe volume slice) result self.new) shelf.old shelf.new }
+        ensures answer { HasAnswered (DriveFailures S.Shelf shelf.old shelf.new) (ToDo (Changed (key_of self.old.host) (Change.MakeStripe volume slice))) self.old result self.new }
         ensures counted { IsCommandCounted S.tale S.calls S.written shelf.old shelf.new (command.MakeStripe volume slice) result self.new.state.opened }
-        ensures kept { KeptOn S.Shelf shelf.old shelf.new (OnDrive 0) }
+        ensures kept { KeptOnOne S.Shelf shelf.old shelf.new }
     {
         let change = Change::MakeStripe { volume, slice };
         match self.next_table(alloc, &change) {
@@ -78,9 +77,9 @@ impl Engine {
         requires placed { IfSome self.old.state.opened (λ newest. IsTableOf self.old.host newest.blocks next) }
         ensures moments { (change : AnyChange) → IsNext self.old change next → AtEachTale S.Shelf (CarryMoment self.old.host (ToDo (Changed (key_of self.old.host) change)) self.old.state) shelf.old shelf.new }
         ensures end { (volume : VolId) (slice : SliceName) → IsNext self.old (Change.MakeStripe volume slice) next → StripeEnds S.Shelf shelf.old shelf.new self.old volume slice result self.new }
-        ensures answer { (change : AnyChange) → HasAnswered (DriveFailures S.Shelf shelf.old shelf.new 0) (ToDo (Changed (key_of self.old.host) change)) self.old result self.new }
+        ensures answer { (change : AnyChange) → HasAnswered (DriveFailures S.Shelf shelf.old shelf.new) (ToDo (Changed (key_of self.old.host) change)) self.old result self.new }
         ensures counted { (volume : VolId) (slice : SliceName) → IsCommandCounted S.tale S.calls S.written shelf.old shelf.new (command.MakeStripe volume slice) result self.new.state.opened }
-        ensures kept { KeptOn S.Shelf shelf.old shelf.new (OnDrive 0) }
+        ensures kept { KeptOnOne S.Shelf shelf.old shelf.new }
     {
         let at = place_at(&self.host.home);
         let Some(database) = &mut self.state.database else {

@@ -1,18 +1,16 @@
-ghost use Rattle.std.specs.Prelude.{◌≡◌, ◌<◌, ◌≤◌, ◌+◌, ◌^◌, Bool, false, None};
+ghost use Rattle.std.specs.Prelude.{◌≡◌, ◌<◌, ◌≤◌, ◌+◌, ◌^◌, Bool, true, None};
 ghost use Rattle.mdv_base.specs.declared.drive.SliceName.{SliceName};
 ghost use Rattle.mdv_words.specs.declared.command.Command.TheVariants.{Create};
 ghost use Rattle.mdv_volumes.specs.History.{Created};
 ghost use Rattle.mdv_engine.specs.Counts.{IsCommandCounted};
 ghost use Rattle.mdv_engine.specs.Engine.{IsWell, case_at};
-ghost use Rattle.mdv_shelf.specs.Calls.{OnDrive};
-ghost use Rattle.mdv_shelf.specs.Shelves.{AtEachTale, AtEnd, DriveFailures, KeptOn};
+ghost use Rattle.mdv_shelf.specs.Shelves.{AtEachTale, AtEnd, DriveFailures};
 ghost use Rattle.mdv_engine_law.specs.Home.{IsReady, key_of};
 ghost use Rattle.mdv_engine_law.specs.Line.{ToDo};
 ghost use Rattle.mdv_engine_law.specs.Refusals.{refusal_of};
-ghost use Rattle.mdv_home.specs.Placed.{IsHomeTable};
 ghost use Rattle.mdv_table.specs.Slices.{IsSound};
 ghost use Rattle.mdv_engine_law.specs.Standing.{CarryMoment};
-ghost use Rattle.mdv_engine.specs.Ends.{CommandEnd, CreationEnds, HasAnswered};
+ghost use Rattle.mdv_engine.specs.Ends.{CommandEnd, CreationEnds, HasAnswered, KeptOnOne};
 
 use crate::engine::Engine;
 use mdv_base::{Identity, Key, Refusal, SliceName, StateWord};
@@ -39,10 +37,10 @@ impl Engine {
         requires well { IsWell self.old.host self.old.state }
         requires begun { self.old.state.begun + 1 < 2 ^ 32 }
         ensures moments { AtEachTale S.Shelf (CarryMoment self.old.host (ToDo (Created (key_of self.old.host))) self.old.state) shelf.old shelf.new }
-        ensures end { AtEnd S.Shelf (CommandEnd (DriveFailures S.Shelf shelf.old shelf.new 0) self.old (Create slice force) result self.new) shelf.old shelf.new }
-        ensures answer { HasAnswered (DriveFailures S.Shelf shelf.old shelf.new 0) (ToDo (Created (key_of self.old.host))) self.old result self.new }
+        ensures end { AtEnd S.Shelf (CommandEnd (DriveFailures S.Shelf shelf.old shelf.new) self.old (Create slice force) result self.new) shelf.old shelf.new }
+        ensures answer { HasAnswered (DriveFailures S.Shelf shelf.old shelf.new) (ToDo (Created (key_of self.old.host))) self.old result self.new }
         ensures counted { IsCommandCounted S.tale S.calls S.written shelf.old shelf.new (Create slice force) result self.new.state.opened }
-        ensures kept { KeptOn S.Shelf shelf.old shelf.new (OnDrive 0) }
+        ensures kept { KeptOnOne S.Shelf shelf.old shelf.new }
     {
         match self.creation_refusal(slice, force) {
             Some(refusal) => Answer::Said(Outcome::Refused(refusal)),
@@ -52,7 +50,6 @@ impl Engine {
 
     // The first cause that a creation is refused for before anything is done.
     fn creation_refusal(&self, slice: SliceName, force: bool) -> Option<Refusal>
-        requires table { IsHomeTable self.now.host.drives self.now.host.home }
         requires sound { IsSound self.now.host.drives }
         ensures { result ≡ refusal_of (case_at self.now) (Create slice force) }
     {
@@ -62,7 +59,7 @@ impl Engine {
         if !at.db {
             return Some(Refusal::WrongKind);
         }
-        if self.state.down {
+        if !self.state.clean {
             return Some(Refusal::WrongState(StateWord::Down));
         }
         if self.state.database.is_some() {
@@ -84,12 +81,12 @@ impl Engine {
         requires begun { self.old.state.begun + 1 < 2 ^ 32 }
         requires room { 8208 ≤ self.old.host.home.blocks }
         requires none { self.old.state.opened ≡ None }
-        requires up { self.old.state.down ≡ false }
+        requires clean { self.old.state.clean ≡ true }
         ensures moments { AtEachTale S.Shelf (CarryMoment self.old.host (ToDo (Created (key_of self.old.host))) self.old.state) shelf.old shelf.new }
         ensures end { CreationEnds S.Shelf shelf.old shelf.new self.old result self.new }
-        ensures answer { HasAnswered (DriveFailures S.Shelf shelf.old shelf.new 0) (ToDo (Created (key_of self.old.host))) self.old result self.new }
+        ensures answer { HasAnswered (DriveFailures S.Shelf shelf.old shelf.new) (ToDo (Created (key_of self.old.host))) self.old result self.new }
         ensures counted { (slice : SliceName) (force : Bool) → IsCommandCounted S.tale S.calls S.written shelf.old shelf.new (Create slice force) result self.new.state.opened }
-        ensures kept { KeptOn S.Shelf shelf.old shelf.new (OnDrive 0) }
+        ensures kept { KeptOnOne S.Shelf shelf.old shelf.new }
     {
         let identity = Identity {
             fresh: self.host.fresh,

@@ -21,7 +21,7 @@ impl Engine {
     pub fn keep_tab<B: Bench>(&mut self, bench: &mut B, alloc: Global, lines: &[u8]) -> Reply
         ensures moments { LineMoments B.Shelf self.old.host Nothing self.old.state (KeepsLines lines.now) bench.old bench.new }
         ensures end { TabEnds B.Shelf bench.old bench.new self.old lines.now result self.new }
-        ensures answer { HasRepliedTab (DriveFailures B.Shelf bench.old bench.new 0) (GivingFailed B.Shelf bench.old bench.new) self.old lines.now result self.new }
+        ensures answer { HasRepliedTab (DriveFailures B.Shelf bench.old bench.new) (GivingFailed B.Shelf bench.old bench.new) self.old lines.now result self.new }
         ensures counted { IsReplyCounted B.Shelf bench.old bench.new result }
         ensures kept { KeptOn B.Shelf bench.old bench.new OnReplies }
     {

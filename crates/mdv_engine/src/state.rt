@@ -1,5 +1,7 @@
-ghost use Rattle.std.specs.Prelude.{◌≡◌, [], None, Some, false};
+ghost use Rattle.std.specs.Prelude.{◌≡◌};
+ghost use Rattle.mdv_engine_law.specs.Line.{booted_with, unbooted};
 
+use mdv_base::DriveSet;
 use mdv_database::Database;
 use mdv_tab::Entry;
 use std::alloc::Global;
@@ -10,8 +12,10 @@ use std::marker::Model;
 pub struct State {
     /// The database that was adopted, or was made.
     pub database: Option<Database>,
-    /// A call on the drive failed in the last boot.
-    pub down: bool,
+    /// The drives that the last boot brought up.
+    pub up: DriveSet,
+    /// No call failed in the last boot.
+    pub clean: bool,
     /// How many creations the run has begun.
     pub begun: u32,
     /// The entries of the last `tab` block that was kept since that boot.
@@ -23,29 +27,37 @@ impl Model for State {
 
     ghost Value = { Memory };
 
-    ghost view = { λ s. record { opened = s.database; down = s.down; begun = s.begun; entries = s.entries.items } };
+    ghost view = { λ s. record { opened = s.database; up = s.up; clean = s.clean; begun = s.begun; entries = s.entries.items } };
 }
 
 impl State {
-    /// What a boot leaves that adopted this database.
-    pub(crate) fn with_database(alloc: Global, database: Database, begun: u32) -> State
-        ensures { result ≡ record { opened = Some database; down = false; begun = begun; entries = [] } }
+    /// What a boot leaves that was answered, with the database that it adopted, if there was one.
+    pub(crate) fn booted(
+        alloc: Global,
+        database: Option<Database>,
+        up: DriveSet,
+        clean: bool,
+        begun: u32,
+    ) -> State
+        ensures { result ≡ booted_with database up clean begun }
     {
         State {
-            database: Some(database),
-            down: false,
+            database,
+            up,
+            clean,
             begun,
             entries: Vec::new(alloc),
         }
     }
 
-    /// What a boot leaves that found no database.
-    pub(crate) fn without_database(alloc: Global, down: bool, begun: u32) -> State
-        ensures { result ≡ record { opened = None; down = down; begun = begun; entries = [] } }
+    /// What is kept before a boot, or behind one that isn't answered.
+    pub(crate) fn unbooted(alloc: Global, begun: u32) -> State
+        ensures { result ≡ unbooted begun }
     {
         State {
             database: None,
-            down,
+            up: DriveSet::new(),
+            clean: false,
             begun,
             entries: Vec::new(alloc),
         }

@@ -1,5 +1,4 @@
 ghost use Rattle.std.specs.Prelude.{◌≡◌, ◌≤◌, ◌+◌, ◌^◌, ℕ, [], ◌∷◌, length, None, Some, Err, IfOk, IfErr, OnOk};
-ghost use Rattle.mdv_home.specs.Placed.{IsHomeTable};
 ghost use Rattle.mdv_status.specs.Values.{values_reply};
 ghost use Rattle.mdv_table.specs.declared.volume.Base.TheVariants.{Slice};
 ghost use Rattle.mdv_table.specs.declared.volume.VolumeKind.TheVariants.{Stripe as AnyStripe};
@@ -10,14 +9,15 @@ ghost use Rattle.mdv_map.specs.Maps.{run_map};
 ghost use Rattle.mdv_volumes.specs.History.{Wrote};
 ghost use Rattle.mdv_volumes.specs.Tables.{IsKindMap};
 ghost use Rattle.mdv_engine.specs.Counts.{HasReadCounts, IsCommandCounted};
+ghost use Rattle.mdv_engine.specs.declared.transfer.Place.{Place};
+ghost use Rattle.mdv_engine.specs.Placed.{IsPlacedIn, IsRunIn, place_is};
 ghost use Rattle.mdv_engine.specs.Engine.{HasBlocksCause, HasReadCause, IsCount, IsWell};
-ghost use Rattle.mdv_shelf.specs.Calls.{OnDrive};
-ghost use Rattle.mdv_shelf.specs.Shelves.{AtEachTale, AtEnd, DriveFailures, KeptOn};
+ghost use Rattle.mdv_shelf.specs.Shelves.{AtEachTale, AtEnd, DriveFailures};
 ghost use Rattle.mdv_engine_law.specs.Home.{IsReady, key_of};
 ghost use Rattle.mdv_engine_law.specs.Line.{AreBlocksAt, ToDo, ToSee};
 ghost use Rattle.mdv_engine_law.specs.Refusals.{blocks_refusal, read_refusal, size_of};
 ghost use Rattle.mdv_engine_law.specs.Standing.{CarryMoment};
-ghost use Rattle.mdv_engine.specs.Ends.{AreBlocksCounted, AreRead, AreWritten, CommandEnd, HasAnswered};
+ghost use Rattle.mdv_engine.specs.Ends.{AreBlocksCounted, AreRead, AreWritten, CommandEnd, HasAnswered, KeptOnOne};
 
 use crate::engine::Engine;
 use mdv_base::{Block, DriveNo, Failed, Refusal, SliceName, VolId, ZERO_BLOCK};
@@ -30,11 +30,23 @@ use std::alloc::Global;
 // The most blocks that one line reads.
 const MAX_READ: u64 = 1024;
 
-// The host's one drive.
-const DRIVE: DriveNo = DriveNo(0);
+/// A block of a drive.
+#[derive(Clone, Copy)]
+pub(crate) struct Place {
+    pub(crate) drive: DriveNo,
+    pub(crate) block: u64,
+}
+
+/// So many blocks of a drive, from its block `first` on.
+#[derive(Clone, Copy)]
+pub(crate) struct Run {
+    pub(crate) drive: DriveNo,
+    pub(crate) first: u64,
+    pub(crate) blocks: u64,
+}
 
 impl Engine {
-    /// Reads blocks of a volume, from block `at` of it on: 1 to 1024 of them, with one call on the drive. No memory
+    /// Reads blocks of a volume, from block `at` of it on: 1 to 1024 of them, with one call on its drive. No memory
     /// is taken. After a fault `out` holds anything.
     #[tactic(auto, using(mdv_engine_law::proofs::Kept::kept_on_itself))]
     pub fn read_blocks<S: Shelf>(
@@ -48,13 +60,13 @@ impl Engine {
         requires well { IsWell self.now.host self.now.state }
         requires count { IsCount (length out.old) }
         ensures ok { OnOk result (AreRead S.Shelf shelf.old shelf.new self.now volume at (length out.new) (λ blocks. out.new ≡ blocks)) }
-        ensures err { IfErr result (HasBlocksCause (DriveFailures S.Shelf shelf.old shelf.new 0) self.now.host self.now.state volume at (length out.new)) }
+        ensures err { IfErr result (HasBlocksCause (DriveFailures S.Shelf shelf.old shelf.new) self.now.host self.now.state volume at (length out.new)) }
         ensures same { S.tale shelf.new ≡ S.tale shelf.old }
         ensures counted { AreBlocksCounted S.Shelf shelf.old shelf.new 1 0 self.now volume at (length out.new) result }
-        ensures kept { KeptOn S.Shelf shelf.old shelf.new (OnDrive 0) }
+        ensures kept { KeptOnOne S.Shelf shelf.old shelf.new }
     {
-        let first = self.place_of(volume, at, out.len() as u64)?;
-        match shelf.read(DRIVE, first, out) {
+        let place = self.place_of(volume, at, out.len() as u64)?;
+        match shelf.read(place.drive, place.block, out) {
             Ok(()) => Ok(()),
             Err(Failed) => Err(Refusal::IoFault),
         }
@@ -74,13 +86,13 @@ impl Engine {
         requires well { IsWell self.old.host self.old.state }
         requires count { IsCount (length from.now) }
         ensures put { AreWritten S.Shelf shelf.old shelf.new self.old volume at from.now result }
-        ensures err { IfErr result (HasBlocksCause (DriveFailures S.Shelf shelf.old shelf.new 0) self.old.host self.old.state volume at (length from.now)) }
+        ensures err { IfErr result (HasBlocksCause (DriveFailures S.Shelf shelf.old shelf.new) self.old.host self.old.state volume at (length from.now)) }
         ensures same { self.new ≡ self.old }
         ensures counted { AreBlocksCounted S.Shelf shelf.old shelf.new 2 (length from.now) self.old volume at (length from.now) result }
-        ensures kept { KeptOn S.Shelf shelf.old shelf.new (OnDrive 0) }
+        ensures kept { KeptOnOne S.Shelf shelf.old shelf.new }
     {
-        let first = self.place_of(volume, at, from.len() as u64)?;
-        match settle(shelf, DRIVE, first, from) {
+        let place = self.place_of(volume, at, from.len() as u64)?;
+        match settle(shelf, place.drive, place.block, from) {
             Ok(()) => Ok(()),
             Err(_) => Err(Refusal::IoFault),
         }
@@ -99,10 +111,10 @@ impl Engine {
         requires well { IsWell self.now.host self.now.state }
         requires some { 1 ≤ count }
         ensures moments { AtEachTale S.Shelf (CarryMoment self.now.host (ToSee (key_of self.now.host) volume at count) self.now.state) shelf.old shelf.new }
-        ensures end { AtEnd S.Shelf (CommandEnd (DriveFailures S.Shelf shelf.old shelf.new 0) self.now (Read volume at count) result self.now) shelf.old shelf.new }
-        ensures answer { HasAnswered (DriveFailures S.Shelf shelf.old shelf.new 0) (ToSee (key_of self.now.host) volume at count) self.now result self.now }
+        ensures end { AtEnd S.Shelf (CommandEnd (DriveFailures S.Shelf shelf.old shelf.new) self.now (Read volume at count) result self.now) shelf.old shelf.new }
+        ensures answer { HasAnswered (DriveFailures S.Shelf shelf.old shelf.new) (ToSee (key_of self.now.host) volume at count) self.now result self.now }
         ensures counted { IsCommandCounted S.tale S.calls S.written shelf.old shelf.new (Read volume at count) result self.now.state.opened }
-        ensures kept { KeptOn S.Shelf shelf.old shelf.new (OnDrive 0) }
+        ensures kept { KeptOnOne S.Shelf shelf.old shelf.new }
     {
         match self.values(shelf, alloc, volume, at, count) {
             Ok(text) => Answer::Said(Outcome::Values(text)),
@@ -123,12 +135,12 @@ impl Engine {
         requires well { IsWell self.now.host self.now.state }
         requires some { 1 ≤ count }
         ensures ok { IfOk result (λ text. AreRead S.Shelf shelf.old shelf.new self.now volume at count (λ blocks. text ≡ values_reply at blocks)) }
-        ensures err { IfErr result (HasReadCause (DriveFailures S.Shelf shelf.old shelf.new 0) self.now.host self.now.state volume at count) }
+        ensures err { IfErr result (HasReadCause (DriveFailures S.Shelf shelf.old shelf.new) self.now.host self.now.state volume at count) }
         ensures same { S.tale shelf.new ≡ S.tale shelf.old }
         ensures counted { HasReadCounts S.tale S.calls S.written shelf.old shelf.new volume at count result self.now.state.opened }
-        ensures kept { KeptOn S.Shelf shelf.old shelf.new (OnDrive 0) }
+        ensures kept { KeptOnOne S.Shelf shelf.old shelf.new }
     {
-        let _first = self.read_place(volume, at, count)?;
+        let _place = self.read_place(volume, at, count)?;
         let mut blocks = buffer(alloc, count)?;
         match self.read_blocks(shelf, volume, at, blocks.as_mut_slice()) {
             Ok(()) => {}
@@ -151,10 +163,10 @@ impl Engine {
         requires ready { IsReady self.old.host (S.sizes shelf.old) }
         requires well { IsWell self.old.host self.old.state }
         ensures moments { AtEachTale S.Shelf (CarryMoment self.old.host (ToDo (Wrote (key_of self.old.host) volume at (block.now ∷ []))) self.old.state) shelf.old shelf.new }
-        ensures end { AtEnd S.Shelf (CommandEnd (DriveFailures S.Shelf shelf.old shelf.new 0) self.old (Write volume at block.now) result self.new) shelf.old shelf.new }
-        ensures answer { HasAnswered (DriveFailures S.Shelf shelf.old shelf.new 0) (ToDo (Wrote (key_of self.old.host) volume at (block.now ∷ []))) self.old result self.new }
+        ensures end { AtEnd S.Shelf (CommandEnd (DriveFailures S.Shelf shelf.old shelf.new) self.old (Write volume at block.now) result self.new) shelf.old shelf.new }
+        ensures answer { HasAnswered (DriveFailures S.Shelf shelf.old shelf.new) (ToDo (Wrote (key_of self.old.host) volume at (block.now ∷ []))) self.old result self.new }
         ensures counted { IsCommandCounted S.tale S.calls S.written shelf.old shelf.new (Write volume at block.now) result self.new.state.opened }
-        ensures kept { KeptOn S.Shelf shelf.old shelf.new (OnDrive 0) }
+        ensures kept { KeptOnOne S.Shelf shelf.old shelf.new }
     {
         match self.write_blocks(shelf, volume, at, &[*block]) {
             Ok(()) => Answer::Said(Outcome::Ok),
@@ -162,15 +174,14 @@ impl Engine {
         }
     }
 
-    // The block of the drive where blocks to be read begin, or the first cause that the read is refused for.
-    fn read_place(&self, volume: VolId, at: u64, count: u64) -> Result<u64, Refusal>
-        requires table { IsHomeTable self.now.host.drives self.now.host.home }
+    // Where blocks to be read begin, or the first cause that the read is refused for.
+    fn read_place(&self, volume: VolId, at: u64, count: u64) -> Result<Place, Refusal>
         requires sound { IsSound self.now.host.drives }
         requires well { IsWell self.now.host self.now.state }
-        ensures ok { IfOk result (AreBlocksAt self.now.host self.now.state volume at count) }
+        ensures ok { IfOk result (λ place. AreBlocksAt self.now.host self.now.state volume at count (place_is place)) }
         ensures few { OnOk result (count ≤ 1024) }
         ensures free { OnOk result (read_refusal self.now.state.opened volume at count ≡ None) }
-        ensures within { IfOk result (λ block. block + count ≤ self.now.host.home.drive_blocks) }
+        ensures within { IfOk result (IsPlacedIn self.now.host count) }
         ensures err { IfErr result (λ refusal. read_refusal self.now.state.opened volume at count ≡ Some refusal) }
     {
         if count > MAX_READ {
@@ -181,13 +192,12 @@ impl Engine {
         self.place_of(volume, at, count)
     }
 
-    // The block of the drive where these blocks of the volume begin, or the first cause that they are refused for.
-    fn place_of(&self, volume: VolId, at: u64, count: u64) -> Result<u64, Refusal>
-        requires table { IsHomeTable self.now.host.drives self.now.host.home }
+    // Where these blocks of the volume begin, or the first cause that they are refused for.
+    fn place_of(&self, volume: VolId, at: u64, count: u64) -> Result<Place, Refusal>
         requires sound { IsSound self.now.host.drives }
         requires well { IsWell self.now.host self.now.state }
-        ensures ok { IfOk result (AreBlocksAt self.now.host self.now.state volume at count) }
-        ensures within { IfOk result (λ block. block + count ≤ self.now.host.home.drive_blocks) }
+        ensures ok { IfOk result (λ place. AreBlocksAt self.now.host self.now.state volume at count (place_is place)) }
+        ensures within { IfOk result (IsPlacedIn self.now.host count) }
         ensures free { OnOk result (blocks_refusal self.now.state.opened volume (at + count) ≡ None) }
         ensures err { IfErr result (λ refusal. blocks_refusal self.now.state.opened volume (at + count) ≡ Some refusal) }
     {
@@ -197,27 +207,37 @@ impl Engine {
         let Some(volume) = database.table().plan.volumes.find(volume) else {
             return Err(Refusal::NoSuchVolume);
         };
-        let (first, blocks) = self.extent_of(volume);
-        if at > blocks || count > blocks - at {
+        let run = self.run_of(volume);
+        if at > run.blocks || count > run.blocks - at {
             return Err(Refusal::OutOfRange);
         }
-        Ok(first + at)
+        Ok(Place {
+            drive: run.drive,
+            block: run.first + at,
+        })
     }
 
-    // Where the volume lies on the drive: its first block there, and how many it has.
-    fn extent_of(&self, volume: &Volume) -> (u64, u64)
-        requires table { IsHomeTable self.now.host.drives self.now.host.home }
+    // Where the volume lies.
+    fn run_of(&self, volume: &Volume) -> Run
         requires sound { IsSound self.now.host.drives }
         requires kind { IsKindOf self.now.host.drives volume.now.kind }
-        ensures lies { IsKindMap self.now.host.drives volume.now.kind (run_map 0 result.0 result.1) }
-        ensures sized { result.1 ≡ size_of volume.now.kind }
-        ensures within { result.0 + result.1 ≤ self.now.host.home.drive_blocks }
-        ensures fits { result.0 + result.1 ≤ 2 ^ 40 }
+        ensures lies { IsKindMap self.now.host.drives volume.now.kind (run_map result.drive.0 result.first result.blocks) }
+        ensures sized { result.blocks ≡ size_of volume.now.kind }
+        ensures within { IsRunIn self.now.host result }
+        ensures fits { result.first + result.blocks ≤ 2 ^ 40 }
     {
         let component = stripe_of(volume).component;
         match self.host.drives.slices.find(slice_of(&component)) {
-            Some(at) => (at.start + component.start, component.blocks),
-            None => (0, 0),
+            Some(at) => Run {
+                drive: at.drive,
+                first: at.start + component.start,
+                blocks: component.blocks,
+            },
+            None => Run {
+                drive: DriveNo(0),
+                first: 0,
+                blocks: 0,
+            },
         }
     }
 }

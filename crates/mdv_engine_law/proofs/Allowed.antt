@@ -1,5 +1,5 @@
 -- What is so where nothing refuses a creation.
-use Rattle.std.proofs.Common.{◌≡◌, ◌≤◌, ◌++◌, ◌&&◌, not, ℕ, Bool, false, List, Option, Some, None, Contains, refl, arith}
+use Rattle.std.proofs.Common.{◌≡◌, ◌≤◌, ◌++◌, ◌&&◌, not, ℕ, Bool, false, true, List, Option, Some, None, Contains, refl, arith}
 use Rattle.std.specs.Prelude.{nat_lt, is_some}
 use Rattle.std.specs.List.{find}
 use Rattle.std.proofs.lemmas.Bool.Decides.{nat_tests}
@@ -14,6 +14,10 @@ is_none : (opened : Option Newest) → is_some opened ≡ false → opened ≡ N
 is_none None is = refl
 is_none (Some newest) is = absurd (cc (is))
 
+not_not : (b : Bool) → not b ≡ false → b ≡ true
+not_not true is = refl
+not_not false is = absurd (cc (is))
+
 enough : (blocks least : ℕ) → nat_lt blocks least ≡ false → least ≤ blocks
 enough blocks least is = grind (arith, nat_tests)
 
@@ -25,7 +29,7 @@ module _ (case : Case) (slice : SliceName) (force : Bool) (free : IsAllowed case
   plain = where_so (is_plain (slice_at case.host.drives.slices slice)) WrongKind
 
   abbrev unread : List Refusal
-  unread = where_so case.memory.down (WrongState Down)
+  unread = where_so (not case.memory.clean) (WrongState Down)
 
   abbrev unforced : List Refusal
   unforced = where_so (not (is_some case.memory.opened) && not force) NeedForce
@@ -45,9 +49,9 @@ module _ (case : Case) (slice : SliceName) (force : Bool) (free : IsAllowed case
   from_fifth : (n : ℕ) → Contains order n → find (has_number n) (used ++ small) ≡ None
   from_fifth n has = none_behind n unforced (used ++ small) (none_behind n unread (unforced ++ (used ++ small)) (from_third n has))
 
-  -- the last boot has read the drive, no database is open, and the slice has room
-  pub allowed_up : case.memory.down ≡ false
-  allowed_up = none_here 13 case.memory.down (WrongState Down) (unforced ++ (used ++ small)) refl (from_third 13 (13, omega arith, refl))
+  -- no call failed in the last boot, no database is open, and the slice has room
+  pub allowed_clean : case.memory.clean ≡ true
+  allowed_clean = not_not case.memory.clean (none_here 13 (not case.memory.clean) (WrongState Down) (unforced ++ (used ++ small)) refl (from_third 13 (13, omega arith, refl)))
 
   pub allowed_none : case.memory.opened ≡ None
   allowed_none = is_none case.memory.opened (none_here 7 (is_some case.memory.opened) SliceInUse small refl (from_fifth 7 (19, omega arith, refl)))

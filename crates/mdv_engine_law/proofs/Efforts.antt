@@ -1,7 +1,7 @@
 -- The calls of a line, told of another stretch.
 use Rattle.std.proofs.Common.{Bool, true, false, Option, Some, None}
 use Rattle.mdv_base.specs.declared.refusal.Refusal.TheVariants as refusal
-use Rattle.mdv_shelf.specs.Made.{Made}
+use Rattle.mdv_shelf.specs.Made.{Made, and_more}
 use Rattle.mdv_shelf.proofs.Made.{IsToo, more_too}
 use Rattle.mdv_engine_law.specs.Below.{Image, Refusal, Command, Create, Read, Write, Line, Newest}
 use Rattle.mdv_words.specs.declared.command.Command.TheVariants.{MakeStripe}
@@ -11,8 +11,10 @@ use Rattle.mdv_engine_law.specs.declared.answer.Answer.TheVariants.{Said, Over}
 use Rattle.mdv_engine_law.specs.declared.answer.Ended.TheVariants as ended
 use Rattle.mdv_engine_law.specs.declared.answer.Outcome.TheVariants as outcome
 use Rattle.mdv_engine_law.specs.declared.host.Host.{Host}
-use Rattle.mdv_engine_law.specs.Efforts.{BootCalls, CommandCalls, DoneCalls, FaultCalls, LineCalls, LossCalls, NoCalls, OpenedBy, replied_to}
+use Rattle.mdv_engine_law.specs.Efforts.{BootCalls, CommandCalls, DoneCalls, FaultCalls, LineCalls, LossCalls, NoCalls, OpenedBy, PlaceCalls, replied_to}
+use Rattle.mdv_engine_law.specs.Failing.{Outcomes}
 use Rattle.mdv_engine_law.specs.Line.{Kept, Memory}
+use Rattle.mdv_engine_law.proofs.Widening.{AreWithin}
 
 module _ (one other : Made) (too : IsToo one other) where
   pub none_too : NoCalls one → NoCalls other
@@ -46,25 +48,41 @@ module _ (one other : Made) (too : IsToo one other) where
   command_too command (Over ended.Spent) opened calls = none_too calls
   command_too command (Over ended.Memory) opened calls = none_too calls
 
-  opened_too : (host : Host) (content : Image) (opened : Option Newest) (unread : Bool) → OpenedBy one host content opened unread → OpenedBy other host content opened unread
-  opened_too host content (Some newest) unread by = record { head = by.head; replica = by.replica; shown = by.shown; calls = too.exactly _ _ by.calls }
-  opened_too host content None false by = record {
+  opened_too : (host : Host) (content : Image) (opened : Option Newest) (read : Bool) → OpenedBy one host content opened read → OpenedBy other host content opened read
+  opened_too host content (Some newest) read by = record { head = by.head; replica = by.replica; shown = by.shown; calls = too.exactly _ _ by.calls }
+  opened_too host content None true by = record {
     beyond = λ past. too.exactly _ _ (by.beyond past);
     headless = λ some none. too.exactly _ _ (by.headless some none);
     headed = λ headed. too.within _ _ _ (by.headed headed);
   }
-  opened_too host content None true by = too.within _ _ _ by
+  opened_too host content None false by = too.within _ _ _ by
 
-  pub boot_too : (host : Host) (answer : Answer) (memory : Memory) (content : Image) → BootCalls one host answer memory content → BootCalls other host answer memory content
-  boot_too host (Said this) memory content by = opened_too host content memory.opened memory.down by
-  boot_too host (Over (ended.Lost active listed)) memory content by = record { head = by.head; replica = by.replica; shown = by.shown; calls = too.within _ _ _ by.calls; wrote = too.wrote by.wrote }
-  boot_too host (Over ended.Spent) memory content by = record { head = by.head; replica = by.replica; shown = by.shown; spent = by.spent; calls = too.exactly _ _ by.calls }
-  boot_too host (Over ended.Memory) memory content by = record { headed = by.headed; calls = too.within _ _ _ by.calls }
+  place_too : (host : Host) (answer : Answer) (read : Bool) (memory : Memory) (content : Image) → PlaceCalls one host answer read memory content → PlaceCalls other host answer read memory content
+  place_too host (Said this) read memory content by = opened_too host content memory.opened read by
+  place_too host (Over (ended.Lost active listed)) read memory content by = record { head = by.head; replica = by.replica; shown = by.shown; calls = too.within _ _ _ by.calls; wrote = too.wrote by.wrote }
+  place_too host (Over ended.Spent) read memory content by = record { head = by.head; replica = by.replica; shown = by.shown; spent = by.spent; calls = too.exactly _ _ by.calls }
+  place_too host (Over ended.Memory) read memory content by = record { headed = by.headed; calls = too.within _ _ _ by.calls }
 
-  pub line_too : (host : Host) (kept : Kept) (line : Line) (answer : Answer) (next : Kept) → LineCalls one host kept line answer next → LineCalls other host kept line answer next
+module _ (calls more : Outcomes) (within : AreWithin calls more) (one other : Made) (too : IsToo one other) where
+  pub boot_too : (host : Host) (answer : Answer) (memory : Memory) (content : Image) → BootCalls calls one host answer memory content → BootCalls more other host answer memory content
+  boot_too host answer memory content is = record {
+    up = is.up;
+    brought = is.brought;
+    tied = is.tied;
+    by = is.by;
+    read = is.read;
+    unread = λ so. (within host.home.drive.0).some (is.unread so);
+    place = place_too (and_more is.brought one) (and_more is.brought other) (more_too is.brought one other too) host answer is.read memory content is.place;
+  }
+
+  pub line_too : (host : Host) (kept : Kept) (line : Line) (answer : Answer) (next : Kept) → LineCalls calls one host kept line answer next → LineCalls more other host kept line answer next
   line_too host kept words.Boot answer next by = boot_too host answer next.memory kept.content by
-  line_too host kept (words.Tab lines) answer next by = none_too by
-  line_too host kept (words.Exec command) answer next by = command_too command answer next.memory.opened by
+  line_too host kept (words.Tab lines) answer next by = none_too one other too by
+  line_too host kept (words.Exec command) answer next by = command_too one other too command answer next.memory.opened by
+
+-- a stretch, told of itself
+pub too_itself : (one : Made) → IsToo one one
+too_itself one = record { exactly = λ count blocks is. is; within = λ least most blocks is. is; wrote = λ is. is }
 
 -- its reply's call goes with it
 pub replied_too : (one other : Made) → IsToo one other → (answer : Answer) → IsToo (replied_to answer one) (replied_to answer other)

@@ -8,13 +8,15 @@ use Rattle.mdv_shelf.specs.declared.shelf.Shelf.{Ghosts}
 use Rattle.mdv_shelf.proofs.Noted.{moments_of_tales}
 use Rattle.mdv_shelf.proofs.Moments.{moments_weaker, some_is}
 use Rattle.mdv_shelf.proofs.Telling.{each_joined, each_within, rests_alone}
-use Rattle.mdv_engine_law.specs.Below.{Failures, Image, Tale, last, told}
+use Rattle.mdv_engine_law.specs.Below.{Image, Tale, last, told}
 use Rattle.mdv_engine_law.specs.Line.{IsSame, Kept, Memory, contents, kept_at}
 use Rattle.mdv_engine_law.specs.Replies.{text_of}
 use Rattle.mdv_engine_law.specs.Standing.{Knows, TellMoment, TellsFront}
 use Rattle.mdv_engine_law.specs.declared.answer.Answer.{Answer}
 use Rattle.mdv_engine_law.specs.declared.host.Host.{Host}
-use Rattle.mdv_base.proofs.Causes.{IsWithin, within_calm}
+use Rattle.mdv_base.proofs.Causes.{within_calm}
+use Rattle.mdv_engine_law.specs.Failing.{AreCalm, Outcomes}
+use Rattle.mdv_engine_law.proofs.Widening.{AreWithin}
 
 -- a count between two that are the same
 between : (low high at : ℕ) → high ≡ low → low ≤ at → at ≤ high → at ≡ low
@@ -22,10 +24,10 @@ between low high at same above below = omega arith
 
 module _ {S : Type 0} (shelf : Ghosts S) (telling : (s : S) → shelf.tale s ≡ option_map tale_of (shelf.story s)) where
   -- a line that was carried out, with nothing told, and then the telling of its answer
-  pub fronts_then : (a b c : S) (Comes : Failures → Kept → Answer → Kept → Type 0) (host : Host) (old : Memory) (answer : Answer) (new : Memory)
-      → ((failed more : Failures) → IsWithin failed more → (kept next : Kept) → Comes failed kept answer next → Comes more kept answer next)
-      → GoesOn shelf a b → AtEachTale shelf (λ t m. told m ≡ told t) a b → AtEnd shelf (λ t u. Knows host old t → Comes (DriveFailures shelf a b 0) (kept_at old t) answer (kept_at new u)) a b
-      → GoesOn shelf b c → shelf.faults c (OnDrive 0) ≡ shelf.faults b (OnDrive 0) → AtEachTale shelf (TellMoment (text_of answer)) b c → AtEachMoment shelf (λ t m. Knows host old t.tale → TellsFront Comes old t m) a c
+  pub fronts_then : (a b c : S) (Comes : Outcomes → Kept → Answer → Kept → Type 0) (host : Host) (old : Memory) (answer : Answer) (new : Memory)
+      → ((failed more : Outcomes) → AreWithin failed more → (kept next : Kept) → Comes failed kept answer next → Comes more kept answer next)
+      → GoesOn shelf a b → AtEachTale shelf (λ t m. told m ≡ told t) a b → AtEnd shelf (λ t u. Knows host old t → Comes (DriveFailures shelf a b) (kept_at old t) answer (kept_at new u)) a b
+      → GoesOn shelf b c → ((drive : ℕ) → shelf.faults c (OnDrive drive) ≡ shelf.faults b (OnDrive drive)) → AtEachTale shelf (TellMoment (text_of answer)) b c → AtEachMoment shelf (λ t m. Knows host old t.tale → TellsFront Comes old t m) a c
   fronts_then a b c Comes host old answer new widen on quiet ends more still tells =
       each_joined (OfTales (λ t m. told m ≡ told t)) (OfTales (TellMoment (text_of answer))) (λ t m. Knows host old t.tale → TellsFront Comes old t m) _ _ _ _ _ _
       (λ s u v first mid last turn there ahead m here within knows. inl here)
@@ -33,22 +35,22 @@ module _ {S : Type 0} (shelf : Ghosts S) (telling : (s : S) → shelf.tale s ≡
       let end = ends (tale_of s) (telling a ∙ ap (λ (o : Option Story). option_map tale_of o) first) in inr (record {
         answer = answer;
         next = kept_at new end.0;
-        came = widen (DriveFailures shelf a b 0) _ (within_calm _ _ _ (between _ _ _ still (within.counts.0 (OnDrive 0)) (within.counts.1 (OnDrive 0)))) (kept_at old (tale_of s)) (kept_at new end.0) (end.2 knows);
+        came = widen (DriveFailures shelf a b) _ (λ drive. within_calm _ _ _ (between _ _ _ (still drive) (within.counts.0 (OnDrive drive)) (within.counts.1 (OnDrive drive)))) (kept_at old (tale_of s)) (kept_at new end.0) (end.2 knows);
         count = here.count;
         is_told = here.is_told ∙ ap (λ (l : List ℕ). l ++ take here.count (text_of answer)) turn;
         shows = subst (λ (x : Tale). IsSame (contents x) (contents m.tale)) (some_is (shelf.tale b) (tale_of u) end.0 (telling b ∙ ap (λ (o : Option Story). option_map tale_of o) mid) end.1) (λ drive block. (here.kept drive block refl).last);
       })) (moments_of_tales shelf telling a b (λ t m. told m ≡ told t) on quiet) (moments_of_tales shelf telling b c (TellMoment (text_of answer)) more tells)
 
   -- the telling alone of an answer to which a line came without a call
-  pub fronts_alone : (a b : S) (Comes : Failures → Kept → Answer → Kept → Type 0) (host : Host) (old : Memory) (answer : Answer) (new : Memory)
-      → ((failures : Failures) → failures.none → (content : Image) → Comes failures (record { memory = old; content = content }) answer (record { memory = new; content = content })) → GoesOn shelf a b → shelf.faults b (OnDrive 0) ≡ shelf.faults a (OnDrive 0)
+  pub fronts_alone : (a b : S) (Comes : Outcomes → Kept → Answer → Kept → Type 0) (host : Host) (old : Memory) (answer : Answer) (new : Memory)
+      → ((calls : Outcomes) → AreCalm calls → (content : Image) → Comes calls (record { memory = old; content = content }) answer (record { memory = new; content = content })) → GoesOn shelf a b → ((drive : ℕ) → shelf.faults b (OnDrive drive) ≡ shelf.faults a (OnDrive drive))
       → AtEachTale shelf (TellMoment (text_of answer)) a b → AtEachMoment shelf (λ t m. Knows host old t.tale → TellsFront Comes old t m) a b
   fronts_alone a b Comes host old answer new comes on still tells =
       each_within (OfTales (TellMoment (text_of answer))) (λ t m. Knows host old t.tale → TellsFront Comes old t m) _ _ _ _
       (λ s u first last m end here within knows. inr (record {
         answer = answer;
         next = kept_at new (tale_of s);
-        came = comes _ (between _ _ _ still (within.counts.0 (OnDrive 0)) (within.counts.1 (OnDrive 0))) (contents (tale_of s));
+        came = comes _ (λ drive. between _ _ _ (still drive) (within.counts.0 (OnDrive drive)) (within.counts.1 (OnDrive drive))) (contents (tale_of s));
         count = here.count;
         is_told = here.is_told;
         shows = λ drive block. (here.kept drive block refl).last;

@@ -61,7 +61,7 @@ module _ (host : Host) where
   room_next h (Reads key volume at blocks) may is room = room
   room_next h (Acknowledges place key volume at blocks) may is room = room
   room_next h (Shows place key volume at blocks) may is room = room
-  room_next h (Boots key) may is room = room
+  room_next h (Boots key up) may is room = room
   room_next h Stops may is room = room
   room_next h Crashes may is room = room
 
@@ -78,16 +78,16 @@ issue_weaker Which Any wider (OfVolume key volume e) is = is
 issue_weaker Which Any wider (Reads key volume at blocks) is = is
 issue_weaker Which Any wider (Acknowledges place key volume at blocks) is = is
 issue_weaker Which Any wider (Shows place key volume at blocks) is = is
-issue_weaker Which Any wider (Boots key) is = is
+issue_weaker Which Any wider (Boots key up) is = is
 issue_weaker Which Any wider Stops is = is
 issue_weaker Which Any wider Crashes is = is
 
 -- blocks of volumes are read and written only where a boot has found what they hold
-abbrev pub AllAwake : History → List Event → Type 0
-AllAwake = machine.IsCourse history_after IsAwakeAt
+abbrev pub AllAwake : Host → History → List Event → Type 0
+AllAwake host = machine.IsCourse history_after (IsAwakeAt (sites_of host))
 
 module _ (host : Host) where
-  pub both_courses : (h : History) (es : List Event) → IsCourse (sites_of host) h es → AllAwake h es → machine.IsCourse history_after (Happening host) h es
+  pub both_courses : (h : History) (es : List Event) → IsCourse (sites_of host) h es → AllAwake host h es → machine.IsCourse history_after (Happening host) h es
   both_courses h [] course awake = tt
   both_courses h (e ∷ es) course awake = ((course.0, awake.0), both_courses (history_after h e) es course.1 awake.1)
 
@@ -125,7 +125,7 @@ module _ (host : Host) (asks begun done : List Deed) (m : Tale) (h : History) (e
   pub happened_stands : StandsAt host (history_after_all h es) m
   happened_stands = record { stands = happens.stands; room = room_after host h es happens.course issues room }
 
-  pub happened : (After : List Event → History → Type 0) → AllAwake h es → IsPart begun asks → After es (history_after_all h es) → Goes host asks done After m h
+  pub happened : (After : List Event → History → Type 0) → AllAwake host h es → IsPart begun asks → After es (history_after_all h es) → Goes host asks done After m h
   happened After awake within after = record {
     es = es;
     course = both_courses host h es happens.course awake;

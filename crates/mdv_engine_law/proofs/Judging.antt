@@ -24,7 +24,7 @@ told_of_creation at down opened force small =
 last_holds : (small : Bool) → where_so small TooSmall ≡ where_so small TooSmall ++ []
 last_holds small = sym (append-nil (where_so small TooSmall))
 
-pub creation_is_told : (case : Case) (slice : SliceName) (force : Bool) → refusal_of case (Create slice force) ≡ told_of_creation (slice_at case.host.drives.slices slice) case.memory.down (is_some case.memory.opened) force (nat_lt case.host.home.blocks 8208)
+pub creation_is_told : (case : Case) (slice : SliceName) (force : Bool) → refusal_of case (Create slice force) ≡ told_of_creation (slice_at case.host.drives.slices slice) (not case.memory.clean) (is_some case.memory.opened) force (nat_lt case.host.home.blocks 8208)
 creation_is_told case slice force =
     let at = slice_at case.host.drives.slices slice in
     let opened = is_some case.memory.opened in
@@ -32,10 +32,10 @@ creation_is_told case slice force =
     let causes : List Held =
     record { holds = not (is_some at); refusal = NoSuchSlice }
     ∷ record { holds = is_plain at; refusal = WrongKind }
-    ∷ record { holds = case.memory.down; refusal = WrongState Down }
+    ∷ record { holds = (not case.memory.clean); refusal = WrongState Down }
     ∷ record { holds = not opened && not force; refusal = NeedForce }
     ∷ record { holds = opened; refusal = SliceInUse }
     ∷ record { holds = small; refusal = TooSmall }
     ∷ [] in
-    ap (λ (l : List Refusal). first_refusal (where_so (not (is_some at)) NoSuchSlice ++ (where_so (is_plain at) WrongKind ++ (where_so case.memory.down (WrongState Down) ++ (where_so (not opened && not force) NeedForce ++ (where_so opened SliceInUse ++ l)))))) (last_holds small)
+    ap (λ (l : List Refusal). first_refusal (where_so (not (is_some at)) NoSuchSlice ++ (where_so (is_plain at) WrongKind ++ (where_so (not case.memory.clean) (WrongState Down) ++ (where_so (not opened && not force) NeedForce ++ (where_so opened SliceInUse ++ l)))))) (last_holds small)
     ∙ first_is_told causes refl

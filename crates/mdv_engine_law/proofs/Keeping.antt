@@ -1,6 +1,6 @@
 -- What a line leaves in memory and on the drive, where it did what was asked.
-use Rattle.std.proofs.Common.{◌≡◌, ⊎_elim, inl, inr, ◌+◌, ◌-◌, ◌<◌, ◌≤◌, ◌^◌, ℕ, suc, false, List, [], ◌∷◌, length, slice_index_or, Some, refl, sym, ◌∙◌, ap, subst, arith}
-use Rattle.mdv_engine_law.specs.Below.{KeptOutside, nowhere, Settling, IsSettled, Everywhere, Tale, last, created_head, created_newest, Newest, IsNewestOf, area_of, ShowsNothing, IsOpened, IsTheReplica, IsAdopted, next_newest, Head, Slot, First, Second, IsSpareSlot, greatest, values_reply, One, Table}
+use Rattle.std.proofs.Common.{◌≡◌, ⊎_elim, inl, inr, ◌+◌, ◌-◌, ◌<◌, ◌≤◌, ◌^◌, ℕ, suc, List, [], ◌∷◌, length, slice_index_or, Some, refl, sym, ◌∙◌, ap, subst, arith}
+use Rattle.mdv_engine_law.specs.Below.{DriveBlock, KeptOutside, nowhere, Settling, IsSettled, Everywhere, Tale, last, created_head, created_newest, Newest, IsNewestOf, area_of, ShowsNothing, IsOpened, IsTheReplica, IsAdopted, next_newest, Head, Slot, First, Second, IsSpareSlot, greatest, values_reply, One, Table}
 use Rattle.mdv_shelf.specs.Calls.{Shows}
 use Rattle.mdv_shelf.proofs.Settled.{covered}
 use Rattle.mdv_home.proofs.Places.{whole_place}
@@ -10,11 +10,11 @@ use Rattle.mdv_engine_law.specs.Home.{site_of, identity_of}
 use Rattle.mdv_engine_law.specs.Line.{Memory, IsSame, IsSameBeside, Stays, IsCreated, IsUncreated, IsCommitted, IsRewritten, ArePut, MayBePut, blocks_of, contents, kept_at, on_site}
 
 -- these blocks are what a read gives
-pub blocks_shown : (t : Tale) (block : ℕ) (blocks : List (List ℕ)) → Shows t 0 block blocks → blocks_of (contents t 0) block (length blocks) ≡ blocks
-blocks_shown t block [] shows = refl
-blocks_shown t block (x ∷ blocks) shows =
-    let first : last t 0 block ≡ x = ap (λ (b : ℕ). last t 0 b) (omega arith) ∙ sym (shows 0 (omega arith)) in
-    let behind = blocks_shown t (block + 1) blocks (λ k lt. shows (suc k) (omega (arith, lt)) ∙ ap (λ (b : ℕ). last t 0 b) (omega arith)) in
+pub blocks_shown : (t : Tale) (drive block : ℕ) (blocks : List (List ℕ)) → Shows t drive block blocks → blocks_of (contents t) (record { drive = drive; block = block }) (length blocks) ≡ blocks
+blocks_shown t drive block [] shows = refl
+blocks_shown t drive block (x ∷ blocks) shows =
+    let first : last t drive block ≡ x = ap (λ (b : ℕ). last t drive b) (omega arith) ∙ sym (shows 0 (omega arith)) in
+    let behind = blocks_shown t drive (block + 1) blocks (λ k lt. shows (suc k) (omega (arith, lt)) ∙ ap (λ (b : ℕ). last t drive b) (omega arith)) in
     cc (first, behind)
 
 module _ (t u : Tale) where
@@ -23,15 +23,15 @@ module _ (t u : Tale) where
   same_content kept drive block = (kept drive block refl).last
 
   -- blocks were written
-  module _ (block : ℕ) (blocks : List (List ℕ)) (settling : Settling 0 block blocks t u) where
-    pub are_put : IsSettled 0 block blocks u → ArePut block blocks (contents t) (contents u)
+  module _ (from : DriveBlock) (blocks : List (List ℕ)) (settling : Settling from.drive from.block blocks t u) where
+    pub are_put : IsSettled from.drive from.block blocks u → ArePut from blocks (contents t) (contents u)
     are_put settled = record { here = λ k lt. sym (settled.shows k lt); elsewhere = λ drive b out. (settling.outside drive b out).last }
 
-    pub may_be_put : MayBePut block blocks (contents t) (contents u)
+    pub may_be_put : MayBePut from blocks (contents t) (contents u)
     may_be_put = record {
       here = λ k lt.
-          let same : (block + k) - block ≡ k = omega arith in
-          ⊎_elim (λ old. inl old) (λ new. inr (new ∙ ap (λ (i : ℕ). slice_index_or blocks i []) same)) (settling.inside (block + k) (covered 0 block (length blocks) k lt)).last;
+          let same : (from.block + k) - from.block ≡ k = omega arith in
+          ⊎_elim (λ old. inl old) (λ new. inr (new ∙ ap (λ (i : ℕ). slice_index_or blocks i []) same)) (settling.inside (from.block + k) (covered from.drive from.block (length blocks) k lt)).last;
       elsewhere = λ drive b out. (settling.outside drive b out).last;
     }
 
@@ -43,8 +43,8 @@ module _ (host : Host) (memory next : Memory) (t u : Tale) where
   pub stays : next ≡ memory → KeptOutside nowhere t u → Stays (kept_at memory t) (kept_at next u)
   stays same kept = record { memory = same; content = same_content t u kept }
 
-  pub created : (table : Table) → 8208 ≤ host.home.blocks → KeptOutside (area_of (site_of host)) t u → next ≡ record { opened = Some (created_newest (site_of host) table); down = false; begun = memory.begun + 1; entries = memory.entries } → table.plan.lists ≡ One ((site_of host).at.place ∷ []) → table.plan.volumes ≡ []
-      → Everywhere (λ image. IsNewestOf (site_of host) (image 0) (created_head (site_of host) (identity_of host memory.begun) table) (created_newest (site_of host) table)) u → IsCreated host (kept_at memory t) (kept_at next u)
+  pub created : (table : Table) → 8208 ≤ host.home.blocks → KeptOutside (area_of (site_of host)) t u → next ≡ record memory { opened = Some (created_newest (site_of host) table); begun = memory.begun + 1 } → table.plan.lists ≡ One ((site_of host).at.place ∷ []) → table.plan.volumes ≡ []
+      → Everywhere (λ image. IsNewestOf (site_of host) (on_site (site_of host) image) (created_head (site_of host) (identity_of host memory.begun) table) (created_newest (site_of host) table)) u → IsCreated host (kept_at memory t) (kept_at next u)
   created table room kept is lists volumes each = record {
     newest = created_newest (site_of host) table;
     new = record { blocks = whole_place host.home room; slot = refl; mark = refl; lists = lists; volumes = volumes };
@@ -79,5 +79,5 @@ module _ (host : Host) (memory next : Memory) (t u : Tale) where
   }
 
 -- a read told what is there
-pub read_values : (t : Tale) (at block : ℕ) (blocks : List (List ℕ)) (text : List ℕ) → Shows t 0 block blocks → text ≡ values_reply at blocks → text ≡ values_reply at (blocks_of (contents t 0) block (length blocks))
-read_values t at block blocks text shows is = is ∙ ap (λ (bs : List (List ℕ)). values_reply at bs) (sym (blocks_shown t block blocks shows))
+pub read_values : (t : Tale) (at drive block : ℕ) (blocks : List (List ℕ)) (text : List ℕ) → Shows t drive block blocks → text ≡ values_reply at blocks → text ≡ values_reply at (blocks_of (contents t) (record { drive = drive; block = block }) (length blocks))
+read_values t at drive block blocks text shows is = is ∙ ap (λ (bs : List (List ℕ)). values_reply at bs) (sym (blocks_shown t drive block blocks shows))

@@ -2,6 +2,7 @@ pub mod Giving
 pub mod Efforts
 pub mod Writing
 pub mod Executing
+pub mod Widening
 pub mod Plain
 pub mod Knowing
 pub mod Sites
@@ -11,6 +12,7 @@ pub mod Going
 pub mod Deeds
 pub mod Turning
 pub mod Lifting
+pub mod Ready
 pub mod Refusing
 pub mod Beside
 pub mod Unused

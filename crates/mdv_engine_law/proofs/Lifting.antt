@@ -13,20 +13,21 @@ use Rattle.mdv_engine_law.specs.declared.host.Host.{Host}
 use Rattle.mdv_engine_law.specs.Home.{IsReady, key_of, site_of, sites_of}
 use Rattle.mdv_engine_law.specs.Standing.{StandsAt, IsOfRun, Goes}
 use Rattle.mdv_engine_law.proofs.Going.{AllAwake, happened, happened_stands}
+use Rattle.mdv_engine_law.proofs.Ready.{size_is}
 use Rattle.mdv_engine_law.proofs.Sites.{own_site, sites_apart}
 
 -- the site that the database is told, where its place is the home's
 pub site_here : (host : Host) (sizes : List ℕ) → IsReady host sizes → (at : PlaceAt) → at ≡ place_of host.home
     → ◌≡◌ {A = Site} (record { drives = host.drives; key = key_of host; at = at; size = slice_index_or sizes at.drive.0 0 }) (site_of host)
-site_here host sizes ready at is = rw (is, ready.drive)
+site_here host sizes ready at is = rw is (ap (λ (n : ℕ). record { drives = host.drives; key = key_of host; at = place_of host.home; size = n }) (size_is host sizes ready))
 
 -- a log's events read and write no volume
-pub lifted_awake : (key : Key) (identity : Identity) (es : List log.Event) (h : History) → AllAwake h (lifted key identity es)
-lifted_awake key identity [] h = tt
-lifted_awake key identity (log.Issued other ∷ es) h = (tt, lifted_awake key other es _)
-lifted_awake key identity (log.Writing mark asked before table ∷ es) h = (tt, lifted_awake key identity es _)
-lifted_awake key identity (log.Written ∷ es) h = (tt, lifted_awake key identity es _)
-lifted_awake key identity (log.Told which before ∷ es) h = (tt, lifted_awake key identity es _)
+pub lifted_awake : (host : Host) (key : Key) (identity : Identity) (es : List log.Event) (h : History) → AllAwake host h (lifted key identity es)
+lifted_awake host key identity [] h = tt
+lifted_awake host key identity (log.Issued other ∷ es) h = (tt, lifted_awake host key other es _)
+lifted_awake host key identity (log.Writing mark asked before table ∷ es) h = (tt, lifted_awake host key identity es _)
+lifted_awake host key identity (log.Written ∷ es) h = (tt, lifted_awake host key identity es _)
+lifted_awake host key identity (log.Told which before ∷ es) h = (tt, lifted_awake host key identity es _)
 
 lifted_issues : (Which : Identity → Type 0) (key : Key) (identity : Identity) (es : List log.Event) → AreAll (log.IsIssue Which) es → AreAll (IsIssue Which) (lifted key identity es)
 lifted_issues Which key identity [] is = tt
@@ -69,7 +70,7 @@ module _ (host : Host) (asks : List Deed) (Then : List Event → History → Typ
   pub lift_log : (Known : Log → Type 0) (Which : Identity → Type 0) (asked : List (Option Change)) (After : Log → Type 0) (t m : Tale) → KeptOutside (area_of (site_of host)) t m
       → ((identity : Identity) → Which identity → IsOfRun host identity) → IsPart (map (deed_of (key_of host)) asked) asks → (h : History)
       → ((es : List log.Event) → log.IsCourse host.drives (log_of h.databases (key_of host)) es → IsPart (log.begun_by es) asked → (table : Table) → IsAsked es table → IsTableReady (sites_of host) h (key_of host) (site_of host) t table)
-      → ((es : List Event) (g : History) → StandsAt host g m → g.woken ≡ h.woken → After (log_of g.databases (key_of host)) → Then es g)
+      → ((es : List Event) (g : History) → StandsAt host g m → g.woken ≡ h.woken → g.up ≡ h.up → After (log_of g.databases (key_of host)) → Then es g)
       → GoesFrom (site_of host) Known Which asked After t m → StandsAt host h t → Known (log_of h.databases (key_of host)) → Goes host asks [] Then m h
   lift_log Known Which asked After t m kept mine within h ready then goes stands known =
       let key = key_of host in
@@ -80,6 +81,6 @@ module _ (host : Host) (asks : List Deed) (Then : List Event → History → Typ
       let begun = map (deed_of key) (log.begun_by one.es) in
       let tells = is.happens.tells ∙ ap (map (deed_of key)) one.come.tells in
       let happens : Happens (sites_of host) h events begun [] m = record { course = is.happens.course; begins = is.happens.begins; tells = tells; stands = is.happens.stands } in
-      happened host asks begun [] m h events happens stands.room issues Then (lifted_awake key (identity_in (current_of h.databases key)) one.es h)
+      happened host asks begun [] m h events happens stands.room issues Then (lifted_awake host key (identity_in (current_of h.databases key)) one.es h)
       (part_of_part begun (map (deed_of key) asked) asks (part_mapped (deed_of key) (log.begun_by one.es) asked one.come.begins) within)
-      (then events (history_after_all h events) (happened_stands host asks begun [] m h events happens stands.room issues) is.woken (subst After (sym is.own) one.after))
+      (then events (history_after_all h events) (happened_stands host asks begun [] m h events happens stands.room issues) is.woken is.up (subst After (sym is.own) one.after))

@@ -1,6 +1,7 @@
 -- What a creation leaves of a host's history.
-use Rattle.std.proofs.Common.{◌≡◌, ◌≤◌, ℕ, Bool, true, false, not, ◌&&◌, ◌==◌, List, [], ◌∷◌, Contains, Option, Some, None, IfSome, refl, sym, subst, arith}
-use Rattle.mdv_engine_law.specs.Below.{AreWoken, Identity, IoFault, KeptOutside, Map, area_of_map, IsMapOf, VolId, Volume, Tale, told, Table, IsCreated, created_newest, Log, IsThis, is_firm, Newest, area_of, ShowsNothing, IsOpened, IsNewestIn, Anything, GoesMaking, History, Created, Event, log_of}
+use Rattle.std.proofs.Common.{◌≡◌, ◌≤◌, ℕ, true, false, List, [], ◌∷◌, Contains, Option, Some, None, IfSome, refl, sym, ◌∙◌, ap, subst, arith}
+use Rattle.mdv_engine_law.specs.Below.{AreWoken, Drives, Identity, Key, IoFault, KeptOutside, Map, area_of_map, IsMapOf, VolId, Volume, Tale, told, Table, IsCreated, created_newest, Log, IsThis, is_firm, Newest, area_of, ShowsNothing, IsOpened, IsNewestIn, Anything, GoesMaking, History, Created, Event, log_of}
+use Rattle.mdv_engine_law.specs.Awake.{is_in}
 use Rattle.mdv_engine_law.specs.declared.answer.Answer.TheVariants.{Said, Over}
 use Rattle.mdv_engine_law.specs.declared.answer.Ended.TheVariants as ended
 use Rattle.mdv_engine_law.specs.declared.answer.Outcome.TheVariants as outcome
@@ -19,47 +20,45 @@ use Rattle.mdv_engine_law.proofs.Staying.{stays_in_replica}
 abbrev pub Makes : Host → Memory → (Log → Type 0) → Tale → Tale → Type 0
 Makes host memory After t m = ShowsNothing (site_of host) t → GoesMaking (site_of host) (identity_of host memory.begun) After t m
 
--- a creation of this run, on a slice with room, where no database is open and the last boot has read the drive
-module _ (host : Host) (sizes : List ℕ) (ready : IsReady host sizes) (memory : Memory) (room : 8208 ≤ host.home.blocks) (none : memory.opened ≡ None) (up : memory.down ≡ false) (t m : Tale) (kept : KeptOutside (area_of (site_of host)) t m) where
+-- a creation of this run, on a slice with room, where no database is open and no call failed in the last boot
+module _ (host : Host) (sizes : List ℕ) (ready : IsReady host sizes) (memory : Memory) (room : 8208 ≤ host.home.blocks) (none : memory.opened ≡ None) (clean : memory.clean ≡ true) (t m : Tale) (kept : KeptOutside (area_of (site_of host)) t m) where
   mine : (other : Identity) → IsThis (identity_of host memory.begun) other → IsOfRun host other
   mine other same = subst (λ (i : Identity). IsOfRun host i) (sym same) (record { fresh = refl; room = room })
 
-  making : (After : Log → Type 0) (Then : List Event → History → Type 0) → Makes host memory After t m → (h : History) → IsKnown host memory h t → ((es : List Event) (g : History) → StandsAt host g m → After (log_of g.databases (key_of host)) → Then es g)
+  making : (After : Log → Type 0) (Then : List Event → History → Type 0) → Makes host memory After t m → (h : History) → IsKnown host memory h t → ((es : List Event) (g : History) → StandsAt host g m → g.up (key_of host) ≡ memory.up → After (log_of g.databases (key_of host)) → Then es g)
       → Goes host (Created (key_of host) ∷ []) [] Then m h
   making After Then goes h known then =
       lift_log host (Created (key_of host) ∷ []) Then Anything (IsThis (identity_of host memory.begun)) (None ∷ []) After t m kept mine (part_itself (Created (key_of host) ∷ [])) h
-      (λ es course within table asked. absurd (never_asked es table within asked)) (λ es g there woken after. then es g there after) (goes (known.knows.nothing none up)) known.stands tt
+      (λ es course within table asked. absurd (never_asked es table within asked)) (λ es g there woken drives after. then es g there (ap (λ (up : Key → Drives). up (key_of host)) drives ∙ known.up) after) (goes (known.knows.nothing none clean)) known.stands tt
 
   pub making_moment : told m ≡ told t → Makes host memory Anything t m → CarryMoment host (ToDo (Created (key_of host))) memory t m
-  making_moment quiet goes = record { home = stays_in_replica host t m kept; within = kept; quiet = quiet; goes = λ h known. making Anything Reached goes h known (λ es g there is. tt) }
+  making_moment quiet goes = record { home = stays_in_replica host t m kept; within = kept; quiet = quiet; goes = λ h known. making Anything Reached goes h known (λ es g there up is. tt) }
 
   abbrev Frees : Newest → ℕ → ℕ → Type 0
   Frees n drive block = (volume : VolId) (v : Map) → IsMapOf host.drives n.table volume v → area_of_map v drive block ≡ false
 
   -- unused blocks stay so
-  freed : (next : Memory) → ((drive block : ℕ) → IsUnused host next drive block → plain_area host.drives.slices drive block ≡ true) → Knows host memory t → IsFree host next m
-  freed next plain known = free_kept host sizes ready memory next t m kept still (λ drive block is. record { plain = plain drive block is; free = subst (λ (o : Option Newest). IfSome o (λ n. Frees n drive block)) (sym none) tt }) known.unused
+  freed : (next : Memory) → next.up ≡ memory.up → ((drive block : ℕ) → IsUnused host next drive block → plain_area host.drives.slices drive block ≡ true) → Knows host memory t → IsFree host next m
+  freed next up plain known = free_kept host sizes ready memory next t m kept still (λ drive block is. record { plain = plain drive block is; free = subst (λ (o : Option Newest). IfSome o (λ n. Frees n drive block)) (sym none) tt }) known.unused
     where
-      still : (drive : ℕ) → is_up host next drive ≡ true → is_up host memory drive ≡ true
-      still drive on = rw up (first (drive == (site_of host).at.drive.0) (not next.down) on) where
-        first : (a b : Bool) → a && b ≡ true → a && true ≡ true
-        first true b is = refl
-        first false b is = cc (is)
+      still : (drive : ℕ) → is_up next drive ≡ true → is_up memory drive ≡ true
+      still drive on = subst (λ (drives : Drives). is_in drives drive ≡ true) up on
 
   -- it was made, and its `ok` may be told
-  pub made : (table : Table) (next : Memory) → table.plan.volumes ≡ [] → next.opened ≡ Some (created_newest (site_of host) table) → (ShowsNothing (site_of host) t → IsOpened (site_of host) (created_newest (site_of host) table) m)
+  pub made : (table : Table) (next : Memory) → next.up ≡ memory.up → table.plan.volumes ≡ [] → next.opened ≡ Some (created_newest (site_of host) table) → (ShowsNothing (site_of host) t → IsOpened (site_of host) (created_newest (site_of host) table) m)
       → Makes host memory (IsCreated (site_of host) (identity_of host memory.begun) table) t m → CarriedTo host (ToDo (Created (key_of host))) memory (Said outcome.Ok) next t m
-  made table next empty opened is goes =
+  made table next same_up empty opened is goes =
       let newest : Newest = created_newest (site_of host) table in
-      let knows : Knows host memory t → Knows host next m = λ known. knows_opened host next newest m opened (is (known.nothing none up)) (freed next (λ drive block unused. unused.plain) known) in
+      let knows : Knows host memory t → Knows host next m = λ known. knows_opened host next newest m opened (is (known.nothing none clean)) (freed next same_up (λ drive block unused. unused.plain) known) in
       record {
         done = Created (key_of host) ∷ [];
         acks = refl;
-        goes = λ h known. making (IsCreated (site_of host) (identity_of host memory.begun) table) (λ es g. IsKnownAfter host (Created (key_of host) ∷ []) (Said outcome.Ok) next g m) goes h known (λ es g there created. (
+        goes = λ h known. making (IsCreated (site_of host) (identity_of host memory.begun) table) (λ es g. IsKnownAfter host (Created (key_of host) ∷ []) (Said outcome.Ok) next g m) goes h known (λ es g there up created. (
           record {
             stands = there;
             newest = of_opened next newest (λ n. IsNewestIn n (log_of g.databases (key_of host))) opened created.newest;
-            woken = of_opened next newest (λ n. AreWoken (site_of host) n.table (is_up host next) g (key_of host)) opened (λ volume v map upon. absurd (no_map volume v map));
+            up = up ∙ sym same_up;
+            woken = of_opened next newest (λ n. AreWoken (site_of host) n.table (is_up next) g (key_of host)) opened (λ volume v map upon. absurd (no_map volume v map));
             knows = knows known.knows;
           },
           record { site = site_of host; is_site = own_site host; may = created.tellable },
@@ -71,18 +70,19 @@ module _ (host : Host) (sizes : List ℕ) (ready : IsReady host sizes) (memory :
       no_map volume v map = let has = subst (λ (l : List Volume). Contains l map.of) empty map.has.0 in omega (arith, has.1)
 
   -- it failed, and nothing is there
-  pub unmade : (next : Memory) → next.opened ≡ None → (ShowsNothing (site_of host) t → ShowsNothing (site_of host) m) → Makes host memory (λ lg. is_firm lg ≡ false) t m
+  pub unmade : (next : Memory) → next.up ≡ memory.up → next.opened ≡ None → (ShowsNothing (site_of host) t → ShowsNothing (site_of host) m) → Makes host memory (λ lg. is_firm lg ≡ false) t m
       → CarriedTo host (ToDo (Created (key_of host))) memory (Said (outcome.Refused IoFault)) next t m
-  unmade next closed nothing goes =
+  unmade next same_up closed nothing goes =
       let empty : (P : Newest → Type 0) → IfSome next.opened P = λ P. subst (λ (o : Option Newest). IfSome o P) (sym closed) tt in
-      let knows : Knows host memory t → Knows host next m = λ known. record { nothing = λ free read. nothing (known.nothing none up); opened = empty (λ n. IsOpened (site_of host) n m); unused = freed next (λ drive block unused. unused.plain) known } in
+      let knows : Knows host memory t → Knows host next m = λ known. record { nothing = λ free read. nothing (known.nothing none clean); opened = empty (λ n. IsOpened (site_of host) n m); unused = freed next same_up (λ drive block unused. unused.plain) known } in
       record {
         done = [];
         acks = refl;
-        goes = λ h known. making (λ lg. is_firm lg ≡ false) (λ es g. IsKnown host next g m) goes h known (λ es g there after. record {
+        goes = λ h known. making (λ lg. is_firm lg ≡ false) (λ es g. IsKnown host next g m) goes h known (λ es g there up after. record {
           stands = there;
+          up = up ∙ sym same_up;
           newest = empty (λ n. IsNewestIn n (log_of g.databases (key_of host)));
-          woken = empty (λ n. AreWoken (site_of host) n.table (is_up host next) g (key_of host));
+          woken = empty (λ n. AreWoken (site_of host) n.table (is_up next) g (key_of host));
           knows = knows known.knows;
         });
         knows = knows;
@@ -90,4 +90,4 @@ module _ (host : Host) (sizes : List ℕ) (ready : IsReady host sizes) (memory :
 
   -- whether it is there isn't known
   pub made_or_lost : (active listed : ℕ) (next : Memory) → Makes host memory Anything t m → CarriedTo host (ToDo (Created (key_of host))) memory (Over (ended.Lost active listed)) next t m
-  made_or_lost active listed next goes = record { done = []; acks = refl; goes = λ h known. making Anything (λ es g. IsKnownAfter host [] (Over (ended.Lost active listed)) next g m) goes h known (λ es g there is. tt); knows = λ known. tt }
+  made_or_lost active listed next goes = record { done = []; acks = refl; goes = λ h known. making Anything (λ es g. IsKnownAfter host [] (Over (ended.Lost active listed)) next g m) goes h known (λ es g there up is. tt); knows = λ known. tt }

@@ -129,7 +129,7 @@ held_plain : (case : Case) (command : Command) → All IsPlain (held case comman
 held_plain case (Create slice force) =
     let at = slice_at case.host.drives.slices slice in
     let opened = is_some case.memory.opened in
-    creation_plain (not (is_some at)) (is_plain at) case.memory.down (not opened && not force) opened (nat_lt case.host.home.blocks 8208)
+    creation_plain (not (is_some at)) (is_plain at) (not case.memory.clean) (not opened && not force) opened (nat_lt case.host.home.blocks 8208)
 held_plain case (command.MakeStripe volume slice) = change_plain case.host case.memory.opened volume slice
 held_plain case (Read volume at count) = read_plain case.memory.opened volume at count
 held_plain case (Write volume at block) = blocks_plain case.memory.opened volume (at + 1)

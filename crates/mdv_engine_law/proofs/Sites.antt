@@ -1,11 +1,12 @@
 -- Where the keys of a host's drives have databases: its own has one, on blocks that no slice for volumes has.
-use Rattle.std.proofs.Common.{◌≡◌, inl, inr, ℕ, List, true, sym, ◌∙◌, ap, subst, refl}
+use Rattle.std.proofs.Common.{◌≡◌, inl, inr, ℕ, List, sym, ◌∙◌, subst, refl}
 use Rattle.mdv_engine_law.specs.Below.{AreApart, ArePlain, AreSitesApart, IsSite, Key, Site, area_of, range, same_key}
-use Rattle.mdv_home.proofs.Places.{replica_apart, slices_within}
+use Rattle.mdv_home.proofs.Places.{replica_apart}
 use Rattle.mdv_shelf.proofs.Blocks.{both_ways}
 use Rattle.mdv_volumes.proofs.Databases.{key_is, key_itself}
 use Rattle.mdv_engine_law.specs.declared.host.Host.{Host}
 use Rattle.mdv_engine_law.specs.Home.{IsReady, key_of, site_of, sites_of}
+use Rattle.mdv_engine_law.proofs.Ready.{has_slice}
 
 module _ (host : Host) where
   pub own_site : IsSite (sites_of host) (key_of host) (site_of host)
@@ -30,8 +31,5 @@ module _ (host : Host) where
       let here : site ≡ site_of host = only_site site (subst (λ (k : Key). IsSite (sites_of host) k site) (only_key key site is) is) in
       subst (λ (s : Site). AreApart (area_of s) (range at.drive.0 at.start at.blocks)) (sym here) beside
     where
-      drive : at.drive.0 ≡ 0
-      drive = ap (λ (d : _). d.0) (slices_within host.drives host.home name at ready.table has).drive
-
       beside : AreApart (area_of (site_of host)) (range at.drive.0 at.start at.blocks)
-      beside d block in_place in_slice = replica_apart host.drives host.home name at ready.table has plain d block (subst (λ (n : ℕ). range n at.start at.blocks d block ≡ true) drive in_slice) in_place
+      beside d block in_place in_slice = replica_apart ready.table host.home name at ready.home (has_slice host sizes ready name at has) plain d block in_slice in_place

@@ -2,7 +2,7 @@
 use Rattle.std.proofs.Common.{◌≡◌, inl, inr, ◌+◌, ◌≤◌, ◌<◌, ℕ, not, ◌&&◌, true, List, Option, IfSome, refl, ◌∙◌, ap, arith}
 use Rattle.std.proofs.lemmas.Bool.Decides.{nat_tests}
 use Rattle.std.proofs.lemmas.List.Folds.{list_any_at}
-use Rattle.mdv_engine_law.specs.Below.{VolId, area_of, IsTableAt, with_blocks, SliceLine, KeptOutside, nowhere, range, Moments, Tale, covers}
+use Rattle.mdv_engine_law.specs.Below.{DriveBlock, VolId, area_of, IsTableAt, with_blocks, SliceLine, KeptOutside, nowhere, range, Moments, Tale, covers}
 use Rattle.mdv_shelf.proofs.Blocks.{both_ways}
 use Rattle.mdv_shelf.proofs.Frame.{kept_outside_same, kept_outside_more, kept_outside_left, kept_outside_wider, neither}
 use Rattle.mdv_shelf.proofs.Moments.{moments_none, moments_weaker, moments_more}
@@ -30,30 +30,30 @@ module _ (host : Host) where
   stays_in_replica t m kept = kept_outside_left (area_of (site_of host)) (plain_area host.drives.slices) t m kept
 
   -- blocks of a slice that isn't set aside for replicas are among them
-  pub plain_has : (start count : ℕ) → IsPlain host start count → (block blocks drive b : ℕ) → start ≤ block → block + blocks ≤ start + count → range 0 block blocks drive b ≡ true → plain_area host.drives.slices drive b ≡ true
-  plain_has start count is block blocks drive b from to here =
+  pub plain_has : (number start count : ℕ) → IsPlain host number start count → (block blocks drive b : ℕ) → start ≤ block → block + blocks ≤ start + count → range number block blocks drive b ≡ true → plain_area host.drives.slices drive b ≡ true
+  plain_has number start count is block blocks drive b from to here =
       let line : SliceLine = record { name = is.name; at = is.at } in
       let p = λ (l : SliceLine). not l.at.db && covers l.at.drive.0 l.at.start l.at.blocks drive b in
       list_any_at p host.drives.slices is.has.0 line is.has.1 (ap p is.has.2 ∙ in_line)
     where
       in_line : not is.at.db && covers is.at.drive.0 is.at.start is.at.blocks drive b ≡ true
-      in_line = rw (is.plain, is.drive, ← is.first_is, ← is.count_is) (within start count block blocks drive b from to here)
+      in_line = rw (is.plain, ← is.drive_is, ← is.first_is, ← is.count_is) (within number start count block blocks drive b from to here)
         where
-          within : (start count block blocks drive b : ℕ) → start ≤ block → block + blocks ≤ start + count → range 0 block blocks drive b ≡ true → covers 0 start count drive b ≡ true
-          within start count block blocks drive b from to here = grind (arith, nat_tests)
+          within : (number start count block blocks drive b : ℕ) → start ≤ block → block + blocks ≤ start + count → range number block blocks drive b ≡ true → covers number start count drive b ≡ true
+          within number start count block blocks drive b from to here = grind (arith, nat_tests)
 
   -- within a volume of the open database
-  pub stays_in_volume : (sizes : List ℕ) → IsReady host sizes → (memory : Memory) (volume : VolId) (at count block : ℕ) → 0 < count → AreBlocksAt host memory volume at count block
-      → IfSome memory.opened (λ newest. IsTableAt host.drives (with_blocks (site_of host).at newest.blocks).place newest.table) → (t m : Tale) → KeptOutside (range 0 block count) t m → StaysHome host t m
-  stays_in_volume sizes ready memory volume at count block some there listed t m kept =
+  pub stays_in_volume : (sizes : List ℕ) → IsReady host sizes → (memory : Memory) (volume : VolId) (at count : ℕ) (place : DriveBlock) → 0 < count → AreBlocksAt host memory volume at count place
+      → IfSome memory.opened (λ newest. IsTableAt host.drives (with_blocks (site_of host).at newest.blocks).place newest.table) → (t m : Tale) → KeptOutside (range place.drive place.block count) t m → StaysHome host t m
+  stays_in_volume sizes ready memory volume at count place some there listed t m kept =
       let table = opened_has memory there.lies.0 (λ newest. IsTableAt host.drives (with_blocks (site_of host).at newest.blocks).place newest.table) there.lies.1 listed in
-      let from : there.first ≤ block = (let is = there.block_is in omega arith) in
-      let to : block + count ≤ there.first + there.blocks = (let is = there.block_is in let within = there.within in omega arith) in
-      kept_outside_wider (range 0 block count) (host_area host) t m (λ drive b out. elim (both_ways (range 0 block count drive b)) [
+      let from : there.first ≤ place.block = (let is = there.block_is in omega arith) in
+      let to : place.block + count ≤ there.first + there.blocks = (let is = there.block_is in let within = there.within in omega arith) in
+      kept_outside_wider (range place.drive place.block count) (host_area host) t m (λ drive b out. elim (both_ways (range place.drive place.block count drive b)) [
         | inr away ↦ away
         | inl here ↦
             let beside = (neither (area_of (site_of host) drive b) (plain_area host.drives.slices drive b) out).1 in
-            let among = plain_has there.first there.blocks (plain_listed host sizes ready memory volume at count block some there table) block count drive b from to here in
+            let among = plain_has place.drive there.first there.blocks (plain_listed host sizes ready memory volume at count place some there table) place.block count drive b from to here in
             absurd (cc (beside, among))
       ]) kept
 

@@ -1,9 +1,8 @@
 -- What a read and a write of blocks of a volume leave of a host's history.
-use Rattle.std.proofs.Common.{◌≡◌, inl, inr, ◌+◌, ◌<◌, ◌≤◌, ℕ, Bool, true, false, not, List, [], ◌∷◌, length, None, refl, sym, ◌∙◌, subst, arith}
+use Rattle.std.proofs.Common.{◌≡◌, inl, inr, ◌+◌, ◌<◌, ◌≤◌, ℕ, false, List, [], ◌∷◌, length, refl, sym, ◌∙◌, ap, subst, arith}
 use Rattle.std.proofs.lemmas.Bool.Decides.{nat_tests}
 use Rattle.std.proofs.lemmas.List.FromFn.{length-map-range_with_len, get_or-map-range_with_len}
-use Rattle.mdv_engine_law.specs.Below.{Answers, AreApart, AreWoken, Deed, Event, Flushes, HasRange, History, IoFault, Issues, IsMapOf, IsNewestIn, IsOpened, IsSettled, IsTableAt, Key, Map, Newest, OfVolume, Reads, Saw, Settling, Table, Tale, VolId, Wrote, area_of_map, history_after, history_after_all, log_of, range, run_map, values_reply, with_blocks}
-use Rattle.mdv_map.specs.Maps.{HasDriveBlock}
+use Rattle.mdv_engine_law.specs.Below.{Answers, AreApart, AreWoken, Deed, DriveBlock, Drives, Event, Flushes, HasRange, IsThere, Site, Version, History, IoFault, Issues, IsMapOf, IsNewestIn, IsOpened, IsSettled, IsTableAt, Key, Map, Newest, OfVolume, Reads, Saw, Settling, Table, Tale, VolId, Wrote, area_of_map, history_after, history_after_all, log_of, range, run_map, values_reply, with_blocks}
 use Rattle.mdv_map.specs.Requests.{AllOnDisk, AllRead, Rewriting}
 use Rattle.mdv_map.proofs.Covering.{runs_lie}
 use Rattle.mdv_shelf.specs.Calls.{Shows}
@@ -13,19 +12,21 @@ use Rattle.mdv_volumes.specs.Events.{VolumeEvent}
 use Rattle.mdv_volumes.specs.History.{woken_by}
 use Rattle.mdv_volumes.specs.HistoryLaws.{IsUpon, write_of}
 use Rattle.mdv_volumes.proofs.Runs.{runs_stand}
+use Rattle.mdv_volumes.proofs.Tables.{tables_lie}
 use Rattle.mdv_volumes.proofs.Transfers.{reads_go, writes_go}
-use Rattle.mdv_engine_law.specs.Awake.{AreFound}
+use Rattle.mdv_engine_law.specs.Awake.{AreFound, is_in}
 use Rattle.mdv_engine_law.specs.declared.answer.Answer.TheVariants.{Said}
 use Rattle.mdv_engine_law.specs.declared.answer.Outcome.TheVariants as outcome
 use Rattle.mdv_engine_law.specs.declared.host.Host.{Host}
 use Rattle.mdv_engine_law.specs.Home.{IsReady, StaysHome, key_of, site_of, sites_of}
-use Rattle.mdv_engine_law.specs.Line.{Memory, ToDo, ToSee, AreBlocksAt, IsSound, blocks_of, contents}
+use Rattle.mdv_engine_law.specs.Line.{Memory, ToDo, ToSee, AreBlocksAt, blocks_of, contents}
 use Rattle.mdv_engine_law.specs.Standing.{Goes, IsUnused, StandsAt, Reached, Knows, IsKnown, IsKnownAfter, CarryMoment, CarriedTo, is_up}
 use Rattle.mdv_engine_law.proofs.Beside.{IsPlain, of_home, on_plain, replica_within, opened_beside, table_opened}
 use Rattle.mdv_engine_law.proofs.Going.{happened, happened_stands}
 use Rattle.mdv_engine_law.proofs.Knowing.{known_on, newest_same, some_more}
 use Rattle.mdv_engine_law.proofs.Refusing.{IsFree, opened_has, knows_opened}
-use Rattle.mdv_engine_law.proofs.Sites.{own_site}
+use Rattle.mdv_engine_law.proofs.Sites.{only_site, own_site, plain_sites}
+use Rattle.mdv_engine_law.proofs.Writing.{put_by}
 use Rattle.mdv_shelf.proofs.Blocks.{both_ways}
 
 -- what happens to a volume, but for a boot's waking, leaves all counts
@@ -36,29 +37,29 @@ count_kept h key volume e keeps other beside = elim (both_ways (is_volume key vo
 ]
 
 -- blocks of a volume of the open database
-module _ (host : Host) (sizes : List ℕ) (ready : IsReady host sizes) (memory : Memory) (volume : VolId) (at count block : ℕ) (some : 0 < count) (there : AreBlocksAt host memory volume at count block) where
+module _ (host : Host) (sizes : List ℕ) (ready : IsReady host sizes) (memory : Memory) (volume : VolId) (at count : ℕ) (place : DriveBlock) (some : 0 < count) (there : AreBlocksAt host memory volume at count place) where
   abbrev newest : Newest
   newest = there.lies.0
 
   abbrev map : Map
-  map = run_map 0 there.first there.blocks
+  map = run_map place.drive there.first there.blocks
 
   is_opened : (t : Tale) → Knows host memory t → IsOpened (site_of host) newest t
   is_opened t knows = opened_has memory newest (λ n. IsOpened (site_of host) n t) there.lies.1 knows.opened
 
   -- they are all of them on a slice that isn't set aside for replicas, where the table is one of the table of drives
-  pub plain_listed : IsTableAt host.drives (with_blocks (site_of host).at newest.blocks).place newest.table → IsPlain host there.first there.blocks
-  plain_listed listed = on_plain host sizes ready newest listed volume there.first there.blocks there.lies.2
+  pub plain_listed : IsTableAt host.drives (with_blocks (site_of host).at newest.blocks).place newest.table → IsPlain host place.drive there.first there.blocks
+  plain_listed listed = on_plain host sizes ready newest listed volume place.drive there.first there.blocks there.lies.2
 
   -- and where the database is open
-  pub plain_blocks : (t : Tale) → Knows host memory t → IsPlain host there.first there.blocks
+  pub plain_blocks : (t : Tale) → Knows host memory t → IsPlain host place.drive there.first there.blocks
   plain_blocks t knows = plain_listed (table_opened host sizes ready newest t (is_opened t knows))
 
-  apart_from : (t : Tale) (size : ℕ) → Knows host memory t → 16 + size ≤ host.home.blocks → AreApart (range 0 block count) (range 0 (host.home.start + 16) size)
+  apart_from : (t : Tale) (size : ℕ) → Knows host memory t → 16 + size ≤ host.home.blocks → AreApart (range place.drive place.block count) (range host.home.drive.0 (host.home.start + 16) size)
   apart_from t size knows room =
-      let from : there.first ≤ block = (let is = there.block_is in omega arith) in
-      let to : block + count ≤ there.first + there.blocks = (let is = there.block_is in let within = there.within in omega arith) in
-      of_home host sizes ready there.first there.blocks (plain_blocks t knows) block count size from to room
+      let from : there.first ≤ place.block = (let is = there.block_is in omega arith) in
+      let to : place.block + count ≤ there.first + there.blocks = (let is = there.block_is in let within = there.within in omega arith) in
+      of_home host sizes ready place.drive there.first there.blocks (plain_blocks t knows) place.block count size from to room
 
   -- the history has them
   pub has_range : (h : History) (t : Tale) → IsKnown host memory h t → HasRange (sites_of host) h.databases (key_of host) volume at count
@@ -79,107 +80,107 @@ module _ (host : Host) (sizes : List ℕ) (ready : IsReady host sizes) (memory :
         within = there.within;
       }
 
-  module _ (sound : IsSound memory) where
-    -- a database is open only where the drive was read
-    drive_up : is_up host memory 0 ≡ true
-    drive_up = by memory.down refl where
-      by : (down : Bool) → memory.down ≡ down → not down ≡ true
-      by false is = refl
-      by true is = absurd (let closed : memory.opened ≡ None = sound is in let opened = there.lies.1 in cc (closed, opened))
+  -- the history has no other map of the volume
+  map_is : (h : History) (t : Tale) → IsKnown host memory h t → (v : Map) → IsThere (sites_of host) h.databases (key_of host) volume v → v ≡ map
+  map_is h t known v is =
+      let newest_is : IsNewestIn newest (log_of h.databases (key_of host)) = opened_has memory newest (λ n. IsNewestIn n (log_of h.databases (key_of host))) there.lies.1 known.newest in
+      let families : is.newest ∷ is.older ≡ newest_is.version ∷ newest_is.older = sym is.family ∙ newest_is.family in
+      let version : is.newest ≡ newest_is.version = cc (families) in
+      let table : is.newest.table ≡ newest.table = ap (λ (w : Version). w.table) version ∙ newest_is.table in
+      let lies : IsMapOf host.drives is.newest.table volume v = subst (λ (s : Site). IsMapOf s.drives is.newest.table volume v) (only_site host is.site is.is_site) is.map in
+      let placed = table_opened host sizes ready newest t (is_opened t known.knows) in
+      (tables_lie.laid (sites_of host) host.drives newest.table ready.sound (plain_sites host sizes ready) placed.of_geometry).one volume v map (subst (λ (x : Table). IsMapOf host.drives x volume v) table lies) there.lies.2
 
-    -- and one value of each was found
-    pub are_found : (h : History) (t : Tale) → IsKnown host memory h t → AreFound h (key_of host) volume at count
-    are_found h t known =
-        let woken : AreWoken (site_of host) newest.table (is_up host memory) h (key_of host) = opened_has memory newest (λ n. AreWoken (site_of host) n.table (is_up host memory) h (key_of host)) there.lies.1 known.woken in
-        let upon : IsUpon (is_up host memory) map = λ b drive at lt has. on_zero drive at b has in
-        let all : h.woken (key_of host) volume ≡ there.blocks = woken volume map there.lies.2 upon in
-        let within = there.within in omega (arith, all, within)
-      where
-        on_zero : (drive place b : ℕ) → HasDriveBlock (map.copies b) drive place → is_up host memory drive ≡ true
-        on_zero drive place b (inl is) = subst (λ (d : ℕ). is_up host memory d ≡ true) (sym is.0) drive_up
-        on_zero drive place b (inr none) = absurd none
+  -- and one value of each was found, where the last boot brought its drive up
+  pub are_found : (h : History) (t : Tale) → IsKnown host memory h t → AreFound (sites_of host) h (key_of host) volume at count
+  are_found h t known v is upon =
+      let woken : AreWoken (site_of host) newest.table (is_up memory) h (key_of host) = opened_has memory newest (λ n. AreWoken (site_of host) n.table (is_up memory) h (key_of host)) there.lies.1 known.woken in
+      let on : IsUpon (is_up memory) map = subst (λ (w : Map). IsUpon (is_up memory) w) (map_is h t known v is) (subst (λ (up : Drives). IsUpon (is_in up) v) known.up upon) in
+      let all : h.woken (key_of host) volume ≡ there.blocks = woken volume map there.lies.2 on in
+      let within = there.within in omega (arith, all, within)
 
-    -- they were read
-    pub saw : (t : Tale) (text : List ℕ) → text ≡ values_reply at (blocks_of (contents t 0) block count) → CarriedTo host (ToSee (key_of host) volume at count) memory (Said (outcome.Values text)) memory t t
-    unfolding has_range
-    saw t text is = record {
-      done = Saw (key_of host) volume at blocks ∷ [];
-      acks = inr (record { blocks = blocks; counted = counted; told = is; seen = refl });
-      goes = λ h known.
-          (let read = reads_go (sites_of host) h (key_of host) volume at blocks t (range_of h known) known.stands.stands (runs_stand.copies 0 there.first there.blocks at (length blocks)) (runs_stand.read 0 there.first there.blocks at blocks t shown) in
-          let event : Event = Reads (key_of host) volume at blocks in
-          let stands = happened_stands host [] [] [] t h (event ∷ []) read.happens known.stands.room (tt, tt) in
-          happened host [] [] [] t h (event ∷ []) read.happens known.stands.room (tt, tt) (λ es g. IsKnownAfter host (Saw (key_of host) volume at blocks ∷ []) (Said (outcome.Values text)) memory g t)
-          (subst (λ (n : ℕ). AreFound h (key_of host) volume at n) (sym counted) (are_found h t known), tt) tt (
-            known_on host memory h (history_after h event) t stands refl (λ other. refl) known,
-            read.untold,
-          ));
-      knows = λ knows. knows;
-    }
-      where
-        blocks : List (List ℕ)
-        blocks = blocks_of (contents t 0) block count
+  -- they were read
+  pub saw : (t : Tale) (text : List ℕ) → text ≡ values_reply at (blocks_of (contents t) place count) → CarriedTo host (ToSee (key_of host) volume at count) memory (Said (outcome.Values text)) memory t t
+  unfolding has_range
+  saw t text is = record {
+    done = Saw (key_of host) volume at blocks ∷ [];
+    acks = inr (record { blocks = blocks; counted = counted; told = is; seen = refl });
+    goes = λ h known.
+        (let read = reads_go (sites_of host) h (key_of host) volume at blocks t (range_of h known) known.stands.stands (runs_stand.copies place.drive there.first there.blocks at (length blocks)) (runs_stand.read place.drive there.first there.blocks at blocks t shown) in
+        let event : Event = Reads (key_of host) volume at blocks in
+        let stands = happened_stands host [] [] [] t h (event ∷ []) read.happens known.stands.room (tt, tt) in
+        happened host [] [] [] t h (event ∷ []) read.happens known.stands.room (tt, tt) (λ es g. IsKnownAfter host (Saw (key_of host) volume at blocks ∷ []) (Said (outcome.Values text)) memory g t)
+        (subst (λ (n : ℕ). AreFound (sites_of host) h (key_of host) volume at n) (sym counted) (are_found h t known), tt) tt (
+          known_on host memory h (history_after h event) t stands refl refl (λ other. refl) known,
+          read.untold,
+        ));
+    knows = λ knows. knows;
+  }
+    where
+      blocks : List (List ℕ)
+      blocks = blocks_of (contents t) place count
 
-        counted : length blocks ≡ count
-        counted = length-map-range_with_len (contents t 0) block count
+      counted : length blocks ≡ count
+      counted = length-map-range_with_len (contents t place.drive) place.block count
 
-        range_of : (h : History) → IsKnown host memory h t → HasRange (sites_of host) h.databases (key_of host) volume at (length blocks)
-        range_of h known = subst (λ (n : ℕ). HasRange (sites_of host) h.databases (key_of host) volume at n) (sym counted) (has_range h t known)
+      range_of : (h : History) → IsKnown host memory h t → HasRange (sites_of host) h.databases (key_of host) volume at (length blocks)
+      range_of h known = subst (λ (n : ℕ). HasRange (sites_of host) h.databases (key_of host) volume at n) (sym counted) (has_range h t known)
 
-        shown : Shows t 0 (there.first + at) blocks
-        shown k lt =
-            let within : k < count = subst (λ (n : ℕ). k < n) counted lt in
-            let is = there.block_is in
-            get_or-map-range_with_len (contents t 0) block count k ((there.first + at) + k) [] within (omega (arith, is))
+      shown : Shows t place.drive (there.first + at) blocks
+      shown k lt =
+          let within : k < count = subst (λ (n : ℕ). k < n) counted lt in
+          let is = there.block_is in
+          get_or-map-range_with_len (contents t place.drive) place.block count k ((there.first + at) + k) [] within (omega (arith, is))
 
 -- blocks of a volume that are written
-module _ (host : Host) (sizes : List ℕ) (ready : IsReady host sizes) (memory : Memory) (sound : IsSound memory) (volume : VolId) (at block : ℕ) (blocks : List (List ℕ)) (some : 0 < length blocks)
-    (there : AreBlocksAt host memory volume at (length blocks) block) (t m : Tale) (settling : Settling 0 block blocks t m) where
+module _ (host : Host) (sizes : List ℕ) (ready : IsReady host sizes) (memory : Memory) (volume : VolId) (at : ℕ) (place : DriveBlock) (blocks : List (List ℕ)) (some : 0 < length blocks)
+    (there : AreBlocksAt host memory volume at (length blocks) place) (t m : Tale) (settling : Settling place.drive place.block blocks t m) where
   abbrev wrote : Deed
   wrote = Wrote (key_of host) volume at blocks
 
-  same_block : block ≡ there.first + at
+  same_block : place.block ≡ there.first + at
   same_block = there.block_is
 
-  rewriting : Rewriting (run_map 0 there.first there.blocks) at blocks t m
-  rewriting = runs_stand.written 0 there.first there.blocks at blocks t m (subst (λ (b : ℕ). Settling 0 b blocks t m) same_block settling)
+  rewriting : Rewriting (run_map place.drive there.first there.blocks) at blocks t m
+  rewriting = runs_stand.written place.drive there.first there.blocks at blocks t m (subst (λ (b : ℕ). Settling place.drive b blocks t m) same_block settling)
 
   -- the unused blocks stay
   free_written : IsFree host memory t → IsFree host memory m
   free_written free drive b on unused x left =
       let kept = settling.outside drive b (outside drive b unused) in free drive b on unused x (kept.left x left) ∙ sym kept.last
     where
-      outside : (drive b : ℕ) → IsUnused host memory drive b → range 0 block (length blocks) drive b ≡ false
+      outside : (drive b : ℕ) → IsUnused host memory drive b → range place.drive place.block (length blocks) drive b ≡ false
       outside drive b unused =
-          let away : area_of_map (run_map 0 there.first there.blocks) drive b ≡ false = opened_has memory there.lies.0 (λ n. (other : VolId) (v : Map) → IsMapOf host.drives n.table other v → area_of_map v drive b ≡ false) there.lies.1 unused.free volume
-          (run_map 0 there.first there.blocks) there.lies.2 in
-          within there.first there.blocks drive b (sym (runs_lie.area 0 there.first there.blocks drive b) ∙ away) there.block_is there.within
+          let away : area_of_map (run_map place.drive there.first there.blocks) drive b ≡ false = opened_has memory there.lies.0 (λ n. (other : VolId) (v : Map) → IsMapOf host.drives n.table other v → area_of_map v drive b ≡ false) there.lies.1 unused.free volume
+          (run_map place.drive there.first there.blocks) there.lies.2 in
+          within place.drive place.block there.first there.blocks drive b (sym (runs_lie.area place.drive there.first there.blocks drive b) ∙ away) there.block_is there.within
         where
-          within : (first count drive b : ℕ) → range 0 first count drive b ≡ false → block ≡ first + at → at + length blocks ≤ count → range 0 block (length blocks) drive b ≡ false
-          within first count drive b away is fits = grind (arith, nat_tests)
+          within : (number block first count drive b : ℕ) → range number first count drive b ≡ false → block ≡ first + at → at + length blocks ≤ count → range number block (length blocks) drive b ≡ false
+          within number block first count drive b away is fits = grind (arith, nat_tests)
 
   -- what is known of the open database stays
   knows_written : Knows host memory t → Knows host memory m
   knows_written knows =
       let n = there.lies.0 in
-      let opened = is_opened host sizes ready memory volume at (length blocks) block some there t knows in
+      let opened = is_opened host sizes ready memory volume at (length blocks) place some there t knows in
       let within = replica_within host sizes ready n (table_opened host sizes ready n t opened) in
-      let apart = apart_from host sizes ready memory volume at (length blocks) block some there t n.blocks knows within in
-      knows_opened host memory n m there.lies.1 (opened_beside (site_of host) n (range 0 block (length blocks)) t m apart settling.outside opened) (free_written knows.unused)
+      let apart = apart_from host sizes ready memory volume at (length blocks) place some there t n.blocks knows within in
+      knows_opened host memory n m there.lies.1 (opened_beside (site_of host) n (range place.drive place.block (length blocks)) t m apart settling.outside opened) (free_written knows.unused)
 
   module _ (h : History) (known : IsKnown host memory h t) where
     abbrev own : HasRange (sites_of host) h.databases (key_of host) volume at (length blocks)
-    own = has_range host sizes ready memory volume at (length blocks) block some there h t known
+    own = has_range host sizes ready memory volume at (length blocks) place some there h t known
 
-    found : AreFound h (key_of host) volume at (length blocks)
-    found = are_found host sizes ready memory volume at (length blocks) block some there sound h t known
+    found : AreFound (sites_of host) h (key_of host) volume at (length blocks)
+    found = are_found host sizes ready memory volume at (length blocks) place some there h t known
 
     -- what was known is known
-    still : (g : History) → StandsAt host g m → (log_of g.databases (key_of host)).family ≡ (log_of h.databases (key_of host)).family → ((other : VolId) → g.woken (key_of host) other ≡ h.woken (key_of host) other) → IsKnown host memory g m
-    still g stands same counts = record {
+    still : (g : History) → StandsAt host g m → (log_of g.databases (key_of host)).family ≡ (log_of h.databases (key_of host)).family → g.up ≡ h.up → ((other : VolId) → g.woken (key_of host) other ≡ h.woken (key_of host) other) → IsKnown host memory g m
+    still g stands same drives counts = record {
       stands = stands;
+      up = ap (λ (up : Key → Drives). up (key_of host)) drives ∙ known.up;
       newest = some_more memory.opened (λ n. IsNewestIn n (log_of h.databases (key_of host))) (λ n. IsNewestIn n (log_of g.databases (key_of host))) (λ n is. newest_same n (log_of h.databases (key_of host)) (log_of g.databases (key_of host)) same is) known.newest;
-      woken = some_more memory.opened (λ n. AreWoken (site_of host) n.table (is_up host memory) h (key_of host)) (λ n. AreWoken (site_of host) n.table (is_up host memory) g (key_of host))
+      woken = some_more memory.opened (λ n. AreWoken (site_of host) n.table (is_up memory) h (key_of host)) (λ n. AreWoken (site_of host) n.table (is_up memory) g (key_of host))
           (λ n are other v lies upon. counts other ∙ are other v lies upon) known.woken;
       knows = knows_written known.knows;
     }
@@ -190,7 +191,7 @@ module _ (host : Host) (sizes : List ℕ) (ready : IsReady host sizes) (memory :
     issued_known =
         let issued = writes_go.issued (sites_of host) h (key_of host) volume at blocks t m own known.stands.stands rewriting in
         let stands = happened_stands host [] (wrote ∷ []) [] m h (OfVolume (key_of host) volume (Issues at blocks) ∷ []) issued known.stands.room (tt, tt) in
-        still (history_after h (OfVolume (key_of host) volume (Issues at blocks))) stands refl (λ other. count_kept h (key_of host) volume (Issues at blocks) (λ n. refl) (key_of host) other)
+        still (history_after h (OfVolume (key_of host) volume (Issues at blocks))) stands refl refl (λ other. count_kept h (key_of host) volume (Issues at blocks) (λ n. refl) (key_of host) other)
 
     pub issued_by : (After : List Event → History → Type 0) → (IsKnown host memory (history_after h (OfVolume (key_of host) volume (Issues at blocks))) m → After (OfVolume (key_of host) volume (Issues at blocks) ∷ []) (history_after h (OfVolume (key_of host) volume (Issues at blocks))))
         → Goes host (wrote ∷ []) [] After m h
@@ -200,7 +201,7 @@ module _ (host : Host) (sizes : List ℕ) (ready : IsReady host sizes) (memory :
         happened host (wrote ∷ []) (wrote ∷ []) [] m h (OfVolume (key_of host) volume (Issues at blocks) ∷ []) issued known.stands.room (tt, tt) After (found, tt) (part_itself (wrote ∷ [])) (then issued_known)
 
     -- they are on the disk
-    pub written_by : AllRead (run_map 0 there.first there.blocks) at blocks m → AllOnDisk (run_map 0 there.first there.blocks) at (length blocks) m
+    pub written_by : AllRead (run_map place.drive there.first there.blocks) at blocks m → AllOnDisk (run_map place.drive there.first there.blocks) at (length blocks) m
         → Goes host (wrote ∷ []) [] (λ es g. IsKnownAfter host (wrote ∷ []) (Said outcome.Ok) memory g m) m h
     unfolding has_range
     written_by read on =
@@ -210,19 +211,19 @@ module _ (host : Host) (sizes : List ℕ) (ready : IsReady host sizes) (memory :
         let second = history_after first (OfVolume (key_of host) volume (Answers at blocks)) in
         let stands = happened_stands host [] (wrote ∷ []) [] m h es done.happens known.stands.room (tt, (tt, (tt, tt))) in
         happened host (wrote ∷ []) (wrote ∷ []) [] m h es done.happens known.stands.room (tt, (tt, (tt, tt))) (λ es g. IsKnownAfter host (wrote ∷ []) (Said outcome.Ok) memory g m) (found, (tt, (tt, tt))) (part_itself (wrote ∷ [])) (
-          still (history_after_all h es) stands refl (λ other.
+          still (history_after_all h es) stands refl refl (λ other.
               count_kept second (key_of host) volume (Flushes at (length blocks)) (λ n. refl) (key_of host) other ∙ count_kept first (key_of host) volume (Answers at blocks) (λ n. refl) (key_of host) other
               ∙ count_kept h (key_of host) volume (Issues at blocks) (λ n. refl) (key_of host) other),
           done.can_tell,
         )
 
   pub writing_moment : StaysHome host t m → CarryMoment host (ToDo wrote) memory t m
-  writing_moment home = record { home = home; within = inr (block, there, settling.outside); quiet = settling.quiet; goes = λ h known. issued_by h known Reached (λ is. tt) }
+  writing_moment home = record { home = home; within = inr (place, there, put_by place blocks t m settling); quiet = settling.quiet; goes = λ h known. issued_by h known Reached (λ is. tt) }
 
   -- they are on the disk, and the `ok` may be told
-  pub wrote_blocks : IsSettled 0 block blocks m → CarriedTo host (ToDo wrote) memory (Said outcome.Ok) memory t m
+  pub wrote_blocks : IsSettled place.drive place.block blocks m → CarriedTo host (ToDo wrote) memory (Said outcome.Ok) memory t m
   wrote_blocks settled =
-      let both = runs_stand.settled 0 there.first there.blocks at blocks m (subst (λ (b : ℕ). IsSettled 0 b blocks m) same_block settled) in
+      let both = runs_stand.settled place.drive there.first there.blocks at blocks m (subst (λ (b : ℕ). IsSettled place.drive b blocks m) same_block settled) in
       record { done = wrote ∷ []; acks = refl; goes = λ h known. written_by h known both.0 both.1; knows = knows_written }
 
   -- a call on the drive failed

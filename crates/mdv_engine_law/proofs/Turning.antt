@@ -198,7 +198,7 @@ pub entered_none : (host : Host) (memory : Memory) (entries : List Entry) (text 
 entered_none host memory entries text t = record {
   done = [];
   acks = refl;
-  goes = λ h known. goes_none host [] (λ es after. IsKnownAfter host [] (Said (outcome.Values text)) (record memory { entries = entries }) after t) t h known.stands (record { stands = known.stands; newest = known.newest; woken = known.woken; knows = still known.knows }, tt);
+  goes = λ h known. goes_none host [] (λ es after. IsKnownAfter host [] (Said (outcome.Values text)) (record memory { entries = entries }) after t) t h known.stands (record { stands = known.stands; newest = known.newest; up = known.up; woken = known.woken; knows = still known.knows }, tt);
   knows = still;
 }
   where

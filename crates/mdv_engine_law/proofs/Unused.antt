@@ -32,7 +32,7 @@ module _ (host : Host) (sizes : List ℕ) (ready : IsReady host sizes) where
       not_true (area_of (site_of host) drive block) (λ here. apart drive block here (second_of line.at.db (covers line.at.drive.0 line.at.start line.at.blocks drive block) found.4))
 
   -- what is done to the database leaves the unused blocks as they are
-  pub free_kept : (old next : Memory) (t m : Tale) → KeptOutside (area_of (site_of host)) t m → ((drive : ℕ) → is_up host next drive ≡ true → is_up host old drive ≡ true) → ((drive block : ℕ) → IsUnused host next drive block → IsUnused host old drive block)
+  pub free_kept : (old next : Memory) (t m : Tale) → KeptOutside (area_of (site_of host)) t m → ((drive : ℕ) → is_up next drive ≡ true → is_up old drive ≡ true) → ((drive block : ℕ) → IsUnused host next drive block → IsUnused host old drive block)
       → IsFree host old t → IsFree host next m
   free_kept old next t m kept up unused free drive block on is x left =
       let same = kept drive block (plain_outside drive block is.plain) in free drive block (up drive on) (unused drive block is) x (same.left x left) ∙ sym same.last

@@ -1,11 +1,33 @@
--- The blocks that a line may write, where more calls write none.
-use Rattle.std.proofs.Common.{inl, inr, refl}
+-- The blocks that a line may write, and those that it leaves, where more calls write none.
+use Rattle.std.proofs.Common.{inl, inr, ℕ, ◌+◌, ◌-◌, List, [], ◌∷◌, length, slice_index_or, refl, sym, ◌∙◌}
+use Rattle.mdv_map.proofs.Joining.{kept_is_old, old_or_new_more}
 use Rattle.mdv_shelf.proofs.Frame.{kept_outside_more}
-use Rattle.mdv_engine_law.specs.Below.{KeptOutside, nowhere, area_of, range, Changed, Created, Saw, Tale, Wrote}
+use Rattle.mdv_shelf.proofs.Settled.{synced_still}
+use Rattle.mdv_engine_law.specs.Below.{Command, Create, DriveBlock, IsSettled, KeptOutside, Read, Settling, Write, nowhere, area_of, range, Changed, Created, Saw, Tale, Wrote}
+use Rattle.mdv_words.specs.declared.command.Command.TheVariants.{MakeStripe}
 use Rattle.mdv_engine_law.specs.declared.host.Host.{Host}
 use Rattle.mdv_engine_law.specs.Home.{site_of}
 use Rattle.mdv_engine_law.specs.Line.{Ask, Memory, Nothing, ToDo, ToSee}
-use Rattle.mdv_engine_law.specs.Standing.{WritesOnly}
+use Rattle.mdv_engine_law.specs.Standing.{ArePutBy, LeavesDone, WritesOnly}
+
+module _ (place : DriveBlock) (blocks : List (List ℕ)) (t m : Tale) where
+  pub put_by : Settling place.drive place.block blocks t m → ArePutBy place blocks t m
+  put_by settling = record { inside = settling.inside; outside = settling.outside }
+
+  pub put_still : (u : Tale) → ArePutBy place blocks t u → KeptOutside nowhere u m → ArePutBy place blocks t m
+  put_still u put kept = record {
+    inside = λ block here.
+        let new = slice_index_or blocks (block - place.block) [] in
+        old_or_new_more t u m place.drive block new (put.inside block here) (kept_is_old u m place.drive block new (kept place.drive block refl));
+    outside = kept_outside_more (range place.drive place.block (length blocks)) t u m put.outside (λ drive block out. kept drive block refl);
+  }
+
+-- blocks that are on the disk stay there
+settled_still : (drive at : ℕ) (blocks : List (List ℕ)) (t m : Tale) → KeptOutside nowhere t m → IsSettled drive at blocks t → IsSettled drive at blocks m
+settled_still drive at blocks t m kept settled = record {
+  shows = λ k lt. settled.shows k lt ∙ sym (kept drive (at + k) refl).last;
+  synced = synced_still drive t m (λ block. kept drive block refl) settled.synced;
+}
 
 module _ (host : Host) (memory : Memory) where
   pub writes_none : (ask : Ask) (t m : Tale) → KeptOutside nowhere t m → WritesOnly host ask memory t m
@@ -21,6 +43,13 @@ module _ (host : Host) (memory : Memory) where
   writes_still (ToDo (Created key)) t u m writes kept = kept_outside_more (area_of (site_of host)) t u m writes (λ drive block out. kept drive block refl)
   writes_still (ToDo (Changed key change)) t u m writes kept = kept_outside_more (area_of (site_of host)) t u m writes (λ drive block out. kept drive block refl)
   writes_still (ToDo (Wrote key volume at blocks)) t u m (inl none) kept = inl (kept_outside_more nowhere t u m none kept)
-  writes_still (ToDo (Wrote key volume at blocks)) t u m (inr writes) kept = inr (writes.0, writes.1, kept_outside_more (range 0 writes.0 _) t u m writes.2 (λ drive block out. kept drive block refl))
+  writes_still (ToDo (Wrote key volume at blocks)) t u m (inr writes) kept = inr (writes.0, writes.1, put_still writes.0 blocks t m u writes.2 kept)
   writes_still (ToDo (Saw key volume at blocks)) t u m writes kept = kept_outside_more (area_of (site_of host)) t u m writes (λ drive block out. kept drive block refl)
   writes_still (ToSee key volume at count) t u m none kept = kept_outside_more nowhere t u m none kept
+
+  -- what a command left that was done
+  pub done_still : (command : Command) (t m : Tale) → KeptOutside nowhere t m → LeavesDone host memory command t → LeavesDone host memory command m
+  done_still (Create slice force) t m kept left = tt
+  done_still (MakeStripe volume slice) t m kept left = tt
+  done_still (Read volume at count) t m kept left = tt
+  done_still (Write volume at block) t m kept left = (left.0, left.1, settled_still left.0.drive left.0.block (block ∷ []) t m kept left.2)

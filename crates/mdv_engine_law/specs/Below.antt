@@ -1,7 +1,9 @@
 -- The words of the crates below in which this crate speaks, so that a file of it needs one line of import.
-pub use Rattle.mdv_base.specs.Causes.{Failures}
+pub use Rattle.mdv_base.specs.Causes.{Failures, failures_of}
 pub use Rattle.mdv_base.specs.Causes.{Rose}
 pub use Rattle.mdv_base.specs.Refusal.{refusal_text}
+pub use Rattle.mdv_base.specs.DriveSet.{Drives, has_drive, no_drives}
+pub use Rattle.mdv_base.specs.declared.drive.DriveNo.{DriveNo}
 pub use Rattle.mdv_base.specs.declared.drive.SliceName.{SliceName}
 pub use Rattle.mdv_base.specs.declared.mark.Identity.{Identity}
 pub use Rattle.mdv_base.specs.declared.mark.Mark.{Mark}
@@ -15,10 +17,13 @@ pub use Rattle.mdv_base.specs.declared.refusal.Refusal.TheVariants.{NoSuchVolume
 pub use Rattle.mdv_base.specs.declared.refusal.Refusal.TheVariants.{TooMany, WrongKind, WrongState}
 pub use Rattle.mdv_base.specs.declared.state_word.StateWord.{StateWord}
 pub use Rattle.mdv_base.specs.declared.state_word.StateWord.TheVariants.{Down}
+pub use Rattle.mdv_home.specs.Drives.{own_drives, sizes_of}
+pub use Rattle.mdv_home.specs.View.{own_view}
 pub use Rattle.mdv_home.specs.Home.{IsHome, IsSmall, line_of, place_of}
 pub use Rattle.mdv_home.specs.Placed.{IsHomeTable}
 pub use Rattle.mdv_map.specs.Maps.{DriveBlock, Map, area_of_map, run_map}
 pub use Rattle.mdv_name.specs.SliceIndex.{HasNoSlice, HasSlice}
+pub use Rattle.mdv_name.specs.declared.geometry.Geometry.{Geometry}
 pub use Rattle.mdv_name.specs.declared.slice_lines.SliceAt.{SliceAt}
 pub use Rattle.mdv_name.specs.declared.slice_lines.SliceLine.{SliceLine}
 pub use Rattle.mdv_record.specs.Text.{record_text}
@@ -32,7 +37,7 @@ pub use Rattle.mdv_replica.specs.declared.replica.Slot.TheVariants.{First, Secon
 pub use Rattle.mdv_shelf.specs.Area.{AreApart, Area, KeptOutside, joined, nowhere, range}
 pub use Rattle.mdv_shelf.specs.Calls.{OnReplies, and_then}
 pub use Rattle.mdv_shelf.specs.Moments.{Ends, Grew, Moments}
-pub use Rattle.mdv_shelf.specs.Settle.{IsSettled, IsSynced, Settling}
+pub use Rattle.mdv_shelf.specs.Settle.{IsOldOrNew, IsSettled, IsSynced, Settling}
 pub use Rattle.mdv_shelf.specs.Tale.{Among, Gave, IsImage, MayLeave, Tale, Then, covers, last, told}
 pub use Rattle.mdv_status.specs.Telling.{Said, lacks, left_in, one_reply, refused, replies_in, said_in, unsaid, with_reply}
 pub use Rattle.mdv_status.specs.Values.{block_text, entries_reply, values_reply}
@@ -59,7 +64,7 @@ pub use Rattle.mdv_volumes.specs.Happening.{Adds, HasRange, IsCourse, IsIssue, I
 pub use Rattle.mdv_volumes.specs.Histories.{Happens, Stands}
 pub use Rattle.mdv_volumes.specs.History.{Acknowledges, Boots, Changed, Crashes, Created, Creation, Deed, Event, History, OfDatabase, OfVolume, Reads, Saw, Shows, Stops, Wrote}
 pub use Rattle.mdv_volumes.specs.History.{history_after, history_after_all}
-pub use Rattle.mdv_volumes.specs.HistoryLaws.{AreSitesApart, AreWoken, CanTell}
+pub use Rattle.mdv_volumes.specs.HistoryLaws.{AreSitesApart, AreWoken, CanTell, IsUpon}
 pub use Rattle.mdv_volumes.specs.Tables.{ArePlain, IsMapOf, IsSite, Sites}
 pub use Rattle.mdv_words.specs.declared.command.Command.{Command}
 pub use Rattle.mdv_words.specs.declared.command.Command.TheVariants.{Create, Read, Write}

@@ -1,6 +1,6 @@
 -- What a command comes to, and a line.
 use Rattle.std.specs.Prelude.{◌≡◌, ◌+◌, ◌<◌, ◌≤◌, ◌^◌, ℕ, List, [], ◌∷◌, length, Some, None}
-use Rattle.mdv_engine_law.specs.Below.{Failures, Refusal, BadLine, IoFault, OutOfMemory, TooMany, entries_reply, values_reply, Entry, IsTab, MakeStripe, Command, Create, Read, Write, Line, Newest}
+use Rattle.mdv_engine_law.specs.Below.{DriveBlock, Refusal, BadLine, IoFault, OutOfMemory, TooMany, entries_reply, values_reply, Entry, IsTab, MakeStripe, Command, Create, Read, Write, Line, Newest}
 use Rattle.mdv_store_law.specs.Standing.{IsReplicaMade}
 use Rattle.mdv_tab.specs.Text.{IsFaultOf}
 use Rattle.mdv_tab.specs.declared.read.TabFault.TheVariants as fault
@@ -13,6 +13,7 @@ use Rattle.mdv_engine_law.specs.declared.answer.Ended.{Ended}
 use Rattle.mdv_engine_law.specs.declared.answer.Ended.TheVariants as ended
 use Rattle.mdv_engine_law.specs.declared.host.Host.{Host}
 use Rattle.mdv_engine_law.specs.Answers.{accepted, refusing, telling}
+use Rattle.mdv_engine_law.specs.Failing.{AreCalm, FailedOn, Outcomes}
 use Rattle.mdv_engine_law.specs.Home.{site_of, identity_of}
 use Rattle.mdv_engine_law.specs.Line.{Kept, IsSameBeside, Stays, IsCreated, IsUncreated, IsUnbegun, IsCommitted, IsSame, AreBlocksAt, ArePut, MayBePut, IsRebooted, IsTurnedDown, blocks_of, on_site}
 use Rattle.mdv_engine_law.specs.Refusals.{Case, IsUnopposed, refusal_of}
@@ -32,16 +33,16 @@ Effect host kept (Create slice force) answer next = (answer ≡ accepted) × IsC
 Effect host kept (command.MakeStripe volume slice) answer next =
     (answer ≡ accepted) × (newest : Newest) × (kept.memory.opened ≡ Some newest) × (newest.mark.count + 1 < 2 ^ 63) × IsCommitted host newest (table_after host.drives (MakeStripe volume slice) newest.table) kept next
 Effect host kept (Read volume at count) answer next =
-    (block : ℕ) × AreBlocksAt host kept.memory volume at count block × (answer ≡ telling (values_reply at (blocks_of (kept.content 0) block count))) × Stays kept next
+    (from : DriveBlock) × AreBlocksAt host kept.memory volume at count from × (answer ≡ telling (values_reply at (blocks_of kept.content from count))) × Stays kept next
 Effect host kept (Write volume at block) answer next =
-    (place : ℕ) × AreBlocksAt host kept.memory volume at 1 place × (answer ≡ accepted) × (next.memory ≡ kept.memory) × ArePut place (block ∷ []) kept.content next.content
+    (place : DriveBlock) × AreBlocksAt host kept.memory volume at 1 place × (answer ≡ accepted) × (next.memory ≡ kept.memory) × ArePut place (block ∷ []) kept.content next.content
 
--- What is left where a call on the drive failed and the line tells it. A change that can't be committed ends the run instead.
-abbrev pub Fault : Host → Kept → Command → Kept → Type 0
-Fault host kept (Create slice force) next = IsUncreated host kept next
-Fault host kept (command.MakeStripe volume slice) next = ⊥
-Fault host kept (Read volume at count) next = Stays kept next
-Fault host kept (Write volume at block) next = (place : ℕ) × AreBlocksAt host kept.memory volume at 1 place × (next.memory ≡ kept.memory) × MayBePut place (block ∷ []) kept.content next.content
+-- What is left where a call on a drive failed and the line tells it: the drive of the database, or that of the blocks. A change that can't be committed ends the run instead.
+abbrev pub Fault : Outcomes → Host → Kept → Command → Kept → Type 0
+Fault calls host kept (Create slice force) next = FailedOn host.home.drive.0 calls × IsUncreated host kept next
+Fault calls host kept (command.MakeStripe volume slice) next = ⊥
+Fault calls host kept (Read volume at count) next = (place : DriveBlock) × FailedOn place.drive calls × AreBlocksAt host kept.memory volume at count place × Stays kept next
+Fault calls host kept (Write volume at block) next = (place : DriveBlock) × FailedOn place.drive calls × AreBlocksAt host kept.memory volume at 1 place × (next.memory ≡ kept.memory) × MayBePut place (block ∷ []) kept.content next.content
 
 -- What is left where memory was wanting. A table is judged before it is copied, and how long its record is behind that; a write takes none.
 abbrev pub Wanting : Host → Kept → Command → Kept → Type 0
@@ -52,20 +53,20 @@ Wanting host kept (Write volume at block) next = ⊥
 
 -- Why the run is over with a command: the one place is lost, whose new replica is there where a creation's format was answered, and each block that no
 -- replica may have reads as it did; or the count would reach its limit, and nothing was done.
-abbrev pub GivesUp : Failures → Host → Kept → Command → Ended → Kept → Type 0
-GivesUp failures host kept (Create slice force) (ended.Lost active listed) next = failures.some × (active ≡ 0) × (listed ≡ 1) × IsReplicaMade (site_of host) (identity_of host kept.memory.begun) (on_site (site_of host) next.content) × IsSameBeside (site_of host) kept.content next.content
-GivesUp failures host kept (command.MakeStripe volume slice) (ended.Lost active listed) next = failures.some × (active ≡ 0) × (listed ≡ 1) × IsSameBeside (site_of host) kept.content next.content
-GivesUp failures host kept (command.MakeStripe volume slice) ended.Spent next = failures.none × (newest : Newest) × (kept.memory.opened ≡ Some newest) × (2 ^ 63 ≤ newest.mark.count + 1) × Stays kept next
-GivesUp failures host kept command end next = ⊥
+abbrev pub GivesUp : Outcomes → Host → Kept → Command → Ended → Kept → Type 0
+GivesUp calls host kept (Create slice force) (ended.Lost active listed) next = FailedOn host.home.drive.0 calls × (active ≡ 0) × (listed ≡ 1) × IsReplicaMade (site_of host) (identity_of host kept.memory.begun) (on_site (site_of host) next.content) × IsSameBeside (site_of host) kept.content next.content
+GivesUp calls host kept (command.MakeStripe volume slice) (ended.Lost active listed) next = FailedOn host.home.drive.0 calls × (active ≡ 0) × (listed ≡ 1) × IsSameBeside (site_of host) kept.content next.content
+GivesUp calls host kept (command.MakeStripe volume slice) ended.Spent next = AreCalm calls × (newest : Newest) × (kept.memory.opened ≡ Some newest) × (2 ^ 63 ≤ newest.mark.count + 1) × Stays kept next
+GivesUp calls host kept command end next = ⊥
 
 -- What a command comes to, the same for all: the first cause refuses it, and nothing is done; memory is wanting; it is done; a call on the drive
 -- failed; or the run is over with it. No call failed where it is refused, wanting or done.
-pub data CameTo (failures : Failures) (host : Host) (kept : Kept) (command : Command) (answer : Answer) (next : Kept) : Type 0 where
-  refused : failures.none → (refusal : Refusal) → refusal_of (case_of host kept) command ≡ Some refusal → IsTurnedDown refusal kept answer next → CameTo failures host kept command answer next
-  wanting : failures.none → answer ≡ refusing OutOfMemory → Wanting host kept command next → CameTo failures host kept command answer next
-  done : failures.none → IsAllowed (case_of host kept) command → Effect host kept command answer next → CameTo failures host kept command answer next
-  faulted : failures.some → IsAllowed (case_of host kept) command → answer ≡ refusing IoFault → Fault host kept command next → CameTo failures host kept command answer next
-  over : (end : Ended) → IsAllowed (case_of host kept) command → answer ≡ Over end → GivesUp failures host kept command end next → CameTo failures host kept command answer next
+pub data CameTo (calls : Outcomes) (host : Host) (kept : Kept) (command : Command) (answer : Answer) (next : Kept) : Type 0 where
+  refused : AreCalm calls → (refusal : Refusal) → refusal_of (case_of host kept) command ≡ Some refusal → IsTurnedDown refusal kept answer next → CameTo calls host kept command answer next
+  wanting : AreCalm calls → answer ≡ refusing OutOfMemory → Wanting host kept command next → CameTo calls host kept command answer next
+  done : AreCalm calls → IsAllowed (case_of host kept) command → Effect host kept command answer next → CameTo calls host kept command answer next
+  faulted : IsAllowed (case_of host kept) command → answer ≡ refusing IoFault → Fault calls host kept command next → CameTo calls host kept command answer next
+  over : (end : Ended) → IsAllowed (case_of host kept) command → answer ≡ Over end → GivesUp calls host kept command end next → CameTo calls host kept command answer next
 
 -- why the lines of a `tab` block aren't kept: one begins an entry that is of no form; or they are too many bytes or entries
 abbrev pub IsTabRefusal : List ℕ → Refusal → Type 0
@@ -75,13 +76,13 @@ IsTabRefusal lines other = ⊥
 
 -- What a `tab` block with these lines comes to, by which no call is made on the drive: all its entries are kept in place of those before, and their number is
 -- told; it is refused, or memory is wanting, and the entries stay that were kept before.
-pub data KeepsTab (failures : Failures) (kept : Kept) (lines : List ℕ) (answer : Answer) (next : Kept) : Type 0 where
-  entered : failures.none → (entries : List Entry) → IsTab lines entries → answer ≡ telling (entries_reply (length entries)) → next.memory ≡ record kept.memory { entries = entries } → IsSame kept.content next.content → KeepsTab failures kept lines answer next
-  unfit : failures.none → (refusal : Refusal) → IsTabRefusal lines refusal → IsTurnedDown refusal kept answer next → KeepsTab failures kept lines answer next
-  unread : failures.none → answer ≡ refusing OutOfMemory → Stays kept next → KeepsTab failures kept lines answer next
+pub data KeepsTab (calls : Outcomes) (kept : Kept) (lines : List ℕ) (answer : Answer) (next : Kept) : Type 0 where
+  entered : AreCalm calls → (entries : List Entry) → IsTab lines entries → answer ≡ telling (entries_reply (length entries)) → next.memory ≡ record kept.memory { entries = entries } → IsSame kept.content next.content → KeepsTab calls kept lines answer next
+  unfit : AreCalm calls → (refusal : Refusal) → IsTabRefusal lines refusal → IsTurnedDown refusal kept answer next → KeepsTab calls kept lines answer next
+  unread : AreCalm calls → answer ≡ refusing OutOfMemory → Stays kept next → KeepsTab calls kept lines answer next
 
 -- what a line comes to, or a `tab` block
-abbrev pub ComesTo : Failures → Host → Kept → Line → Answer → Kept → Type 0
-ComesTo failures host kept words.Boot answer next = IsRebooted failures host kept answer next
-ComesTo failures host kept (words.Tab lines) answer next = KeepsTab failures kept lines answer next
-ComesTo failures host kept (words.Exec command) answer next = CameTo failures host kept command answer next
+abbrev pub ComesTo : Outcomes → Host → Kept → Line → Answer → Kept → Type 0
+ComesTo calls host kept words.Boot answer next = IsRebooted calls host kept answer next
+ComesTo calls host kept (words.Tab lines) answer next = KeepsTab calls kept lines answer next
+ComesTo calls host kept (words.Exec command) answer next = CameTo calls host kept command answer next

@@ -1,9 +1,9 @@
--- How many calls on the drive a line makes, and how many blocks it writes.
-use Rattle.std.specs.Prelude.{ℕ, ◌+◌, ◌≤◌, Bool, true, false, length, Option, Some, None}
+-- How many calls on the drives a line makes, and how many blocks it writes.
+use Rattle.std.specs.Prelude.{◌≡◌, ℕ, ◌+◌, ◌≤◌, Bool, true, false, length, Option, Some, None}
 use Rattle.mdv_shelf.specs.Everywhere.{Image}
 use Rattle.mdv_shelf.specs.Made.{Made, and_more}
-use Rattle.mdv_store_law.specs.Effort.{AdoptedBy, EmptyBy, LostBy, SpentBy, WantingBy, blocks_for}
-use Rattle.mdv_engine_law.specs.Below.{IoFault, OutOfMemory, record_text, Command, Create, Read, Write, Line, Newest}
+use Rattle.mdv_store_law.specs.Effort.{AdoptedBy, BroughtUpBy, EmptyBy, LostBy, SpentBy, WantingBy, blocks_for}
+use Rattle.mdv_engine_law.specs.Below.{Drives, IoFault, OutOfMemory, record_text, Command, Create, Read, Write, Line, Newest}
 use Rattle.mdv_words.specs.declared.command.Command.TheVariants.{MakeStripe}
 use Rattle.mdv_words.specs.Line as words
 use Rattle.mdv_engine_law.specs.declared.answer.Answer.{Answer}
@@ -11,10 +11,12 @@ use Rattle.mdv_engine_law.specs.declared.answer.Answer.TheVariants.{Said, Over}
 use Rattle.mdv_engine_law.specs.declared.answer.Ended.TheVariants as ended
 use Rattle.mdv_engine_law.specs.declared.answer.Outcome.TheVariants as outcome
 use Rattle.mdv_engine_law.specs.declared.host.Host.{Host}
+use Rattle.mdv_engine_law.specs.Answers.{accepted}
+use Rattle.mdv_engine_law.specs.Failing.{Outcomes}
 use Rattle.mdv_engine_law.specs.Home.{site_of}
-use Rattle.mdv_engine_law.specs.Line.{Kept, Memory, on_site}
+use Rattle.mdv_engine_law.specs.Line.{Kept, Memory, home_calls, on_site}
 
--- the calls on the drive that a command makes: a creation formats a replica and writes its table, a change writes a table
+-- the calls on drives that a command makes: a creation formats a replica and writes its table, a change writes a table
 abbrev pub calls_of : Command → ℕ
 calls_of (Create slice force) = 12
 calls_of (MakeStripe volume slice) = 6
@@ -79,24 +81,34 @@ CommandCalls made command (Over (ended.Lost active listed)) opened = LossCalls m
 CommandCalls made command (Over ended.Spent) opened = NoCalls made
 CommandCalls made command (Over ended.Memory) opened = NoCalls made
 
--- the calls of a boot that opened this, or none, and read the drive or not
+-- the calls of a boot that opened this, or none, behind those that brought the drives up; and whether it has read the place
 abbrev pub OpenedBy : Made → Host → Image → Option Newest → Bool → Type 0
-OpenedBy made host content (Some newest) unread = AdoptedBy made (site_of host) (on_site (site_of host) content) newest
-OpenedBy made host content None false = EmptyBy made (site_of host) (on_site (site_of host) content)
-OpenedBy made host content None true = made.within 1 5 0
+OpenedBy made host content (Some newest) read = AdoptedBy made (site_of host) (on_site (site_of host) content) newest
+OpenedBy made host content None true = EmptyBy made (site_of host) (on_site (site_of host) content)
+OpenedBy made host content None false = made.within 0 3 0
 
--- and of a boot by its answer
-abbrev pub BootCalls : Made → Host → Answer → Memory → Image → Type 0
-BootCalls made host (Said this) memory content = OpenedBy made host content memory.opened memory.down
-BootCalls made host (Over (ended.Lost active listed)) memory content = LostBy made (site_of host) (on_site (site_of host) content)
-BootCalls made host (Over ended.Spent) memory content = SpentBy made (site_of host) (on_site (site_of host) content)
-BootCalls made host (Over ended.Memory) memory content = WantingBy made (site_of host) (on_site (site_of host) content)
+-- and of a boot by its answer, behind those
+abbrev pub PlaceCalls : Made → Host → Answer → Bool → Memory → Image → Type 0
+PlaceCalls made host (Said this) read memory content = OpenedBy made host content memory.opened read
+PlaceCalls made host (Over (ended.Lost active listed)) read memory content = LostBy made (site_of host) (on_site (site_of host) content)
+PlaceCalls made host (Over ended.Spent) read memory content = SpentBy made (site_of host) (on_site (site_of host) content)
+PlaceCalls made host (Over ended.Memory) read memory content = WantingBy made (site_of host) (on_site (site_of host) content)
+
+-- A boot reads a block of each of the host's own drives and syncs it, unless the read failed, and then makes those at its place, which it has read unless a call on its drive failed.
+pub record BootCalls (calls : Outcomes) (made : Made) (host : Host) (answer : Answer) (memory : Memory) (content : Image) : Type 0 where
+  pub up : Drives
+  pub brought : ℕ
+  pub tied : answer ≡ accepted → up ≡ memory.up
+  pub by : BroughtUpBy host.own up brought
+  pub read : Bool
+  pub unread : read ≡ false → (home_calls host calls).some
+  pub place : PlaceCalls (and_more brought made) host answer read memory content
 
 -- and of a line, or a block of entries, which makes none
-abbrev pub LineCalls : Made → Host → Kept → Line → Answer → Kept → Type 0
-LineCalls made host kept words.Boot answer next = BootCalls made host answer next.memory kept.content
-LineCalls made host kept (words.Tab lines) answer next = NoCalls made
-LineCalls made host kept (words.Exec command) answer next = CommandCalls made command answer next.memory.opened
+abbrev pub LineCalls : Outcomes → Made → Host → Kept → Line → Answer → Kept → Type 0
+LineCalls calls made host kept words.Boot answer next = BootCalls calls made host answer next.memory kept.content
+LineCalls calls made host kept (words.Tab lines) answer next = NoCalls made
+LineCalls calls made host kept (words.Exec command) answer next = CommandCalls made command answer next.memory.opened
 
 -- with the one call of its reply, where it has one
 abbrev pub replied_to : Answer → Made → Made

@@ -1,7 +1,7 @@
--- A host: its table of drives, where its database lies, and the blocks that its run may touch.
-use Rattle.std.specs.Prelude.{◌≡◌, ◌<◌, ◌^◌, ℕ, not, ◌&&◌, List, [], ◌∷◌, Some, None, if◌then◌else◌}
+-- A host: what it sees of the table of drives, where its database lies, and the blocks that its run may touch.
+use Rattle.std.specs.Prelude.{◌≡◌, ◌<◌, ◌^◌, ℕ, not, ◌&&◌, List, Some, None, if◌then◌else◌}
 use Rattle.std.specs.List.{list_any}
-use Rattle.mdv_engine_law.specs.Below.{Identity, Key, Local, Sites, same_key, IsHomeTable, IsHome, IsSmall, place_of, Site, area_of, SliceLine, Area, joined, KeptOutside, Tale, covers, IsSound}
+use Rattle.mdv_engine_law.specs.Below.{Geometry, Identity, Key, Local, Sites, same_key, IsHomeTable, IsSmall, own_drives, own_view, place_of, sizes_of, Site, area_of, SliceLine, Area, joined, KeptOutside, Tale, covers, IsSound}
 use Rattle.mdv_engine_law.specs.declared.host.Host.{Host}
 
 -- the key of the host's own database
@@ -16,7 +16,7 @@ site_of host = record { drives = host.drives; key = key_of host; at = place_of h
 abbrev pub sites_of : Host → Sites
 sites_of host key = if same_key key (key_of host) then Some (site_of host) else None
 
--- the blocks of the slices that aren't set aside for replicas
+-- the blocks of the slices that aren't set aside for replicas, of those that the host sees
 abbrev pub plain_area : List SliceLine → Area
 plain_area slices drive block = list_any (λ line. not line.at.db && covers line.at.drive.0 line.at.start line.at.blocks drive block) slices
 
@@ -32,11 +32,14 @@ StaysHome host t m = KeptOutside (host_area host) t m
 abbrev pub identity_of : Host → ℕ → Identity
 identity_of host number = record { fresh = host.fresh; number = number }
 
--- the table of drives was read, it and the home are sound, the drives are the table's, and the word of the identities fits its type
+-- A table of drives was read, in which the host has its home; the host sees of it the slices on its own drives, and knows these; the drives are the
+-- table's, and the word of the identities fits its type.
 pub record IsReady (host : Host) (sizes : List ℕ) : Type 0 where
-  pub table : IsHomeTable host.drives host.home
+  pub table : Geometry
+  pub home : IsHomeTable table host.home
+  pub view : host.drives ≡ own_view table host.home.host
+  pub own : host.own ≡ own_drives table host.home.host
   pub sound : IsSound host.drives
-  pub home : IsHome host.drives host.home
   pub small : IsSmall host.home
   pub fresh : host.fresh < 2 ^ 64
-  pub drive : sizes ≡ host.home.drive_blocks ∷ []
+  pub drives : sizes ≡ sizes_of table

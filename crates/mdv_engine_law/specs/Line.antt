@@ -1,8 +1,9 @@
 -- What is kept from line to line, what a boot comes to, and what lines ask.
-use Rattle.std.specs.Prelude.{◌≡◌, ◌⊎◌, ◌+◌, ◌<◌, ◌≤◌, ◌^◌, ℕ, Bool, true, false, List, [], ◌∷◌, length, map, Option, Some, None, slice_index_or}
+use Rattle.std.specs.Prelude.{◌≡◌, ◌≢◌, ◌⊎◌, ◌+◌, ◌<◌, ◌≤◌, ◌^◌, ℕ, Bool, true, false, List, [], ◌∷◌, length, map, Option, Some, None, Contains, slice_index_or}
+use Rattle.std.specs.Bool.{MatchBool}
 use Rattle.std.specs.List.{range_with_len}
 use Rattle.mdv_shelf.specs.Everywhere.{Image}
-use Rattle.mdv_engine_law.specs.Below.{Failures, Mark, VolId, Refusal, record_text, Head, First, Second, IsSpareSlot, greatest, other_slot, room_of, shows, Tale, covers, last, MakeStripe, One, Table, Entry, Command, Create, Read, Write, Line, Site, Newest, IsReplica, IsFound, HasTable, IsNewestOf, area_of, adopted_newest, next_newest, rewritten, Key, Deed, Created, Changed, Wrote, IsMapOf, run_map}
+use Rattle.mdv_engine_law.specs.Below.{Failures, Mark, VolId, Refusal, record_text, Head, First, Second, IsSpareSlot, greatest, other_slot, room_of, shows, Tale, covers, last, MakeStripe, One, Table, Entry, Command, Create, Read, Write, Line, Site, Newest, IsReplica, IsFound, HasTable, IsNewestOf, area_of, adopted_newest, next_newest, no_drives, rewritten, Key, Deed, Created, Changed, Wrote, DriveBlock, DriveNo, Drives, has_drive, IsMapOf, run_map}
 use Rattle.mdv_store_law.specs.Adoptable.{IsAdoptable, IsHeaded}
 use Rattle.mdv_words.specs.declared.command.Command.TheVariants as command
 use Rattle.mdv_words.specs.Line as words
@@ -11,13 +12,15 @@ use Rattle.mdv_engine_law.specs.declared.answer.Answer.TheVariants.{Over}
 use Rattle.mdv_engine_law.specs.declared.answer.Ended.TheVariants as ended
 use Rattle.mdv_engine_law.specs.declared.host.Host.{Host}
 use Rattle.mdv_engine_law.specs.Answers.{accepted, refusing}
+use Rattle.mdv_engine_law.specs.Failing.{AreCalm, Outcomes}
 use Rattle.mdv_engine_law.specs.Home.{key_of, site_of, identity_of}
 
--- what an engine keeps in memory: the open database, whether a call on the drive failed in the last boot, how many
+-- what an engine keeps in memory: the open database, which drives the last boot brought up and whether no call failed in it, how many
 -- creations the run has begun, and the entries of the last `tab` block that was kept since that boot
 pub record Memory : Type 0 where
   pub opened : Option Newest
-  pub down : Bool
+  pub up : Drives
+  pub clean : Bool
   pub begun : ℕ
   pub entries : List Entry
 
@@ -39,7 +42,7 @@ kept_at memory t = record { memory = memory; content = contents t }
 
 -- before a boot there is nothing in memory but how many creations were begun
 abbrev pub unbooted : ℕ → Memory
-unbooted begun = record { opened = None; down = false; begun = begun; entries = [] }
+unbooted begun = record { opened = None; up = no_drives; clean = false; begun = begun; entries = [] }
 
 -- each block is as it was
 abbrev pub IsSame : Image → Image → Type 0
@@ -66,7 +69,7 @@ pub record IsNew (host : Host) (newest : Newest) : Type 0 where
 pub record IsCreated (host : Host) (kept next : Kept) : Type 0 where
   pub newest : Newest
   pub new : IsNew host newest
-  pub memory : next.memory ≡ record { opened = Some newest; down = false; begun = kept.memory.begun + 1; entries = kept.memory.entries }
+  pub memory : next.memory ≡ record kept.memory { opened = Some newest; begun = kept.memory.begun + 1 }
   pub head : Head
   pub identity : head.master.identity ≡ identity_of host kept.memory.begun
   pub content : IsNewestOf (site_of host) (on_site (site_of host) next.content) head newest
@@ -94,31 +97,31 @@ pub record IsCommitted (host : Host) (newest : Newest) (next_table : Table) (kep
   pub content : IsNewestOf (site_of host) (on_site (site_of host) next.content) head (next_newest newest next_table)
   pub beside : IsSameBeside (site_of host) kept.content next.content
 
--- so many blocks of the drive, from the first on
-abbrev pub blocks_of : (ℕ → List ℕ) → ℕ → ℕ → List (List ℕ)
-blocks_of content first count = map content (range_with_len first count)
+-- so many blocks of a drive, from this one on
+abbrev pub blocks_of : Image → DriveBlock → ℕ → List (List ℕ)
+blocks_of content from count = map (content from.drive) (range_with_len from.block count)
 
--- the open database has the volume, on so many blocks of the drive from the first on
-abbrev pub HasVolumeOn : Host → Memory → VolId → ℕ → ℕ → Type 0
-HasVolumeOn host memory volume first count = (newest : Newest) × (memory.opened ≡ Some newest) × IsMapOf host.drives newest.table volume (run_map 0 first count)
+-- the open database has the volume, on so many blocks of that drive from the first on
+abbrev pub HasVolumeOn : Host → Memory → VolId → ℕ → ℕ → ℕ → Type 0
+HasVolumeOn host memory volume drive first count = (newest : Newest) × (memory.opened ≡ Some newest) × IsMapOf host.drives newest.table volume (run_map drive first count)
 
--- the volume has these blocks, which lie on the drive from that one on
-pub record AreBlocksAt (host : Host) (memory : Memory) (volume : VolId) (at count block : ℕ) : Type 0 where
+-- the volume has these blocks, which lie on a drive from that one on
+pub record AreBlocksAt (host : Host) (memory : Memory) (volume : VolId) (at count : ℕ) (from : DriveBlock) : Type 0 where
   pub first : ℕ
   pub blocks : ℕ
-  pub lies : HasVolumeOn host memory volume first blocks
+  pub lies : HasVolumeOn host memory volume from.drive first blocks
   pub within : at + count ≤ blocks
-  pub block_is : block ≡ first + at
+  pub block_is : from.block ≡ first + at
 
--- the blocks there, on the first drive, are these, and all others as they were
-pub record ArePut (block : ℕ) (blocks : List (List ℕ)) (old new : Image) : Type 0 where
-  pub here : (k : ℕ) → k < length blocks → new 0 (block + k) ≡ slice_index_or blocks k []
-  pub elsewhere : (drive b : ℕ) → covers 0 block (length blocks) drive b ≡ false → new drive b ≡ old drive b
+-- the blocks there are these, and all others as they were
+pub record ArePut (from : DriveBlock) (blocks : List (List ℕ)) (old new : Image) : Type 0 where
+  pub here : (k : ℕ) → k < length blocks → new from.drive (from.block + k) ≡ slice_index_or blocks k []
+  pub elsewhere : (drive b : ℕ) → covers from.drive from.block (length blocks) drive b ≡ false → new drive b ≡ old drive b
 
--- each block there, on the first drive, is as it was, or as it was to be, and all others are as they were
-pub record MayBePut (block : ℕ) (blocks : List (List ℕ)) (old new : Image) : Type 0 where
-  pub here : (k : ℕ) → k < length blocks → (new 0 (block + k) ≡ old 0 (block + k)) ⊎ (new 0 (block + k) ≡ slice_index_or blocks k [])
-  pub elsewhere : (drive b : ℕ) → covers 0 block (length blocks) drive b ≡ false → new drive b ≡ old drive b
+-- each block there is as it was, or as it was to be, and all others are as they are
+pub record MayBePut (from : DriveBlock) (blocks : List (List ℕ)) (old new : Image) : Type 0 where
+  pub here : (k : ℕ) → k < length blocks → (new from.drive (from.block + k) ≡ old from.drive (from.block + k)) ⊎ (new from.drive (from.block + k) ≡ slice_index_or blocks k [])
+  pub elsewhere : (drive b : ℕ) → covers from.drive from.block (length blocks) drive b ≡ false → new drive b ≡ old drive b
 
 -- A replica that a boot found, and wrote anew under one more than the greatest number there; it wrote the first slot, where either might be.
 pub record IsRewritten (site : Site) (old new : Image) (newest : Newest) : Type 0 where
@@ -141,18 +144,37 @@ pub record IsUsedUp (site : Site) (content : Image) : Type 0 where
   pub shown : shows head ≡ true
   pub spent : 2 ^ 63 ≤ greatest head + 1
 
--- What a boot comes to, from what the drive's blocks hold: nothing else in memory than what it found and how many creations
--- were begun before. Where a call on the drive failed it is down, or lost, if there was a replica to adopt, and else neither; memory is
+-- Which drives a boot brought up, and whether no call failed in it: of the host's own drives all but those on which one failed, the place's drive aside, which may be
+-- up and have failed later; and no other.
+pub record IsUpBy (calls : Outcomes) (host : Host) (up : Drives) (clean : Bool) : Type 0 where
+  pub own : (drive : DriveNo) → Contains host.own drive → drive ≢ host.home.drive → MatchBool (has_drive up drive) (calls drive.0).none (calls drive.0).some
+  pub others : (drive : DriveNo) → (Contains host.own drive → ⊥) → (has_drive up drive ≡ false) × (calls drive.0).none
+  pub calm : MatchBool clean (AreCalm calls) ((drive : DriveNo) × Contains host.own drive × (calls drive.0).some)
+
+-- what is in memory behind a boot that was answered
+abbrev pub booted_with : Option Newest → Drives → Bool → ℕ → Memory
+booted_with opened up clean begun = record { opened = opened; up = up; clean = clean; begun = begun; entries = [] }
+
+-- how the calls on the drive of the host's database came out
+abbrev pub home_calls : Host → Outcomes → Failures
+home_calls host calls = calls host.home.drive.0
+
+-- no drive is used but the host's own
+abbrev pub AreOwnCalls : Host → Outcomes → Type 0
+AreOwnCalls host calls = (drive : DriveNo) → (Contains host.own drive → ⊥) → (calls drive.0).none
+
+-- What a boot comes to, from what the blocks of the database's drive hold: nothing else in memory than what it found, which drives are up, and how many creations
+-- were begun before. Where a call on that drive failed it is down, or lost, if there was a replica to adopt, and else neither; memory is
 -- wanting only where a head shows a table. A boot that is spent or wants memory has written nothing, and behind one that is lost each block that no replica may have reads as it did.
-pub data IsRebooted (failures : Failures) (host : Host) (kept : Kept) (answer : Answer) (next : Kept) : Type 0 where
-  adopted : failures.none → (newest : Newest) → answer ≡ accepted → next.memory ≡ record { opened = Some newest; down = false; begun = kept.memory.begun; entries = [] } → IsRewritten (site_of host) kept.content next.content newest
-      → IsRebooted failures host kept answer next
-  empty : failures.none → answer ≡ accepted → next.memory ≡ record { opened = None; down = false; begun = kept.memory.begun; entries = [] } → IsFound (site_of host) (on_site (site_of host) kept.content) None → IsSame kept.content next.content
-      → IsRebooted failures host kept answer next
-  down : failures.some → answer ≡ accepted → next.memory ≡ record { opened = None; down = true; begun = kept.memory.begun; entries = [] } → IsSame kept.content next.content → IsRebooted failures host kept answer next
-  lost : failures.some → IsAdoptable (site_of host) (on_site (site_of host) kept.content) → answer ≡ Over (ended.Lost 0 1) → IsSameBeside (site_of host) kept.content next.content → IsRebooted failures host kept answer next
-  spent : failures.none → answer ≡ Over ended.Spent → IsUsedUp (site_of host) kept.content → IsSame kept.content next.content → IsRebooted failures host kept answer next
-  wanting : failures.none → IsHeaded (site_of host) (on_site (site_of host) kept.content) → answer ≡ Over ended.Memory → IsSame kept.content next.content → IsRebooted failures host kept answer next
+pub data IsRebooted (calls : Outcomes) (host : Host) (kept : Kept) (answer : Answer) (next : Kept) : Type 0 where
+  adopted : (home_calls host calls).none → (newest : Newest) (up : Drives) (clean : Bool) → answer ≡ accepted → next.memory ≡ booted_with (Some newest) up clean kept.memory.begun → IsUpBy calls host up clean → has_drive up host.home.drive ≡ true
+      → IsRewritten (site_of host) kept.content next.content newest → IsRebooted calls host kept answer next
+  empty : (home_calls host calls).none → (up : Drives) (clean : Bool) → answer ≡ accepted → next.memory ≡ booted_with None up clean kept.memory.begun → IsUpBy calls host up clean → has_drive up host.home.drive ≡ true
+      → IsFound (site_of host) (on_site (site_of host) kept.content) None → IsSame kept.content next.content → IsRebooted calls host kept answer next
+  down : (home_calls host calls).some → (up : Drives) → answer ≡ accepted → next.memory ≡ booted_with None up false kept.memory.begun → IsUpBy calls host up false → IsSame kept.content next.content → IsRebooted calls host kept answer next
+  lost : (home_calls host calls).some → AreOwnCalls host calls → IsAdoptable (site_of host) (on_site (site_of host) kept.content) → answer ≡ Over (ended.Lost 0 1) → IsSameBeside (site_of host) kept.content next.content → IsRebooted calls host kept answer next
+  spent : (home_calls host calls).none → AreOwnCalls host calls → answer ≡ Over ended.Spent → IsUsedUp (site_of host) kept.content → IsSame kept.content next.content → IsRebooted calls host kept answer next
+  wanting : (home_calls host calls).none → AreOwnCalls host calls → IsHeaded (site_of host) (on_site (site_of host) kept.content) → answer ≡ Over ended.Memory → IsSame kept.content next.content → IsRebooted calls host kept answer next
 
 -- the first of the causes for which it is refused
 abbrev pub IsTurnedDown : Refusal → Kept → Answer → Kept → Type 0
@@ -182,7 +204,3 @@ abbrev pub deeds : Ask → List Deed
 deeds Nothing = []
 deeds (ToDo deed) = deed ∷ []
 deeds (ToSee key volume at count) = []
-
--- a database is open only where the last boot read its drive
-abbrev pub IsSound : Memory → Type 0
-IsSound memory = memory.down ≡ true → memory.opened ≡ None

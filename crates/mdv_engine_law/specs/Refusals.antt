@@ -20,12 +20,12 @@ abbrev pub is_plain : Option SliceAt → Bool
 is_plain None = false
 is_plain (Some at) = not at.db
 
--- A creation: no such slice; one for other uses; a drive that wasn't up in the last boot; no force; a database that is there; too few blocks.
+-- A creation: no such slice; one for other uses; a call that failed in the last boot, on whichever drive; no force; a database that is there; too few blocks.
 abbrev pub held_of_creation : Case → SliceName → Bool → List Refusal
 held_of_creation case slice force =
     where_so (not (is_some (slice_at case.host.drives.slices slice))) NoSuchSlice
     ++ (where_so (is_plain (slice_at case.host.drives.slices slice)) WrongKind
-    ++ (where_so case.memory.down (WrongState Down)
+    ++ (where_so (not case.memory.clean) (WrongState Down)
     ++ (where_so (not (is_some case.memory.opened) && not force) NeedForce
     ++ (where_so (is_some case.memory.opened) SliceInUse
     ++ where_so (nat_lt case.host.home.blocks 8208) TooSmall))))

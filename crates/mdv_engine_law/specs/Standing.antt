@@ -1,6 +1,6 @@
 -- How the drives stand with their history at each moment of a line.
-use Rattle.std.specs.Prelude.{◌≡◌, ◌⊎◌, ℕ, Bool, ◌≤◌, true, false, not, ◌&&◌, ◌==◌, List, [], ◌∷◌, ◌++◌, length, take, None, IfSome, Contains}
-use Rattle.mdv_engine_law.specs.Below.{Failures, Identity, KeptOutside, nowhere, range, Wrote, Tale, told, MayLeave, last, Line, area_of, VolId, Map, IsMapOf, area_of_map, ShowsNothing, IsOpened, IsNewestIn, History, Deed, Created, Event, history_after, log_of, Adds, AreWoken, CanTell}
+use Rattle.std.specs.Prelude.{◌≡◌, ◌⊎◌, ℕ, Bool, ◌-◌, ◌≤◌, true, false, List, [], ◌∷◌, ◌++◌, length, slice_index_or, take, None, IfSome, Contains}
+use Rattle.mdv_engine_law.specs.Below.{Command, Write, DriveBlock, DriveNo, Drives, has_drive, Identity, IsOldOrNew, IsSettled, KeptOutside, covers, nowhere, range, Wrote, Tale, told, MayLeave, last, Line, area_of, VolId, Map, IsMapOf, area_of_map, ShowsNothing, IsOpened, IsNewestIn, History, Deed, Created, Event, history_after, log_of, Adds, AreWoken, CanTell}
 use Rattle.mdv_store_law.specs.Machine as machine
 use Rattle.mdv_words.specs.Line as words
 use Rattle.mdv_shelf.specs.Calls.{OnDrive}
@@ -12,7 +12,8 @@ use Rattle.mdv_engine_law.specs.declared.answer.Answer.TheVariants.{Said, Over}
 use Rattle.mdv_engine_law.specs.declared.answer.Outcome.TheVariants as outcome
 use Rattle.mdv_engine_law.specs.declared.answer.Reply.{Reply}
 use Rattle.mdv_engine_law.specs.declared.host.Host.{Host}
-use Rattle.mdv_engine_law.specs.Awake.{Happening, HasBooted}
+use Rattle.mdv_engine_law.specs.Awake.{Happening, HasBooted, is_in}
+use Rattle.mdv_engine_law.specs.Failing.{Outcomes}
 use Rattle.mdv_engine_law.specs.Home.{StaysHome, key_of, plain_area, site_of, sites_of}
 use Rattle.mdv_engine_law.specs.Commands.{ComesTo}
 use Rattle.mdv_engine_law.specs.Efforts.{LineCalls, replied_to}
@@ -52,56 +53,63 @@ pub record OnlyReplied (failed : Type 0) (answer : Answer) (reply : Reply) (t u 
   pub replied : Replied failed answer reply t u
   pub kept : KeptOutside nowhere t u
 
--- a line that was carried out and replied to, with so many calls, of which one on the drive and the giving of its reply may have failed
-pub record Executed (drive : Failures) (replies : Type 0) (made : Made) (host : Host) (line : Line) (old new : Memory) (reply : Reply) (t u : Tale) : Type 0 where
+-- a line that was carried out and replied to, with so many calls, of which those on drives came out so, and the giving of its reply may have failed
+pub record Executed (calls : Outcomes) (replies : Type 0) (made : Made) (host : Host) (line : Line) (old new : Memory) (reply : Reply) (t u : Tale) : Type 0 where
   pub answer : Answer
-  pub carried : ComesTo drive host (kept_at old t) line answer (kept_at new u)
-  pub calls : LineCalls (replied_to answer made) host (kept_at old t) line answer (kept_at new u)
+  pub carried : ComesTo calls host (kept_at old t) line answer (kept_at new u)
+  pub effort : LineCalls calls (replied_to answer made) host (kept_at old t) line answer (kept_at new u)
   pub replied : Replied replies answer reply t u
 
--- whether a drive is the host's, and the last boot has read it
-abbrev pub is_up : Host → Memory → ℕ → Bool
-is_up host memory drive = drive == (site_of host).at.drive.0 && not memory.down
+-- whether the last boot brought the drive up
+abbrev pub is_up : Memory → ℕ → Bool
+is_up memory drive = is_in memory.up drive
 
 -- a block of a slice that isn't set aside for replicas, which no volume of the open database has
 pub record IsUnused (host : Host) (memory : Memory) (drive block : ℕ) : Type 0 where
   pub plain : plain_area host.drives.slices drive block ≡ true
   pub free : IfSome memory.opened (λ newest. (volume : VolId) (v : Map) → IsMapOf host.drives newest.table volume v → area_of_map v drive block ≡ false)
 
--- What is known of the drives between two lines: where no database is open and the last boot read the drive, nothing is
+-- What is known of the drives between two lines: where no database is open and no call failed in the last boot, nothing is
 -- there; where one is open, every crash leaves one and the same replica, with its newest table; and of an unused block on a drive that the last boot
--- has read a crash leaves what a read gives.
+-- brought up a crash leaves what a read gives.
 pub record Knows (host : Host) (memory : Memory) (t : Tale) : Type 0 where
-  pub nothing : memory.opened ≡ None → memory.down ≡ false → ShowsNothing (site_of host) t
+  pub nothing : memory.opened ≡ None → memory.clean ≡ true → ShowsNothing (site_of host) t
   pub opened : IfSome memory.opened (λ newest. IsOpened (site_of host) newest t)
-  pub unused : (drive block : ℕ) → is_up host memory drive ≡ true → IsUnused host memory drive block → (x : List ℕ) → MayLeave t drive block x → x ≡ last t drive block
+  pub unused : (drive block : ℕ) → is_up memory drive ≡ true → IsUnused host memory drive block → (x : List ℕ) → MayLeave t drive block x → x ≡ last t drive block
 
--- what is known of a history there: the open database's table is the newest of its log; and the last boot has found one value of each block of each of its
--- volumes on a drive that it has read, or the volume was made since
+-- what is known of a history there: the open database's table is the newest of its log; the last boot brought up what is in memory, and has found one value of each
+-- block of each volume on drives that it brought up, or the volume was made since
 pub record IsKnown (host : Host) (memory : Memory) (h : History) (t : Tale) : Type 0 where
   pub stands : StandsAt host h t
   pub newest : IfSome memory.opened (λ newest. IsNewestIn newest (log_of h.databases (key_of host)))
-  pub woken : IfSome memory.opened (λ newest. AreWoken (site_of host) newest.table (is_up host memory) h (key_of host))
+  pub up : h.up (key_of host) ≡ memory.up
+  pub woken : IfSome memory.opened (λ newest. AreWoken (site_of host) newest.table (is_up memory) h (key_of host))
   pub knows : Knows host memory t
 
--- a moment of a boot: nothing is told, nothing outside the replica's blocks is touched, and each history goes on with nothing asked, by events among which the boot begins
+-- a moment of a boot: nothing is told, nothing outside the replica's blocks is touched, and each history goes on with nothing asked, by events among which one boot begins that brings all of the
+-- host's own drives up
 pub record BootMoment (host : Host) (t m : Tale) : Type 0 where
   pub kept : KeptOutside (area_of (site_of host)) t m
   pub quiet : told m ≡ told t
-  pub goes : (h : History) → StandsAt host h t → Goes host [] [] (λ es after. HasBooted (key_of host) es) m h
+  pub goes : (h : History) → StandsAt host h t → Goes host [] [] (λ es after. (up : Drives) × HasBooted (key_of host) up es × ((drive : DriveNo) → Contains host.own drive → has_drive up drive ≡ true)) m h
 
 -- a boot that is answered, and leaves this in memory
 pub record BootedTo (host : Host) (memory : Memory) (t u : Tale) : Type 0 where
   pub kept : KeptOutside (area_of (site_of host)) t u
   pub quiet : told u ≡ told t
   pub knows : Knows host memory u
-  pub goes : (h : History) → StandsAt host h t → Goes host [] [] (λ es after. IsKnown host memory after u × HasBooted (key_of host) es) u h
+  pub goes : (h : History) → StandsAt host h t → Goes host [] [] (λ es after. IsKnown host memory after u × HasBooted (key_of host) memory.up es) u h
 
--- The blocks that a line which asks this may write, and all others are kept: a boot, a creation and a change those of the replica, a write its own, and a
--- read none.
+-- blocks are written there: each is as it was, or as it was to be, also behind a crash, and all others are kept
+pub record ArePutBy (place : DriveBlock) (blocks : List (List ℕ)) (t m : Tale) : Type 0 where
+  pub inside : (block : ℕ) → covers place.drive place.block (length blocks) place.drive block ≡ true → IsOldOrNew t m place.drive block (slice_index_or blocks (block - place.block) [])
+  pub outside : KeptOutside (range place.drive place.block (length blocks)) t m
+
+-- The blocks that a line which asks this may write, and all others are kept: a boot, a creation and a change those of the replica, a write its own, each of
+-- which is old or new, and a read none.
 abbrev pub WritesOnly : Host → Ask → Memory → Tale → Tale → Type 0
 WritesOnly host Nothing memory t m = KeptOutside (area_of (site_of host)) t m
-WritesOnly host (ToDo (Wrote key volume at blocks)) memory t m = KeptOutside nowhere t m ⊎ ((place : ℕ) × AreBlocksAt host memory volume at (length blocks) place × KeptOutside (range 0 place (length blocks)) t m)
+WritesOnly host (ToDo (Wrote key volume at blocks)) memory t m = KeptOutside nowhere t m ⊎ ((place : DriveBlock) × AreBlocksAt host memory volume at (length blocks) place × ArePutBy place blocks t m)
 WritesOnly host (ToDo other) memory t m = KeptOutside (area_of (site_of host)) t m
 WritesOnly host (ToSee key volume at count) memory t m = KeptOutside nowhere t m
 
@@ -110,6 +118,11 @@ abbrev pub LineWrites : Host → Line → Memory → Tale → Tale → Type 0
 LineWrites host words.Boot memory t m = WritesOnly host Nothing memory t m
 LineWrites host (words.Tab lines) memory t m = KeptOutside nowhere t m
 LineWrites host (words.Exec command) memory t m = WritesOnly host (asked_by host command) memory t m
+
+-- what a command leaves that was told `ok`: of a write its block on the disk, with all that the drive was given before
+abbrev pub LeavesDone : Host → Memory → Command → Tale → Type 0
+LeavesDone host memory (Write volume at block) u = (place : DriveBlock) × AreBlocksAt host memory volume at 1 place × IsSettled place.drive place.block (block ∷ []) u
+LeavesDone host memory other u = Unit {0}
 
 -- a moment while a line is carried out that asks this, with nothing told, and nothing done outside the host's blocks, nor outside those that it may write
 pub record CarryMoment (host : Host) (ask : Ask) (memory : Memory) (t m : Tale) : Type 0 where
@@ -156,24 +169,24 @@ pub record TellMoment (text : List ℕ) (t m : Tale) : Type 0 where
 
 -- By this moment of a line a front of the reply was told to what it came to, as the calls on the drive had come out by then, and the drive's blocks
 -- read as the line left them.
-pub record FrontTold (Comes : Failures → Kept → Answer → Kept → Type 0) (old : Memory) (t m : Moment) : Type 0 where
+pub record FrontTold (Comes : Outcomes → Kept → Answer → Kept → Type 0) (old : Memory) (t m : Moment) : Type 0 where
   pub answer : Answer
   pub next : Kept
-  pub came : Comes (FailuresBy t m (OnDrive 0)) (kept_at old t.tale) answer next
+  pub came : Comes (λ drive. FailuresBy t m (OnDrive drive)) (kept_at old t.tale) answer next
   pub count : ℕ
   pub is_told : told m.tale ≡ told t.tale ++ take count (text_of answer)
   pub shows : IsSame next.content (contents m.tale)
 
 -- nothing of a reply, or a front of the one to what the line came to
-abbrev pub TellsFront : (Failures → Kept → Answer → Kept → Type 0) → Memory → Moment → Moment → Type 0
+abbrev pub TellsFront : (Outcomes → Kept → Answer → Kept → Type 0) → Memory → Moment → Moment → Type 0
 TellsFront Comes old t m = (told m.tale ≡ told t.tale) ⊎ FrontTold Comes old t m
 
--- no database is open, and the last boot has read the drive
+-- no database is open, and no call failed in the last boot
 abbrev pub IsBare : Memory → Type 0
-IsBare memory = (memory.opened ≡ None) × (memory.down ≡ false)
+IsBare memory = (memory.opened ≡ None) × (memory.clean ≡ true)
 
 -- A moment of a line that asks this, and of its reply: at most a front of one reply is told, which acknowledges these deeds, and each
--- history goes on by telling them, with what the front lets the line begin. A creation is told only where no database was open, and the last boot had read the drive.
+-- history goes on by telling them, with what the front lets the line begin. A creation is told only where no database was open, and no call had failed in the last boot.
 pub record TurnMoment (host : Host) (ask : Ask) (old : Memory) (t m : Tale) : Type 0 where
   pub home : StaysHome host t m
   pub within : WritesOnly host ask old t m

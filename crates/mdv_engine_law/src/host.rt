@@ -1,11 +1,12 @@
-use mdv_home::Home;
+use mdv_home::{Home, OwnDrives};
 use mdv_name::Geometry;
 
-/// Whose run it is: the table of drives, where the host has its database, and the word that its databases'
-/// identities have.
+/// Whose run it is: what the host sees of the table of drives, which of the drives are its own, where it has its
+/// database, and the word that its databases' identities have.
 #[derive(Drop)]
 pub struct Host {
     pub drives: Geometry,
+    pub own: OwnDrives,
     pub home: Home,
     pub fresh: u64,
 }

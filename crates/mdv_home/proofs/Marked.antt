@@ -1,58 +1,43 @@
--- The slice that is set aside for replicas is the home's, where there is a home.
-use Rattle.std.proofs.Common.{◌≡◌, ◌≢◌, ℕ, true, sym, ◌∙◌, ap, subst, List, [], ◌∷◌}
+-- The slice that is set aside for a host's replicas is its home's, where it has a home.
+use Rattle.std.proofs.Common.{◌≡◌, ◌≢◌, ℕ, sym, ◌∙◌, ap, subst, List, Some}
 use Rattle.std.proofs.lemmas.List.Elements.{All-contains, All-contains_itself, All-weaker}
-use Rattle.std.specs.Prelude.{All, Contains}
-use Rattle.mdv_name.specs.declared.drive_line.DriveKind.{DriveKind}
-use Rattle.mdv_name.specs.declared.drive_line.DriveKind.TheVariants.{Own}
+use Rattle.std.specs.Prelude.{All, Contains, slice_get}
 use Rattle.mdv_name.specs.declared.drive_line.DriveLine.{DriveLine}
 use Rattle.mdv_name.specs.declared.geometry.Geometry.{Geometry}
 use Rattle.mdv_name.specs.declared.slice_lines.SliceLine.{SliceLine}
 use Rattle.mdv_home.specs.declared.geometry.Home.{Home}
-use Rattle.mdv_home.specs.Home.{IsHome, IsBeside, line_of}
+use Rattle.mdv_home.specs.Home.{IsHome, IsBeside, IsMarked, line_of}
 
-abbrev pub home_at : List ℕ → DriveLine → SliceLine → Home
-home_at host drive m = record { host = host; drive_blocks = drive.blocks; slice = m.name; start = m.at.start; blocks = m.at.blocks }
+abbrev pub home_at : List ℕ → ℕ → SliceLine → Home
+home_at host blocks m = record { host = host; drive = m.at.drive; drive_blocks = blocks; slice = m.name; start = m.at.start; blocks = m.at.blocks }
 
--- it lies on the host's own drive, the first, and no other slice is like it
-pub record IsChosen (host : List ℕ) (drive : DriveLine) (slices : List SliceLine) (m : SliceLine) : Type 0 where
-  pub owned : drive.kind ≡ Own m.name.drive host
-  pub first : m.at.drive ≡ record { 0 = 0 }
-  pub alone : All (λ line. line ≢ m → IsBeside line.at m.at) slices
+-- each other slice lies beside it
+abbrev pub StandsAlone : Geometry → List ℕ → SliceLine → Type 0
+StandsAlone table host m = All (λ line. line ≢ m → IsBeside table.drives host line m) table.slices
 
-module _ (table : Geometry) (host : List ℕ) (drive : DriveLine) (m : SliceLine) (hosts : table.hosts ≡ host ∷ []) (drives : table.drives ≡ drive ∷ []) (has : Contains table.slices m) (marked : m.at.db ≡ true) where
-  its_line : IsChosen host drive table.slices m → m ≡ line_of (home_at host drive m)
-  its_line chosen = λ i. record { name = m.name; at = record { drive = chosen.first i; start = m.at.start; blocks = m.at.blocks; db = marked i } }
+module _ (table : Geometry) (host : List ℕ) (m : SliceLine) (has : Contains table.slices m) (marked : IsMarked table.drives host m) where
+  its_line : (blocks : ℕ) → m ≡ line_of (home_at host blocks m)
+  its_line blocks = λ i. record { name = m.name; at = record { drive = m.at.drive; start = m.at.start; blocks = m.at.blocks; db = marked.db i } }
 
-  pub is_home : IsChosen host drive table.slices m → IsHome table (home_at host drive m)
-  is_home chosen =
-      let line = its_line chosen in
-      let beside : (other : SliceLine) → Contains table.slices other → other ≢ m → IsBeside other.at m.at = λ other in_table. All-contains (λ l. l ≢ m → IsBeside l.at m.at) table.slices other chosen.alone in_table in
+  pub is_home : (drive : DriveLine) → Contains table.hosts host → slice_get table.drives m.at.drive.0 ≡ Some drive → StandsAlone table host m → IsHome table (home_at host drive.blocks m)
+  is_home drive in_table place alone =
+      let line = its_line drive.blocks in
+      let beside : (other : SliceLine) → Contains table.slices other → other ≢ m → IsBeside table.drives host other m = λ other one_of. All-contains (λ l. l ≢ m → IsBeside table.drives host l m) table.slices other alone one_of in
       record {
-        hosts = hosts;
-        file = drive.file;
-        drives = drives ∙ ap (λ (k : DriveKind). let d : DriveLine = record { kind = k; blocks = drive.blocks; file = drive.file } in d ∷ []) chosen.owned;
+        host = in_table;
+        own = record { drive = marked.own.drive; place = marked.own.place; own = marked.own.own };
+        size = let drives : Some marked.own.drive ≡ Some drive = sym marked.own.place ∙ place in let same : marked.own.drive ≡ drive = cc (drives) in ap (λ (d : DriveLine). d.blocks) same;
         db = subst (Contains table.slices) line has;
-        others = subst (λ (l : SliceLine). (other : SliceLine) → Contains table.slices other → other ≢ l → IsBeside other.at l.at) line beside;
+        others = subst (λ (l : SliceLine). (other : SliceLine) → Contains table.slices other → other ≢ l → IsBeside table.drives host other l) line beside;
       }
 
-  module _ (h : Home) (home : IsHome table h) where
-    kind_is : drive.kind ≡ Own h.slice.drive h.host
-    kind_is =
-        let lists : drive ∷ [] ≡ record { kind = Own h.slice.drive h.host; blocks = h.drive_blocks; file = home.file } ∷ [] = sym drives ∙ home.drives in
-        cc (lists)
+  alone_in : (h : Home) → IsHome table h → h.host ≡ host → m ≡ line_of h → StandsAlone table host m
+  alone_in h home same is =
+      let others : (other : SliceLine) → Contains table.slices other → other ≢ line_of h → IsBeside table.drives host other (line_of h) =
+      subst (λ (x : List ℕ). (other : SliceLine) → Contains table.slices other → other ≢ line_of h → IsBeside table.drives x other (line_of h)) same home.others in
+      subst (λ (l : SliceLine). All (λ other. other ≢ l → IsBeside table.drives host other l) table.slices) (sym is) (All-weaker (Contains table.slices) (λ other. other ≢ line_of h → IsBeside table.drives host other (line_of h)) others table.slices (All-contains_itself table.slices))
 
-    chosen_at : m ≡ line_of h → IsChosen host drive table.slices m
-    chosen_at is =
-        let lists : h.host ∷ [] ≡ host ∷ [] = sym home.hosts ∙ hosts in
-        let same_host : h.host ≡ host = cc (lists) in
-        let same_name = ap (λ (l : SliceLine). l.name.drive) is in
-        record {
-          owned = cc (kind_is, same_host, same_name);
-          first = ap (λ (l : SliceLine). l.at.drive) is;
-          alone = subst (λ (l : SliceLine). All (λ other. other ≢ l → IsBeside other.at l.at) table.slices) (sym is) (All-weaker (Contains table.slices) (λ other. other ≢ line_of h → IsBeside other.at (line_of h).at) home.others table.slices (All-contains_itself table.slices));
-        }
-
-    pub always_chosen : (IsChosen host drive table.slices m → ⊥) → ⊥
-    always_chosen never =
-        let other : m ≢ line_of h = λ is. never (chosen_at is) in
-        cc (sym marked ∙ (home.others m has other).plain)
+  pub always_alone : (h : Home) → IsHome table h → h.host ≡ host → (StandsAlone table host m → ⊥) → ⊥
+  always_alone h home same never =
+      let other : m ≢ line_of h = λ is. never (alone_in h home same is) in
+      (home.others m has other).plain (subst (λ (x : List ℕ). IsMarked table.drives x m) (sym same) marked)

@@ -1,2 +1,4 @@
 pub mod Home
+pub mod Drives
+pub mod View
 pub mod Placed

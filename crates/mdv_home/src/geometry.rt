@@ -1,50 +1,45 @@
-ghost use Rattle.std.specs.Prelude.{◌≡◌, ◌≢◌, ◌↔◌, ◌-◌, min, [], ◌∷◌, true, All, Contains, IsTrue, IfSome, IfNone};
+ghost use Rattle.std.specs.Prelude.{◌≡◌, ◌≢◌, ◌↔◌, ◌-◌, min, All, Contains, IsTrue, IfSome, IfNone};
 ghost use Rattle.mdv_name.specs.declared.drive_line.DriveKind.TheVariants.{Own};
 ghost use Rattle.mdv_table.specs.Slices.{Overlap};
 ghost use Rattle.mdv_home.specs.declared.geometry.Home.{Home};
-ghost use Rattle.mdv_home.specs.Home.{IsHome, IsSmall, IsBeside, place_of};
+ghost use Rattle.mdv_home.specs.Home.{IsHome, IsSmall, IsBeside, IsMarked, LiesOnOwn, place_of};
 
-use mdv_base::{DriveName, DriveNo, Name, Place, SliceName};
-use mdv_name::{DriveKind, Geometry, SliceAt, SliceLine};
+use mdv_base::{DriveNo, Name, Place, SliceName};
+use mdv_name::{DriveKind, DriveLine, Geometry, SliceAt, SliceLine};
 use mdv_replica::{MAX_BLOCKS, PlaceAt};
 
 /// The first block of a replica, counted from its slice's.
 pub const FIRST_BLOCK: u32 = 16;
 
-// The number of a host's one drive.
-const DRIVE: DriveNo = DriveNo(0);
-
-/// Where a host keeps its state database: its one drive, and the one slice there that is set aside for
+/// Where a host keeps its state database: of the slices on its own drives the one that is set aside for
 /// replicas. Sizes are in blocks of 512 bytes, and the slice begins at block `start` of the drive.
 #[derive(Clone, Copy, Debug, PartialEq, Eq)]
 pub struct Home {
     pub host: Name,
+    pub drive: DriveNo,
     pub drive_blocks: u64,
     pub slice: SliceName,
     pub start: u64,
     pub blocks: u64,
 }
 
-/// The host's home, where the table has no other host and one drive, which is the host's own, and exactly
-/// one slice is marked `db`, with which no other slice shares a block.
+/// The host's home, where the host is one of the table's, exactly one slice on drives that are its own is
+/// marked `db`, and no other slice shares a block with that one.
 pub fn home_in(table: &Geometry, host: &[u8]) -> Option<Home>
     ensures value { IfSome result (λ h. IsHome table.now h × (h.host ≡ host.now)) }
     ensures none { IfNone result ((h : Home) → IsHome table.now h → h.host ≡ host.now → ⊥) }
 {
-    let name = only_host(table.hosts.as_slice(), host)?;
-    let [drive] = table.drives.as_slice() else {
-        return None;
-    };
+    let name = host_in(table.hosts.as_slice(), host)?;
+    let drives = table.drives.as_slice();
     let slices = table.slices.as_slice();
-    let marked = first_marked(slices)?;
-    if !is_owned(drive.kind, marked.name.drive, name)
-        || marked.at.drive != DRIVE
-        || !stands_alone(slices, &marked)
-    {
+    let marked = first_marked(slices, drives, name)?;
+    if !stands_alone(slices, &marked, drives, name) {
         return None;
     }
+    let drive = drives.get(marked.at.drive.0 as usize)?;
     Some(Home {
         host: name,
+        drive: marked.at.drive,
         drive_blocks: drive.blocks,
         slice: marked.name,
         start: marked.at.start,
@@ -52,49 +47,62 @@ pub fn home_in(table: &Geometry, host: &[u8]) -> Option<Home>
     })
 }
 
-// The table's one host, where it is this one.
-fn only_host(hosts: &[Name], host: &[u8]) -> Option<Name>
-    ensures value { IfSome result (λ name. (hosts.now ≡ name ∷ []) × (name ≡ host.now)) }
-    ensures none { IfNone result (hosts.now ≡ host.now ∷ [] → ⊥) }
+// The host of this name.
+fn host_in(hosts: &[Name], host: &[u8]) -> Option<Name>
+    ensures value { IfSome result (λ name. Contains hosts.now name × (name ≡ host.now)) }
+    ensures none { IfNone result (Contains hosts.now host.now → ⊥) }
 {
-    match hosts {
-        [name] if name.as_bytes() == host => Some(*name),
-        _ => None,
+    hosts.iter().find(|name| name.as_bytes() == host).copied()
+}
+
+// Whether the slice lies on a drive that is the host's own.
+fn lies_on_own(line: &SliceLine, drives: &[DriveLine], host: Name) -> bool
+    ensures { IsTrue result ↔ LiesOnOwn drives.now host line.now }
+{
+    match drives.get(line.at.drive.0 as usize) {
+        Some(drive) => is_owned(drive.kind, line, host),
+        None => false,
     }
 }
 
-// Whether it is the drive of this name, and the host's own.
-fn is_owned(kind: DriveKind, drive: DriveName, host: Name) -> bool
-    ensures { IsTrue result ↔ (kind ≡ Own drive host) }
+// Whether it is the slice's drive, and the host's own.
+fn is_owned(kind: DriveKind, line: &SliceLine, host: Name) -> bool
+    ensures { IsTrue result ↔ (kind ≡ Own line.now.name.drive host) }
 {
+    let drive = line.name.drive;
     kind == DriveKind::Own { drive, host }
 }
 
-// The first slice that is set aside for replicas.
-fn first_marked(slices: &[SliceLine]) -> Option<SliceLine>
-    ensures value { IfSome result (λ line. Contains slices.now line × (line.at.db ≡ true)) }
-    ensures none { IfNone result (All (λ line. line.at.db ≡ true → ⊥) slices.now) }
+// The first slice on the host's own drives that is set aside for replicas.
+fn first_marked(slices: &[SliceLine], drives: &[DriveLine], host: Name) -> Option<SliceLine>
+    ensures value { IfSome result (λ line. Contains slices.now line × IsMarked drives.now host line) }
+    ensures none { IfNone result (All (λ line. IsMarked drives.now host line → ⊥) slices.now) }
 {
-    slices.iter().find(|line| line.at.db).copied()
+    slices
+        .iter()
+        .find(|line| is_marked(line, drives, host))
+        .copied()
 }
 
-// Whether no other slice is set aside for replicas or shares a block with it.
-fn stands_alone(slices: &[SliceLine], marked: &SliceLine) -> bool
-    ensures { IsTrue result ↔ All (λ line. line ≢ marked.now → IsBeside line.at marked.now.at) slices.now }
+fn is_marked(line: &SliceLine, drives: &[DriveLine], host: Name) -> bool
+    ensures { IsTrue result ↔ IsMarked drives.now host line.now }
 {
-    slices.iter().all(|line| is_same_or_beside(line, marked))
+    line.at.db && lies_on_own(line, drives, host)
 }
 
-fn is_same_or_beside(line: &SliceLine, marked: &SliceLine) -> bool
-    ensures { IsTrue result ↔ (line.now ≢ marked.now → IsBeside line.now.at marked.now.at) }
+// Whether no other slice on the host's own drives is set aside for replicas, and none shares a block with it.
+fn stands_alone(slices: &[SliceLine], marked: &SliceLine, drives: &[DriveLine], host: Name) -> bool
+    ensures { IsTrue result ↔ All (λ line. line ≢ marked.now → IsBeside drives.now host line marked.now) slices.now }
 {
-    line == marked || is_beside(line.at, marked.at)
+    slices
+        .iter()
+        .all(|line| is_same_or_beside(line, marked, drives, host))
 }
 
-fn is_beside(at: SliceAt, marked: SliceAt) -> bool
-    ensures { IsTrue result ↔ IsBeside at marked }
+fn is_same_or_beside(line: &SliceLine, marked: &SliceLine, drives: &[DriveLine], host: Name) -> bool
+    ensures { IsTrue result ↔ (line.now ≢ marked.now → IsBeside drives.now host line.now marked.now) }
 {
-    !at.db && !share_a_block(at, marked)
+    line == marked || (!is_marked(line, drives, host) && !share_a_block(line.at, marked.at))
 }
 
 // Whether they overlap: the later one begins within the other, and has a block.
@@ -117,7 +125,7 @@ pub fn place_at(home: &Home) -> PlaceAt
             start: FIRST_BLOCK,
             blocks: replica_blocks(home.blocks),
         },
-        drive: DRIVE,
+        drive: home.drive,
         first: home.start + u64::from(FIRST_BLOCK),
         index: 0,
         count: 1,

@@ -1,11 +1,14 @@
-//! Where a host has its state database: on the one slice of its one drive that is set aside for
+//! Where a host has its state database: on the one slice of its own drives that is set aside for
 //! replicas.
 #![tactic(auto)]
 
+mod drives;
 mod geometry;
 mod law;
 
+pub use drives::{OwnDrives, has_drives};
 pub use geometry::{FIRST_BLOCK, Home, home_in, place_at};
 pub use law::{
-    homes_are_one, homes_are_small, plain_slices_apart, slices_are_apart, slices_are_within,
+    drives_are_own, homes_are_apart, homes_are_one, homes_are_small, plain_slices_apart,
+    slices_are_apart, slices_are_within, views_are_own,
 };

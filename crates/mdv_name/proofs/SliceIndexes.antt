@@ -1,8 +1,9 @@
 -- The slice that a map's place leads to.
-use Rattle.std.proofs.Common.{◌≡◌, ◌<◌, ℕ, refl, sym, ◌∙◌, ap, subst, List, [], ◌∷◌, ◌++◌, length, map, cond, Option, None, Some, Contains, arith, nat_cmp}
+use Rattle.std.proofs.Common.{◌≡◌, ◌<◌, ℕ, refl, sym, ◌∙◌, ap, subst, List, [], ◌∷◌, ◌++◌, length, map, cond, take, Bool, Option, None, Some, Contains, arith, nat_cmp}
 use Rattle.std.proofs.lemmas.Option.{slice_get_within, get_or_from_slice_get, slice_get-get_or}
-use Rattle.std.proofs.lemmas.List.Elements.{All-push}
-use Rattle.std.proofs.lemmas.List.{map-append, length-map}
+use Rattle.std.proofs.lemmas.List.Elements.{All-contains, All-contains_itself, All-filter, All-push}
+use Rattle.std.proofs.lemmas.List.{get_or-take, length-take-le, map-append, length-map}
+use Rattle.std.specs.List.{filter}
 use Rattle.std.specs.Prelude.{slice_get}
 use Rattle.std.specs.Option.{option_map}
 use Rattle.std.specs.BTreeMap.{BTreeMap, get, is_at}
@@ -55,3 +56,26 @@ IsSliceIndex-push places new lines line index form fresh updated =
       forms = All-push (λ (l : SliceLine). IsSliceName l.name) lines line index.forms form;
       found = subst (HasPlaces new) (sym (map-append code_of lines (line ∷ []))) (HasPlaces-push places new codes (slice_code line.name) index.found none (λ q. updated q ∙ ap (λ (n : ℕ). cond (is_at (nat_cmp (slice_code line.name)) q) (Some n) (get nat_cmp places q)) (sym (length-map lines code_of))));
     }
+
+-- a slice's name stands at one place
+pub one_place : (places : BTreeMap ℕ ℕ) (lines : List SliceLine) (j k : ℕ) (a b : SliceLine) → IsSliceIndex places lines → slice_get lines j ≡ Some a → slice_get lines k ≡ Some b → a.name ≡ b.name → j ≡ k
+one_place places lines j k a b index first second same =
+    let one = index.found.known (slice_code a.name) j (slice_get-map code_of lines j ∙ ap (option_map code_of) first) in
+    let two = index.found.known (slice_code b.name) k (slice_get-map code_of lines k ∙ ap (option_map code_of) second) in
+    let both : Some j ≡ Some k = sym one ∙ ap (λ (n : SliceName). get nat_cmp places (slice_code n)) same ∙ two in
+    cc (both)
+
+in_front : {X : Type 0} (k : ℕ) (xs : List X) (x : X) → k < length xs → Contains (take k xs) x → (j : ℕ) × (j < k) × (slice_get xs j ≡ Some x)
+in_front k xs x lt has =
+    let less : has.0 < k = omega (arith, has.1, length-take-le k xs (omega (arith, lt))) in
+    (has.0, less, slice_get-get_or xs has.0 x (omega (arith, less, lt)) ∙ ap (λ y. Some y) (sym (get_or-take k xs has.0 x less) ∙ has.2))
+
+-- so none of those in front of it has it, whichever of them are looked at
+pub fresh_at : (places : BTreeMap ℕ ℕ) (lines : List SliceLine) (test : SliceLine → Bool) (k : ℕ) (line : SliceLine) → IsSliceIndex places lines → slice_get lines k ≡ Some line
+    → (at : SliceAt) → Contains (filter test (take k lines)) (record { name = line.name; at = at }) → ⊥
+fresh_at places lines test k line index here at has =
+    let front = take k lines in
+    let among : Contains front (record { name = line.name; at = at }) = All-contains (Contains front) (filter test front) (record { name = line.name; at = at }) (All-filter test (Contains front) front (All-contains_itself front)) has in
+    let other = in_front k lines (record { name = line.name; at = at }) (slice_get_within lines k line here) among in
+    let same = one_place places lines other.0 k (record { name = line.name; at = at }) line index other.2 here refl in
+    omega (arith, other.1, same)

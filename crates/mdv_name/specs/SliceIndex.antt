@@ -1,6 +1,8 @@
 -- The map beside the list of slices.
-use Rattle.std.specs.Prelude.{ℕ, Bool, ◌==◌, ◌&&◌, if◌then◌else◌, Option, None, Some, List, [], ◌∷◌, map, All, Contains}
+use Rattle.std.specs.Prelude.{ℕ, Bool, ◌==◌, ◌&&◌, if◌then◌else◌, Option, None, Some, List, [], ◌∷◌, filter, map, All, Contains}
+use Rattle.std.specs.List.{list_any}
 use Rattle.std.specs.BTreeMap.{BTreeMap}
+use Rattle.mdv_base.specs.declared.drive.DriveNo.{DriveNo}
 use Rattle.mdv_base.specs.declared.drive.SliceName.{SliceName}
 use Rattle.mdv_name.specs.declared.slice_lines.SliceAt.{SliceAt}
 use Rattle.mdv_name.specs.declared.slice_lines.SliceLine.{SliceLine}
@@ -30,3 +32,11 @@ slice_at (line ∷ lines) name = if same_slice line.name name then Some line.at 
 pub record IsSliceIndex (places : BTreeMap ℕ ℕ) (lines : List SliceLine) : Type 0 where
   pub forms : All (λ l. IsSliceName l.name) lines
   pub found : HasPlaces places (map code_of lines)
+
+-- the drive is one of these
+abbrev pub is_among : List DriveNo → DriveNo → Bool
+is_among drives drive = list_any (λ d. d.0 == drive.0) drives
+
+-- the slices that lie on these drives
+abbrev pub slices_on : List DriveNo → List SliceLine → List SliceLine
+slices_on drives lines = filter (λ line. is_among drives line.at.drive) lines

@@ -12,9 +12,6 @@ use std::alloc::{AllocError, Global};
 use std::collections::BTreeMap;
 use std::marker::Model;
 
-/// The most drives that a table of drives has, mediators included.
-pub const MAX_DRIVES: usize = 256;
-
 /// The drives in the order of their lines, at most 256: their places are their numbers. An ordered
 /// map beside the list finds a drive by its name in logarithmic time, and a list of names the hosts
 /// of mediators.

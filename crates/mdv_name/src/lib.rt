@@ -24,7 +24,7 @@ mod volume;
 
 pub use drive::{parse_drive, parse_plain_slice, spelled_alike};
 pub use drive_line::{DriveKind, DriveLine};
-pub use drive_list::{DriveList, MAX_DRIVES};
+pub use drive_list::DriveList;
 pub use file_name::FileName;
 pub use geometry::{Geometry, GeometryFault};
 pub use law::{read_geometries_are_sound, reads_as_one_table, spells_one_name};

@@ -11,7 +11,7 @@ ghost use Rattle.mdv_name.specs.Lines.{content as spec_content};
 ghost use Rattle.mdv_name.specs.SliceIndex.{HasSlice, HasNoSlice};
 
 use crate::drive_line::{DriveKind, DriveLine};
-use crate::drive_list::{DriveList, MAX_DRIVES};
+use crate::drive_list::DriveList;
 use crate::entry::{Entry, SliceEntry};
 use crate::geometry::{Geometry, GeometryFault};
 use crate::lines::{content_of, split_line};
@@ -19,7 +19,7 @@ use crate::name_list::NameList;
 use crate::parse_entry::{has_words, parse_entry};
 use crate::slice_lines::{SliceAt, SliceLine};
 use crate::slice_list::SliceList;
-use mdv_base::{Name, SliceName};
+use mdv_base::{MAX_DRIVES, Name, SliceName};
 use std::alloc::{AllocError, Global};
 
 /// The most bytes that the text of a table of drives has.

@@ -1,10 +1,10 @@
-ghost use Rattle.std.specs.Prelude.{◌≡◌, [], ◌∷◌, ◌++◌, IfSome, IfNone, OnOk, OnErr};
+ghost use Rattle.std.specs.Prelude.{◌≡◌, [], ◌∷◌, ◌++◌, IfOk, IfSome, IfNone, OnOk, OnErr};
 ghost use Rattle.mdv_name.specs.Drive.{IsSliceName};
-ghost use Rattle.mdv_name.specs.SliceIndex.{HasSlice, HasNoSlice};
+ghost use Rattle.mdv_name.specs.SliceIndex.{HasSlice, HasNoSlice, is_among as spec_is_among, slices_on};
 
 use crate::code::slice_code;
 use crate::slice_lines::{SliceAt, SliceLine};
-use mdv_base::SliceName;
+use mdv_base::{DriveNo, SliceName};
 use std::alloc::{AllocError, Global};
 use std::collections::BTreeMap;
 use std::marker::Model;
@@ -64,4 +64,23 @@ impl SliceList {
         self.lines.push(line)?;
         Ok(())
     }
+
+    /// A list of those that lie on these drives, in their order.
+    pub fn on_drives(&self, alloc: Global, drives: &[DriveNo]) -> Result<SliceList, AllocError>
+        ensures { IfOk result (λ list. list ≡ slices_on drives.now self.now) }
+    {
+        let mut found = SliceList::new(alloc);
+        for place in 0..self.lines.len() {
+            if is_among(drives, self.lines[place].at.drive) {
+                found.push(self.lines[place])?;
+            }
+        }
+        Ok(found)
+    }
+}
+
+fn is_among(drives: &[DriveNo], drive: DriveNo) -> bool
+    ensures { result ≡ spec_is_among drives.now drive }
+{
+    drives.iter().any(|one| one.0 == drive.0)
 }

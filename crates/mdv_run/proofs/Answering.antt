@@ -1,15 +1,15 @@
 -- One line, answered.
-use Rattle.mdv_base.specs.Causes.{Failures}
+use Rattle.mdv_engine_law.specs.Failing.{AreCalm, Outcomes, any_of}
 use Rattle.mdv_engine_law.specs.Replies.{HasCommandCause, HasEndCause, HasReplyCause, IsReplyTo, reply_at, reply_to}
 use Rattle.mdv_engine_law.specs.declared.answer.Ended.{Ended}
 use Rattle.mdv_engine_law.specs.declared.answer.Ended.TheVariants as ended
 use Rattle.mdv_engine_law.specs.declared.answer.Outcome.{Outcome}
 use Rattle.mdv_engine_law.specs.declared.answer.Outcome.TheVariants as outcome
 use Rattle.mdv_engine_law.specs.declared.answer.Reply.TheVariants as reply
-use Rattle.mdv_engine_law.specs.Line.{Nothing, Ask}
+use Rattle.mdv_engine_law.specs.Line.{Nothing, Ask, asked_by, home_calls}
 use Rattle.std.proofs.Common.{◌≡◌, Option, Some, inl, inr, ℕ, ◌<◌, List, [], length, take, refl, sym, ◌∙◌, subst, arith}
-use Rattle.mdv_run.specs.Below.{OutOfMemory, TooMany, Answer, IsAnswered, Kept, LinesMoment, Script, line, tab_text, told, Tale, Spelled, Boot, IsLine, Reply, IsReplied, IsTurnedDown, Host, Memory, Executed, Knows, Turned, RanTo, kept_at}
-use Rattle.mdv_run.specs.Promise.{IsUncut}
+use Rattle.mdv_run.specs.Below.{OutOfMemory, TooMany, Answer, IsAnswered, Kept, LinesMoment, Script, line, tab_text, told, Tale, Spelled, Boot, IsLine, Reply, IsReplied, IsTold, IsTurnedDown, Host, Memory, Engine, Executed, Knows, StaysHome, Turned, RanTo, kept_at}
+use Rattle.mdv_run.specs.Promise.{IsUncut, IsWorkOf, LineStays, LineStaysAs, LinesStay, SomeFailed}
 use Rattle.mdv_run.specs.Turns.{LineAnswered}
 use Rattle.mdv_words.specs.Line as words
 use Rattle.mdv_words.proofs.Lines.{one_line}
@@ -18,16 +18,25 @@ use Rattle.mdv_engine_law.proofs.Turning.{accepted_none, never_among, refused_no
 use Rattle.mdv_engine_law.proofs.Knowing.{knows_kept}
 use Rattle.mdv_engine_law.specs.Replies.{IsPlain}
 use Rattle.mdv_engine_law.specs.Standing.{OnlyReplied}
-use Rattle.mdv_engine_law.specs.Home.{key_of}
+use Rattle.mdv_engine_law.specs.Home.{key_of, site_of}
 use Rattle.mdv_volumes.specs.History.{Created}
 use Rattle.mdv_base.specs.declared.refusal.Refusal.{Refusal}
+use Rattle.mdv_base.specs.declared.refusal.Refusal.TheVariants.{IoFault}
 use Rattle.mdv_shelf.specs.Made.{Made}
 use Rattle.mdv_shelf.proofs.Made.{IsToo}
 use Rattle.mdv_engine_law.proofs.Efforts.{line_too, none_too, replied_too}
-use Rattle.mdv_run_law.specs.Run.{TextCalls}
-use Rattle.mdv_engine_law.specs.Standing.{LineWrites, TurnMoment, WritesOnly}
+use Rattle.mdv_engine_law.proofs.Staying.{stays_still}
+use Rattle.mdv_engine_law.proofs.Widening.{AreWithin}
+use Rattle.mdv_run_law.specs.Run.{IsQuiet, TextCalls}
+use Rattle.mdv_engine.specs.Counts.{IsQuietRefusal}
+use Rattle.mdv_engine_law.specs.Standing.{LeavesDone, LineWrites, TurnMoment, WritesOnly}
+use Rattle.mdv_engine_law.specs.declared.answer.Answer.TheVariants.{Said, Over as Ends}
+use Rattle.mdv_shelf.specs.Area.{KeptOutside, nowhere}
+use Rattle.mdv_shelf.specs.declared.shelf.Shelf.{Ghosts as Shelf}
+use Rattle.mdv_store_law.specs.Site.{area_of}
+use Rattle.mdv_words.specs.declared.command.Command.{Command}
 use Rattle.mdv_shelf.specs.Moments.{Moments}
-use Rattle.mdv_shelf.proofs.Moments.{moments_end, some_is}
+use Rattle.mdv_shelf.proofs.Moments.{moments_end, moments_weaker, some_is}
 use Rattle.mdv_run_law.proofs.Turning.{line_moment, line_ran}
 use Rattle.mdv_run_law.proofs.Entries.{refused_entries, told_text}
 use Rattle.mdv_run_law.specs.Standing.{HasEntries, IsWanting}
@@ -42,22 +51,59 @@ use Rattle.std.proofs.lemmas.List.{append_cancel_left, take_all}
 pub no_boot : (text : List ℕ) (spelled : Spelled) → IsLine text spelled → (Boot ≡ spelled → ⊥) → IsLine text Boot → ⊥
 no_boot text spelled is other boot = other (one_line text Boot spelled boot is)
 
+-- a refusal for another cause than a failed call, and an `ok`, that was told whole
+pub quiet_reply : (failed : Type 0) (answer : Answer) (given : Reply) (piece : List ℕ) → IsTold failed answer given piece → IsReplied given → IsQuiet answer → IsQuietRefusal given
+quiet_reply failed (Said outcome.Ok) given piece told on quiet = absurd quiet
+quiet_reply failed (Said (outcome.Values text)) given piece told on quiet = absurd quiet
+quiet_reply failed (Said (outcome.Refused refusal)) given piece (inl whole) on quiet = subst IsQuietRefusal (sym whole.0) (by refusal quiet) where
+  by : (r : Refusal) → IsQuiet (refusing r) → IsQuietRefusal (reply.Refused r)
+  by IoFault quiet = quiet
+  by other quiet = quiet
+quiet_reply failed (Said (outcome.Refused refusal)) given piece (inr cut) on quiet = absurd (subst IsReplied cut.given_is on)
+quiet_reply failed (Ends end) given piece told on quiet = absurd quiet
+
+pub accepted_reply : (failed : Type 0) (answer : Answer) (given : Reply) (piece : List ℕ) → IsTold failed answer given piece → IsReplied given → answer ≡ accepted → given ≡ reply.Ok
+accepted_reply failed answer given piece told on is = by (subst (λ (a : Answer). IsTold failed a given piece) is told) where
+  by : IsTold failed accepted given piece → given ≡ reply.Ok
+  by (inl whole) = whole.0
+  by (inr cut) = absurd (subst IsReplied cut.given_is on)
+
+-- what was only told to be done is no refusal
+pub loud_ok : (failed : Type 0) (given : Reply) → IsReplyTo failed outcome.Ok given → IsQuietRefusal given → ⊥
+loud_ok failed given (inl whole) quiet = subst IsQuietRefusal whole quiet
+loud_ok failed given (inr cut) quiet = subst IsQuietRefusal cut.0 quiet
+
 -- a line that was carried out is answered
-pub line_executed : (text : List ℕ) (spelled : Spelled) → IsLine text spelled → (drive : Failures) (replies : Type 0) (made : Made) (host : Host) (old new : Memory) (reply : Reply) (t u : Tale) → Executed drive replies made host spelled old new reply t u → LineWrites host spelled old t u → LineAnswered drive replies made host text old new reply t u
-line_executed text spelled is drive replies made host old new reply t u done writes = record { answer = done.answer; done = inr (inl (spelled, is, done.carried)); calls = inr (inl (spelled, is, done.calls)); writes = inr (spelled, is, writes); replied = done.replied }
+pub line_executed : (text : List ℕ) (spelled : Spelled) → IsLine text spelled → (outcomes : Outcomes) (replies : Type 0) (made : Made) (host : Host) (old new : Memory) (given : Reply) (t u : Tale) → Executed outcomes replies made host spelled old new given t u → LineWrites host spelled old t u
+    → (IsQuietRefusal given → KeptOutside nowhere t u) → (given ≡ reply.Ok → (command : Command) → spelled ≡ words.Exec command → LeavesDone host old command u) → LineAnswered outcomes replies made host text old new given t u
+line_executed text spelled is outcomes replies made host old new given t u done writes unwritten leaves = record {
+  answer = done.answer;
+  done = inr (inl (spelled, is, done.carried));
+  calls = inr (inl (spelled, is, done.effort));
+  writes = inr (spelled, is, writes);
+  unwritten = λ on quiet. unwritten (quiet_reply replies done.answer given done.replied.piece done.replied.as_told on quiet);
+  leaves = λ on ok command here. leaves (accepted_reply replies done.answer given done.replied.piece done.replied.as_told on ok) command (one_line text spelled (words.Exec command) is here);
+  replied = done.replied;
+}
+
+-- what came of the calls of a stretch, told of itself
+pub same_within : (outcomes : Outcomes) → AreWithin outcomes outcomes
+same_within outcomes drive = record { some = λ is. is; none = λ is. is }
 
 -- the calls of a line, told of another stretch
-text_too : (one other : Made) → IsToo one other → (host : Host) (kept next : Kept) (text : List ℕ) (answer : Answer) → TextCalls one host kept text answer next → TextCalls other host kept text answer next
-text_too one other too host kept next text answer (inl (never, none)) = inl (never, none_too one other too none)
-text_too one other too host kept next text answer (inr (inl (spelled, is, calls))) = inr (inl (spelled, is, line_too one other too host kept spelled answer next calls))
-text_too one other too host kept next text answer (inr (inr (want, none))) = inr (inr (want, none_too one other too none))
+text_too : (outcomes : Outcomes) (one other : Made) → IsToo one other → (host : Host) (kept next : Kept) (text : List ℕ) (answer : Answer) → TextCalls outcomes one host kept text answer next → TextCalls outcomes other host kept text answer next
+text_too outcomes one other too host kept next text answer (inl (never, none)) = inl (never, none_too one other too none)
+text_too outcomes one other too host kept next text answer (inr (inl (spelled, is, calls))) = inr (inl (spelled, is, line_too outcomes outcomes (same_within outcomes) one other too host kept spelled answer next calls))
+text_too outcomes one other too host kept next text answer (inr (inr (want, none))) = inr (inr (want, none_too one other too none))
 
-pub answered_too : {drive : Failures} {replies : Type 0} {one : Made} {host : Host} {text : List ℕ} {old new : Memory} {reply : Reply} {t u : Tale} (other : Made) → IsToo one other → LineAnswered drive replies one host text old new reply t u → LineAnswered drive replies other host text old new reply t u
-answered_too {drive} {replies} {one} {host} {text} {old} {new} {reply} {t} {u} other too done = record {
+pub answered_too : {outcomes : Outcomes} {replies : Type 0} {one : Made} {host : Host} {text : List ℕ} {old new : Memory} {reply : Reply} {t u : Tale} (other : Made) → IsToo one other → LineAnswered outcomes replies one host text old new reply t u → LineAnswered outcomes replies other host text old new reply t u
+answered_too {outcomes} {replies} {one} {host} {text} {old} {new} {reply} {t} {u} other too done = record {
   answer = done.answer;
   done = done.done;
-  calls = text_too _ _ (replied_too one other too done.answer) host (kept_at old t) (kept_at new u) text done.answer done.calls;
+  calls = text_too outcomes _ _ (replied_too one other too done.answer) host (kept_at old t) (kept_at new u) text done.answer done.calls;
   writes = done.writes;
+  unwritten = done.unwritten;
+  leaves = done.leaves;
   replied = done.replied;
 }
 
@@ -66,6 +112,37 @@ pub turn_writes : (host : Host) (ask : Ask) (old : Memory) (a b : Option Tale) �
 turn_writes host ask old a b moments t u is_t is_u =
     let end = moments_end (TurnMoment host ask old) a b moments t is_t in
     subst (WritesOnly host ask old t) (some_is b end.0 u end.1 is_u) end.2.within
+
+-- and where it stayed
+pub turn_home : (host : Host) (ask : Ask) (old : Memory) (a b : Option Tale) → Moments (TurnMoment host ask old) a b → (t u : Tale) → a ≡ Some t → b ≡ Some u → StaysHome host t u
+turn_home host ask old a b moments t u is_t is_u =
+    let end = moments_end (TurnMoment host ask old) a b moments t is_t in
+    subst (StaysHome host t) (some_is b end.0 u end.1 is_u) end.2.home
+
+-- what a line writes by each of its moments that asks nothing: at most the replica's blocks
+pub asks_none : (host : Host) (old : Memory) (Writes : Tale → Tale → Type 0) → ((s m : Tale) → KeptOutside (area_of (site_of host)) s m → Writes s m) → (a b : Option Tale) → Moments (TurnMoment host Nothing old) a b → Moments Writes a b
+asks_none host old Writes within a b moments = moments_weaker (TurnMoment host Nothing old) Writes a b (λ s m turn. within s m turn.within) moments
+
+-- and one that is a command: its own
+pub command_works : (engine : Engine) (text : List ℕ) (command : Command) → IsLine text (words.Exec command) → (a b : Option Tale) → Moments (TurnMoment engine.host (asked_by engine.host command) engine.state) a b → Moments (IsWorkOf engine text) a b
+command_works engine text command is a b moments =
+    moments_weaker (TurnMoment engine.host (asked_by engine.host command) engine.state) (IsWorkOf engine text) a b (λ s m turn more. inr (text, more, refl, command, is, turn.within)) moments
+
+-- the same of a line, told and written otherwise
+module _ {B : Type 0} (shelf : Shelf B) (host : Host) (replied uncut Tells More : Type 0) (Writes Works : Tale → Tale → Type 0) (old new : B) where
+  pub stays_else : (Tells → More) → ((s m : Tale) → Writes s m → Works s m) → LineStays shelf host replied uncut Tells Writes old new → LineStays shelf host replied uncut More Works old new
+  stays_else tells works stays = record {
+    home = stays.home;
+    told = stays.told;
+    given = stays.given;
+    rests = stays.rests;
+    writes = moments_weaker Writes Works _ _ works stays.writes;
+    tells = tells stays.tells;
+  }
+
+-- as of one of its texts
+pub stays_as : {B : Type 0} (shelf : Shelf B) (engine : Engine) (Is : List ℕ → Type 0) (bench on : B) (given : Reply) (text : List ℕ) → Is text → LinesStay shelf engine (λ x. x) Is bench on given → LineStaysAs shelf engine text bench on given
+stays_as shelf engine Is bench on given text is = stays_else shelf engine.host (IsReplied given) (IsUncut given) _ _ (λ s m. (x : List ℕ) → Is x → IsWorkOf engine x s m) (IsWorkOf engine text) bench on (λ tells. tells text is) (λ s m works. works text is)
 
 -- a refusal that was told, and nothing else happened
 module _ (host : Host) (memory : Memory) (r : Refusal) (plain : IsPlain r) (replies : Type 0) (reply : Reply) (t u : Tale) (given : OnlyReplied replies (refusing r) reply t u) where
@@ -111,23 +188,23 @@ module _ (host : Host) (text : List ℕ) (old : Memory) where
   unread_ran replies reply t u given on more =
       let is = refused_is host old OutOfMemory memory_plain replies reply t u given Nothing on in
       let wanting : IsWanting (refused_turned host old OutOfMemory memory_plain replies reply t u given Nothing on).bytes = subst IsWanting (sym is) whole in
-      line_ran host text Nothing more old old t u (refused_turned host old OutOfMemory memory_plain replies reply t u given Nothing on) (inr (refl, wanting)) (inr wanting) (λ knows. refused_keeps host old OutOfMemory memory_plain replies reply t u given text Nothing on)
+      line_ran host text Nothing more old old t u (refused_turned host old OutOfMemory memory_plain replies reply t u given Nothing on) (stays_still host t u given.kept) (inr (refl, wanting)) (inr wanting) (λ knows. refused_keeps host old OutOfMemory memory_plain replies reply t u given text Nothing on)
     where
       whole : IsWanting (refusal_line OutOfMemory)
       whole = subst IsWanting (take_all (length (refusal_line OutOfMemory)) (refusal_line OutOfMemory) (omega arith)) (wanting_front (length (refusal_line OutOfMemory)))
 
 -- a `tab` block with too many bytes
-pub many_comes : (lines : List ℕ) (failures : Failures) (host : Host) (kept next : Kept) (answer : Answer) → 65536 < length lines → failures.none → IsTurnedDown TooMany kept answer next → IsAnswered failures host kept (tab_text lines) answer next
-many_comes lines failures host kept next answer many calm down = inr (inl (words.Tab lines, refl, came.unfit calm TooMany (inl many) down))
+pub many_comes : (lines : List ℕ) (outcomes : Outcomes) (host : Host) (kept next : Kept) (answer : Answer) → 65536 < length lines → AreCalm outcomes → IsTurnedDown TooMany kept answer next → IsAnswered outcomes host kept (tab_text lines) answer next
+many_comes lines outcomes host kept next answer many calm down = inr (inl (words.Tab lines, refl, came.unfit calm TooMany (inl many) down))
 
 -- why a line is replied to so: by what its command came to, by what was only told, or by the end of its boot
-pub command_reply : (drive : Failures) (replies : Type 0) (given : Reply) → HasCommandCause drive replies given → HasReplyCause drive.some replies given
-command_reply drive replies reply.Ok cause = tt
-command_reply drive replies (reply.Refused refusal) cause = tt
-command_reply drive replies (reply.Panic active listed) cause = cause
-command_reply drive replies reply.Spent cause = tt
-command_reply drive replies reply.NoMemory cause = tt
-command_reply drive replies reply.Told cause = cause
+pub command_reply : (outcomes : Outcomes) (replies : Type 0) (given : Reply) → HasCommandCause (any_of outcomes) replies given → HasReplyCause (SomeFailed outcomes) replies given
+command_reply outcomes replies reply.Ok cause = tt
+command_reply outcomes replies (reply.Refused refusal) cause = tt
+command_reply outcomes replies (reply.Panic active listed) cause = ((cause.0.0, cause.0.1.here), cause.1, cause.2)
+command_reply outcomes replies reply.Spent cause = tt
+command_reply outcomes replies reply.NoMemory cause = tt
+command_reply outcomes replies reply.Told cause = cause
 
 said_reply : (drive replies : Type 0) (said : Outcome) → HasReplyCause drive replies (reply_to said)
 said_reply drive replies outcome.Ok = tt
@@ -152,7 +229,7 @@ pub reply_more : (replies more : Type 0) → (replies → more) → (said : Outc
 reply_more replies more cause said given (inl whole) = inl whole
 reply_more replies more cause said given (inr cut) = inr (cut.0, cause cut.1)
 
-pub ended_reply : (drive : Failures) (replies : Type 0) (end : Ended) → HasEndCause drive end → HasReplyCause drive.some replies (reply_at end)
-ended_reply drive replies (ended.Lost active listed) cause = cause
-ended_reply drive replies ended.Spent cause = tt
-ended_reply drive replies ended.Memory cause = tt
+pub ended_reply : (host : Host) (outcomes : Outcomes) (replies : Type 0) (end : Ended) → HasEndCause (home_calls host outcomes) end → HasReplyCause (SomeFailed outcomes) replies (reply_at end)
+ended_reply host outcomes replies (ended.Lost active listed) cause = ((host.home.drive.0, cause.0), cause.1, cause.2)
+ended_reply host outcomes replies ended.Spent cause = tt
+ended_reply host outcomes replies ended.Memory cause = tt

@@ -1,5 +1,6 @@
 -- How one turn of a run goes on from the script that is before it.
 use Rattle.mdv_base.specs.Causes.{failures_of}
+use Rattle.mdv_engine_law.specs.Failing.{AreCalm}
 use Rattle.mdv_base.proofs.Causes.{rose_of_once}
 use Rattle.mdv_shelf.specs.Made.{made_between}
 use Rattle.mdv_shelf.specs.Story.{Effort}
@@ -8,8 +9,8 @@ use Rattle.mdv_shelf.specs.Area.{KeptOutside, nowhere}
 use Rattle.mdv_run.specs.Promise.{point_of}
 use Rattle.std.proofs.Common.{◌≡◌, ◌≤◌, inl, inr, ℕ, Bool, true, List, [], ◌++◌, Option, Some, refl, sym, ◌∙◌, ap, subst}
 use Rattle.mdv_run.specs.Below.{LineTooLong, Items, Script, at_end, spent, too_long, line, asked_before, IsItem, IsItemTurn, Item, TooLong, End, Spent, Tale, told, Answer, Reply, Host, Memory, IsTold, IsReplied, Kept, IsTurnedDown, kept_at, Replied, RunStatus, Panic, ReadFault, WriteFault, NoMemory, NumbersSpent, At, Counts, NextLine, OnDrive, OnReplies, Stretch, IsAnswered, IsSame, contents}
-use Rattle.mdv_run_law.specs.Run.{AreInTime, EndsAt, FromTo, IsPassage, NextCalls, NextWrites, giving_failed, OnlyReplying, OnlyUngiven, OnlyUnread, RoseCalmly, drive_failures, Over as IsOver, broken, ended as script_ended, unread, EndsAs, EndsWith, IsSaid, refused_by}
-use Rattle.mdv_engine_law.specs.Answers.{refusing}
+use Rattle.mdv_run_law.specs.Run.{AreInTime, EndsAt, FromTo, IsPassage, IsQuiet, NextCalls, NextLeaves, NextWrites, giving_failed, OnlyReplying, OnlyUngiven, OnlyUnread, RoseCalmly, drive_failures, Over as IsOver, broken, ended as script_ended, unread, EndsAs, EndsWith, IsSaid, refused_by}
+use Rattle.mdv_engine_law.specs.Answers.{accepted, refusing}
 use Rattle.mdv_engine_law.specs.Replies.{HasReplyCause, IsLost, outcome_text, reply_at, reply_to, text_of}
 use Rattle.mdv_engine_law.specs.declared.answer.Answer.TheVariants.{Said, Over as Ends}
 use Rattle.mdv_engine_law.specs.declared.answer.Ended.{Ended}
@@ -19,7 +20,7 @@ use Rattle.mdv_engine_law.specs.declared.answer.Outcome.TheVariants as outcome
 use Rattle.mdv_engine_law.specs.declared.answer.Reply.TheVariants as reply
 use Rattle.mdv_run.specs.declared.session.Turn.{Turn}
 use Rattle.mdv_run.specs.declared.session.Turn.TheVariants.{On, Over}
-use Rattle.mdv_run.specs.Promise.{IsUncut}
+use Rattle.mdv_run.specs.Promise.{IsUncut, SomeFailed}
 use Rattle.mdv_run.specs.Turns.{LineAnswered, Leads, Point, Turns, at, turn_of, HasTurnCause, IsOn, IsLostTurn}
 use Rattle.std.proofs.lemmas.List.{append-nil}
 use Rattle.std.specs.Option.{option_map}
@@ -53,29 +54,29 @@ item_is (spent lines bytes) new left is = absurd (cc (is))
 item_is (too_long more) new left is = absurd (cc (is.0))
 item_is (line text more) new left is = (more, text, refl, is.1, is.2)
 
--- counts of which the drive's and the source's are those behind a line, and those of the giving still those before it
+-- counts of which the drives' and the source's are those behind a line, and those of the giving still those before it
 abbrev carried_by : Counts → Counts → Counts
-carried_by now then = record { drive = then.drive; source = then.source; replies = now.replies }
+carried_by now then = record { drives = then.drives; source = then.source; replies = now.replies }
 
 -- the counts behind a line's turn: no taking failed, and no giving unless its reply was cut short
 pub record RoseInTurn (now then : Counts) (r : Reply) : Type 0 where
-  pub drive : now.drive ≤ then.drive
+  pub drives : (drive : ℕ) → now.drives drive ≤ then.drives drive
   pub source : then.source ≡ now.source
   pub replies : now.replies ≤ then.replies
   pub given : IsUncut r → then.replies ≡ now.replies
 
 rose_carried : (now then : Counts) (r : Reply) → RoseInTurn now then r → RoseCalmly now (carried_by now then)
-rose_carried now then r rose = record { drive = rose.drive; source = rose.source; replies = refl }
+rose_carried now then r rose = record { drives = rose.drives; source = rose.source; replies = refl }
 
 rose_told : (now then : Counts) (r : Reply) → RoseInTurn now then r → OnlyUngiven (carried_by now then) then
-rose_told now then r rose = record { drive = refl; source = refl; replies = rose.replies }
+rose_told now then r rose = record { drives = λ drive. refl; source = refl; replies = rose.replies }
 
 rose_whole : (now then : Counts) (r : Reply) → RoseInTurn now then r → IsReplied r → RoseCalmly now then
-rose_whole now then r rose on = record { drive = rose.drive; source = rose.source; replies = rose.given (λ is. subst IsReplied is on) }
+rose_whole now then r rose on = record { drives = rose.drives; source = rose.source; replies = rose.given (λ is. subst IsReplied is on) }
 
 -- where no giving failed the counts are those with the giving left out
 same_carried : (now then : Counts) → then.replies ≡ now.replies → then ≡ carried_by now then
-same_carried now then same = ap (λ (n : ℕ). let counted : Counts = record { drive = then.drive; source = then.source; replies = n } in counted) same
+same_carried now then same = ap (λ (n : ℕ). let counted : Counts = record { drives = then.drives; source = then.source; replies = n } in counted) same
 
 -- what was told whole was replied to
 replied_whole : (this : Outcome) (r : Reply) → r ≡ reply_to this → IsReplied r
@@ -94,7 +95,7 @@ pub record Passes (now then : Point) (t u : Tale) : Type 0 where
 pub passes_in_time : {S : Type 0} (shelf : Ghosts S) (telling : (s : S) → shelf.tale s ≡ option_map tale_of (shelf.story s)) (a b : S) (from to : ℕ) (t u : Tale) → KeptInTime shelf a b → shelf.tale a ≡ Some t → shelf.tale b ≡ Some u
     → Passes (point_of shelf from a) (point_of shelf to b) t u
 passes_in_time shelf telling a b from to t u kept is_t is_u = record {
-  in_time = record { drive = kept.in_time (OnDrive 0); replies = kept.in_time OnReplies };
+  in_time = record { drives = λ drive. kept.in_time (OnDrive drive); replies = kept.in_time OnReplies };
   first = λ s is. some_is (shelf.tale a) (tale_of s) t (telling a ∙ ap (λ (o : Option Story). option_map tale_of o) is) is_t;
   last = λ s is. some_is (shelf.tale b) (tale_of s) u (telling b ∙ ap (λ (o : Option Story). option_map tale_of o) is) is_u;
 }
@@ -116,13 +117,18 @@ ended_uncut (ended.Lost active listed) r is told = absurd (cc (is, told))
 ended_uncut ended.Spent r is told = absurd (cc (is, told))
 ended_uncut ended.Memory r is told = absurd (cc (is, told))
 
--- how one turn leads on: its answer is the next line's, by whatever counts the drive failed as often
+-- what its answer says of the drives, where it was told whole
+record Tells (host : Host) (from : At) (then : Point) (answer : Answer) : Type 0 where
+  pub unwritten : IsQuiet answer → FromTo (KeptOutside nowhere) from.story then.story
+  pub leaves : answer ≡ accepted → FromTo (λ t u. NextLeaves host from.kept.memory from.script u) from.story then.story
+
+-- how one turn leads on: its answer is the next line's, by whatever counts each drive failed as often
 module _ (host : Host) (from : At) (then : Point) (r : Reply) (rose : RoseInTurn from.counts then.counts r) (next : Kept) (more : Script) (before : Option Script) (before_is : before ≡ Some more) (answer : Answer)
-    (comes : (c : Counts) → RoseCalmly from.counts c → c.drive ≡ then.counts.drive → NextLine host from.counts from.kept from.script answer c next more) (calls : NextCalls (replied_to answer (made_between from.effort then.effort)) host from.kept from.script answer next) (writes : FromTo (NextWrites host from.kept.memory from.script) from.story then.story) (piece : List ℕ)
+    (comes : (c : Counts) → RoseCalmly from.counts c → c.drives ≡ then.counts.drives → NextLine host from.counts from.kept from.script answer c next more) (calls : NextCalls (drive_failures from.counts then.counts) (replied_to answer (made_between from.effort then.effort)) host from.kept from.script answer next) (writes : FromTo (NextWrites host from.kept.memory from.script) from.story then.story) (piece : List ℕ)
     (passage : IsPassage from piece (at then next from.refused more))
   where
-    line_on : IsReplied r → (any : Bool) → IsSaid answer → piece ≡ text_of answer → any ≡ refused_by answer from.refused → Leads host from piece then next before (On any)
-    line_on on any said text is = (
+    line_on : IsReplied r → Tells host from then answer → (any : Bool) → IsSaid answer → piece ≡ text_of answer → any ≡ refused_by answer from.refused → Leads host from piece then next before (On any)
+    line_on on tells any said text is = (
       more,
       before_is,
       record {
@@ -130,6 +136,8 @@ module _ (host : Host) (from : At) (then : Point) (r : Reply) (rose : RoseInTurn
         comes = comes then.counts (rose_whole from.counts then.counts r rose on) refl;
         calls = calls;
         writes = writes;
+        unwritten = tells.unwritten;
+        leaves = tells.leaves;
         said = said;
         as_text = text;
         as_refused = is;
@@ -142,31 +150,31 @@ module _ (host : Host) (from : At) (then : Point) (r : Reply) (rose : RoseInTurn
         broken answer (carried_by from.counts then.counts) next more (comes (carried_by from.counts then.counts) (rose_carried from.counts then.counts r rose) refl) shown only
         (record {
           in_time = subst (λ (o : Option Story). AreInTime from.counts from.story o) (sym ends.quiet) passage.in_time;
-          calls = subst (λ (e : Effort). NextCalls (replied_to answer (made_between from.effort e)) host from.kept from.script answer next) (sym ends.uncalled) calls;
+          calls = subst (λ (e : Effort). NextCalls (drive_failures from.counts then.counts) (replied_to answer (made_between from.effort e)) host from.kept from.script answer next) (sym ends.uncalled) calls;
           writes = λ s u is_s is_u. writes s u is_s (sym ends.quiet ∙ is_u);
         }) with
 
 -- what a reply leads to, by its answer
 leads : (host : Host) (from : At) (then : Point) (r : Reply) → RoseInTurn from.counts then.counts r → (next : Kept) (more : Script) (before : Option Script) → before ≡ Some more → (answer : Answer) (piece : List ℕ)
-    → ((c : Counts) → RoseCalmly from.counts c → c.drive ≡ then.counts.drive → NextLine host from.counts from.kept from.script answer c next more) → NextCalls (replied_to answer (made_between from.effort then.effort)) host from.kept from.script answer next → FromTo (NextWrites host from.kept.memory from.script) from.story then.story
-    → IsPassage from piece (at then next from.refused more)
+    → ((c : Counts) → RoseCalmly from.counts c → c.drives ≡ then.counts.drives → NextLine host from.counts from.kept from.script answer c next more) → NextCalls (drive_failures from.counts then.counts) (replied_to answer (made_between from.effort then.effort)) host from.kept from.script answer next → FromTo (NextWrites host from.kept.memory from.script) from.story then.story
+    → IsPassage from piece (at then next from.refused more) → (IsReplied r → Tells host from then answer)
     → IsTold (giving_failed from.counts then.counts) answer r piece → Leads host from piece then next before (turn_of r from.refused)
-leads host from then r rose next more before is (Said this) piece comes calls writes passage (inl whole) = subst (λ (x : Reply). Leads host from piece then next before (turn_of x from.refused)) (sym whole.0) (by this comes calls whole.1) where
+leads host from then r rose next more before is (Said this) piece comes calls writes passage tells (inl whole) = subst (λ (x : Reply). Leads host from piece then next before (turn_of x from.refused)) (sym whole.0) (by this comes calls (tells on) whole.1) where
   on : IsReplied r
   on = replied_whole this r whole.0
 
-  by : (this : Outcome) → ((c : Counts) → RoseCalmly from.counts c → c.drive ≡ then.counts.drive → NextLine host from.counts from.kept from.script (Said this) c next more) → NextCalls (replied_to (Said this) (made_between from.effort then.effort)) host from.kept from.script (Said this) next → piece ≡ outcome_text this → Leads host from piece then next before (turn_of (reply_to this) from.refused)
-  by outcome.Ok comes calls is_text = line_on host from then r rose next more before is (Said outcome.Ok) comes calls writes piece passage on from.refused tt is_text refl
-  by (outcome.Values text) comes calls is_text = line_on host from then r rose next more before is (Said (outcome.Values text)) comes calls writes piece passage on from.refused tt is_text refl
-  by (outcome.Refused refusal) comes calls is_text = line_on host from then r rose next more before is (Said (outcome.Refused refusal)) comes calls writes piece passage on true tt is_text refl
-leads host from then r rose next more before is (Said this) piece comes calls writes passage (inr cut) =
+  by : (this : Outcome) → ((c : Counts) → RoseCalmly from.counts c → c.drives ≡ then.counts.drives → NextLine host from.counts from.kept from.script (Said this) c next more) → NextCalls (drive_failures from.counts then.counts) (replied_to (Said this) (made_between from.effort then.effort)) host from.kept from.script (Said this) next → Tells host from then (Said this) → piece ≡ outcome_text this → Leads host from piece then next before (turn_of (reply_to this) from.refused)
+  by outcome.Ok comes calls tells is_text = line_on host from then r rose next more before is (Said outcome.Ok) comes calls writes piece passage on tells from.refused tt is_text refl
+  by (outcome.Values text) comes calls tells is_text = line_on host from then r rose next more before is (Said (outcome.Values text)) comes calls writes piece passage on tells from.refused tt is_text refl
+  by (outcome.Refused refusal) comes calls tells is_text = line_on host from then r rose next more before is (Said (outcome.Refused refusal)) comes calls writes piece passage on tells true tt is_text refl
+leads host from then r rose next more before is (Said this) piece comes calls writes passage tells (inr cut) =
     subst (λ (x : Reply). Leads host from piece then next before (turn_of x from.refused)) (sym cut.given_is)
     (over_by host from then r rose next more before is (Said this) comes calls writes piece passage (rose_told from.counts then.counts r rose) WriteFault (record { cause = cut.cause; count = cut.count; front = cut.front; ended = refl; keeps = refl }))
-leads host from then r rose next more before is (Ends end) piece comes calls writes passage told = subst (λ (x : Reply). Leads host from piece then next before (turn_of x from.refused)) (sym told.0) (by end comes calls) where
+leads host from then r rose next more before is (Ends end) piece comes calls writes passage tells told = subst (λ (x : Reply). Leads host from piece then next before (turn_of x from.refused)) (sym told.0) (by end comes calls) where
   only : then.counts ≡ carried_by from.counts then.counts
   only = same_carried from.counts then.counts (rose.given (ended_uncut end r told.0))
 
-  by : (end : Ended) → ((c : Counts) → RoseCalmly from.counts c → c.drive ≡ then.counts.drive → NextLine host from.counts from.kept from.script (Ends end) c next more) → NextCalls (replied_to (Ends end) (made_between from.effort then.effort)) host from.kept from.script (Ends end) next → Leads host from piece then next before (turn_of (reply_at end) from.refused)
+  by : (end : Ended) → ((c : Counts) → RoseCalmly from.counts c → c.drives ≡ then.counts.drives → NextLine host from.counts from.kept from.script (Ends end) c next more) → NextCalls (drive_failures from.counts then.counts) (replied_to (Ends end) (made_between from.effort then.effort)) host from.kept from.script (Ends end) next → Leads host from piece then next before (turn_of (reply_at end) from.refused)
   by (ended.Lost active listed) comes calls = over_by host from then r rose next more before is (Ends (ended.Lost active listed)) comes calls writes piece passage only (Panic active listed) (record { silent = told.1; ended = refl; keeps = refl })
   by ended.Spent comes calls = over_by host from then r rose next more before is (Ends ended.Spent) comes calls writes piece passage only NumbersSpent (record { silent = told.1; ended = refl; keeps = refl })
   by ended.Memory comes calls = over_by host from then r rose next more before is (Ends ended.Memory) comes calls writes piece passage only NoMemory (record { silent = told.1; ended = refl; keeps = refl })
@@ -179,24 +187,29 @@ leads_line now then r rose host old new any s more text before t u passes is nex
   is_told = done.replied.is_told;
   leads = leads host (at now (kept_at old t) any s) then r rose (kept_at new u) more before next done.answer done.replied.piece
       (λ c up same. subst (λ (x : Script). NextLine host now.counts (kept_at old t) x done.answer c (kept_at new u) more) (sym is)
-      (refl, up, subst (λ (d : ℕ). IsAnswered (failures_of now.counts.drive d) host (kept_at old t) text done.answer (kept_at new u)) (sym same) done.done))
-      (subst (λ (x : Script). NextCalls (replied_to done.answer (made_between now.effort then.effort)) host (kept_at old t) x done.answer (kept_at new u)) (sym is) done.calls)
+      (refl, up, subst (λ (f : ℕ → ℕ). IsAnswered (λ drive. failures_of (now.counts.drives drive) (f drive)) host (kept_at old t) text done.answer (kept_at new u)) (sym same) done.done))
+      (subst (λ (x : Script). NextCalls (drive_failures now.counts then.counts) (replied_to done.answer (made_between now.effort then.effort)) host (kept_at old t) x done.answer (kept_at new u)) (sym is) done.calls)
       (from_to now then t u passes (NextWrites host old s) (subst (λ (x : Script). NextWrites host old x t u) (sym is) done.writes))
-      (passage_of now then t u passes old new any s more done.replied.piece done.replied.is_told) done.replied.as_told;
+      (passage_of now then t u passes old new any s more done.replied.piece done.replied.is_told)
+      (λ on. record {
+        unwritten = λ quiet. from_to now then t u passes (KeptOutside nowhere) (done.unwritten on quiet);
+        leaves = λ ok. from_to now then t u passes (λ _ v. NextLeaves host old s v) (subst (λ (x : Script). NextLeaves host old x u) (sym is) (done.leaves on ok));
+      }) done.replied.as_told;
 }
 
 -- a line that was too long
-pub leads_long : (now then : Point) (r : Reply) → RoseInTurn now.counts then.counts r → then.counts.drive ≡ now.counts.drive → (host : Host) (old : Memory) (any : Bool) (s more : Script) (before : Option Script) (t u : Tale) → Passes now then t u
+pub leads_long : (now then : Point) (r : Reply) → RoseInTurn now.counts then.counts r → AreCalm (drive_failures now.counts then.counts) → (host : Host) (old : Memory) (any : Bool) (s more : Script) (before : Option Script) (t u : Tale) → Passes now then t u
     → s ≡ too_long more → before ≡ Some more → IsTurnedDown LineTooLong (kept_at old t) (refusing LineTooLong) (kept_at old u) → Replied (giving_failed now.counts then.counts) (refusing LineTooLong) r t u → KeptOutside nowhere t u → NoCalls (replied_to (refusing LineTooLong) (made_between now.effort then.effort))
     → Turns host now then old old any s before (turn_of r any) t u
 leads_long now then r rose still host old any s more before t u passes is next down replied kept none = record {
   piece = replied.piece;
   is_told = replied.is_told;
   leads = leads host (at now (kept_at old t) any s) then r rose (kept_at old u) more before next (refusing LineTooLong) replied.piece
-      (λ c up same. subst (λ (x : Script). NextLine host now.counts (kept_at old t) x (refusing LineTooLong) c (kept_at old u) more) (sym is) (refl, up, same ∙ still, down))
-      (subst (λ (x : Script). NextCalls (replied_to (refusing LineTooLong) (made_between now.effort then.effort)) host (kept_at old t) x (refusing LineTooLong) (kept_at old u)) (sym is) none)
+      (λ c up same. subst (λ (x : Script). NextLine host now.counts (kept_at old t) x (refusing LineTooLong) c (kept_at old u) more) (sym is) (refl, up, λ drive. ap (λ (f : ℕ → ℕ). f drive) same ∙ still drive, down))
+      (subst (λ (x : Script). NextCalls (drive_failures now.counts then.counts) (replied_to (refusing LineTooLong) (made_between now.effort then.effort)) host (kept_at old t) x (refusing LineTooLong) (kept_at old u)) (sym is) none)
       (from_to now then t u passes (NextWrites host old s) (subst (λ (x : Script). NextWrites host old x t u) (sym is) kept))
-      (passage_of now then t u passes old old any s more replied.piece replied.is_told) replied.as_told;
+      (passage_of now then t u passes old old any s more replied.piece replied.is_told)
+      (λ on. record { unwritten = λ quiet. from_to now then t u passes (KeptOutside nowhere) kept; leaves = λ ok. absurd (cc (ok)) }) replied.as_told;
 }
 
 -- a turn on which the run goes on was replied to
@@ -240,10 +253,10 @@ same_left left other one two = both (sym two ∙ one) where
   both is = cc
 
 -- the cause of a reply is that of its turn
-pub turn_cause : (now then : Counts) (r : Reply) (any : Bool) → HasReplyCause (drive_failures now then).some (giving_failed now then) r → HasTurnCause now then (turn_of r any)
+pub turn_cause : (now then : Counts) (r : Reply) (any : Bool) → HasReplyCause (SomeFailed (drive_failures now then)) (giving_failed now then) r → HasTurnCause now then (turn_of r any)
 turn_cause now then reply.Ok any cause = tt
 turn_cause now then (reply.Refused refusal) any cause = tt
-turn_cause now then (reply.Panic active listed) any cause = (rose_of_once _ _ cause.0, cause.1, cause.2)
+turn_cause now then (reply.Panic active listed) any cause = ((cause.0.0, rose_of_once _ _ cause.0.1), cause.1, cause.2)
 turn_cause now then reply.Spent any cause = tt
 turn_cause now then reply.NoMemory any cause = tt
 turn_cause now then reply.Told any cause = rose_of_once _ _ cause

@@ -16,13 +16,13 @@ use Rattle.mdv_shelf.proofs.Telling.{each_joined}
 
 -- counts from the same source
 rise : (f g : Part → ℕ) (source : ℕ) → NoFewer f g → RoseTo (counts f source) (counts g source)
-rise f g source le = record { drive = le (OnDrive 0); source = omega arith; replies = le OnReplies }
+rise f g source le = record { drives = λ drive. le (OnDrive drive); source = omega arith; replies = le OnReplies }
 
 rise_on : (now : Counts) (f g : Part → ℕ) → RoseTo now (counts f now.source) → NoFewer f g → RoseTo now (counts g now.source)
-rise_on now f g rose le = record { drive = omega (arith, rose.drive, le (OnDrive 0)); source = omega arith; replies = omega (arith, rose.replies, le OnReplies) }
+rise_on now f g rose le = record { drives = λ drive. omega (arith, rose.drives drive, le (OnDrive drive)); source = omega arith; replies = omega (arith, rose.replies, le OnReplies) }
 
 fall_on : (now : Counts) (f g : Part → ℕ) → RoseTo (counts g now.source) now → NoFewer f g → RoseTo (counts f now.source) now
-fall_on now f g rose le = record { drive = omega (arith, rose.drive, le (OnDrive 0)); source = omega arith; replies = omega (arith, rose.replies, le OnReplies) }
+fall_on now f g rose le = record { drives = λ drive. omega (arith, rose.drives drive, le (OnDrive drive)); source = omega arith; replies = omega (arith, rose.replies, le OnReplies) }
 
 no_fewer_then : (f g h : Part → ℕ) → NoFewer f g → NoFewer g h → NoFewer f h
 no_fewer_then f g h one two part = omega (arith, one part, two part)
@@ -108,31 +108,31 @@ module _ {S : Type 0} (shelf : Ghosts S) (telling : (s : S) → shelf.tale s ≡
 
   -- the line with which the run is over is shown
   pub last_now : RestsOnceTold shelf b c → (bytes : ℕ) (t u v : Tale) → shelf.tale a ≡ Some t → shelf.tale b ≡ Some u → shelf.tale c ≡ Some v → length (told t) + bytes ≡ length (told u)
-      → IsLastShown (between shelf a c) bytes (shelf.faults c (OnDrive 0)) (contents v)
+      → IsLastShown (between shelf a c) bytes (λ drive. shelf.faults c (OnDrive drive)) (contents v)
   last_now rests bytes t u v is_t is_u is_v until =
-      each_joined (λ _ _. Unit {0}) (λ y m. length (told y.tale) < length (told m.tale) → IsAtRest (shelf.faults c) v m) (AreLast bytes (shelf.faults c (OnDrive 0)) (contents v)) _ _ _ _ _ _
+      each_joined (λ _ _. Unit {0}) (λ y m. length (told y.tale) < length (told m.tale) → IsAtRest (shelf.faults c) v m) (AreLast bytes (λ drive. shelf.faults c (OnDrive drive)) (contents v)) _ _ _ _ _ _
       (λ s x w first mid last turn there ahead m here within.
       let start = told_at a s t first is_t in
       let turned = told_at b x u mid is_u in
       let whole = within.bytes.1 in record {
-        before = λ short. no_fewer_then m.faults _ (shelf.faults c) within.counts.1 ahead (OnDrive 0);
+        before = λ short drive. no_fewer_then m.faults _ (shelf.faults c) within.counts.1 ahead (OnDrive drive);
         behind = λ long. absurd (omega (arith, long, until, start, turned, whole));
         reads = λ long. absurd (omega (arith, long, until, start, turned, whole));
       })
       (λ s x w first mid last turn m here within ahead.
       let start = told_at a s t first is_t in
       let turned = told_at b x u mid is_u in record {
-        before = λ short. within.counts.1 (OnDrive 0);
-        behind = λ long. (here (omega (arith, long, until, start, turned))).drives 0;
+        before = λ short drive. within.counts.1 (OnDrive drive);
+        behind = λ long drive. (here (omega (arith, long, until, start, turned))).drives drive;
         reads = λ long drive block. (here (omega (arith, long, until, start, turned))).reads drive block;
       }) on (rests v is_v)
 
-  pub last_earlier : AtEachTale shelf (λ t m. told m ≡ told t) a b → (bytes drive : ℕ) (content : Image) → IsLastShown (between shelf b c) bytes drive content → IsLastShown (between shelf a c) bytes drive content
-  last_earlier quiet bytes drive content shown =
-      each_joined (OfTales (λ t m. told m ≡ told t)) (AreLast bytes drive content) (AreLast bytes drive content) _ _ _ _ _ _
+  pub last_earlier : AtEachTale shelf (λ t m. told m ≡ told t) a b → (bytes : ℕ) (drives : ℕ → ℕ) (content : Image) → IsLastShown (between shelf b c) bytes drives content → IsLastShown (between shelf a c) bytes drives content
+  last_earlier quiet bytes drives content shown =
+      each_joined (OfTales (λ t m. told m ≡ told t)) (AreLast bytes drives content) (AreLast bytes drives content) _ _ _ _ _ _
       (λ s x v first mid last turn there ahead m here within.
       let still : length (told m.tale) ≡ length (told (tale_of s)) = ap length here in record {
-        before = λ short. (let le = within.counts.1 (OnDrive 0) in let start = there.before (omega arith) in omega (arith, le, start));
+        before = λ short drive. (let le = within.counts.1 (OnDrive drive) in let start = there.before (omega arith) drive in omega (arith, le, start));
         behind = λ long. absurd (omega (arith, long, still));
         reads = λ long. absurd (omega (arith, long, still));
       })

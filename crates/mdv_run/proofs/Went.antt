@@ -6,7 +6,7 @@ use Rattle.mdv_shelf.specs.Everywhere.{Image}
 use Rattle.mdv_shelf.specs.Made.{made_between}
 use Rattle.mdv_shelf.specs.Story.{Effort}
 use Rattle.mdv_engine_law.specs.Efforts.{replied_to}
-use Rattle.mdv_run_law.specs.Run.{AreInTime, EndsAt, NextCalls, Over as IsOver, broken, ended, no_line, one_more, unread}
+use Rattle.mdv_run_law.specs.Run.{AreInTime, EndsAt, NextCalls, drive_failures, Over as IsOver, broken, ended, no_line, one_more, unread}
 use Rattle.mdv_shelf.proofs.Moments.{moments_none, moments_after, ends_more, some_is}
 use Rattle.mdv_base.proofs.Causes.{rose_within}
 use Rattle.mdv_run.specs.declared.session.Turn.TheVariants.{On, Over}
@@ -82,7 +82,7 @@ module _ (host : Host) (first : Memory) (input : List ℕ) (start : Point) where
     pub record ShowsOver (other : Stretch) : Type 0 where
       pub still : ShowsStill other
       pub ends : EndsAt other end.story end.effort
-      pub last : (t u v : Tale) → a ≡ Some t → b ≡ Some u → c ≡ Some v → (bytes : ℕ) → length (told t) + bytes ≡ length (told u) → IsLastShown other bytes end.counts.drive (contents v)
+      pub last : (t u v : Tale) → a ≡ Some t → b ≡ Some u → c ≡ Some v → (bytes : ℕ) → length (told t) + bytes ≡ length (told u) → IsLastShown other bytes end.counts.drives (contents v)
 
     went_more : (other : Stretch) → Shows other → (r : Bool) (left : Script) (t u v : Tale) → a ≡ Some t → b ≡ Some u → c ≡ Some v → then ≡ Some left → Went host stretch start here first now any (asked_of input) so_far.left t u
         → Turns host here end now new any so_far.left then (On r) u v → Went host other start end first new r (asked_of input) left t v
@@ -161,21 +161,21 @@ ends_with : (stretch other : Stretch) → EndsAt other stretch.new stretch.after
 ends_with stretch other ends still = record { quiet = ends.quiet ∙ still.quiet; uncalled = ends.uncalled ∙ still.uncalled }
 
 -- the same end of a run, by another stretch
-over_shown : (host : Host) (stretch other : Stretch) (bytes : ℕ) → EndsAt other stretch.new stretch.after.effort → ((drive : ℕ) (content : Image) → IsLastShown stretch bytes drive content → IsLastShown other bytes drive content) → (end : Counts) (now : At) (told : List ℕ) (status : RunStatus) (last : Kept)
+over_shown : (host : Host) (stretch other : Stretch) (bytes : ℕ) → EndsAt other stretch.new stretch.after.effort → ((drives : ℕ → ℕ) (content : Image) → IsLastShown stretch bytes drives content → IsLastShown other bytes drives content) → (end : Counts) (now : At) (told : List ℕ) (status : RunStatus) (last : Kept)
     → IsOver host stretch bytes end now told status last → IsOver host other bytes end now told status last
 over_shown host stretch other bytes ends shows end now told status last (unread so still stops) = unread so (ends_with stretch other ends still) stops
 over_shown host stretch other bytes ends shows end now told status last (ended how same still stops) = ended how same (ends_with stretch other ends still) stops
 over_shown host stretch other bytes ends shows end now told status last (broken answer later next more comes shown rose led with) =
-    broken answer later next more comes (shows later.drive next.content shown) rose
+    broken answer later next more comes (shows later.drives next.content shown) rose
     (record {
       in_time = subst (λ (o : Option Story). AreInTime now.counts now.story o) (sym ends.quiet) led.in_time;
-      calls = subst (λ (e : Effort). NextCalls (replied_to answer (made_between now.effort e)) host now.kept now.script answer next) (sym ends.uncalled) led.calls;
+      calls = subst (λ (e : Effort). NextCalls (drive_failures now.counts later) (replied_to answer (made_between now.effort e)) host now.kept now.script answer next) (sym ends.uncalled) led.calls;
       writes = λ s u is_s is_u. led.writes s u is_s (sym ends.quiet ∙ is_u);
     }) with
 
 -- the same lines, by a stretch that begins earlier
 pub run_earlier : (host : Host) (stretch other : Stretch) → EndsAt other stretch.new stretch.after.effort → ((bytes piece : ℕ) (shown : At) → 0 < piece → IsShown stretch bytes piece shown → IsShown other bytes piece shown)
-    → ((bytes drive : ℕ) (content : Image) → IsLastShown stretch bytes drive content → IsLastShown other bytes drive content) → (now : Point) (end : Counts) (memory : Memory) (script : Script) (status : RunStatus) (t u : Tale)
+    → ((bytes : ℕ) (drives : ℕ → ℕ) (content : Image) → IsLastShown stretch bytes drives content → IsLastShown other bytes drives content) → (now : Point) (end : Counts) (memory : Memory) (script : Script) (status : RunStatus) (t u : Tale)
     → LinesRun host stretch now end memory false script status t u → LinesRun host other now end memory false script status t u
 run_earlier host stretch other ends shows last now end memory script status t u run = record {
   more = run.more;
@@ -198,7 +198,7 @@ cause_within start now then end Done before behind cause = tt
 cause_within start now then end SomeRefused before behind cause = tt
 cause_within start now then end Usage before behind cause = cause
 cause_within start now then end (NoQuorum readable needed) before behind cause = cause
-cause_within start now then end (Panic active listed) before behind cause = (rose_within _ _ _ _ before.drive behind.drive cause.0, cause.1, cause.2)
+cause_within start now then end (Panic active listed) before behind cause = ((cause.0.0, rose_within _ _ _ _ (before.drives cause.0.0) (behind.drives cause.0.0) cause.0.1), cause.1, cause.2)
 cause_within start now then end ReadFault before behind cause = rose_within _ _ _ _ before.source behind.source cause
 cause_within start now then end WriteFault before behind cause = rose_within _ _ _ _ before.replies behind.replies cause
 cause_within start now then end NoMemory before behind cause = tt

@@ -1,7 +1,9 @@
 -- A whole run: its boot, and the lines behind it.
 use Rattle.std.specs.Option.{option_map}
+use Rattle.mdv_base.specs.declared.drive.DriveNo.{DriveNo}
 use Rattle.mdv_shelf.specs.Calls.{OnDrive, OnReplies}
-use Rattle.mdv_shelf.specs.Shelves.{AtEachTale, GoesOn, KeptOn}
+use Rattle.mdv_shelf.specs.Drives.{KeptAmong}
+use Rattle.mdv_shelf.specs.Shelves.{AtEachTale, GoesOn, KeptInTime}
 use Rattle.mdv_run.proofs.Keeping.{replies_apart}
 use Rattle.mdv_shelf.specs.Story.{Story, tale_of}
 use Rattle.mdv_shelf.specs.declared.shelf.Shelf.{Ghosts}
@@ -30,7 +32,7 @@ use Rattle.mdv_run.specs.Turns.{LinesRun}
 module _ (host : Host) (stretch : Stretch) (start : Counts) (t : Tale) (script : Script) (tale : Option Tale) where
   -- a run that is over with its boot
   pub whole_over : (T : Type 0) (end : Counts) → RoseCalmly start end → (u : Tale) (memory : Memory) (r : Ended) → IsPoint stretch start.source end (record { story = stretch.new; effort = stretch.after.effort }) (contents u) → tale ≡ Some u → told u ≡ told t → IsRebooted (drive_failures start end) host (kept_at (unbooted 0) t) (boot_answer {T = T} (Err r)) (kept_at memory u)
-      → BootCalls (made_between stretch.before.effort stretch.after.effort) host (boot_answer {T = T} (Err r)) memory (contents t) → FromTo (KeptOutside (area_of (site_of host))) stretch.old stretch.new → IsWholeRun host stretch start end t script tale (status_at r)
+      → BootCalls (drive_failures start end) (made_between stretch.before.effort stretch.after.effort) host (boot_answer {T = T} (Err r)) memory (contents t) → FromTo (KeptOutside (area_of (site_of host))) stretch.old stretch.new → IsWholeRun host stretch start end t script tale (status_at r)
   whole_over T end rose u memory r point is quiet rebooted calls writes = record {
     u = u;
     tells = is;
@@ -46,7 +48,7 @@ module _ (host : Host) (stretch : Stretch) (start : Counts) (t : Tale) (script :
     lost ended.Memory = tt
 
   -- a run that goes on to its lines
-  pub whole_lines : (mid end : Counts) → RoseCalmly start mid → (u v : Tale) (memory : Memory) (status : RunStatus) (story : Option Story) (effort : Effort) → IsPoint stretch start.source mid (record { story = story; effort = effort }) (contents u) → tale ≡ Some v → told u ≡ told t → IsRebooted (drive_failures start mid) host (kept_at (unbooted 0) t) accepted (kept_at memory u) → BootCalls (made_between stretch.before.effort effort) host accepted memory (contents t) → FromTo (KeptOutside (area_of (site_of host))) stretch.old story
+  pub whole_lines : (mid end : Counts) → RoseCalmly start mid → (u v : Tale) (memory : Memory) (status : RunStatus) (story : Option Story) (effort : Effort) → IsPoint stretch start.source mid (record { story = story; effort = effort }) (contents u) → tale ≡ Some v → told u ≡ told t → IsRebooted (drive_failures start mid) host (kept_at (unbooted 0) t) accepted (kept_at memory u) → BootCalls (drive_failures start mid) (made_between stretch.before.effort effort) host accepted memory (contents t) → FromTo (KeptOutside (area_of (site_of host))) stretch.old story
       → LinesRun host stretch (record { counts = mid; story = story; effort = effort }) end memory false script status u v → IsWholeRun host stretch start end t script tale status
   whole_lines mid end rose u v memory status story effort point is quiet rebooted calls writes lines = record {
     u = v;
@@ -65,13 +67,17 @@ boot_writes shelf telling host a b moments s u is_s is_u =
     subst (KeptOutside (area_of (site_of host)) (tale_of s)) (some_is (shelf.tale b) end.0 (tale_of u) end.1 (telling b ∙ ap (λ (o : Option Story). option_map tale_of o) is_u)) end.2.kept
 
 -- why a run is over with its boot
-pub over_cause : (T : Type 0) (start end : Counts) (r : Ended) (unread : Bool) → HasBootCause {T = T} (drive_failures start end) unread (Err r) → HasStatusCause start end (status_at r)
-over_cause T start end (ended.Lost active listed) unread why = (rose_of_once _ _ why.0, why.1, why.2)
-over_cause T start end ended.Spent unread why = tt
-over_cause T start end ended.Memory unread why = tt
+pub over_cause : (T : Type 0) (start end : Counts) (host : Host) (r : Ended) (clean : Bool) → HasBootCause {T = T} (drive_failures start end) host clean (Err r) → HasStatusCause start end (status_at r)
+over_cause T start end host (ended.Lost active listed) clean why = ((host.home.drive.0, rose_of_once _ _ why.0), why.1, why.2)
+over_cause T start end host ended.Spent clean why = tt
+over_cause T start end host ended.Memory clean why = tt
+
+-- behind a boot no drive's count is lower, and those of the source and of the giving are what they were
+pub boot_calm : {S : Type 0} (shelf : Ghosts S) (a b : S) (drives : List DriveNo) (source : ℕ) → KeptAmong shelf a b drives → RoseCalmly (counts (shelf.faults a) source) (counts (shelf.faults b) source)
+boot_calm shelf a b drives source kept = record { drives = λ drive. kept.keeps.no_fewer_faults (OnDrive drive); source = refl; replies = kept.others OnReplies (replies_apart drives) }
 
 -- the point between a boot and the calls behind it
-module _ {S : Type 0} (shelf : Ghosts S) (telling : (s : S) → shelf.tale s ≡ option_map tale_of (shelf.story s)) (a b c : S) (source : ℕ) (u : Tale) (is : shelf.tale b ≡ Some u) (on : KeptOn shelf a b (OnDrive 0)) where
+module _ {S : Type 0} (shelf : Ghosts S) (telling : (s : S) → shelf.tale s ≡ option_map tale_of (shelf.story s)) (a b c : S) (source : ℕ) (u : Tale) (is : shelf.tale b ≡ Some u) (on : KeptInTime shelf a b) where
   tale_there : (s : S) (x : Story) → shelf.story s ≡ Some x → shelf.tale s ≡ Some (tale_of x)
   tale_there s x at = telling s ∙ ap (λ (o : Option Story). option_map tale_of o) at
 
@@ -81,7 +87,7 @@ module _ {S : Type 0} (shelf : Ghosts S) (telling : (s : S) → shelf.tale s ≡
     before = on.goes;
     behind = behind;
     counts_are = refl;
-    in_time = record { drive = on.in_time; replies = on.elsewhere OnReplies replies_apart (shelf.faults a OnReplies) };
+    in_time = record { drives = λ drive. on.in_time (OnDrive drive); replies = on.in_time OnReplies };
     quiet = λ s x at there.
         let end = moments_end (λ t m. told m ≡ told t) (shelf.tale a) (shelf.tale b) quiet (tale_of s) (tale_there a s at) in
         ap told (some_is (shelf.tale b) (tale_of x) end.0 (tale_there b x there) end.1) ∙ end.2;

@@ -1,6 +1,5 @@
 -- What a run promises, of the whole bench and the whole source.
-use Rattle.mdv_base.specs.Causes.{Failures}
-use Rattle.std.specs.Prelude.{◌≡◌, ◌≢◌, ◌⊎◌, ◌↔◌, ◌≤◌, ◌<◌, ◌+◌, ℕ, Bool, false, List, Option, Some}
+use Rattle.std.specs.Prelude.{◌≡◌, ◌≢◌, ◌⊎◌, ◌↔◌, ◌≤◌, ◌<◌, ◌+◌, ◌*◌, ℕ, Bool, false, List, length, Option, Some}
 use Rattle.mdv_run.specs.Below.{Reader, Script, line, asked_before, asked_of, Tale, Reply, IsReplied, Host, Memory, Engine, Knows, IsWell, StaysHome, TellsFront, IsAnswered, IsToldBy, kept_at, RunStatus, NoMemory, Usage, Counts, Stretch, counts, HasStatusCause, IsWholeRun, RunMoment, LinesMoment, RanTo}
 use Rattle.mdv_shelf.specs.Calls.{RoseByAtMost}
 use Rattle.mdv_shelf.specs.Shelves.{AtEachMoment, AtEachTale, AtEnd, DriveFailures, EndsTold, GivingFailed, GivingFailures, KeptInTime, RestsOnceTold}
@@ -8,7 +7,12 @@ use Rattle.mdv_shelf.specs.Made.{Made, effort_of, made_of, tally_of}
 use Rattle.mdv_shelf.specs.Story.{OfTales}
 use Rattle.mdv_shelf.specs.declared.shelf.Shelf.{Ghosts as Shelf}
 use Rattle.mdv_port.specs.declared.source.Source.{Ghosts as Source}
+use Rattle.mdv_run_law.specs.Told.{WorkWrites}
 use Rattle.mdv_run_law.specs.Usage.{IsUsed}
+use Rattle.mdv_base.specs.declared.drive.DriveNo.{DriveNo}
+use Rattle.mdv_engine_law.specs.Failing.{Outcomes}
+use Rattle.mdv_home.specs.Drives.{own_drives}
+use Rattle.mdv_home.specs.View.{own_view}
 use Rattle.mdv_home.specs.declared.geometry.Home.{Home}
 use Rattle.mdv_name.specs.declared.geometry.Geometry.{Geometry}
 use Rattle.mdv_run.specs.declared.session.Turn.{Turn}
@@ -40,6 +44,13 @@ IsUntouched old from new to = (new ≡ old) × (to ≡ from)
 abbrev pub OfEachUse : List (List ℕ) → List ℕ → List ℕ → (Geometry → Home → Type 0) → Type 0
 OfEachUse words text sizes P = (drives : Geometry) (home : Home) → IsUsed words text sizes drives home → P drives home
 
+-- a use, and what of its table of drives a run begins with: what the host sees of it, and the host's own drives
+pub record IsStart (words : List (List ℕ)) (text sizes : List ℕ) (view : Geometry) (own : List DriveNo) (home : Home) : Type 0 where
+  pub table : Geometry
+  pub used : IsUsed words text sizes table home
+  pub view_is : view ≡ own_view table home.host
+  pub own_is : own ≡ own_drives table home.host
+
 -- A faulty use is told exactly where there is none of a host, but for want of memory; and where there is none, nothing was done.
 pub record IsUsageOf (None Untouched : Type 0) (status : RunStatus) : Type 0 where
   pub exactly : status ≢ NoMemory → (status ≡ Usage) ↔ None
@@ -61,7 +72,7 @@ pub record HasRun {B I : Type 0} (shelf : Shelf B) (source : Source I) (host : H
   pub tells : (input : List ℕ) → source.left from ≡ Some input → AtEachMoment shelf (IsToldBy host (between shelf old new) (by shelf source old from) (asked_of input)) old new
   pub home : AtEachTale shelf (StaysHome host) old new
   pub causes : (status ≡ NoMemory) ⊎ HasStatusCause (by shelf source old from) (by shelf source new to) status
-  pub counted : (input : List ℕ) → source.left from ≡ Some input → (n : ℕ) → ScriptCalls (asked_of input) n → RoseByAtMost (13 + n) (shelf.calls old) (shelf.calls new)
+  pub counted : (input : List ℕ) → source.left from ≡ Some input → (n : ℕ) → ScriptCalls host (asked_of input) n → RoseByAtMost (2 * length host.own + 11 + n) (shelf.calls old) (shelf.calls new)
 
 -- the lines of a run behind its boot, which left this memory
 pub record HaveRun {B I : Type 0} (shelf : Shelf B) (source : Source I) (host : Host) (memory : Memory) (old : B) (from : I) (new : B) (to : I) (status : RunStatus) : Type 0 where
@@ -72,7 +83,7 @@ pub record HaveRun {B I : Type 0} (shelf : Shelf B) (source : Source I) (host : 
       → AtEachMoment shelf (λ t m. Knows host memory t.tale → LinesFront host (between shelf old new) (at (point_at shelf source old from) (kept_at memory t.tale) false (asked_of input)) t m) old new
   pub home : AtEachTale shelf (StaysHome host) old new
   pub causes : HasStatusCause (by shelf source old from) (by shelf source new to) status
-  pub counted : (input : List ℕ) → source.left from ≡ Some input → (n : ℕ) → ScriptCalls (asked_of input) n → RoseByAtMost n (shelf.calls old) (shelf.calls new)
+  pub counted : (input : List ℕ) → source.left from ≡ Some input → (n : ℕ) → ScriptCalls host (asked_of input) n → RoseByAtMost n (shelf.calls old) (shelf.calls new)
 
 -- one turn, in the end: what it told and led to, by the script before it, and what is known of the drive then
 pub record TurnEnd (host : Host) (now later : Point) (old new : Memory) (refused : Bool) (script : Script) (before : Option Script) (turn : Turn) (t u : Tale) : Type 0 where
@@ -94,7 +105,7 @@ pub record TurnAnswer (now later : Counts) (host : Host) (engine : Engine) (befo
   pub well : IsWell host engine.state
   pub begun : engine.state.begun ≤ after.lines
   pub on : IsOn turn → (before.lines < after.lines) × (after.lines ≤ 1048576)
-  pub counted : (script : Script) → asked_before before left ≡ Some script → (n : ℕ) → ScriptCalls script n → TurnTook turn (asked_before after rest) calls made n
+  pub counted : (script : Script) → asked_before before left ≡ Some script → (n : ℕ) → ScriptCalls host script n → TurnTook host turn (asked_before after rest) calls made n
   pub goes_on : IsOn turn → (script : Script) → asked_before before left ≡ Some script → (more : Script) × (asked_before after rest ≡ Some more)
 
 abbrev pub TurnAnswers : {B I : Type 0} → Shelf B → Source I → Host → Engine → B → B → I → I → Reader → Reader → Turn → Type 0
@@ -115,27 +126,50 @@ LineTells shelf engine text bench on =
 abbrev pub IsUncut : Reply → Type 0
 IsUncut given = given ≢ reply.Told
 
--- A line, or a turn: outside the host's area nothing happens; from the first byte of its reply on the drives are at rest, and where it was told whole no
--- call failed; unless it was cut short no giving failed at all; and a front of it is told by each moment.
-pub record LineStays {B : Type 0} (shelf : Shelf B) (host : Host) (replied uncut Tells : Type 0) (old new : B) : Type 0 where
+-- no block was written but those that a line with this text may write
+abbrev pub IsWorkOf : Engine → List ℕ → Tale → Tale → Type 0
+IsWorkOf engine text s m = (more : Script) → WorkWrites engine.host engine.state (line text more) s m
+
+-- A line, or a turn: outside the host's area nothing happens, and of that no block is written but those that it may write; from the first byte of its reply on the drives are at rest, and where it was
+-- told whole no call failed; unless it was cut short no giving failed at all; and a front of it is told by each moment.
+pub record LineStays {B : Type 0} (shelf : Shelf B) (host : Host) (replied uncut Tells : Type 0) (Writes : Tale → Tale → Type 0) (old new : B) : Type 0 where
   pub home : AtEachTale shelf (StaysHome host) old new
   pub told : replied → EndsTold shelf old new
   pub given : uncut → (GivingFailures shelf old new).none
   pub rests : RestsOnceTold shelf old new
+  pub writes : AtEachTale shelf Writes old new
   pub tells : Tells
 
--- the same of a line that is given as something, by which it has one of these texts: a front of its reply is told as of each of them
+-- of a line with this text
+abbrev pub LineStaysAs : {B : Type 0} → Shelf B → Engine → List ℕ → B → B → Reply → Type 0
+LineStaysAs shelf engine text bench on given = LineStays shelf engine.host (IsReplied given) (IsUncut given) (LineTells shelf engine text bench on) (IsWorkOf engine text) bench on
+
+-- the same of a line that is given as something, by which it has one of these texts: a front of its reply is told, and its blocks are written, as of each of them
 abbrev pub LinesStay : {B : Type 0} → Shelf B → Engine → (List ℕ → List ℕ) → (List ℕ → Type 0) → B → B → Reply → Type 0
-LinesStay shelf engine text_of Is bench on given = LineStays shelf engine.host (IsReplied given) (IsUncut given) ((x : List ℕ) → Is x → LineTells shelf engine (text_of x) bench on) bench on
+LinesStay shelf engine text_of Is bench on given =
+    LineStays shelf engine.host (IsReplied given) (IsUncut given) ((x : List ℕ) → Is x → LineTells shelf engine (text_of x) bench on)
+    (λ s m. (x : List ℕ) → Is x → IsWorkOf engine (text_of x) s m) bench on
+
+-- and of a turn, by each script before it
+abbrev pub TurnWrites : {I : Type 0} → Source I → Engine → I → Reader → Tale → Tale → Type 0
+TurnWrites source engine from before s m = (script : Script) → asked_before before (source.left from) ≡ Some script → WorkWrites engine.host engine.state script s m
+
+abbrev pub TurnStays : {B I : Type 0} → Shelf B → Source I → Engine → B → B → I → Reader → Bool → Turn → Type 0
+TurnStays shelf source engine bench on from before refused turn =
+    LineStays shelf engine.host (IsOn turn) (IsOn turn) (TurnTells shelf source engine bench on from before refused) (TurnWrites source engine from before) bench on
 
 -- one line, in the end: its answer and its reply, what is left of the script, and what is known of the drive then
-pub record LineEnd (drive : Failures) (replies : Type 0) (made : Made) (host : Host) (text : List ℕ) (old new : Memory) (reply : Reply) (t u : Tale) : Type 0 where
-  pub answered : Knows host old t → LineAnswered drive replies made host text old new reply t u
+pub record LineEnd (outcomes : Outcomes) (replies : Type 0) (made : Made) (host : Host) (text : List ℕ) (old new : Memory) (reply : Reply) (t u : Tale) : Type 0 where
+  pub answered : Knows host old t → LineAnswered outcomes replies made host text old new reply t u
   pub ran : IsReplied reply → (more : Script) → RanTo host (line text more) old new more t u
   pub knows : (IsLost reply → ⊥) → Knows host old t → Knows host new u
 
 abbrev pub LineEnds : {B : Type 0} → Shelf B → B → B → Host → List ℕ → Memory → Memory → Reply → Type 0
-LineEnds shelf bench on host text old new reply = AtEnd shelf (LineEnd (DriveFailures shelf bench on 0) (GivingFailed shelf bench on) (made_of shelf bench on) host text old new reply) bench on
+LineEnds shelf bench on host text old new reply = AtEnd shelf (LineEnd (DriveFailures shelf bench on) (GivingFailed shelf bench on) (made_of shelf bench on) host text old new reply) bench on
+
+-- a call on some drive failed, whatever came of those on others
+abbrev pub SomeFailed : Outcomes → Type 0
+SomeFailed calls = (drive : ℕ) × (calls drive).some
 
 -- what a reply says whatever the bench tells: its cause, what the engine is then, and how many calls were made
 pub record LineReply (drive replies : Type 0) (host : Host) (old : Memory) (Took : ℕ → Type 0) (calls made : Option ℕ) (engine : Engine) (reply : Reply) : Type 0 where
@@ -146,9 +180,9 @@ pub record LineReply (drive replies : Type 0) (host : Host) (old : Memory) (Took
   pub begun : engine.state.begun ≤ old.begun + 1
 
 abbrev pub LineReplies : {B : Type 0} → Shelf B → Engine → B → B → (ℕ → Type 0) → Engine → Reply → Type 0
-LineReplies shelf old bench on Took new reply = LineReply (DriveFailures shelf bench on 0).some (GivingFailed shelf bench on) old.host old.state Took (shelf.calls bench) (shelf.calls on) new reply
+LineReplies shelf old bench on Took new reply = LineReply (SomeFailed (DriveFailures shelf bench on)) (GivingFailed shelf bench on) old.host old.state Took (shelf.calls bench) (shelf.calls on) new reply
 
--- the reply to a line that boots, which takes fourteen calls at most; and no call was made behind one on the same part that failed
+-- the reply to a line that boots, which takes two calls for each of the host's own drives, and twelve at most; and no call was made behind one on the same part that failed
 pub record BootReplies {B : Type 0} (shelf : Shelf B) (old : Engine) (bench on : B) (new : Engine) (reply : Reply) : Type 0 where
-  pub line : LineReplies shelf old bench on (λ n. n ≡ 14) new reply
+  pub line : LineReplies shelf old bench on (λ n. n ≡ 2 * length old.host.own + 12) new reply
   pub kept : KeptInTime shelf bench on

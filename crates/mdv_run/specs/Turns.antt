@@ -1,8 +1,15 @@
 -- How the lines of a run follow one another.
-use Rattle.mdv_base.specs.Causes.{Failures}
+use Rattle.mdv_engine_law.specs.Failing.{Outcomes}
 use Rattle.std.specs.Prelude.{◌≡◌, ℕ, Bool, true, List, ◌++◌, Option, Some}
 use Rattle.mdv_run.specs.Below.{Script, Tale, told, Answer, Reply, Host, Kept, Memory, kept_at, Replied, RunStatus, Panic, WriteFault, NoMemory, NumbersSpent, At, Counts, IsNextFront, LinesToldBy, LineTold, Runs, Stretch, IsAnswered, IsLeft, HasStatusCause}
+use Rattle.mdv_engine_law.specs.Answers.{accepted}
+use Rattle.mdv_engine_law.specs.Replies.{IsReplied}
+use Rattle.mdv_engine_law.specs.Standing.{LeavesDone}
+use Rattle.mdv_run_law.specs.Run.{IsQuiet}
+use Rattle.mdv_shelf.specs.Area.{KeptOutside, nowhere}
 use Rattle.mdv_shelf.specs.Story.{Moment, Story}
+use Rattle.mdv_words.specs.Line.{Exec, IsLine}
+use Rattle.mdv_words.specs.declared.command.Command.{Command}
 use Rattle.mdv_shelf.specs.Made.{Made}
 use Rattle.mdv_shelf.specs.Story.{Effort}
 use Rattle.mdv_engine_law.specs.Efforts.{replied_to}
@@ -11,13 +18,15 @@ use Rattle.mdv_engine_law.specs.declared.answer.Reply.TheVariants as reply
 use Rattle.mdv_run.specs.declared.session.Turn.{Turn}
 use Rattle.mdv_run.specs.declared.session.Turn.TheVariants.{On, Over}
 
--- a line that was carried out and replied to, with so many calls, of which one on the drive and the giving of its reply may have failed, and the blocks that it
--- may write
-pub record LineAnswered (drive : Failures) (replies : Type 0) (made : Made) (host : Host) (text : List ℕ) (old new : Memory) (reply : Reply) (t u : Tale) : Type 0 where
+-- a line that was carried out and replied to, with so many calls, of which those on drives came out so and the giving of its reply may have failed, and the blocks
+-- that it may write; none, where it is refused for another cause than a failed call and told so; and what it leaves that was told `ok`
+pub record LineAnswered (outcomes : Outcomes) (replies : Type 0) (made : Made) (host : Host) (text : List ℕ) (old new : Memory) (reply : Reply) (t u : Tale) : Type 0 where
   pub answer : Answer
-  pub done : IsAnswered drive host (kept_at old t) text answer (kept_at new u)
-  pub calls : TextCalls (replied_to answer made) host (kept_at old t) text answer (kept_at new u)
+  pub done : IsAnswered outcomes host (kept_at old t) text answer (kept_at new u)
+  pub calls : TextCalls outcomes (replied_to answer made) host (kept_at old t) text answer (kept_at new u)
   pub writes : TextWrites host old text t u
+  pub unwritten : IsReplied reply → IsQuiet answer → KeptOutside nowhere t u
+  pub leaves : IsReplied reply → answer ≡ accepted → (command : Command) → IsLine text (Exec command) → LeavesDone host old command u
   pub replied : Replied replies answer reply t u
 
 -- how a run goes on with a reply
@@ -44,11 +53,11 @@ pub record Point : Type 0 where
 abbrev pub at : Point → Kept → Bool → Script → At
 at now kept refused script = record { counts = now.counts; story = now.story; effort = now.effort; kept = kept; refused = refused; script = script }
 
--- One turn told this piece: a line's reply, and the run goes on; or the run is over with it, by each stretch that ends there, and shows how often the drive
+-- One turn told this piece: a line's reply, and the run goes on; or the run is over with it, by each stretch that ends there, and shows how often each drive
 -- failed, and what it has.
 abbrev pub Leads : Host → At → List ℕ → Point → Kept → Option Script → Turn → Type 0
 Leads host from piece then kept before (On r) = (more : Script) × (before ≡ Some more) × LineTold host from piece (at then kept r more)
-Leads host from piece then kept before (Over status) = (stretch : Stretch) (bytes : ℕ) → EndsAt stretch then.story then.effort → IsLastShown stretch bytes then.counts.drive kept.content → IsOver host stretch bytes then.counts from piece status kept
+Leads host from piece then kept before (Over status) = (stretch : Stretch) (bytes : ℕ) → EndsAt stretch then.story then.effort → IsLastShown stretch bytes then.counts.drives kept.content → IsOver host stretch bytes then.counts from piece status kept
 
 -- a turn, from one point to another, told by the script before it
 pub record Turns (host : Host) (now then : Point) (old new : Memory) (refused : Bool) (script : Script) (before : Option Script) (turn : Turn) (t u : Tale) : Type 0 where

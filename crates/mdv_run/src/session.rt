@@ -11,17 +11,16 @@ ghost use Rattle.mdv_engine.specs.Engine.{IsWell};
 ghost use Rattle.mdv_name.specs.declared.geometry.Geometry.{Geometry};
 ghost use Rattle.mdv_name.specs.Geometry.{IsGeometry as IsTable};
 ghost use Rattle.mdv_run_law.specs.Lives.{host_of};
-ghost use Rattle.mdv_run_law.specs.Usage.{IsUsed};
 ghost use Rattle.mdv_run_law.specs.Run.{status_at, status_of};
 ghost use Rattle.mdv_run_law.specs.Standing.{LinesMoment};
 ghost use Rattle.mdv_run.specs.Calls.{ItemCalls, OpenedTook, TextCalls};
-ghost use Rattle.mdv_run.specs.Promise.{BootReplies, HasRun, HaveRun, IsUncut, IsUntouched, IsUsageOf, LineEnds, LineReplies, LineStays, LineTells, LinesStay, OfEachUse, TurnAnswers, TurnEnds, TurnTells};
+ghost use Rattle.mdv_run.specs.Promise.{BootReplies, HasRun, HaveRun, IsStart, IsUncut, IsUntouched, IsUsageOf, LineEnds, LineReplies, LineStaysAs, LinesStay, OfEachUse, TurnAnswers, TurnEnds, TurnStays};
 ghost use Rattle.mdv_run.specs.Turns.{IsOn, turn_of as spec_turn_of};
 
-use mdv_base::{DriveNo, Failed, Refusal};
+use mdv_base::{Failed, Refusal};
 use mdv_engine::Engine;
 use mdv_engine_law::{Ended, Host, Reply, reply_at};
-use mdv_home::{Home, home_in};
+use mdv_home::{Home, OwnDrives, has_drives, home_in};
 use mdv_items::{GatherFault, ItemEnd, ItemReader};
 use mdv_name::{Geometry, GeometryFault};
 use mdv_port::Source;
@@ -30,9 +29,9 @@ use mdv_shelf::Bench;
 use mdv_words::{Line, WordsFault, read_line};
 use std::alloc::Global;
 
-/// Runs one host: it boots from the drive, then answers the lines of the script one by one. The words
-/// are the host's name alone. The table of drives has that host alone and one drive, which is its own; exactly one
-/// of the slices is marked `db`, and no other overlaps it. `fresh` has to differ between runs: it is part of the
+/// Runs one host: it boots from its drives, then answers the lines of the script one by one. The words
+/// are the host's name alone, which the table of drives has; of the slices on the drives that are the host's own exactly one
+/// is marked `db`, and no other slice overlaps it. The blocks of all other drives stay as they are. `fresh` has to differ between runs: it is part of the
 /// identity of each database that the run makes. Memory is taken for the table of drives and by boots, without which
 /// the run ends, and to read lines and blocks and by commands, which are refused without it.
 #[tactic(auto, using(mdv_shelf::proofs::Noted::kept_more))]
@@ -56,6 +55,7 @@ pub fn run<B: Bench, I: Source>(
         Ok(start) => {
             let host = Host {
                 drives: start.drives,
+                own: start.own,
                 home: start.home,
                 fresh,
             };
@@ -66,7 +66,7 @@ pub fn run<B: Bench, I: Source>(
     }
 }
 
-// The run of this host on its drive.
+// The run of this host on its drives.
 fn run_host<B: Bench, I: Source>(
     host: Host,
     alloc: Global,
@@ -94,11 +94,12 @@ fn over(end: Ended) -> RunStatus
     }
 }
 
-// What a run begins with.
+// What a run begins with: what the host sees of the table of drives, which of them are its own, and its home.
 #[derive(Drop)]
 struct Start {
     alloc: Global,
     drives: Geometry,
+    own: OwnDrives,
     home: Home,
 }
 
@@ -108,28 +109,32 @@ enum Unusable {
     Memory,
 }
 
-// The host's home, where the words and the table of drives are of their form and fit each other and the
+// What a run begins with, where the words and the table of drives are of their form and fit each other and the
 // drives.
 fn usable<B: Bench>(words: &[String], table: &[u8], bench: &B) -> Result<Start, Unusable>
-    ensures value { IfOk result (λ used. IsUsed (map string_bytes words.now) table.now (B.sizes bench.now) used.drives used.home) }
+    ensures value { IfOk result (λ used. IsStart (map string_bytes words.now) table.now (B.sizes bench.now) used.drives used.own used.home) }
     ensures none { result ≡ Err Unusable.Usage → OfEachUse (map string_bytes words.now) table.now (B.sizes bench.now) (λ _ _. ⊥) }
 {
     let [host] = words else {
         return Err(Unusable::Usage);
     };
     let alloc = *host.allocator();
-    let drives = read_table(alloc, table)?;
-    let Some(home) = home_in(&drives, host.as_bytes()) else {
+    let table = read_table(alloc, table)?;
+    let Some(home) = home_in(&table, host.as_bytes()) else {
         return Err(Unusable::Usage);
     };
-    if has_drive(bench, home.drive_blocks) {
-        Ok(Start {
+    if !has_drives(bench, &table) {
+        return Err(Unusable::Usage);
+    }
+    let own = OwnDrives::of(&table, host.as_bytes());
+    match own.view_of(alloc, table) {
+        Ok(drives) => Ok(Start {
             alloc,
             drives,
+            own,
             home,
-        })
-    } else {
-        Err(Unusable::Usage)
+        }),
+        Err(_) => Err(Unusable::Memory),
     }
 }
 
@@ -142,12 +147,6 @@ fn read_table(alloc: Global, text: &[u8]) -> Result<Geometry, Unusable>
         Err(GeometryFault::BadLine(_)) => Err(Unusable::Usage),
         Err(GeometryFault::Memory) => Err(Unusable::Memory),
     }
-}
-
-fn has_drive<B: Bench>(bench: &B, blocks: u64) -> bool
-    ensures { IsTrue result ↔ (B.sizes bench.now ≡ blocks ∷ []) }
-{
-    bench.drives() == 1 && bench.blocks(DriveNo(0)) == blocks
 }
 
 fn run_lines<B: Bench, I: Source>(
@@ -192,7 +191,7 @@ fn take_turn<B: Bench, I: Source>(
     requires begun { engine.old.state.begun ≤ reader.old.reader.lines }
     ensures moments { (lines : Script) → asked_before reader.old.reader (I.left script.old) ≡ Some lines → AtEachTale B.Shelf (LinesMoment engine.old.host lines engine.old.state) bench.old bench.new }
     ensures end { TurnEnds B.Shelf I.Source engine.old engine.new bench.old bench.new script.old script.new reader.old.reader reader.new.reader any_refused result }
-    ensures stays { LineStays B.Shelf engine.old.host (IsOn result) (IsOn result) (TurnTells B.Shelf I.Source engine.old bench.old bench.new script.old reader.old.reader any_refused) bench.old bench.new }
+    ensures stays { TurnStays B.Shelf I.Source engine.old bench.old bench.new script.old reader.old.reader any_refused result }
     ensures answer { TurnAnswers B.Shelf I.Source engine.old.host engine.new bench.old bench.new script.old script.new reader.old.reader reader.new.reader result }
     ensures kept { KeptInTime B.Shelf bench.old bench.new }
 {
@@ -221,7 +220,7 @@ fn answer_item<B: Bench>(
     ensures moments { (text : List ℕ) → IsItem text reader.now.item → (more : Script) → AtEachTale B.Shelf (LinesMoment engine.old.host (line_of text more) engine.old.state) bench.old bench.new }
     ensures end { (text : List ℕ) → IsItem text reader.now.item → LineEnds B.Shelf bench.old bench.new engine.old.host text engine.old.state engine.new.state result }
     ensures stays { LinesStay B.Shelf engine.old (λ text. text) (λ text. IsItem text reader.now.item) bench.old bench.new result }
-    ensures answer { LineReplies B.Shelf engine.old bench.old bench.new (ItemCalls reader.now.item) engine.new result }
+    ensures answer { LineReplies B.Shelf engine.old bench.old bench.new (ItemCalls engine.old.host reader.now.item) engine.new result }
     ensures kept { KeptInTime B.Shelf bench.old bench.new }
 {
     match reader.item() {
@@ -238,8 +237,8 @@ fn answer<B: Bench>(engine: &mut Engine, alloc: Global, bench: &mut B, line: &[u
     requires begun { engine.old.state.begun + 1 < 2 ^ 32 }
     ensures moments { (more : Script) → AtEachTale B.Shelf (LinesMoment engine.old.host (line_of line.now more) engine.old.state) bench.old bench.new }
     ensures end { LineEnds B.Shelf bench.old bench.new engine.old.host line.now engine.old.state engine.new.state result }
-    ensures stays { LineStays B.Shelf engine.old.host (IsReplied result) (IsUncut result) (LineTells B.Shelf engine.old line.now bench.old bench.new) bench.old bench.new }
-    ensures answer { LineReplies B.Shelf engine.old bench.old bench.new (TextCalls line.now) engine.new result }
+    ensures stays { LineStaysAs B.Shelf engine.old line.now bench.old bench.new result }
+    ensures answer { LineReplies B.Shelf engine.old bench.old bench.new (TextCalls engine.old.host line.now) engine.new result }
     ensures kept { KeptInTime B.Shelf bench.old bench.new }
 {
     match read_line(alloc, line) {
@@ -268,7 +267,7 @@ fn refuse_unread<B: Bench>(engine: &mut Engine, bench: &mut B) -> Reply
     requires { IsWell engine.old.host engine.old.state }
     ensures moments { (text : List ℕ) (more : Script) → AtEachTale B.Shelf (LinesMoment engine.old.host (line_of text more) engine.old.state) bench.old bench.new }
     ensures end { (text : List ℕ) → LineEnds B.Shelf bench.old bench.new engine.old.host text engine.old.state engine.new.state result }
-    ensures stays { LineStays B.Shelf engine.old.host (IsReplied result) (IsUncut result) ((text : List ℕ) → LineTells B.Shelf engine.old text bench.old bench.new) bench.old bench.new }
+    ensures stays { LinesStay B.Shelf engine.old (λ text. text) (λ text. Unit {0}) bench.old bench.new result }
     ensures answer { LineReplies B.Shelf engine.old bench.old bench.new (λ n. 1 ≤ n) engine.new result }
     ensures kept { KeptInTime B.Shelf bench.old bench.new }
 {
@@ -281,9 +280,9 @@ fn boot_anew<B: Bench>(engine: &mut Engine, alloc: Global, bench: &mut B) -> Rep
     requires well { IsWell engine.old.host engine.old.state }
     ensures moments { (text : List ℕ) (more : Script) → IsLine text Boot → AtEachTale B.Shelf (LinesMoment engine.old.host (line_of text more) engine.old.state) bench.old bench.new }
     ensures end { (text : List ℕ) → IsLine text Boot → LineEnds B.Shelf bench.old bench.new engine.old.host text engine.old.state engine.new.state result }
-    ensures stays { (text : List ℕ) → IsLine text Boot → LineStays B.Shelf engine.old.host (IsReplied result) (IsUncut result) (LineTells B.Shelf engine.old text bench.old bench.new) bench.old bench.new }
+    ensures stays { LinesStay B.Shelf engine.old (λ text. text) (λ text. IsLine text Boot) bench.old bench.new result }
     ensures answer { BootReplies B.Shelf engine.old bench.old bench.new engine.new result }
-    ensures opens { IsReplied result → OpenedTook (made_of B.Shelf bench.old bench.new) engine.new.state.opened engine.new.state.down }
+    ensures opens { IsReplied result → OpenedTook engine.old.host (made_of B.Shelf bench.old bench.new) engine.new.state }
 {
     match engine.reboot(bench, alloc) {
         Ok(()) => engine.accept(bench),

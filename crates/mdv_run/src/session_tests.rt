@@ -419,7 +419,7 @@ fn finds_the_home_of_a_host(rt: HostRuntime) -> Result<(), Fail> {
         ("slice c0t0d0s1 1 15 db\n", RunStatus::Usage),
         ("slice c0t0d0s1 1 16\n", RunStatus::Usage),
         ("slice c0t0d0s1 8223 1\n", RunStatus::Usage),
-        ("host beta\n", RunStatus::Usage),
+        ("host beta\n", RunStatus::Done),
         ("drive c0t1d0 8224 alpha other.img\n", RunStatus::Usage),
         ("slice c0t0d0s8 0 16\n", RunStatus::Usage),
     ];
@@ -429,6 +429,112 @@ fn finds_the_home_of_a_host(rt: HostRuntime) -> Result<(), Fail> {
         let mut source = MemSource::new(Vec::new(rt.alloc()));
         let end = run_host(&rt, &["alpha"], &table, &mut shelf, &mut source)?;
         assert_eq!(rt; end, status, "{table:?}");
+    }
+    Ok(())
+}
+
+// A drive of beta's, and then two of alpha's: the second has the least slice for a replica, and the third one for a volume.
+const NEIGHBOURS: &str = "host alpha
+host beta
+drive c1t0d0 8224 beta other.img
+drive c0t0d0 8224 alpha disk.img
+drive c0t1d0 64 alpha more.img
+slice c1t0d0s0 0 16
+slice c1t0d0s7 16 8208 db
+slice c0t0d0s7 16 8208 db
+slice c0t1d0s0 0 64
+";
+
+// A host makes its volumes on its own drives, on whichever, sees no slice of another's, and leaves that one's drive as it was.
+#[test]
+fn runs_each_host_on_its_own_drives(rt: HostRuntime) -> Result<(), Fail> {
+    let script = "metadb -a -f c1t0d0s7
+metadb -a -f c0t0d0s7
+metainit d0 1 1 c1t0d0s0
+metainit d0 1 1 c0t1d0s0
+write d0 63 ab
+boot
+read d0 63 1
+";
+    let told = "refused E6 NoSuchSlice\nok\nrefused E6 NoSuchSlice\nok\nok\nok\n63 ab\nok\n";
+    let refused = RunStatus::SomeRefused;
+    let mut shelf = MemShelf::new(rt.alloc(), &[BLOCKS, BLOCKS, 64])?;
+    expect_run(&rt, NEIGHBOURS, &mut shelf, script, refused, told)?;
+    for block in 0..BLOCKS {
+        expect_block(&rt, &mut shelf, block, b"")?;
+    }
+    let mut source = MemSource::new(b"metadb -a -f c1t0d0s7\n".to_vec(rt.alloc())?);
+    let end = run_host(&rt, &["beta"], NEIGHBOURS, &mut shelf, &mut source)?;
+    assert_eq!(rt; end, RunStatus::Done);
+    // A boot has two calls for each of alpha's drives, but for a sync where the read failed, and one for the head: behind these comes the reply.
+    let mut shelf = MemShelf::new(rt.alloc(), &[BLOCKS, BLOCKS, 64])?;
+    shelf.fail_call(2)?;
+    shelf.fail_call(4)?;
+    let down = "metadb -a c0t0d0s7\n";
+    expect_run(&rt, NEIGHBOURS, &mut shelf, down, RunStatus::WriteFault, "")
+}
+
+// Two hosts with a home each: alpha's lies on its second drive, and a shared drive and a mediator stand between.
+const TWO_HOSTS: &str = "host beta
+host alpha
+drive c0t0d0 40 alpha a0.img
+drive c1t0d0 8224 beta b0.img
+drive c2t0d0 64 shared s0.img
+drive c0t1d0 8232 alpha a1.img
+mediator beta 32 mb.img
+slice c0t0d0s0 8 16
+slice c1t0d0s7 0 8208 db
+slice c2t0d0s7 0 32 db
+slice c0t1d0s7 24 8208 db
+slice c0t1d0s0 0 24
+";
+
+const FIVE: &[u64] = &[40, 8224, 64, 8232, 32];
+
+const SIX: &[u64] = &[40, 8224, 64, 8232, 32, 8224];
+
+// A third host, whose slice isn't marked.
+const UNMARKED: &str = "host gamma\ndrive c3t0d0 8224 gamma g.img\nslice c3t0d0s7 0 8208\n";
+
+// What stands behind the lines of the table, the host, the drives' blocks, and how a script with a boot ends.
+const USES: &[(&str, &str, &[u64], RunStatus)] = &[
+    ("", "alpha", FIVE, RunStatus::Done),
+    ("", "beta", FIVE, RunStatus::Done),
+    ("", "gamma", FIVE, RunStatus::Usage),
+    ("host gamma\n", "gamma", FIVE, RunStatus::Usage),
+    (UNMARKED, "gamma", SIX, RunStatus::Usage),
+    (UNMARKED, "alpha", SIX, RunStatus::Done),
+    // One more slice that is marked, on an own drive and on another's.
+    ("slice c0t0d0s7 24 16 db\n", "alpha", FIVE, RunStatus::Usage),
+    ("slice c0t1d0s6 23 1 db\n", "alpha", FIVE, RunStatus::Usage),
+    ("slice c0t0d0s7 24 16 db\n", "beta", FIVE, RunStatus::Done),
+    ("slice c1t0d0s6 8223 1 db\n", "alpha", FIVE, RunStatus::Done),
+    ("slice c1t0d0s6 8223 1 db\n", "beta", FIVE, RunStatus::Usage),
+    // A slice that has a block of the marked one, and one that has none.
+    ("slice c0t1d0s1 23 2\n", "alpha", FIVE, RunStatus::Usage),
+    ("slice c0t1d0s1 23 1\n", "alpha", FIVE, RunStatus::Done),
+    ("slice c0t1d0s1 23 2\n", "beta", FIVE, RunStatus::Done),
+    // One drive of another size, one too few and one too many.
+    ("", "alpha", &[41, 8224, 64, 8232, 32], RunStatus::Usage),
+    ("", "alpha", &[40, 8223, 64, 8232, 32], RunStatus::Usage),
+    ("", "alpha", &[40, 8224, 65, 8232, 32], RunStatus::Usage),
+    ("", "alpha", &[40, 8224, 64, 8231, 32], RunStatus::Usage),
+    ("", "alpha", &[40, 8224, 64, 8232, 33], RunStatus::Usage),
+    ("", "alpha", &[40, 8224, 64, 8232], RunStatus::Usage),
+    ("", "alpha", &[40, 8224, 64, 8232, 32, 32], RunStatus::Usage),
+    ("", "alpha", &[8224, 40, 64, 8232, 32], RunStatus::Usage),
+];
+
+#[test]
+fn finds_the_home_among_several_drives(rt: HostRuntime) -> Result<(), Fail> {
+    for (more, host, sizes, status) in USES {
+        let table = format!(in rt.alloc(); "{TWO_HOSTS}{more}")?;
+        let mut shelf = MemShelf::new(rt.alloc(), sizes)?;
+        let mut source = MemSource::new(b"boot\n".to_vec(rt.alloc())?);
+        let end = run_host(&rt, &[host], &table, &mut shelf, &mut source)?;
+        assert_eq!(rt; end, *status, "{more:?} {host} {sizes:?}");
+        let told: &[u8] = if end == RunStatus::Done { b"ok\n" } else { b"" };
+        assert_eq!(rt; shelf.told(), told, "{more:?} {host} {sizes:?}");
     }
     Ok(())
 }

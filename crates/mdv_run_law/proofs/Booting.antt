@@ -1,15 +1,17 @@
 -- A boot, as a line of the script and as the start of a run.
 use Rattle.std.proofs.Common.{◌≡◌, inl, inr, ℕ, List, [], ◌++◌, Some, Contains, refl, sym, ◌∙◌, ap, subst, arith}
 use Rattle.std.proofs.lemmas.List.{append-nil}
-use Rattle.mdv_run_law.specs.Below.{Entry, Script, line, ok_line, Tale, told, Said, left_in, replies_in, Boot, IsLine, History, Deed, Created, Event, history_after, history_after_all, Happening, HasBooted, Host, key_of, site_of, Nothing, Memory, issuable, issuable_of, StandsAt, IsKnown, BootMoment, BootedTo, TurnMoment, Turned}
+use Rattle.mdv_run_law.specs.Below.{Drives, Entry, Script, line, ok_line, Tale, told, Said, left_in, replies_in, Boot, IsLine, History, Deed, Created, Event, history_after, history_after_all, Happening, HasBooted, Host, key_of, site_of, Nothing, Memory, issuable, issuable_of, StandsAt, IsKnown, BootMoment, BootedTo, TurnMoment, Turned}
 use Rattle.mdv_store_law.proofs.Machine.{after_more, course_more}
-use Rattle.mdv_engine_law.proofs.Booting.{begun, booted_first}
+use Rattle.mdv_engine_law.proofs.Booting.{booted_first, booting_still}
 use Rattle.mdv_engine_law.proofs.Plain.{nothing_answers, nothing_said, nothing_acked, nothing_issuable}
 use Rattle.mdv_engine_law.proofs.Going.{goes_more}
 use Rattle.mdv_store_law.proofs.Parts.{part_itself}
-use Rattle.mdv_engine_law.proofs.Staying.{stays_in_replica, stays_more}
-use Rattle.mdv_shelf.proofs.Frame.{kept_outside_more}
+use Rattle.mdv_engine_law.proofs.Staying.{stays_in_replica, stays_more, stays_same}
+use Rattle.mdv_shelf.specs.Area.{nowhere}
+use Rattle.mdv_shelf.proofs.Frame.{kept_outside_more, kept_outside_same}
 use Rattle.mdv_store_law.specs.Site.{area_of}
+use Rattle.mdv_engine_law.specs.Home.{StaysHome}
 use Rattle.mdv_engine_law.specs.Standing as turn
 use Rattle.mdv_run_law.specs.Standing.{AsksBy, AreIdle, AreOfRun, ComeOf, Context, InWork, IsTold, behind, LinesMoment, RanTo, RunMoment}
 use Rattle.mdv_run_law.proofs.Coming.{behind_none, told_none, in_work_none}
@@ -40,11 +42,11 @@ module _ (host : Host) where
     told_both m bytes more = more ∙ ap (λ (l : List ℕ). l ++ bytes) booted.quiet
 
     -- the events of a boot, and those of a turn behind it
-    booted_both : (done asks : List Deed) (After : List Event → History → Type 0) (m : Tale) (h : History) → StandsAt host h t → ((g : History) → IsKnown host new g u → turn.Goes host asks done After m g) → turn.Goes host asks done (λ es after. HasBooted (key_of host) es × ((fs : List Event) × After fs after)) m h
+    booted_both : (done asks : List Deed) (After : List Event → History → Type 0) (m : Tale) (h : History) → StandsAt host h t → ((g : History) → IsKnown host new g u → turn.Goes host asks done After m g) → turn.Goes host asks done (λ es after. HasBooted (key_of host) new.up es × ((fs : List Event) × After fs after)) m h
     booted_both done asks After m h stands then_goes =
-        goes_more host [] asks asks [] done (λ es g. IsKnown host new g u × HasBooted (key_of host) es) (λ es after. HasBooted (key_of host) es × ((fs : List Event) × After fs after)) u m h (part_itself asks) (booted.goes h stands)
+        goes_more host [] asks asks [] done (λ es g. IsKnown host new g u × HasBooted (key_of host) new.up es) (λ es after. HasBooted (key_of host) new.up es × ((fs : List Event) × After fs after)) u m h (part_itself asks) (booted.goes h stands)
         (λ es g there before. (
-        let went = then_goes g before.0 in record { es = went.es; course = went.course; come = went.come; stands = went.stands; after = (booted_first (key_of host) es went.es before.1, (went.es, went.after)) }
+        let went = then_goes g before.0 in record { es = went.es; course = went.course; come = went.come; stands = went.stands; after = (booted_first (key_of host) new.up es went.es before.1, (went.es, went.after)) }
         ))
 
     -- while the `ok` of a line `boot` is told
@@ -72,21 +74,23 @@ module _ (host : Host) where
         record {
           bytes = moment.bytes;
           is_told = told_both m moment.bytes moment.is_told;
+          home = stays_more host t u m (stays_in_replica host t u booted.kept) moment.home;
           made = λ known told. absurd (never moment.done (none_acked moment.bytes moment.done moment.acks) (front_told host text Nothing more moment.bytes asks moment.front moment.done moment.acks told));
           goes = λ h known.
               let both = booted_both moment.done (issuable_of Nothing moment.bytes) turn.Reached m h known.stands (λ g known. moment.goes g known) in
-              record { es = both.es; course = both.course; come = front_come host text Nothing more old moment.bytes asks moment.front moment.done moment.acks both.es both.come (λ boot ok. both.after.0); stands = both.stands; after = tt };
+              record { es = both.es; course = both.course; come = front_come host text Nothing more old moment.bytes asks moment.front moment.done moment.acks both.es both.come (λ boot ok. (new.up, both.after.0)); stands = both.stands; after = tt };
         }
 
     -- and once it is
-    pub booted_ran : (text : List ℕ) (more : Script) → IsLine text Boot → new.entries ≡ [] → (v : Tale) → (turned : Turned host Nothing new new u v) → turned.bytes ≡ ok_line → RanTo host (line text more) old new more t v
-    booted_ran text more is fresh v turned ok =
+    pub booted_ran : (text : List ℕ) (more : Script) → IsLine text Boot → new.entries ≡ [] → (v : Tale) → (turned : Turned host Nothing new new u v) → StaysHome host u v → turned.bytes ≡ ok_line → RanTo host (line text more) old new more t v
+    booted_ran text more is fresh v turned home ok =
         let asks : AsksBy host text turned.bytes Nothing = inl (inr (Boot, is, refl)) in
         record {
           bytes = turned.bytes;
           is_told = told_both v turned.bytes turned.is_told;
           replies = reply_replies turned.bytes turned.reply;
           left_is = ap (behind (line text more)) (only_reply turned.bytes turned.reply) ∙ behind_none more;
+          home = stays_more host t u v (stays_in_replica host t u booted.kept) home;
           knows = λ known. turned.knows booted.knows;
           made = λ known told. absurd (never turned.done turned.acks (reply_told host text Nothing more turned.bytes asks turned.reply turned.done turned.acks told));
           goes = λ h known.
@@ -94,7 +98,7 @@ module _ (host : Host) where
               record {
                 es = both.es;
                 course = both.course;
-                come = reply_come host text Nothing more old new turned.bytes asks turned.reply turned.done turned.acks both.es both.come (λ boot ok. both.after.0) (inl (is, ok, fresh));
+                come = reply_come host text Nothing more old new turned.bytes asks turned.reply turned.done turned.acks both.es both.come (λ boot ok. (new.up, both.after.0)) (inl (is, ok, fresh));
                 stands = both.stands;
                 after = both.after.1.1;
               };
@@ -109,6 +113,7 @@ module _ (host : Host) where
       record {
         bytes = [];
         is_told = turned.is_told;
+        home = turned.home;
         made = λ known told. absurd (never [] refl (front_told host text Nothing more [] asks turned.front [] turned.acks told));
         goes = λ h known.
             let went = turned.goes h known in
@@ -127,8 +132,8 @@ module _ (host : Host) where
     nothing_come = subst (λ (s : Said). ComeOf host (InWork host s.left) unread script s.replies []) (sym nothing_said) (in_work_none host unread script)
 
     -- events of a boot that didn't read the drive, or not yet
-    only_booted : (es : List Event) → AreIdle host es → HasBooted (key_of host) es → AreOfRun host script [] es
-    only_booted es idle booted = record { boot = es; lines = []; both = sym (append-nil es); idle = idle; booted = booted; come = nothing_come }
+    only_booted : (es : List Event) (up : Drives) → AreIdle host es → HasBooted (key_of host) up es → AreOfRun host script [] es
+    only_booted es up idle booted = record { boot = es; lines = []; both = sym (append-nil es); idle = idle; booted = (up, booted); come = nothing_come }
 
     nothing_told : (deed : Deed) → IsTold host script (replies_in []) deed → ⊥
     nothing_told deed is = told_none host script deed (subst (λ (l : List (List ℕ)). IsTold host script l deed) nothing_answers is)
@@ -137,10 +142,11 @@ module _ (host : Host) where
     boot_run t m moment = record {
       bytes = [];
       is_told = moment.quiet ∙ sym (append-nil (told t));
+      home = stays_in_replica host t m moment.kept;
       made = λ is. absurd (nothing_told (Created (key_of host)) is);
       stands = λ h stands.
           let went = moment.goes h stands in
-          record { es = went.es; course = went.course; come = only_booted went.es went.come went.after; stands = went.stands; after = tt };
+          record { es = went.es; course = went.course; come = only_booted went.es went.after.0 went.come went.after.1; stands = went.stands; after = tt };
     }
 
     -- the lines behind it
@@ -148,6 +154,7 @@ module _ (host : Host) where
     lines_run memory t u m fresh booted lines = record {
       bytes = lines.bytes;
       is_told = lines.is_told ∙ ap (λ (l : List ℕ). l ++ lines.bytes) booted.quiet;
+      home = stays_more host t u m (stays_in_replica host t u booted.kept) lines.home;
       made = lines.made booted.knows;
       stands = λ h stands.
           let before = booted.goes h stands in
@@ -156,7 +163,7 @@ module _ (host : Host) where
           record {
             es = before.es ++ after.es;
             course = course_more history_after (Happening host) h before.es after.es before.course after.course;
-            come = record { boot = before.es; lines = after.es; both = refl; idle = before.come; booted = before.after.1; come = subst (λ (es : List Entry). ComeOf host (InWork host (left_in lines.bytes)) (Some es) script (replies_in lines.bytes) after.es) fresh after.come };
+            come = record { boot = before.es; lines = after.es; both = refl; idle = before.come; booted = (memory.up, before.after.1); come = subst (λ (es : List Entry). ComeOf host (InWork host (left_in lines.bytes)) (Some es) script (replies_in lines.bytes) after.es) fresh after.come };
             stands = subst (λ (x : History). StandsAt host x m) same after.stands;
             after = tt;
           };
@@ -167,8 +174,9 @@ module _ (host : Host) where
     nothing_run t = record {
       bytes = [];
       is_told = sym (append-nil (told t));
+      home = stays_same host t;
       made = λ is. absurd (nothing_told (Created (key_of host)) is);
       stands = λ h stands.
-          let went = begun host t h stands in
-          record { es = went.es; course = went.course; come = only_booted went.es went.come went.after.0; stands = went.stands; after = tt };
+          let went = booting_still host t [] t (kept_outside_same nowhere t) h stands in
+          record { es = went.es; course = went.course; come = only_booted went.es [] went.come went.after.1.0; stands = went.stands; after = tt };
     }

@@ -1,8 +1,8 @@
 -- Where nothing failed and memory was never wanting, a run has one course.
 use Rattle.std.proofs.Common.{◌≡◌, inl, inr, ℕ, Bool, List, [], ◌∷◌, ◌++◌, length, ◌+◌, ◌≤◌, Contains, refl, sym, ◌∙◌, ap, subst, append_assoc, arith}
 use Rattle.std.proofs.lemmas.List.Elements.{Contains-append_right}
-use Rattle.mdv_base.specs.Causes.{Failures}
-use Rattle.mdv_base.proofs.Causes.{IsWithin, rose_of_once, rose_within}
+use Rattle.mdv_base.specs.declared.refusal.Refusal.TheVariants.{IoFault}
+use Rattle.mdv_base.proofs.Causes.{rose_of_once, rose_within}
 use Rattle.mdv_run_law.specs.Below.{Image, Refusal, BadLine, OutOfMemory, TooMany, Script, at_end, spent, too_long, line, replies_in, Command, Create, MakeStripe, Read, Write, Boot, Line, Answer, Host, site_of, Kept, CameTo, ComesTo, IsRebooted, adopted, empty, down, lost, wanting, IsPlain, IsPlainAnswer, IsReply, refusal_line}
 use Rattle.mdv_words.specs.Line as words
 use Rattle.mdv_engine_law.specs.declared.answer.Answer.TheVariants.{Said, Over as Ends}
@@ -12,33 +12,36 @@ use Rattle.mdv_engine_law.specs.declared.answer.Outcome.TheVariants as outcome
 use Rattle.mdv_engine_law.specs.Answers.{accepted, refusing}
 use Rattle.mdv_engine_law.specs.Commands as came
 use Rattle.mdv_engine_law.specs.Commands.{Effect, IsTabRefusal, KeepsTab, case_of}
+use Rattle.mdv_engine_law.specs.Failing.{Outcomes}
 use Rattle.mdv_engine_law.specs.Line as boot
 use Rattle.mdv_status.specs.Telling.{Said as SaidBytes}
 use Rattle.mdv_engine_law.specs.Replies.{text_of}
 use Rattle.mdv_engine_law.proofs.Executing.{comes_more, rebooted_more}
-use Rattle.mdv_engine_law.proofs.Plain.{bad_line_plain, too_long_plain, too_many_plain, memory_plain, refusal_plain, ok_reply, values_are_reply, refusal_reply}
+use Rattle.mdv_engine_law.proofs.Widening.{AreWithin, calm_more}
+use Rattle.mdv_engine_law.proofs.Plain.{bad_line_plain, fault_plain, too_long_plain, too_many_plain, memory_plain, refusal_plain, ok_reply, values_are_reply, refusal_reply}
 use Rattle.mdv_run_law.specs.declared.status.RunStatus.{RunStatus}
 use Rattle.mdv_run_law.specs.declared.status.RunStatus.TheVariants.{NoMemory}
 use Rattle.mdv_run_law.specs.Run.{Counts, RoseTo, RoseCalmly, OnlyReplying, IsUndisturbed, IsSated, Stops, At, NextLine, IsSaid, refused_by, LineTold, LinesTold, Stretch, no_line, one_more, EndsAs, EndsAt, EndsWith, Over, unread, ended as script_ended, broken, Runs, RunsFrom, behind_boot, Progress, IsAnswered, IsLostStatus, IsSameEnd, HasHome, OneCourse, started, drive_failures, giving_failed, status_at}
 use Rattle.mdv_run_law.proofs.Again.{Alike, neither, alike_itself}
 use Rattle.mdv_run_law.proofs.Carrying.{one_answer}
-use Rattle.mdv_run_law.proofs.Keeping.{IsSatisfied, Same, One, stays_same, one_boot}
+use Rattle.mdv_run_law.proofs.Extents.{SeesHome}
+use Rattle.mdv_run_law.proofs.Keeping.{IsSatisfied, NeverFailed, Same, One, same_back, stays_same, one_boot}
 
 -- what a line comes to is told in whole replies
-module _ (failures : Failures) (calm : failures.some → ⊥) (host : Host) (kept next : Kept) (answer : Answer) where
-  refused_plain : (r : Refusal) → IsPlain r → answer ≡ refusing r → IsPlainAnswer answer
+module _ (calls : Outcomes) (host : Host) (kept next : Kept) (answer : Answer) where
+  pub refused_plain : (r : Refusal) → IsPlain r → answer ≡ refusing r → IsPlainAnswer answer
   refused_plain r plain is = subst IsPlainAnswer (sym is) plain
 
   ok_plain : answer ≡ accepted → IsPlainAnswer answer
   ok_plain is = subst IsPlainAnswer (sym is) tt
 
-  booted_plain : IsRebooted failures host kept answer next → IsPlainAnswer answer
-  booted_plain (adopted quiet newest ok memory is) = ok_plain ok
-  booted_plain (empty quiet ok memory none same) = ok_plain ok
-  booted_plain (down so ok memory same) = absurd (calm so)
-  booted_plain (lost so found panic left) = absurd (calm so)
-  booted_plain (boot.spent quiet is used same) = subst IsPlainAnswer (sym is) tt
-  booted_plain (wanting quiet headed is same) = subst IsPlainAnswer (sym is) tt
+  booted_plain : IsRebooted calls host kept answer next → IsPlainAnswer answer
+  booted_plain (adopted quiet newest up clean ok memory by_calls here is) = ok_plain ok
+  booted_plain (empty quiet up clean ok memory by_calls here none same) = ok_plain ok
+  booted_plain (down so up ok memory by_calls same) = ok_plain ok
+  booted_plain (lost so own found panic left) = subst IsPlainAnswer (sym panic) tt
+  booted_plain (boot.spent quiet own is used same) = subst IsPlainAnswer (sym is) tt
+  booted_plain (wanting quiet own headed is same) = subst IsPlainAnswer (sym is) tt
 
   effect_plain : (command : Command) → Effect host kept command answer next → IsPlainAnswer answer
   effect_plain (Create slice force) is = ok_plain is.0
@@ -46,11 +49,11 @@ module _ (failures : Failures) (calm : failures.some → ⊥) (host : Host) (kep
   effect_plain (Read volume at count) is = subst IsPlainAnswer (sym is.2) (inl (record { at = at; blocks = _; is = refl }))
   effect_plain (Write volume at block) is = ok_plain is.2
 
-  came_plain : (command : Command) → CameTo failures host kept command answer next → IsPlainAnswer answer
+  came_plain : (command : Command) → CameTo calls host kept command answer next → IsPlainAnswer answer
   came_plain command (came.refused quiet r is left) = refused_plain r (refusal_plain (case_of host kept) command r is) left.0
   came_plain command (came.wanting quiet is left) = refused_plain OutOfMemory memory_plain is
   came_plain command (came.done quiet free effect) = effect_plain command effect
-  came_plain command (came.faulted so free is fault) = absurd (calm so)
+  came_plain command (came.faulted free is fault) = refused_plain IoFault fault_plain is
   came_plain command (came.over end free is gives) = subst IsPlainAnswer (sym is) tt
 
   tab_plain : (lines : List ℕ) (r : Refusal) → IsTabRefusal lines r → IsPlain r
@@ -58,33 +61,36 @@ module _ (failures : Failures) (calm : failures.some → ⊥) (host : Host) (kep
   tab_plain lines TooMany why = too_many_plain
   tab_plain lines other why = absurd why
 
-  keeps_plain : (lines : List ℕ) → KeepsTab failures kept lines answer next → IsPlainAnswer answer
+  keeps_plain : (lines : List ℕ) → KeepsTab calls kept lines answer next → IsPlainAnswer answer
   keeps_plain lines (came.entered quiet entries tab is memory same) = subst IsPlainAnswer (sym is) (inr (record { count = length entries; is = refl }))
   keeps_plain lines (came.unfit quiet r why left) = refused_plain r (tab_plain lines r why) left.0
   keeps_plain lines (came.unread quiet is left) = refused_plain OutOfMemory memory_plain is
 
-  line_plain : (spelled : Line) → ComesTo failures host kept spelled answer next → IsPlainAnswer answer
+  line_plain : (spelled : Line) → ComesTo calls host kept spelled answer next → IsPlainAnswer answer
   line_plain Boot is = booted_plain is
   line_plain (words.Tab lines) is = keeps_plain lines is
   line_plain (words.Exec command) is = came_plain command is
 
-  answer_plain : (text : List ℕ) → IsAnswered failures host kept text answer next → IsPlainAnswer answer
+  pub answer_plain : (text : List ℕ) → IsAnswered calls host kept text answer next → IsPlainAnswer answer
   answer_plain text (inl (none, quiet, refused)) = refused_plain BadLine bad_line_plain refused.0
   answer_plain text (inr (inl (spelled, is, comes))) = line_plain spelled comes
   answer_plain text (inr (inr (quiet, refused))) = refused_plain OutOfMemory memory_plain refused.0
 
 -- what a line came to may be told of a longer stretch
-pub answered_more : (failures more : Failures) (host : Host) (kept next : Kept) (text : List ℕ) (answer : Answer) → IsWithin failures more → IsAnswered failures host kept text answer next → IsAnswered more host kept text answer next
-answered_more failures more host kept next text answer cause (inl (none, quiet, refused)) = inl (none, cause.none quiet, refused)
-answered_more failures more host kept next text answer cause (inr (inl (spelled, is, done))) = inr (inl (spelled, is, comes_more failures more cause host kept next answer spelled done))
-answered_more failures more host kept next text answer cause (inr (inr (quiet, refused))) = inr (inr (cause.none quiet, refused))
+pub answered_more : (calls more : Outcomes) (host : Host) (kept next : Kept) (text : List ℕ) (answer : Answer) → AreWithin calls more → IsAnswered calls host kept text answer next → IsAnswered more host kept text answer next
+answered_more calls more host kept next text answer cause (inl (none, quiet, refused)) = inl (none, calm_more calls more cause quiet, refused)
+answered_more calls more host kept next text answer cause (inr (inl (spelled, is, done))) = inr (inl (spelled, is, comes_more calls more cause host kept next answer spelled done))
+answered_more calls more host kept next text answer cause (inr (inr (quiet, refused))) = inr (inr (calm_more calls more cause quiet, refused))
 
 -- calls of which none failed
-abbrev unfailing : Failures
-unfailing = record { some = ⊥; none = Unit {0} }
+abbrev unfailing : Outcomes
+unfailing drive = record { some = ⊥; none = Unit {0} }
 
-calm_is : (failures : Failures) → (failures.some → ⊥) → IsWithin failures unfailing
-calm_is failures calm = record { some = calm; none = λ quiet. tt }
+calm_is : (calls : Outcomes) → NeverFailed calls → AreWithin calls unfailing
+calm_is calls calm drive = record { some = calm drive; none = λ quiet. tt }
+
+none_failed : NeverFailed unfailing
+none_failed drive never = never
 
 -- a run that is over so is lost
 ended_status : (end : Ended) → IsLostStatus (status_at end)
@@ -110,38 +116,51 @@ one_stop : (host : Host) (known also : Kept) (end : RunStatus) (a b : List ℕ) 
 one_stop host known also end a b s r k j over first second =
     (first.silent ∙ sym second.silent, first.ended ∙ sym second.ended, λ never. absurd (never (subst IsLostStatus (sym first.ended) over)))
 
+-- no drive had failed more often by the first count
+abbrev NoMore : Counts → Counts → Type 0
+NoMore a b = (drive : ℕ) → a.drives drive ≤ b.drives drive
+
 -- counts between others
+no_more_itself : (a : Counts) → NoMore a a
+no_more_itself a drive = omega arith
+
+no_more_on : (a b c : Counts) → NoMore a b → NoMore b c → NoMore a c
+no_more_on a b c one other drive = let x = one drive in let y = other drive in omega arith
+
 rose_to_more : (a b c : Counts) → RoseTo a b → RoseTo b c → RoseTo a c
 rose_to_more a b c one other = record {
-  drive = let x = one.drive in let y = other.drive in omega arith;
+  drives = no_more_on a b c one.drives other.drives;
   source = let x = one.source in let y = other.source in omega arith;
   replies = let x = one.replies in let y = other.replies in omega arith;
 }
 
 calmly_rose : (a b : Counts) → RoseCalmly a b → RoseTo a b
-calmly_rose a b is = record { drive = is.drive; source = let same = is.source in omega arith; replies = let same = is.replies in omega arith }
+calmly_rose a b is = record { drives = is.drives; source = let same = is.source in omega arith; replies = let same = is.replies in omega arith }
 
 calm_within : (a b c d : Counts) → RoseTo a b → RoseTo c d → IsUndisturbed a d → IsUndisturbed b c
 calm_within a b c d before behind calm = record {
-  drive = λ rose. calm.drive (rose_within _ _ _ _ before.drive behind.drive rose);
+  drive = λ failed. calm.drive (failed.0, rose_within _ _ _ _ (before.drives failed.0) (behind.drives failed.0) failed.1);
   source = λ rose. calm.source (rose_within _ _ _ _ before.source behind.source rose);
   replies = λ rose. calm.replies (rose_within _ _ _ _ before.replies behind.replies rose);
 }
 
--- a drive that never failed failed in no part of the stretch
-drive_calm : (a b c d : Counts) → a.drive ≤ b.drive → c.drive ≤ d.drive → IsUndisturbed a d → (drive_failures b c).some → ⊥
-drive_calm a b c d before behind calm once = calm.drive (rose_within _ _ _ _ before behind (rose_of_once _ _ once))
+-- drives that never failed failed in no part of the stretch
+drives_calm : (a b c d : Counts) → NoMore a b → NoMore c d → IsUndisturbed a d → NeverFailed (drive_failures b c)
+drives_calm a b c d before behind calm drive once = calm.drive (drive, rose_within _ _ _ _ (before drive) (behind drive) (rose_of_once _ _ once))
 
 -- nor did a giving
 giving_calm : (a b : Counts) → IsUndisturbed a b → giving_failed a b → ⊥
 giving_calm a b calm once = calm.replies (rose_of_once _ _ once)
 
-drive_replying : (answer : Answer) (a b : Counts) → OnlyReplying answer a b → a.drive ≤ b.drive
-drive_replying (Said this) a b given = let same = given.drive in omega arith
-drive_replying (Ends end) a b same = let drives = ap (λ (x : Counts). x.drive) same in omega arith
+same_counts : (a b : Counts) → b ≡ a → NoMore a b
+same_counts a b same drive = let drives = ap (λ (x : Counts). x.drives drive) same in omega arith
+
+no_more_replying : (answer : Answer) (a b : Counts) → OnlyReplying answer a b → NoMore a b
+no_more_replying (Said this) a b given = λ drive. (let same = given.drives drive in omega arith)
+no_more_replying (Ends end) a b same = same_counts a b same
 
 rose_itself : (a : Counts) → RoseTo a a
-rose_itself a = record { drive = omega arith; source = omega arith; replies = omega arith }
+rose_itself a = record { drives = no_more_itself a; source = omega arith; replies = omega arith }
 
 module _ (host : Host) where
   next_rose : (now then : Counts) (kept next : Kept) (script rest : Script) (answer : Answer) → NextLine host now kept script answer then next rest → RoseTo now then
@@ -150,29 +169,23 @@ module _ (host : Host) where
   next_rose now then kept next (too_long left) rest answer is = calmly_rose now then is.1
   next_rose now then kept next (line text left) rest answer is = calmly_rose now then is.1
 
-  over_rose : (w : Stretch) (n : ℕ) (end : Counts) (now : At) (told : List ℕ) (status : RunStatus) (last : Kept) → Over host w n end now told status last → now.counts.drive ≤ end.drive
-  over_rose w n end now told status last (unread only quiet stops) = let same = only.drive in omega arith
-  over_rose w n end now told status last (script_ended how same quiet stops) = let drives = ap (λ (x : Counts). x.drive) same in omega arith
+  over_rose : (w : Stretch) (n : ℕ) (end : Counts) (now : At) (told : List ℕ) (status : RunStatus) (last : Kept) → Over host w n end now told status last → NoMore now.counts end
+  over_rose w n end now told status last (unread only quiet stops) = λ drive. (let same = only.drives drive in omega arith)
+  over_rose w n end now told status last (script_ended how same quiet stops) = same_counts now.counts end same
   over_rose w n end now told status last (broken answer then next left is shown given led with) =
-      let before = (next_rose now.counts then now.kept next now.script left answer is).drive in
-      let behind = drive_replying answer then end given in
-      omega arith
+      no_more_on now.counts then end (next_rose now.counts then now.kept next now.script left answer is).drives (no_more_replying answer then end given)
 
   lines_rose : (w : Stretch) (n : ℕ) (now then : At) (told : List ℕ) → LinesTold host w n now told then → RoseTo now.counts then.counts
   lines_rose w n now then told (no_line bytes at) = rose_itself now.counts
   lines_rose w n now then told (one_more bytes at mid last piece rest some one shown lines) =
       rose_to_more now.counts mid.counts then.counts (next_rose now.counts mid.counts now.kept mid.kept now.script mid.script one.answer one.comes) (lines_rose w (n + length piece) mid then rest lines)
 
--- a drive's count that never fell, and never behind that
-drive_on : (a b c : Counts) → RoseTo a b → b.drive ≤ c.drive → a.drive ≤ c.drive
-drive_on a b c one behind = let before = one.drive in omega arith
-
 -- an answer that no failure told, and what it was told by
 said_text : (answer : Answer) (failed : Type 0) → (failed → ⊥) → IsSaid answer → (next : Kept) (told : List ℕ) (status : RunStatus) (last : Kept) → EndsWith failed answer next told status last → ⊥
 said_text (Said this) failed calm said next told status last with = calm with.cause
 said_text (Ends end) failed calm said next told status last with = said
 
-said_reply : (answer : Answer) → IsPlainAnswer answer → IsSaid answer → IsReply (text_of answer)
+pub said_reply : (answer : Answer) → IsPlainAnswer answer → IsSaid answer → IsReply (text_of answer)
 said_reply (Said outcome.Ok) plain said = ok_reply
 said_reply (Said (outcome.Values text)) plain said = values_are_reply text plain
 said_reply (Said (outcome.Refused refusal)) plain said = refusal_reply refusal plain
@@ -193,6 +206,9 @@ end_satisfied failed calm answer next told status last with sated = record {
 
 -- two runs in which nothing failed
 module _ (host : Host) (content : Image) (has : HasHome host content) where
+  sees : SeesHome host
+  sees = record { table = has.table; home = has.home; view = has.view }
+
   -- what the next line of both comes to
   record Next (answer other : Answer) (next also : Kept) (rest left : Script) : Type 0 where
     same : other ≡ answer
@@ -200,7 +216,7 @@ module _ (host : Host) (content : Image) (has : HasHome host content) where
     plain : IsPlainAnswer answer
     kept : IsSaid answer → Same host next also
 
-  one_next : (now then from to : Counts) → ((drive_failures now then).some → ⊥) → ((drive_failures from to).some → ⊥) → (n m next also : Kept) → Same host n m → (script rest left : Script) (answer other : Answer) → IsSatisfied answer → IsSatisfied other
+  one_next : (now then from to : Counts) → NeverFailed (drive_failures now then) → NeverFailed (drive_failures from to) → (n m next also : Kept) → Same host n m → (script rest left : Script) (answer other : Answer) → IsSatisfied answer → IsSatisfied other
       → NextLine host now n script answer then next rest → NextLine host from m script other to also left → Next answer other next also rest left
   one_next now then from to calm calm_too n m next also same at_end rest left answer other enough enough_too one two = absurd one
   one_next now then from to calm calm_too n m next also same (spent lines bytes) rest left answer other enough enough_too one two = absurd one
@@ -213,11 +229,11 @@ module _ (host : Host) (content : Image) (has : HasHome host content) where
   one_next now then from to calm calm_too n m next also same (line text behind) rest left answer other enough enough_too one two =
       let here : IsAnswered unfailing host n text answer next = answered_more (drive_failures now then) unfailing host n next text answer (calm_is (drive_failures now then) calm) one.2 in
       let there : IsAnswered unfailing host m text other also = answered_more (drive_failures from to) unfailing host m also text other (calm_is (drive_failures from to) calm_too) two.2 in
-      let answers = one_answer unfailing (λ never. never) host has.sound has.home text n m next also answer other same enough enough_too here there in
+      let answers = one_answer unfailing none_failed host has.sound sees text n m next also answer other same enough enough_too here there in
       record {
         same = sym answers.0;
         script = two.0 ∙ sym one.0;
-        plain = answer_plain unfailing (λ never. never) host n next answer text here;
+        plain = answer_plain unfailing host n next answer text here;
         kept = answers.1;
       }
 
@@ -268,8 +284,8 @@ module _ (host : Host) (content : Image) (has : HasHome host content) where
     one_over n m a b beside calm calm_too sated sated_too (broken answer then next left is shown given led with) (script_ended how same quiet stops) =
         absurd (never_next m.refused m.script n.script r n.counts then n.kept next left answer (sym beside.script) how is)
     one_over n m a b beside calm calm_too sated sated_too (broken answer then next left is shown given led with) (broken other to also behind is_too shown_too given_too led_too with_too) =
-        let here = drive_calm n.counts n.counts then e (omega arith) (drive_replying answer then e given) calm in
-        let there = drive_calm m.counts m.counts to f (omega arith) (drive_replying other to f given_too) calm_too in
+        let here = drives_calm n.counts n.counts then e (no_more_itself n.counts) (no_more_replying answer then e given) calm in
+        let there = drives_calm m.counts m.counts to f (no_more_itself m.counts) (no_more_replying other to f given_too) calm_too in
         let last = calm_within n.counts then e e (next_rose host n.counts then n.kept next n.script left answer is) (rose_itself e) calm in
         let last_too = calm_within m.counts to f f (next_rose host m.counts to m.kept also m.script behind other is_too) (rose_itself f) calm_too in
         let both = one_next n.counts then m.counts to here there n.kept m.kept next also beside.kept n.script left behind answer other (end_satisfied _ (giving_calm _ _ last) answer next a s k with sated) (end_satisfied _ (giving_calm _ _ last_too) other also b r j with_too sated_too)
@@ -277,13 +293,13 @@ module _ (host : Host) (content : Image) (has : HasHome host content) where
         one_with _ _ (giving_calm _ _ last) (giving_calm _ _ last_too) answer other both.same next also a b s r k j with with_too
 
     -- one is over where the other goes on
-    one_stays : (n m then : At) (a piece rest : List ℕ) → Beside n m → IsUndisturbed n.counts e → IsUndisturbed m.counts f → then.counts.drive ≤ f.drive → IsSated a s → IsSated (piece ++ rest) r → Over host w c e n a s k → LineTold host m piece then → ⊥
+    one_stays : (n m then : At) (a piece rest : List ℕ) → Beside n m → IsUndisturbed n.counts e → IsUndisturbed m.counts f → NoMore then.counts f → IsSated a s → IsSated (piece ++ rest) r → Over host w c e n a s k → LineTold host m piece then → ⊥
     one_stays n m then a piece rest beside calm calm_too rose_too sated sated_too (unread only quiet stops) two = calm.source (rose_of_once _ _ only.source)
     one_stays n m then a piece rest beside calm calm_too rose_too sated sated_too (script_ended how same quiet stops) two =
         never_next n.refused n.script m.script s m.counts then.counts m.kept then.kept then.script two.answer beside.script how two.comes
     one_stays n m then a piece rest beside calm calm_too rose_too sated sated_too (broken answer to next left is shown given led with) two =
-        let here = drive_calm n.counts n.counts to e (omega arith) (drive_replying answer to e given) calm in
-        let there = drive_calm m.counts m.counts then.counts f (omega arith) rose_too calm_too in
+        let here = drives_calm n.counts n.counts to e (no_more_itself n.counts) (no_more_replying answer to e given) calm in
+        let there = drives_calm m.counts m.counts then.counts f (no_more_itself m.counts) rose_too calm_too in
         let last = calm_within n.counts to e e (next_rose host n.counts to n.kept next n.script left answer is) (rose_itself e) calm in
         let both = one_next n.counts to m.counts then.counts here there n.kept m.kept next then.kept beside.kept n.script left then.script answer two.answer (end_satisfied _ (giving_calm _ _ last) answer next a s k with sated) (line_satisfied two.answer piece rest r two.said two.as_text sated_too)
         is (subst (λ (x : Script). NextLine host m.counts m.kept x two.answer then.counts then.kept then.script) (sym beside.script) two.comes) in
@@ -293,7 +309,7 @@ module _ (host : Host) (content : Image) (has : HasHome host content) where
   beside_back n m is = record {
     script = sym is.script;
     refused = sym is.refused;
-    kept = record { memory = sym is.kept.memory; beside = λ drive block out. sym (is.kept.beside drive block out); one = is.kept.other; other = is.kept.one };
+    kept = record { memory = same_back n.kept.memory m.kept.memory is.kept.memory; beside = λ drive block out. sym (is.kept.beside drive block out); one = is.kept.other; other = is.kept.one };
   }
 
   sated_apart : (piece rest x : List ℕ) (status : RunStatus) → IsSated ((piece ++ rest) ++ x) status → IsSated (piece ++ (rest ++ x)) status
@@ -304,14 +320,14 @@ module _ (host : Host) (content : Image) (has : HasHome host content) where
         → LinesTold host w c n a p → LinesTold host v d m b q → Over host w x_at e p x s k → Over host v y_at f q y r j → SameEnds host (a ++ x) (b ++ y) s r k j
     one_run w v c d x_at y_at n m p q a b x y beside calm calm_too sated sated_too (no_line c_is at) (no_line d_is also) one two = one_over w v x_at y_at e f s r k j n m x y beside calm calm_too sated sated_too one two
     one_run w v c d x_at y_at n m p q a b x y beside calm calm_too sated sated_too (no_line c_is at) (one_more d_is from mid to piece rest some said shown lines) one two =
-        absurd (one_stays w v x_at y_at e f s r k j n m mid x piece (rest ++ y) beside calm calm_too (drive_on mid.counts q.counts f (lines_rose host v (d + length piece) mid q rest lines) (over_rose host v y_at f q y r j two)) sated (sated_apart piece rest y r sated_too) one said)
+        absurd (one_stays w v x_at y_at e f s r k j n m mid x piece (rest ++ y) beside calm calm_too (no_more_on mid.counts q.counts f (lines_rose host v (d + length piece) mid q rest lines).drives (over_rose host v y_at f q y r j two)) sated (sated_apart piece rest y r sated_too) one said)
     one_run w v c d x_at y_at n m p q a b x y beside calm calm_too sated sated_too (one_more c_is from mid to piece rest some said shown lines) (no_line d_is at) one two =
-        absurd (one_stays v w y_at x_at f e r s j k m n mid y piece (rest ++ x) (beside_back n m beside) calm_too calm (drive_on mid.counts p.counts e (lines_rose host w (c + length piece) mid p rest lines) (over_rose host w x_at e p x s k one)) sated_too (sated_apart piece rest x s sated) two said)
+        absurd (one_stays v w y_at x_at f e r s j k m n mid y piece (rest ++ x) (beside_back n m beside) calm_too calm (no_more_on mid.counts p.counts e (lines_rose host w (c + length piece) mid p rest lines).drives (over_rose host w x_at e p x s k one)) sated_too (sated_apart piece rest x s sated) two said)
     one_run w v c d x_at y_at n m p q a b x y beside calm calm_too sated sated_too (one_more c_is from mid to piece rest some said shown lines) (one_more d_is start also last other behind some_too turn shown_too turns) one two =
-        let up = drive_on mid.counts p.counts e (lines_rose host w (c + length piece) mid p rest lines) (over_rose host w x_at e p x s k one) in
-        let up_too = drive_on also.counts q.counts f (lines_rose host v (d + length other) also q behind turns) (over_rose host v y_at f q y r j two) in
-        let here = drive_calm n.counts n.counts mid.counts e (omega arith) up calm in
-        let there = drive_calm m.counts m.counts also.counts f (omega arith) up_too calm_too in
+        let up = no_more_on mid.counts p.counts e (lines_rose host w (c + length piece) mid p rest lines).drives (over_rose host w x_at e p x s k one) in
+        let up_too = no_more_on also.counts q.counts f (lines_rose host v (d + length other) also q behind turns).drives (over_rose host v y_at f q y r j two) in
+        let here = drives_calm n.counts n.counts mid.counts e (no_more_itself n.counts) up calm in
+        let there = drives_calm m.counts m.counts also.counts f (no_more_itself m.counts) up_too calm_too in
         let left = calm_within n.counts mid.counts e e (next_rose host n.counts mid.counts n.kept mid.kept n.script mid.script said.answer said.comes) (rose_itself e) calm in
         let left_too = calm_within m.counts also.counts f f (next_rose host m.counts also.counts m.kept also.kept m.script also.script turn.answer turn.comes) (rose_itself f) calm_too in
         let all = sated_apart piece rest x s sated in
@@ -326,8 +342,8 @@ module _ (host : Host) (content : Image) (has : HasHome host content) where
         left left_too (rest_sated piece (rest ++ x) s whole all) (rest_sated other (behind ++ y) r (subst IsReply pieces whole) all_too) lines turns one two in
         (append_assoc piece rest x ∙ (λ i. pieces i ++ ends.0 i) ∙ sym (append_assoc other behind y), ends.1, ends.2)
 
-    runs_rose : (w : Stretch) (n : At) (told : List ℕ) → Runs host w e n told s k → n.counts.drive ≤ e.drive
-    runs_rose w n told runs = drive_on n.counts runs.at.counts e (lines_rose host w 0 n runs.at runs.so_far runs.lines) (over_rose host w (length runs.so_far) e runs.at runs.rest s k runs.over)
+    runs_rose : (w : Stretch) (n : At) (told : List ℕ) → Runs host w e n told s k → NoMore n.counts e
+    runs_rose w n told runs = no_more_on n.counts runs.at.counts e (lines_rose host w 0 n runs.at runs.so_far runs.lines).drives (over_rose host w (length runs.so_far) e runs.at runs.rest s k runs.over)
 
     one_from : (w v : Stretch) (answer : Answer) (now from : Counts) (p q : Progress) (n m : Kept) → (IsSaid answer → Same host n m) → (script : Script) (a b : List ℕ) → IsUndisturbed now e → IsUndisturbed from f → IsSated a s → IsSated b r
         → RunsFrom host w e answer now p n script a s k → RunsFrom host v f answer from q m script b r j → SameEnds host a b s r k j
@@ -341,11 +357,11 @@ module _ (host : Host) (content : Image) (has : HasHome host content) where
 
   -- the boot at a run's start
   module _ (e : Counts) (s : RunStatus) (k : Kept) where
-    from_rose : (w : Stretch) (answer : Answer) (now : Counts) (p : Progress) (n : Kept) (script : Script) (told : List ℕ) → RunsFrom host w e answer now p n script told s k → now.drive ≤ e.drive
+    from_rose : (w : Stretch) (answer : Answer) (now : Counts) (p : Progress) (n : Kept) (script : Script) (told : List ℕ) → RunsFrom host w e answer now p n script told s k → NoMore now e
     from_rose w (Said outcome.Ok) now p n script told from = runs_rose e e s s k k w (behind_boot now p n script) told from
     from_rose w (Said (outcome.Values text)) now p n script told from = absurd from
     from_rose w (Said (outcome.Refused refusal)) now p n script told from = absurd from
-    from_rose w (Ends end) now p n script told from = let drives = ap (λ (x : Counts). x.drive) from.0 in omega arith
+    from_rose w (Ends end) now p n script told from = same_counts now e from.0
 
     satisfied_from : (w : Stretch) (answer : Answer) (now : Counts) (p : Progress) (n : Kept) (script : Script) (told : List ℕ) → IsSated told s → RunsFrom host w e answer now p n script told s k → IsSatisfied answer
     satisfied_from w answer now p n script told sated from = record {
@@ -354,24 +370,24 @@ module _ (host : Host) (content : Image) (has : HasHome host content) where
     }
 
   alike_start : (kept next : Kept) (answer : Answer) → IsSatisfied answer → IsRebooted unfailing host kept answer next → Alike (site_of host) has.sound kept.content kept.content
-  alike_start kept next answer enough (adopted quiet newest ok memory is) = alike_itself (site_of host) has.sound kept.content is.head is.replica is.shown
-  alike_start kept next answer enough (empty quiet ok memory found same) = neither found found
-  alike_start kept next answer enough (down so ok memory same) = absurd so
-  alike_start kept next answer enough (lost so found panic left) = absurd so
-  alike_start kept next answer enough (boot.spent quiet is used same) = alike_itself (site_of host) has.sound kept.content used.head used.replica used.shown
-  alike_start kept next answer enough (wanting quiet headed is same) = absurd (enough.not_wanting is)
+  alike_start kept next answer enough (adopted quiet newest up clean ok memory by_calls here is) = alike_itself (site_of host) has.sound kept.content is.head is.replica is.shown
+  alike_start kept next answer enough (empty quiet up clean ok memory by_calls here found same) = neither found found
+  alike_start kept next answer enough (down so up ok memory by_calls same) = absurd so
+  alike_start kept next answer enough (lost so own found panic left) = absurd so
+  alike_start kept next answer enough (boot.spent quiet own is used same) = alike_itself (site_of host) has.sound kept.content used.head used.replica used.shown
+  alike_start kept next answer enough (wanting quiet own headed is same) = absurd (enough.not_wanting is)
 
   one_start : (n m : Kept) (a b : Answer) → IsSatisfied a → IsSatisfied b → IsRebooted unfailing host (started content) a n → IsRebooted unfailing host (started content) b m → One host n m a b
   one_start n m a b enough enough_too first second =
-      one_boot host has.sound unfailing (λ never. never) (started content) (started content) n m a b (alike_start (started content) n a enough first) refl (λ drive block out. refl)
+      one_boot host has.sound unfailing none_failed (started content) (started content) n m a b (alike_start (started content) n a enough first) refl (λ drive block out. refl)
       (λ head replica shown. has.room head (replica, shown)) enough enough_too first second
 
 pub one_course : OneCourse
 one_course = λ host content has script w v start end from to calm calm_too a b s r k j sated sated_too first second.
     let up = from_rose host content has end s k w first.answer first.booted first.by first.kept script a first.runs in
     let up_too = from_rose host content has to r j v second.answer second.booted second.by second.kept script b second.runs in
-    let here = drive_calm start start first.booted end (omega arith) up calm in
-    let there = drive_calm from from second.booted to (omega arith) up_too calm_too in
+    let here = drives_calm start start first.booted end (no_more_itself start) up calm in
+    let there = drives_calm from from second.booted to (no_more_itself from) up_too calm_too in
     let left = calm_within start first.booted end end (calmly_rose start first.booted first.rose) (rose_itself end) calm in
     let left_too = calm_within from second.booted to to (calmly_rose from second.booted second.rose) (rose_itself to) calm_too in
     let both = one_start host content has first.kept second.kept first.answer second.answer

@@ -116,6 +116,6 @@ module _ (key : Key) (P : Identity → Type 0) (sites : Sites) where
   log_issues h (Reads other volume at blocks ∷ es) course are = log_issues (history_after h (Reads other volume at blocks)) es course.1 are.1
   log_issues h (Acknowledges place other volume at blocks ∷ es) course are = log_issues (history_after h (Acknowledges place other volume at blocks)) es course.1 are.1
   log_issues h (Shows place other volume at blocks ∷ es) course are = log_issues (history_after h (Shows place other volume at blocks)) es course.1 are.1
-  log_issues h (Boots other ∷ es) course are = log_issues (history_after h (Boots other)) es course.1 are.1
+  log_issues h (Boots other up ∷ es) course are = log_issues (history_after h (Boots other up)) es course.1 are.1
   log_issues h (Stops ∷ es) course are = log_issues (history_after h Stops) es course.1 are.1
   log_issues h (Crashes ∷ es) course are = log_issues (history_after h Crashes) es course.1 are.1

@@ -1,10 +1,10 @@
 -- Which entries are kept behind a line that isn't `boot`.
 use Rattle.std.proofs.Common.{◌≡◌, inl, inr, ℕ, List, ◌++◌, length, Some, refl, sym, ◌∙◌, ap, subst}
 use Rattle.std.proofs.lemmas.List.{append_cancel_left}
-use Rattle.mdv_base.specs.Causes.{Failures}
 use Rattle.mdv_run_law.specs.Below.{Refusal, OutOfMemory, IsLine, entries_reply, refusal_line, told, Command, Create, MakeStripe, Read, Write, Tale, Answer, Reply, Host, Memory, Kept, kept_at, CameTo, IsTold, IsReplied, Executed}
 use Rattle.mdv_words.specs.Line as words
 use Rattle.mdv_engine_law.specs.declared.answer.Answer.TheVariants.{Said, Over}
+use Rattle.mdv_engine_law.specs.Failing.{Outcomes}
 use Rattle.mdv_engine_law.specs.Commands as came
 use Rattle.mdv_engine_law.specs.Commands.{Effect, Fault, KeepsTab, Wanting}
 use Rattle.mdv_engine_law.proofs.Longer.{never_ended}
@@ -22,7 +22,7 @@ said_whole failed (Said this) r piece is replied = tt
 said_whole failed (Over end) r piece is replied = absurd (never_ended end (subst IsReplied is.0 replied))
 
 -- the entries stay as they were
-module _ (failures : Failures) (host : Host) (kept next : Kept) (answer : Answer) where
+module _ (calls : Outcomes) (host : Host) (kept next : Kept) (answer : Answer) where
   entries_same : next.memory ≡ kept.memory → next.memory.entries ≡ kept.memory.entries
   entries_same same = ap (λ (m : Memory). m.entries) same
 
@@ -32,11 +32,11 @@ module _ (failures : Failures) (host : Host) (kept next : Kept) (answer : Answer
   effect_entries (Read volume at count) is = entries_same is.3.memory
   effect_entries (Write volume at block) is = entries_same is.3
 
-  fault_entries : (command : Command) → Fault host kept command next → next.memory.entries ≡ kept.memory.entries
-  fault_entries (Create slice force) is = ap (λ (m : Memory). m.entries) is.memory
+  fault_entries : (command : Command) → Fault calls host kept command next → next.memory.entries ≡ kept.memory.entries
+  fault_entries (Create slice force) is = ap (λ (m : Memory). m.entries) is.1.memory
   fault_entries (MakeStripe volume slice) is = absurd is
-  fault_entries (Read volume at count) is = entries_same is.memory
-  fault_entries (Write volume at block) is = entries_same is.2
+  fault_entries (Read volume at count) is = entries_same is.3.memory
+  fault_entries (Write volume at block) is = entries_same is.3
 
   wanting_entries : (command : Command) → Wanting host kept command next → next.memory.entries ≡ kept.memory.entries
   wanting_entries (Create slice force) is = ap (λ (m : Memory). m.entries) is.1.memory
@@ -44,11 +44,11 @@ module _ (failures : Failures) (host : Host) (kept next : Kept) (answer : Answer
   wanting_entries (Read volume at count) is = entries_same is.1.memory
   wanting_entries (Write volume at block) is = absurd is
 
-  came_entries : (command : Command) → CameTo failures host kept command answer next → IsSaid answer → next.memory.entries ≡ kept.memory.entries
+  came_entries : (command : Command) → CameTo calls host kept command answer next → IsSaid answer → next.memory.entries ≡ kept.memory.entries
   came_entries command (came.refused quiet refusal is left) said = entries_same left.1.memory
   came_entries command (came.wanting quiet is left) said = wanting_entries command left
   came_entries command (came.done quiet free effect) said = effect_entries command effect
-  came_entries command (came.faulted so free is fault) said = fault_entries command fault
+  came_entries command (came.faulted free is fault) said = fault_entries command fault
   came_entries command (came.over end free is gives) said = absurd (let never : ⊥ = subst IsSaid is said in never)
 
 -- the bytes that were told of it are its text
@@ -60,15 +60,15 @@ text_told : (failed : Type 0) (answer : Answer) (this : Outcome) → answer ≡ 
 text_told failed answer this is r piece bytes t u as_told = told_text failed this r piece bytes t u (subst (λ (a : Answer). IsTold failed a r piece) is as_told)
 
 -- What is kept of entries behind a line that was executed and replied to.
-module _ (drive : Failures) (replies : Type 0) (made : Made) (host : Host) (old new : Memory) (r : Reply) (t u : Tale) (text bytes : List ℕ) (more : told u ≡ told t ++ bytes) where
-  pub command_entries : (command : Command) → IsLine text (words.Exec command) → Executed drive replies made host (words.Exec command) old new r t u → IsReplied r → HasEntries text bytes (Some old.entries) new.entries
+module _ (calls : Outcomes) (replies : Type 0) (made : Made) (host : Host) (old new : Memory) (r : Reply) (t u : Tale) (text bytes : List ℕ) (more : told u ≡ told t ++ bytes) where
+  pub command_entries : (command : Command) → IsLine text (words.Exec command) → Executed calls replies made host (words.Exec command) old new r t u → IsReplied r → HasEntries text bytes (Some old.entries) new.entries
   command_entries command spelled is replied = inr (inr (
     λ boot. absurd (let never : words.Boot ≡ words.Exec command = one_line text words.Boot (words.Exec command) boot spelled in cc (never)),
     λ lines tab. absurd (let never : words.Tab lines ≡ words.Exec command = one_line text (words.Tab lines) (words.Exec command) tab spelled in cc (never)),
-    ap Some (sym (came_entries drive host (kept_at old t) (kept_at new u) is.answer command is.carried (said_whole replies is.answer r is.replied.piece is.replied.as_told replied))),
+    ap Some (sym (came_entries calls host (kept_at old t) (kept_at new u) is.answer command is.carried (said_whole replies is.answer r is.replied.piece is.replied.as_told replied))),
   ))
 
-  keeps_entries : (lines : List ℕ) → IsLine text (words.Tab lines) → (answer : Answer) (piece : List ℕ) → KeepsTab drive (kept_at old t) lines answer (kept_at new u) → told u ≡ told t ++ piece → IsTold replies answer r piece → IsReplied r → HasEntries text bytes (Some old.entries) new.entries
+  keeps_entries : (lines : List ℕ) → IsLine text (words.Tab lines) → (answer : Answer) (piece : List ℕ) → KeepsTab calls (kept_at old t) lines answer (kept_at new u) → told u ≡ told t ++ piece → IsTold replies answer r piece → IsReplied r → HasEntries text bytes (Some old.entries) new.entries
   keeps_entries lines spelled answer piece (came.entered quiet entries tab is memory same) so as_told replied =
       let now : new.entries ≡ entries = ap (λ (m : Memory). m.entries) memory in
       let text_is = text_told replies answer (outcome.Values (entries_reply (length entries))) is r piece bytes t u as_told replied so more in
@@ -80,7 +80,7 @@ module _ (drive : Failures) (replies : Type 0) (made : Made) (host : Host) (old 
       let text_is = text_told replies answer (outcome.Refused OutOfMemory) is r piece bytes t u as_told replied so more in
       inr (inr (λ boot. (OutOfMemory, text_is), λ others tab. (OutOfMemory, text_is), ap (λ (m : Memory). Some m.entries) (sym left.memory)))
 
-  pub tab_entries : (lines : List ℕ) → IsLine text (words.Tab lines) → Executed drive replies made host (words.Tab lines) old new r t u → IsReplied r → HasEntries text bytes (Some old.entries) new.entries
+  pub tab_entries : (lines : List ℕ) → IsLine text (words.Tab lines) → Executed calls replies made host (words.Tab lines) old new r t u → IsReplied r → HasEntries text bytes (Some old.entries) new.entries
   tab_entries lines spelled is replied = keeps_entries lines spelled is.answer is.replied.piece is.carried is.replied.is_told is.replied.as_told replied
 
 -- and behind one that was only refused

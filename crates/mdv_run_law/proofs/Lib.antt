@@ -1,11 +1,12 @@
 mod Asked
 pub mod Coming
-mod Deeds
+pub mod Deeds
 pub mod Made
 pub mod Turning
 pub mod Lining
 pub mod Booting
 pub mod Entries
+pub mod Elsewhere
 pub mod Living
 pub mod Extents
 pub mod Again

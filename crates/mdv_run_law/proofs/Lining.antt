@@ -5,6 +5,7 @@ use Rattle.mdv_run_law.specs.Below.{Script, Tale, told, Said, left_in, replies_i
 use Rattle.mdv_store_law.proofs.Machine.{goes_more}
 use Rattle.mdv_run_law.specs.Below.{Happening, history_after}
 use Rattle.mdv_engine_law.proofs.Plain.{nothing_answers, nothing_said}
+use Rattle.mdv_engine_law.proofs.Staying.{stays_more, stays_same}
 use Rattle.mdv_run_law.specs.Standing.{ComeOf, Context, IsSettled, context_of, InWork, NothingLeft, IsTold, Goes, behind, AreReplies, LinesMoment, RanTo}
 use Rattle.mdv_run_law.proofs.Coming.{behind_none, behind_more, told_none, told_either, in_work_none, come_more}
 use Rattle.mdv_run_law.proofs.Made.{ours_stays, shows_made}
@@ -47,6 +48,7 @@ module _ (host : Host) (script : Script) (first : Memory) (t : Tale) where
   lines_start = record {
     bytes = [];
     is_told = sym (append-nil (told t));
+    home = stays_same host t;
     made = λ knows is. absurd (nothing_told (Created (key_of host)) is);
     goes = λ h known. goes_nothing host (ComeOf host (InWork host (left_in [])) (context_of first) script (replies_in [])) Reached t h
         (subst (λ (s : Said). ComeOf host (InWork host s.left) (context_of first) script s.replies []) (sym nothing_said) (in_work_none host (context_of first) script)) known.stands tt;
@@ -58,6 +60,7 @@ module _ (host : Host) (script : Script) (first : Memory) (t : Tale) where
     is_told = sym (append-nil (told t));
     replies = replies_none;
     left_is = ap (behind script) nothing_answers ∙ behind_none script;
+    home = stays_same host t;
     knows = λ knows. knows;
     made = λ knows is. absurd (nothing_told (Created (key_of host)) is);
     goes = λ h known. goes_nothing host (ComeOf host (NothingLeft (context_of first)) (context_of first) script (replies_in [])) (λ es after. IsKnown host first after t) t h
@@ -81,6 +84,7 @@ module _ (host : Host) (script : Script) (first : Memory) (t : Tale) where
     lines_more_moment m lines = record {
       bytes = ran.bytes ++ lines.bytes;
       is_told = is_told_both m lines.bytes lines.is_told;
+      home = stays_more host t u m ran.home lines.home;
       made = λ knows is. ⊎_elim
           (λ before.
           let has = ran.made knows before in
@@ -98,6 +102,7 @@ module _ (host : Host) (script : Script) (first : Memory) (t : Tale) where
       is_told = is_told_both v more.bytes more.is_told;
       replies = replies_more script left ran.bytes more.bytes ran.replies ran.left_is more.replies;
       left_is = behind_both script left ran.bytes more.bytes ran.replies ran.left_is rest more.left_is;
+      home = stays_more host t u v ran.home more.home;
       knows = λ knows. more.knows (ran.knows knows);
       made = λ knows is. ⊎_elim
           (λ before.

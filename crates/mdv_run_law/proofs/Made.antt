@@ -9,6 +9,8 @@ use Rattle.mdv_store_law.proofs.Covering.{nothing_covers}
 use Rattle.mdv_store_law.proofs.Logs.{told_acknowledges, told_firm, is_log_after_all, firm_stays}
 use Rattle.mdv_volumes.specs.HistoryLaws.{AreWoken, database_deeds, log_events_of}
 use Rattle.mdv_volumes.specs.Tables.{IsSite}
+use Rattle.mdv_volumes.specs.History.{Boots}
+use Rattle.mdv_volumes.proofs.Databases.{key_itself}
 use Rattle.mdv_volumes.proofs.Found.{none_found}
 use Rattle.mdv_volumes.proofs.Keys.{databases_live}
 use Rattle.mdv_engine_law.specs.Standing.{IsBare, is_up}
@@ -60,15 +62,25 @@ ours_by host (Some other) identity is of_run =
 pub empty_is_log : (g : Geometry) → IsLog g empty_log
 empty_is_log g = record { rising = tt; made = λ k d lt. absurd (omega (arith, lt)); descended = tt; held = λ told is. absurd (cc (is)) }
 
--- where no database was open and the drive was read, the history in which nothing happened is known
-pub began_known : (host : Host) (memory : Memory) (t : Tale) → Knows host memory t → IsBare memory → IsKnown host memory new_history t
+-- the one site that a key has
+pub its_site : (host : Host) (key : Key) (site : Site) → IsSite (sites_of host) key site → site ≡ site_of host
+its_site host key site is = only_site host site (subst (λ (k : Key). IsSite (sites_of host) k site) (only_key host key site is) is)
+
+-- the history in which nothing happened but the last boot
+abbrev pub just_booted : Host → Memory → History
+just_booted host memory = history_after new_history (Boots (key_of host) memory.up)
+
+-- it brought up the drives that are in memory
+brought_up : (host : Host) (memory : Memory) → (just_booted host memory).up (key_of host) ≡ memory.up
+brought_up host memory = let itself = key_itself (key_of host) in rw itself refl
+
+-- where no database was open and the drives were read, that history is known
+pub began_known : (host : Host) (memory : Memory) (t : Tale) → Knows host memory t → IsBare memory → IsKnown host memory (just_booted host memory) t
 began_known host memory t knows bare = record {
   stands = record {
     stands = record {
       databases = λ key site is.
-          let same = only_key host key site is in
-          let here = only_site host site (subst (λ (k : Key). IsSite (sites_of host) k site) same is) in
-          subst (λ (s : Site). database.Stands s empty_log t) (sym here) (record { is_log = empty_is_log host.drives; covers = nothing_covers (site_of host) empty_log t refl (knows.nothing bare.0 bare.1) });
+          subst (λ (s : Site). database.Stands s empty_log t) (sym (its_site host key site is)) (record { is_log = empty_is_log host.drives; covers = nothing_covers (site_of host) empty_log t refl (knows.nothing bare.0 bare.1) });
       laid = λ key site version is found. absurd (none_found version found);
       apart = λ key other volume beside v w differ named. absurd (none_found named.version named.found);
       volumes = λ key volume v named. absurd (none_found named.version named.found);
@@ -76,7 +88,8 @@ began_known host memory t knows bare = record {
     room = tt;
   };
   newest = subst (λ (o : Option Newest). IfSome o (λ newest. IsNewestIn newest empty_log)) (sym bare.0) tt;
-  woken = subst (λ (o : Option Newest). IfSome o (λ newest. AreWoken (site_of host) newest.table (is_up host memory) new_history (key_of host))) (sym bare.0) tt;
+  up = brought_up host memory;
+  woken = subst (λ (o : Option Newest). IfSome o (λ newest. AreWoken (site_of host) newest.table (is_up memory) (just_booted host memory) (key_of host))) (sym bare.0) tt;
   knows = knows;
 }
 
@@ -84,19 +97,20 @@ pub some_told : {X : Type 0} (xs : List X) (x : X) → Contains xs x → xs ≡ 
 some_told xs x has none = absurd (let in_none : Contains [] x = subst (λ (l : List _). Contains l x) none has in omega (arith, in_none.1))
 
 -- Where nothing was there, and then a creation was told, the history is one of this run's database.
-pub made_ours : (host : Host) (asks told : List Deed) (m : Tale) (es : List Event) → machine.IsCourse history_after (Happening host) new_history es → Does host asks told es → Contains told (Created (key_of host))
-    → StandsAt host (history_after_all new_history es) m → (number : ℕ) × IsOurs host number (log_of (history_after_all new_history es).databases (key_of host))
-made_ours host asks told m es course adds has stands =
-    let may = may_course host new_history es course in
+pub made_ours : (host : Host) (memory : Memory) (asks told : List Deed) (m : Tale) (es : List Event) → machine.IsCourse history_after (Happening host) (just_booted host memory) es → Does host asks told es → Contains told (Created (key_of host))
+    → StandsAt host (history_after_all (just_booted host memory) es) m → (number : ℕ) × IsOurs host number (log_of (history_after_all (just_booted host memory) es).databases (key_of host))
+made_ours host memory asks told m es course adds has stands =
+    let began = just_booted host memory in
+    let may = may_course host began es course in
     let events = log_events_of (key_of host) es in
-    let is_course = databases_live.may (key_of host) (site_of host) (sites_of host) new_history es (own_site host) may in
+    let is_course = databases_live.may (key_of host) (site_of host) (sites_of host) began es (own_site host) may in
     let in_log : Contains (database_deeds (key_of host) (told_by es)) None = deed_has (key_of host) (told_by es) None (subst (λ (l : List Deed). Contains l (Created (key_of host))) (sym adds.tells) has) in
     let acknowledged = told_acknowledges host.drives empty_log events (empty_is_log host.drives) is_course (λ none. some_told (database_deeds (key_of host) (told_by es)) None in_log (sym (databases_live.tells (key_of host) es) ∙ none)) in
     let is_log = is_log_after_all host.drives empty_log events (empty_is_log host.drives) is_course in
-    let after = log_of (history_after_all new_history es).databases (key_of host) in
-    let same : after ≡ log.log_after_all empty_log events = databases_live.is (key_of host) (sites_of host) new_history es may in
+    let after = log_of (history_after_all began es).databases (key_of host) in
+    let same : after ≡ log.log_after_all empty_log events = databases_live.is (key_of host) (sites_of host) began es may in
     let firm : is_firm after ≡ true = ap is_firm same ∙ told_firm host.drives (log.log_after_all empty_log events) acknowledged.0 is_log acknowledged.1 in
-    let issued = subst (λ (lg : Log). IfSome lg.issued (IsOfRun host)) (sym same) (issued_has (IsOfRun host) empty_log events (log_issues (key_of host) (IsOfRun host) (sites_of host) new_history es may adds.issues) tt) in
+    let issued = subst (λ (lg : Log). IfSome lg.issued (IsOfRun host)) (sym same) (issued_has (IsOfRun host) empty_log events (log_issues (key_of host) (IsOfRun host) (sites_of host) began es may adds.issues) tt) in
     elim ((stands.stands.databases (key_of host) (site_of host) (own_site host)).covers (last m) (last_image m)) [
       | nothing not_firm none ↦ absurd (cc (firm, not_firm))
       | replica head agrees ↦ (head.master.identity.number, record { issued = ours_by host after.issued head.master.identity agrees.as_issued issued; firm = firm })

@@ -3,13 +3,14 @@ use Rattle.std.proofs.Common.{◌≡◌, ◌⊎◌, inl, inr, ℕ, Bool, true, f
 use Rattle.std.specs.Str.{bytes_eq}
 use Rattle.std.proofs.lemmas.Slice.Eq.{bytes_eq-Decides}
 use Rattle.mdv_base.specs.declared.refusal.Refusal.TheVariants.{IoFault}
-use Rattle.mdv_run_law.specs.Below.{Script, too_long, line, Tale, Said, left_in, replies_in, Boot, IsLine, History, Deed, Created, Event, new_history, history_after_all, log_of, Host, key_of, Ask, Nothing, Memory, IsFront, IsReply, Acks, AcksBy, AcksFront, AcksIn, is_front_of, issuable, issuable_front, issuable_in, issuable_of, ok_line, refusal_line, HasBooted, StandsAt, Does, Knows, IsKnown, TurnMoment, Turned}
+use Rattle.mdv_run_law.specs.Below.{Drives, Script, too_long, line, Tale, Said, left_in, replies_in, Boot, IsLine, History, Deed, Created, Event, history_after_all, log_of, Host, key_of, Ask, Nothing, Memory, IsFront, IsReply, Acks, AcksBy, AcksFront, AcksIn, is_front_of, issuable, issuable_front, issuable_in, issuable_of, ok_line, refusal_line, HasBooted, StandsAt, Does, Knows, IsKnown, TurnMoment, Turned}
+use Rattle.mdv_engine_law.specs.Home.{StaysHome}
 use Rattle.mdv_engine_law.specs.Standing as turn
 use Rattle.mdv_engine_law.specs.Standing.{IsBare}
 use Rattle.mdv_run_law.specs.Standing.{AsksBy, AreIdle, AreOfLine, ComeOf, context_of, HasEntries, InWork, IsWanting, NothingLeft, IsTold, AreReplies, behind, LinesMoment, RanTo}
 use Rattle.mdv_run_law.proofs.Coming.{acked_by, behind_none, no_ok, told_none, in_work_none, come_line, come_long}
 use Rattle.mdv_shelf.proofs.Moments.{some_is}
-use Rattle.mdv_run_law.proofs.Made.{IsOurs, began_known, made_ours, shows_made}
+use Rattle.mdv_run_law.proofs.Made.{IsOurs, began_known, just_booted, made_ours, shows_made}
 
 -- a whole reply is whole replies
 pub reply_replies : (bytes : List ℕ) → IsReply bytes → AreReplies bytes
@@ -29,11 +30,11 @@ module _ (host : Host) (script : Script) (ask : Ask) (old : Memory) (t : Tale) w
       → (goes : (h : History) → IsKnown host old h t → turn.Goes host may done After m h)
       → (h : History) × StandsAt host h m × ((es : List Event) × After es h) × ((number : ℕ) × IsOurs host number (log_of h.databases (key_of host)))
   turn_made m may done After knows has free goes =
-      let went = goes new_history (began_known host old t knows (free has)) in (
-        history_after_all new_history went.es,
+      let went = goes (just_booted host old) (began_known host old t knows (free has)) in (
+        history_after_all (just_booted host old) went.es,
         went.stands,
         (went.es, went.after),
-        made_ours host may done m went.es went.course went.come has went.stands,
+        made_ours host old may done m went.es went.course went.come has went.stands,
       )
 
   pub turn_lines : (m : Tale) (moment : TurnMoment host ask old t m) → ((es : List Event) → Does host (issuable_of ask moment.bytes) moment.done es → ComeOf host (InWork host (left_in moment.bytes)) (context_of old) script (replies_in moment.bytes) es)
@@ -41,6 +42,7 @@ module _ (host : Host) (script : Script) (ask : Ask) (old : Memory) (t : Tale) w
   turn_lines m moment come is_acked = record {
     bytes = moment.bytes;
     is_told = moment.is_told;
+    home = moment.home;
     made = λ knows told.
         let made = turn_made m (issuable_of ask moment.bytes) moment.done turn.Reached knows (is_acked told) moment.free moment.goes in
         shows_made host made.3.0 made.0 m made.3.1 made.1;
@@ -49,14 +51,15 @@ module _ (host : Host) (script : Script) (ask : Ask) (old : Memory) (t : Tale) w
         record { es = went.es; course = went.course; come = come went.es went.come; stands = went.stands; after = tt };
   }
 
-  pub turn_ran : (new : Memory) (left : Script) (u : Tale) (turned : Turned host ask old new t u)
+  pub turn_ran : (new : Memory) (left : Script) (u : Tale) (turned : Turned host ask old new t u) → StaysHome host t u
       → (Knows host old t → (es : List Event) → Does host (issuable ask turned.bytes) turned.done es → ComeOf host (NothingLeft (context_of new)) (context_of old) script (replies_in turned.bytes) es)
       → (IsTold host script (replies_in turned.bytes) (Created (key_of host)) → Contains turned.done (Created (key_of host))) → behind script (replies_in turned.bytes) ≡ left → RanTo host script old new left t u
-  turn_ran new left u turned come is_acked left_is = record {
+  turn_ran new left u turned home come is_acked left_is = record {
     bytes = turned.bytes;
     is_told = turned.is_told;
     replies = reply_replies turned.bytes turned.reply;
     left_is = left_is;
+    home = home;
     knows = turned.knows;
     made = λ knows told.
         let made = turn_made u (issuable ask turned.bytes) turned.done (λ es after. IsKnown host new after u) knows (is_acked told) turned.free turned.goes in
@@ -77,7 +80,7 @@ never_boots text bytes (inr wanting) boot ok = no_ok bytes wanting ((bytes_eq-De
 
 -- a front of a reply to a line, and a whole one
 module _ (host : Host) (text : List ℕ) (ask : Ask) (more : Script) where
-  pub front_come : (old : Memory) (bytes : List ℕ) → AsksBy host text bytes ask → IsFront bytes → (done : List Deed) → Acks ask bytes done → (es : List Event) → Does host (issuable_of ask bytes) done es → (IsLine text Boot → bytes ≡ ok_line → HasBooted (key_of host) es)
+  pub front_come : (old : Memory) (bytes : List ℕ) → AsksBy host text bytes ask → IsFront bytes → (done : List Deed) → Acks ask bytes done → (es : List Event) → Does host (issuable_of ask bytes) done es → (IsLine text Boot → bytes ≡ ok_line → (up : Drives) × HasBooted (key_of host) up es)
       → ComeOf host (InWork host (left_in bytes)) (context_of old) (line text more) (replies_in bytes) es
   front_come old bytes asks (inl none) done acks es does boots =
       let front : AcksFront ask bytes done = subst (λ (s : Said). AcksIn ask s.replies s.left done) none acks in
@@ -115,7 +118,7 @@ module _ (host : Host) (text : List ℕ) (ask : Ask) (more : Script) where
       turn_lines host (line text more) ask old t m moment
       (λ es does. front_come old moment.bytes asks moment.front moment.done moment.acks es does (λ boot ok. absurd (never_boots text moment.bytes other boot ok))) (front_told moment.bytes asks moment.front moment.done moment.acks)
 
-  pub reply_come : (old new : Memory) (bytes : List ℕ) → AsksBy host text bytes ask → (is : IsReply bytes) (done : List Deed) → AcksBy ask bytes done → (es : List Event) → Does host (issuable ask bytes) done es → (IsLine text Boot → bytes ≡ ok_line → HasBooted (key_of host) es)
+  pub reply_come : (old new : Memory) (bytes : List ℕ) → AsksBy host text bytes ask → (is : IsReply bytes) (done : List Deed) → AcksBy ask bytes done → (es : List Event) → Does host (issuable ask bytes) done es → (IsLine text Boot → bytes ≡ ok_line → (up : Drives) × HasBooted (key_of host) up es)
       → HasEntries text bytes (Some old.entries) new.entries → ComeOf host (NothingLeft (context_of new)) (context_of old) (line text more) (replies_in bytes) es
   reply_come old new bytes asks is done acks es does boots entries =
       let here : AreOfLine host text (context_of old) bytes es (context_of new) = record {
@@ -130,9 +133,9 @@ module _ (host : Host) (text : List ℕ) (ask : Ask) (more : Script) where
       subst (λ (l : List (List ℕ)). ComeOf host (NothingLeft (context_of new)) (context_of old) (line text more) l es) (sym (only_reply bytes is)) (come_line host (NothingLeft (context_of new)) (context_of old) (context_of new) text more bytes es here (refl, refl))
 
   -- And one whose reply was told whole. What it leaves in memory may be known only where the drive is.
-  pub line_ran : (old new : Memory) (t u : Tale) (turned : Turned host ask old new t u) → AsksBy host text turned.bytes ask → IsNoBoot text turned.bytes → (Knows host old t → HasEntries text turned.bytes (Some old.entries) new.entries) → RanTo host (line text more) old new more t u
-  line_ran old new t u turned asks other leaves =
-      turn_ran host (line text more) ask old t new more u turned
+  pub line_ran : (old new : Memory) (t u : Tale) (turned : Turned host ask old new t u) → StaysHome host t u → AsksBy host text turned.bytes ask → IsNoBoot text turned.bytes → (Knows host old t → HasEntries text turned.bytes (Some old.entries) new.entries) → RanTo host (line text more) old new more t u
+  line_ran old new t u turned home asks other leaves =
+      turn_ran host (line text more) ask old t new more u turned home
       (λ knows es does. reply_come old new turned.bytes asks turned.reply turned.done turned.acks es does (λ boot ok. absurd (never_boots text turned.bytes other boot ok)) (leaves knows))
       (reply_told turned.bytes asks turned.reply turned.done turned.acks) (ap (behind (line text more)) (only_reply turned.bytes turned.reply) ∙ behind_none more)
 
@@ -175,9 +178,9 @@ module _ (host : Host) (more : Script) (old : Memory) where
   pub long_moment : (t m : Tale) → TurnMoment host Nothing old t m → LinesMoment host (too_long more) old t m
   long_moment t m moment = turn_lines host (too_long more) Nothing old t m moment (long_come moment.bytes moment.front moment.done moment.acks) (λ told. absurd (long_told moment.bytes (Created (key_of host)) moment.front told))
 
-  pub long_ran : (t u : Tale) → Turned host Nothing old old t u → RanTo host (too_long more) old old more t u
-  long_ran t u turned =
-      turn_ran host (too_long more) Nothing old t old more u turned
+  pub long_ran : (t u : Tale) → Turned host Nothing old old t u → StaysHome host t u → RanTo host (too_long more) old old more t u
+  long_ran t u turned home =
+      turn_ran host (too_long more) Nothing old t old more u turned home
       (λ knows es does. subst (λ (l : List (List ℕ)). ComeOf host (NothingLeft (context_of old)) (context_of old) (too_long more) l es) (sym (only_reply turned.bytes turned.reply))
       (come_long host (NothingLeft (context_of old)) (context_of old) more turned.bytes es (idle (issuable Nothing turned.bytes) turned.done (none_issuable_by turned.bytes) turned.acks es does) (refl, refl)))
       (λ told. absurd (long_told turned.bytes (Created (key_of host)) (inr turned.reply.alone) told))

@@ -11,6 +11,7 @@ pub use Rattle.mdv_base.specs.declared.refusal.Refusal.TheVariants.{BadLine, Lin
 pub use Rattle.mdv_base.specs.declared.refusal.Refusal.TheVariants.{OutOfMemory, OutOfRange, ReplicaFull, SliceInUse, TooSmall, WrongKind}
 pub use Rattle.mdv_base.specs.declared.refusal.Refusal.TheVariants.{TooMany, WrongState}
 pub use Rattle.mdv_base.specs.declared.state_word.StateWord.{StateWord}
+pub use Rattle.mdv_base.specs.DriveSet.{Drives}
 pub use Rattle.mdv_engine_law.specs.Awake.{Happening, HasBooted, IsAwakeAt}
 pub use Rattle.mdv_engine_law.specs.Home.{identity_of, key_of, site_of, sites_of}
 pub use Rattle.mdv_engine_law.specs.Commands.{CameTo, ComesTo}

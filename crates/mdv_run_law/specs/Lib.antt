@@ -3,4 +3,5 @@ pub use Rattle.mdv_base.specs.Causes
 pub mod Usage
 pub mod Run
 pub mod Standing
+pub mod Told
 pub mod Lives

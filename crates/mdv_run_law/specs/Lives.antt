@@ -1,16 +1,19 @@
 -- Lives: any number of runs on the same drives, each but the first begun on what the one before left, or a crash in it.
-use Rattle.std.specs.Prelude.{◌≡◌, ◌⊎◌, ◌<◌, ℕ, List, [], ◌∷◌, ◌++◌, reverse, None, Contains}
-use Rattle.mdv_run_law.specs.Below.{IsHome, Home, Geometry, Script, Head, Slot, IsNewest, Mark, Image, Tale, Among, last, IsImage, Key, VolId, Map, readings, Change, Table, Version, IsSound, restarted, AreMade, HasTable, IsFound, IsReplica, Deed, Acknowledges, Created, Changed, Crashes, Stops, Event, IsNamed, Happening, Lasts, history_after, history_after_all, log_of, new_history, Host, key_of, site_of, sites_of, contents, StandsAt, left_in, replies_in}
+use Rattle.std.specs.Prelude.{◌≡◌, ◌≢◌, ◌⊎◌, ◌<◌, ℕ, List, [], ◌∷◌, ◌++◌, reverse, None, Contains}
+use Rattle.mdv_run_law.specs.Below.{IsHome, Home, Geometry, Script, Head, Slot, IsNewest, Mark, Image, Tale, Among, last, on_site, Key, VolId, Map, readings, Change, Table, Version, IsSound, restarted, AreMade, HasTable, IsFound, IsReplica, Deed, Acknowledges, Created, Changed, Crashes, Stops, Event, IsNamed, Happening, Lasts, history_after, history_after_all, log_of, new_history, Host, key_of, site_of, sites_of, contents, StandsAt, left_in, replies_in}
+use Rattle.mdv_home.specs.Drives.{own_drives}
+use Rattle.mdv_home.specs.View.{own_view}
 use Rattle.mdv_store_law.specs.Machine as machine
 use Rattle.mdv_store_law.specs.Log.{changes_of}
 use Rattle.mdv_volumes.specs.HistoryLaws.{database_deeds}
+use Rattle.mdv_volumes.specs.Standing.{LeavesNoMore}
 use Rattle.mdv_run_law.specs.Run.{HasHome}
 use Rattle.mdv_store_law.specs.Part.{IsPart}
 use Rattle.mdv_run_law.specs.Standing.{RunMoment, AreBegun, AreOfRun, AreTold, IsTold}
 
--- a host's run, told by the word that its databases' identities have
+-- a host's run, told by the word that its databases' identities have: it sees what is its own of the table of drives
 abbrev pub host_of : Geometry → Home → ℕ → Host
-host_of drives home fresh = record { drives = drives; home = home; fresh = fresh }
+host_of table home fresh = record { drives = own_view table home.host; own = own_drives table home.host; home = home; fresh = fresh }
 
 -- a run that was stopped: its host by the home, the word of its identities, its script, and what it had told
 pub record Ran : Type 0 where
@@ -19,15 +22,16 @@ pub record Ran : Type 0 where
   pub script : Script
   pub bytes : List ℕ
 
--- what may be found of a moment as the next run starts: what the drive held, where nothing crashed; or what a crash left of it
+-- What may be found of a moment as the next run starts: what the drives held, where nothing crashed; or drives of which a crash leaves no more than it might have left
+-- then: each began anew with what a crash left of it, or went on beside one that did.
 pub data MayBeFound (m : Tale) : Tale → Type 0 where
   as_it_was : MayBeFound m m
-  crashed : (image : Image) (told : List ℕ) → IsImage m image → MayBeFound m (restarted image told)
+  crashed : (next : Tale) → LeavesNoMore m next → MayBeFound m next
 
 -- Drives at the start of a run, behind these runs, the newest first, of new drives that held this.
 pub data Life (drives : Geometry) (made : Image) : List Ran → Tale → Type 0 where
   -- new drives, whatever they hold, on which a boot of any host finds no database
-  new_drives : (told : List ℕ) → ((home : Home) → IsHome drives home → IsFound (site_of (host_of drives home 0)) (made 0) None) → Life drives made [] (restarted made told)
+  new_drives : (told : List ℕ) → ((home : Home) → IsHome drives home → IsFound (site_of (host_of drives home 0)) (on_site (site_of (host_of drives home 0)) made) None) → Life drives made [] (restarted made told)
   -- a run of any host and whatever script, with whatever failures, up to one of its moments, the last one too, and what may be found of it
   run_on : (ran : List Ran) (home : Home) (fresh : ℕ) (t m next : Tale) (script : Script) → Life drives made ran t → IsHome drives home → (moment : RunMoment (host_of drives home fresh) script t m) → MayBeFound m next
       → Life drives made (record { home = home; fresh = fresh; script = script; bytes = moment.bytes } ∷ ran) next
@@ -46,37 +50,44 @@ pub record IsLife (drives : Geometry) (made : Image) (ran : List Ran) (t : Tale)
 abbrev pub IsBetween : List Event → Type 0
 IsBetween es = (es ≡ Stops ∷ []) ⊎ (es ≡ Stops ∷ Crashes ∷ [])
 
--- the events of these runs, one run behind the other
-abbrev pub AreOfRuns : Geometry → List Ran → List Event → Type 0
-AreOfRuns drives [] es = es ≡ []
-AreOfRuns drives (ran ∷ before) es =
-    (first : List Event) × (run : List Event) × (end : List Event) × (es ≡ first ++ (run ++ end)) × AreOfRuns drives before first × AreOfRun (host_of drives ran.home ran.fresh) ran.script ran.bytes run × IsBetween end
+-- the one of a run of the host with this home, and the other of another host's run
+abbrev pub OfHost : Home → Ran → Type 0 → Type 0 → Type 0
+OfHost home ran This That = ((ran.home ≡ home) × This) ⊎ ((ran.home.host ≢ home.host) × That)
 
--- one of the runs told the deed
-abbrev pub IsSaid : Geometry → List Ran → Deed → Type 0
-IsSaid drives [] deed = ⊥
-IsSaid drives (ran ∷ before) deed = IsTold (host_of drives ran.home ran.fresh) ran.script (replies_in ran.bytes) deed ⊎ IsSaid drives before deed
+-- the events of these runs for the host with this home, one run behind the other: another host's run has none for it
+abbrev pub AreOfRuns : Geometry → Home → List Ran → List Event → Type 0
+AreOfRuns drives home [] es = es ≡ []
+AreOfRuns drives home (ran ∷ before) es =
+    (first : List Event) × (run : List Event) × (end : List Event) × (es ≡ first ++ (run ++ end)) × AreOfRuns drives home before first
+    × OfHost home ran (AreOfRun (host_of drives home ran.fresh) ran.script ran.bytes run) (run ≡ []) × IsBetween end
+
+-- one of the host's runs told the deed
+abbrev pub IsSaid : Geometry → Home → List Ran → Deed → Type 0
+IsSaid drives home [] deed = ⊥
+IsSaid drives home (ran ∷ before) deed = ((ran.home ≡ home) × IsTold (host_of drives home ran.fresh) ran.script (replies_in ran.bytes) deed) ⊎ IsSaid drives home before deed
 
 -- all that they told, and what their lines may have begun, in order
-abbrev pub AreSaid : Geometry → List Ran → List Deed → Type 0
-AreSaid drives [] said = said ≡ []
-AreSaid drives (ran ∷ before) said =
-    (first : List Deed) × AreSaid drives before first × (rest : List Deed) × AreTold (host_of drives ran.home ran.fresh) ran.script (replies_in ran.bytes) (left_in ran.bytes) rest × (said ≡ first ++ rest)
+abbrev pub AreSaid : Geometry → Home → List Ran → List Deed → Type 0
+AreSaid drives home [] said = said ≡ []
+AreSaid drives home (ran ∷ before) said =
+    (first : List Deed) × AreSaid drives home before first × (rest : List Deed)
+    × OfHost home ran (AreTold (host_of drives home ran.fresh) ran.script (replies_in ran.bytes) (left_in ran.bytes) rest) (rest ≡ []) × (said ≡ first ++ rest)
 
-abbrev pub AreAsked : Geometry → List Ran → List Deed → Type 0
-AreAsked drives [] asked = asked ≡ []
-AreAsked drives (ran ∷ before) asked =
-    (first : List Deed) × AreAsked drives before first × (rest : List Deed) × AreBegun (host_of drives ran.home ran.fresh) ran.script (replies_in ran.bytes) (left_in ran.bytes) rest × (asked ≡ first ++ rest)
+abbrev pub AreAsked : Geometry → Home → List Ran → List Deed → Type 0
+AreAsked drives home [] asked = asked ≡ []
+AreAsked drives home (ran ∷ before) asked =
+    (first : List Deed) × AreAsked drives home before first × (rest : List Deed)
+    × OfHost home ran (AreBegun (host_of drives home ran.fresh) ran.script (replies_in ran.bytes) (left_in ran.bytes) rest) (rest ≡ []) × (asked ≡ first ++ rest)
 
 -- the changes of a key's table among these deeds, in order
 abbrev pub changes_in : Key → List Deed → List Change
 changes_in key deeds = changes_of (database_deeds key deeds)
 
--- a history of these drives behind these runs, with which they stand
+-- a history of the host's databases and volumes behind these runs, with which the drives stand
 pub record IsHistoryOf (drives : Geometry) (home : Home) (made : Image) (ran : List Ran) (t : Tale) : Type 0 where
   pub es : List Event
   pub course : machine.IsCourse history_after (Happening (host_of drives home 0)) new_history es
-  pub come : AreOfRuns drives ran es
+  pub come : AreOfRuns drives home ran es
   pub stands : StandsAt (host_of drives home 0) (history_after_all new_history es) t
 
 -- over every life there is one
@@ -95,21 +106,21 @@ pub record HasToldChanges (drives : Geometry) (home : Home) (made : Image) (ran 
   pub version : Version
   pub one_of : Contains (log_of (history_after_all new_history history.es).databases (key_of (host_of drives home 0))).family version
   pub is_table : version.table ≡ table
-  pub by : AreMade drives version.changes table
-  pub told : (change : Change) → IsSaid drives ran (Changed (key_of (host_of drives home 0)) change) → Contains version.changes change
+  pub by : AreMade (own_view drives home.host) version.changes table
+  pub told : (change : Change) → IsSaid drives home ran (Changed (key_of (host_of drives home 0)) change) → Contains version.changes change
   pub said : List Deed
-  pub are_said : AreSaid drives ran said
+  pub are_said : AreSaid drives home ran said
   pub all_said : IsPart (changes_in (key_of (host_of drives home 0)) said) (reverse version.changes)
   pub asked : List Deed
-  pub are_asked : AreAsked drives ran asked
+  pub are_asked : AreAsked drives home ran asked
   pub all_asked : IsPart (reverse version.changes) (changes_in (key_of (host_of drives home 0)) asked)
 
 -- Once a creation was told ok, every boot that can read its drive finds the database, whatever was run and crashed since; and
 -- the table that it finds has every change that was told ok.
 pub record DatabaseIsFound : Type 0 where
-  pub found : (drives : Geometry) (home : Home) (made : Image) (ran : List Ran) (t : Tale) → IsHome drives home → IsLife drives made ran t → IsSaid drives ran (Created (key_of (host_of drives home 0))) → IsFound (site_of (host_of drives home 0)) (last t 0) None → ⊥
+  pub found : (drives : Geometry) (home : Home) (made : Image) (ran : List Ran) (t : Tale) → IsHome drives home → IsLife drives made ran t → IsSaid drives home ran (Created (key_of (host_of drives home 0))) → IsFound (site_of (host_of drives home 0)) (on_site (site_of (host_of drives home 0)) (last t)) None → ⊥
   pub table : (drives : Geometry) (home : Home) (made : Image) (ran : List Ran) (t : Tale) (head : Head) (slot : Slot) (mark : Mark) (newest : Table) → IsHome drives home → IsLife drives made ran t
-      → IsReplica (site_of (host_of drives home 0)) (last t 0) head → IsNewest head slot → HasTable (site_of (host_of drives home 0)) (last t 0) head slot mark newest → HasToldChanges drives home made ran t newest
+      → IsReplica (site_of (host_of drives home 0)) (on_site (site_of (host_of drives home 0)) (last t)) head → IsNewest head slot → HasTable (site_of (host_of drives home 0)) (on_site (site_of (host_of drives home 0)) (last t)) head slot mark newest → HasToldChanges drives home made ran t newest
 
 -- Each block of a volume that a boot may find reads as one of the values that a history of these runs has for it. Of a write that was told that is its value,
 -- whatever happened since, or one that was issued since it was answered.

@@ -1,6 +1,12 @@
 -- The run of one host, told by what its script asks.
 use Rattle.std.specs.Prelude.{◌≡◌, ◌≢◌, ◌⊎◌, ◌≤◌, ◌<◌, ◌+◌, ℕ, Bool, true, false, List, [], ◌++◌, take, length, Option, Some, IfSome, Contains, if◌then◌else◌}
-use Rattle.mdv_base.specs.Causes.{RoseOnce, Failures, failures_of}
+use Rattle.mdv_base.specs.Causes.{RoseOnce, failures_of}
+use Rattle.mdv_base.specs.DriveSet.{has_drive}
+use Rattle.mdv_base.specs.declared.drive.DriveNo.{DriveNo}
+use Rattle.mdv_engine_law.specs.Failing.{AreCalm, Outcomes}
+use Rattle.mdv_home.specs.Drives.{own_drives}
+use Rattle.mdv_home.specs.View.{own_view}
+use Rattle.mdv_name.specs.declared.geometry.Geometry.{Geometry}
 use Rattle.mdv_shelf.specs.Made.{Made, made_between}
 use Rattle.mdv_run_law.specs.Below.{Image, on_site, Rose, BadLine, LineTooLong, OutOfMemory, IsHome, Script, at_end, spent, too_long, line, Head, Part, OnDrive, OnReplies, Tale, told, replies_in, IsSound, Line, IsLine, IsFound, IsOpened, Answer, Host, site_of, Kept, IsSame, IsSameBeside, ComesTo, IsRebooted, IsTurnedDown, contents, unbooted}
 use Rattle.mdv_shelf.specs.Story.{Effort, Tally, Moment, Story, Mark, marked, AtEach, InTime, tale_of}
@@ -11,54 +17,57 @@ use Rattle.mdv_engine_law.specs.declared.answer.Ended.TheVariants as stop
 use Rattle.mdv_engine_law.specs.declared.answer.Outcome.TheVariants as outcome
 use Rattle.mdv_engine_law.specs.Answers.{accepted, refusing}
 use Rattle.mdv_engine_law.specs.Line.{Memory}
-use Rattle.mdv_engine_law.specs.Standing.{LineWrites}
+use Rattle.mdv_base.specs.declared.refusal.Refusal.TheVariants.{IoFault}
+use Rattle.mdv_engine_law.specs.Standing.{LeavesDone, LineWrites}
+use Rattle.mdv_words.specs.Line.{Exec}
+use Rattle.mdv_words.specs.declared.command.Command.{Command}
 use Rattle.mdv_shelf.specs.Area.{KeptOutside, nowhere}
 use Rattle.mdv_store_law.specs.Site.{area_of}
 use Rattle.mdv_engine_law.specs.Efforts.{BootCalls, LineCalls, NoCalls, replied_to}
 use Rattle.mdv_run_law.specs.declared.status.RunStatus.{RunStatus}
 use Rattle.mdv_run_law.specs.declared.status.RunStatus.TheVariants.{Done, SomeRefused, Usage, NoQuorum, Panic, ReadFault, WriteFault, NoMemory, TwoDatabases, ScriptTooLong, NumbersSpent}
 
--- how often each part had failed by then: the drive, the source of the script, and the giving of replies
+-- how often each part had failed by then: each drive by its number, the source of the script, and the giving of replies
 pub record Counts : Type 0 where
-  pub drive : ℕ
+  pub drives : ℕ → ℕ
   pub source : ℕ
   pub replies : ℕ
 
 -- from the counts of the drives and replies, and that of the source
 abbrev pub counts : (Part → ℕ) → ℕ → Counts
-counts faults source = record { drive = faults (OnDrive 0); source = source; replies = faults OnReplies }
+counts faults source = record { drives = λ drive. faults (OnDrive drive); source = source; replies = faults OnReplies }
 
 -- no count fell
 pub record RoseTo (now later : Counts) : Type 0 where
-  pub drive : now.drive ≤ later.drive
+  pub drives : (drive : ℕ) → now.drives drive ≤ later.drives drive
   pub source : now.source ≤ later.source
   pub replies : now.replies ≤ later.replies
 
--- between two points the drive's count didn't fall, and no call of the source or of the giving of replies failed
+-- between two points no drive's count fell, and no call of the source or of the giving of replies failed
 pub record RoseCalmly (now later : Counts) : Type 0 where
-  pub drive : now.drive ≤ later.drive
+  pub drives : (drive : ℕ) → now.drives drive ≤ later.drives drive
   pub source : later.source ≡ now.source
   pub replies : later.replies ≡ now.replies
 
 -- one call of the source failed, and nothing else
 pub record OnlyUnread (now later : Counts) : Type 0 where
-  pub drive : later.drive ≡ now.drive
+  pub drives : (drive : ℕ) → later.drives drive ≡ now.drives drive
   pub source : RoseOnce now.source later.source
   pub no_fewer : now.source ≤ later.source
   pub replies : later.replies ≡ now.replies
 
 -- no call failed but the giving of replies
 pub record OnlyUngiven (now later : Counts) : Type 0 where
-  pub drive : later.drive ≡ now.drive
+  pub drives : (drive : ℕ) → later.drives drive ≡ now.drives drive
   pub source : later.source ≡ now.source
   pub replies : now.replies ≤ later.replies
 
--- how the calls on the drive came out
-abbrev pub drive_failures : Counts → Counts → Failures
-drive_failures now later = failures_of now.drive later.drive
+-- how the calls on each drive came out
+abbrev pub drive_failures : Counts → Counts → Outcomes
+drive_failures now later drive = failures_of (now.drives drive) (later.drives drive)
 
 abbrev pub drive_failed : Counts → Counts → Type 0
-drive_failed now later = Rose now.drive later.drive
+drive_failed now later = (drive : ℕ) × Rose (now.drives drive) (later.drives drive)
 
 abbrev pub source_failed : Counts → Counts → Type 0
 source_failed now later = Rose now.source later.source
@@ -75,13 +84,13 @@ abbrev pub IsNoCommand : List ℕ → Type 0
 IsNoCommand text = (spelled : Line) → IsLine text spelled → ⊥
 
 -- nothing is done, for memory was wanting to read it
-abbrev pub IsUnread : Failures → Kept → Answer → Kept → Type 0
-IsUnread failures kept answer next = failures.none × IsTurnedDown OutOfMemory kept answer next
+abbrev pub IsUnread : Outcomes → Kept → Answer → Kept → Type 0
+IsUnread calls kept answer next = AreCalm calls × IsTurnedDown OutOfMemory kept answer next
 
 -- What a line comes to, or a block: one that isn't built is refused, and another comes to what it asks; or memory was wanting to read it.
-abbrev pub IsAnswered : Failures → Host → Kept → List ℕ → Answer → Kept → Type 0
-IsAnswered failures host kept text answer next =
-    (IsNoCommand text × failures.none × IsTurnedDown BadLine kept answer next) ⊎ (((spelled : Line) × IsLine text spelled × ComesTo failures host kept spelled answer next) ⊎ IsUnread failures kept answer next)
+abbrev pub IsAnswered : Outcomes → Host → Kept → List ℕ → Answer → Kept → Type 0
+IsAnswered calls host kept text answer next =
+    (IsNoCommand text × AreCalm calls × IsTurnedDown BadLine kept answer next) ⊎ (((spelled : Line) × IsLine text spelled × ComesTo calls host kept spelled answer next) ⊎ IsUnread calls kept answer next)
 
 -- the run is over for want of places, numbers or memory: what a crash leaves then isn't said
 abbrev pub IsLostStatus : RunStatus → Type 0
@@ -110,24 +119,24 @@ pub record At : Type 0 where
   pub script : Script
 
 -- What the next line comes to, and the script behind it. The source gave it, and no giving of replies failed: the counts are those behind a reply that was
--- told whole, and those before one that wasn't. It is excused by a count that rose between these counts alone, and a call on the drive that failed between
+-- told whole, and those before one that wasn't. It is excused by a count that rose between these counts alone, and a call on a drive that failed between
 -- them comes out in its answer.
 abbrev pub NextLine : Host → Counts → Kept → Script → Answer → Counts → Kept → Script → Type 0
 NextLine host now kept at_end answer later next more = ⊥
 NextLine host now kept (spent lines bytes) answer later next more = ⊥
-NextLine host now kept (too_long rest) answer later next more = (more ≡ rest) × RoseCalmly now later × (drive_failures now later).none × IsTurnedDown LineTooLong kept answer next
+NextLine host now kept (too_long rest) answer later next more = (more ≡ rest) × RoseCalmly now later × AreCalm (drive_failures now later) × IsTurnedDown LineTooLong kept answer next
 NextLine host now kept (line text rest) answer later next more = (more ≡ rest) × RoseCalmly now later × IsAnswered (drive_failures now later) host kept text answer next
 
 -- the calls of a line by its text: none of one that isn't built, nor where memory was wanting to read it
-abbrev pub TextCalls : Made → Host → Kept → List ℕ → Answer → Kept → Type 0
-TextCalls made host kept text answer next = (IsNoCommand text × NoCalls made) ⊎ (((spelled : Line) × IsLine text spelled × LineCalls made host kept spelled answer next) ⊎ ((answer ≡ refusing OutOfMemory) × NoCalls made))
+abbrev pub TextCalls : Outcomes → Made → Host → Kept → List ℕ → Answer → Kept → Type 0
+TextCalls calls made host kept text answer next = (IsNoCommand text × NoCalls made) ⊎ (((spelled : Line) × IsLine text spelled × LineCalls calls made host kept spelled answer next) ⊎ ((answer ≡ refusing OutOfMemory) × NoCalls made))
 
 -- and of the next line of a script
-abbrev pub NextCalls : Made → Host → Kept → Script → Answer → Kept → Type 0
-NextCalls made host kept at_end answer next = ⊥
-NextCalls made host kept (spent lines bytes) answer next = ⊥
-NextCalls made host kept (too_long rest) answer next = NoCalls made
-NextCalls made host kept (line text rest) answer next = TextCalls made host kept text answer next
+abbrev pub NextCalls : Outcomes → Made → Host → Kept → Script → Answer → Kept → Type 0
+NextCalls calls made host kept at_end answer next = ⊥
+NextCalls calls made host kept (spent lines bytes) answer next = ⊥
+NextCalls calls made host kept (too_long rest) answer next = NoCalls made
+NextCalls calls made host kept (line text rest) answer next = TextCalls calls made host kept text answer next
 
 -- The blocks that a line may write, by its text, where this is in memory: all others are kept, and each where the line isn't built. A line may write none at all.
 abbrev pub TextWrites : Host → Memory → List ℕ → Tale → Tale → Type 0
@@ -162,7 +171,7 @@ status_at stop.Memory = NoMemory
 
 -- From one point of a story to another, by the counts at the first: no call that changed something was made behind one on the same part that failed.
 pub record AreInTime (now : Counts) (old new : Option Story) : Type 0 where
-  pub drive : InTime (OnDrive 0) now.drive old new
+  pub drives : (drive : ℕ) → InTime (OnDrive drive) (now.drives drive) old new
   pub replies : InTime OnReplies now.replies old new
 
 -- The point between two lines and the next one: the story goes on from the one to the other, in time; this was told in between; and at the second point the
@@ -172,18 +181,32 @@ pub record IsPassage (now : At) (piece : List ℕ) (later : At) : Type 0 where
   pub told : (s u : Story) → now.story ≡ Some s → later.story ≡ Some u → told (tale_of u) ≡ told (tale_of s) ++ piece
   pub reads : (u : Story) → later.story ≡ Some u → IsSame later.kept.content (contents (tale_of u))
 
--- a line that was answered, and whose reply was told whole: by as many calls as it takes, and one, by which no block was written but those that it may write
+-- a refusal for another cause than a failed call
+abbrev pub IsQuiet : Answer → Type 0
+IsQuiet (Said (outcome.Refused IoFault)) = ⊥
+IsQuiet (Said (outcome.Refused refusal)) = Unit {0}
+IsQuiet other = ⊥
+
+-- What the next line of a script leaves that was told `ok`, where this was in memory: a write its blocks on the disk, with all that the drive was given before.
+abbrev pub NextLeaves : Host → Memory → Script → Tale → Type 0
+NextLeaves host memory (line text rest) u = (command : Command) → IsLine text (Exec command) → LeavesDone host memory command u
+NextLeaves host memory other u = Unit {0}
+
+-- A line that was answered, and whose reply was told whole: by as many calls as it takes, and one, by which no block was written but those that it may write, none where it was
+-- refused for another cause than a failed call; and a write that was told `ok` is on the disk.
 pub record LineTold (host : Host) (now : At) (piece : List ℕ) (later : At) : Type 0 where
   pub answer : Answer
   pub comes : NextLine host now.counts now.kept now.script answer later.counts later.kept later.script
-  pub calls : NextCalls (replied_to answer (made_between now.effort later.effort)) host now.kept now.script answer later.kept
+  pub calls : NextCalls (drive_failures now.counts later.counts) (replied_to answer (made_between now.effort later.effort)) host now.kept now.script answer later.kept
   pub writes : FromTo (NextWrites host now.kept.memory now.script) now.story later.story
+  pub unwritten : IsQuiet answer → FromTo (KeptOutside nowhere) now.story later.story
+  pub leaves : answer ≡ accepted → FromTo (λ t u. NextLeaves host now.kept.memory now.script u) now.story later.story
   pub said : IsSaid answer
   pub as_text : piece ≡ text_of answer
   pub as_refused : later.refused ≡ refused_by answer now.refused
   pub passage : IsPassage now piece later
 
--- Where the run was behind a reply of so many bytes, with so many told before it. At no moment before the reply's last byte was told was the drive's
+-- Where the run was behind a reply of so many bytes, with so many told before it. At no moment before the reply's last byte was told was a drive's
 -- or the replies' count greater, and at none from its first byte on is it less: the counts are those with which it was told. At each moment by which some of it was told,
 -- and not all, the drive's blocks read as they are kept, and all calls were made but one, which tells it: so the calls of a line are those between two replies, and those of
 -- the first line, with the boot's, those until its reply.
@@ -193,11 +216,11 @@ pub record AreShown (bytes piece : ℕ) (now : At) (t m : Moment) : Type 0 where
   pub reads : length (told t.tale) + bytes < length (told m.tale) → length (told m.tale) < length (told t.tale) + (bytes + piece) → IsSame now.kept.content (contents m.tale)
   pub calls : length (told t.tale) + bytes < length (told m.tale) → length (told m.tale) < length (told t.tale) + (bytes + piece) → (made_between m.effort now.effort).exactly 1 0
 
--- The line with which a run is over, with so many bytes told before its reply, by which the drive had failed so often and was left so. At no moment before the first
--- byte of its reply was told had the drive failed more often; at none from there on less, and from there on its blocks read so.
-pub record AreLast (bytes drive : ℕ) (content : Image) (t m : Moment) : Type 0 where
-  pub before : length (told m.tale) ≤ length (told t.tale) + bytes → m.faults (OnDrive 0) ≤ drive
-  pub behind : length (told t.tale) + bytes < length (told m.tale) → drive ≤ m.faults (OnDrive 0)
+-- The line with which a run is over, with so many bytes told before its reply, by which each drive had failed so often and was left so. At no moment before the first
+-- byte of its reply was told had one failed more often; at none from there on less, and from there on their blocks read so.
+pub record AreLast (bytes : ℕ) (drives : ℕ → ℕ) (content : Image) (t m : Moment) : Type 0 where
+  pub before : length (told m.tale) ≤ length (told t.tale) + bytes → (drive : ℕ) → m.faults (OnDrive drive) ≤ drives drive
+  pub behind : length (told t.tale) + bytes < length (told m.tale) → (drive : ℕ) → drives drive ≤ m.faults (OnDrive drive)
   pub reads : length (told t.tale) + bytes < length (told m.tale) → IsSame content (contents m.tale)
 
 -- how far a bench is: its story, and how many calls were made so far
@@ -219,9 +242,9 @@ pub record EndsAt (stretch : Stretch) (story : Option Story) (effort : Effort) :
 
 -- It ends behind a line with which a run is over: no call that changed something was made behind one on the same part that failed, and the line took as many calls
 -- as it takes, its reply's among them, and wrote no block but those that it may write.
-pub record EndsBehind (stretch : Stretch) (host : Host) (now : At) (answer : Answer) (next : Kept) : Type 0 where
+pub record EndsBehind (stretch : Stretch) (host : Host) (now : At) (later : Counts) (answer : Answer) (next : Kept) : Type 0 where
   pub in_time : AreInTime now.counts now.story stretch.new
-  pub calls : NextCalls (replied_to answer (made_between now.effort stretch.after.effort)) host now.kept now.script answer next
+  pub calls : NextCalls (drive_failures now.counts later) (replied_to answer (made_between now.effort stretch.after.effort)) host now.kept now.script answer next
   pub writes : FromTo (NextWrites host now.kept.memory now.script) now.story stretch.new
 
 -- A point of what the bench told, by which the parts had failed so often, nothing was told, and the drive's blocks read so; no call until then that changed something was made
@@ -239,8 +262,8 @@ pub record IsPoint (stretch : Stretch) (source : ℕ) (now : Counts) (by : Progr
 abbrev pub IsShown : Stretch → ℕ → ℕ → At → Type 0
 IsShown stretch bytes piece now = AtEach (AreShown bytes piece now) stretch.old stretch.before stretch.new stretch.after
 
-abbrev pub IsLastShown : Stretch → ℕ → ℕ → Image → Type 0
-IsLastShown stretch bytes drive content = AtEach (AreLast bytes drive content) stretch.old stretch.before stretch.new stretch.after
+abbrev pub IsLastShown : Stretch → ℕ → (ℕ → ℕ) → Image → Type 0
+IsLastShown stretch bytes drives content = AtEach (AreLast bytes drives content) stretch.old stretch.before stretch.new stretch.after
 
 -- Such lines, one behind the other, and what was told of them behind so many bytes, of each at least one. The counts and the calls between two lines, and what the drive's blocks read
 -- as there, are those that the moments show.
@@ -280,8 +303,8 @@ OnlyReplying (Ends over) later end = end ≡ later
 pub data Over (host : Host) (stretch : Stretch) (bytes : ℕ) (end : Counts) (now : At) (told : List ℕ) (status : RunStatus) (last : Kept) : Type 0 where
   unread : OnlyUnread now.counts end → EndsAt stretch now.story now.effort → Stops now.kept ReadFault told status last → Over host stretch bytes end now told status last
   ended : EndsAs now.refused now.script status → end ≡ now.counts → EndsAt stretch now.story now.effort → Stops now.kept status told status last → Over host stretch bytes end now told status last
-  broken : (answer : Answer) (later : Counts) (next : Kept) (more : Script) → NextLine host now.counts now.kept now.script answer later next more → IsLastShown stretch bytes later.drive next.content → OnlyReplying answer later end
-      → EndsBehind stretch host now answer next → EndsWith (giving_failed later end) answer next told status last → Over host stretch bytes end now told status last
+  broken : (answer : Answer) (later : Counts) (next : Kept) (more : Script) → NextLine host now.counts now.kept now.script answer later next more → IsLastShown stretch bytes later.drives next.content → OnlyReplying answer later end
+      → EndsBehind stretch host now later answer next → EndsWith (giving_failed later end) answer next told status last → Over host stretch bytes end now told status last
 
 -- The run of a script, from there on: line after line, until it is over. A line is excused by the calls alone that failed until the first byte of its reply
 -- was told, and behind the last of the reply before; one of whose reply nothing was told, by those until the run's end.
@@ -317,12 +340,12 @@ pub record IsRun (host : Host) (stretch : Stretch) (start end : Counts) (content
   pub kept : Kept
   pub boots : IsRebooted (drive_failures start booted) host (started content) answer kept
   pub by : Progress
-  pub calls : BootCalls (made_between stretch.before.effort by.effort) host answer kept.memory content
+  pub calls : BootCalls (drive_failures start booted) (made_between stretch.before.effort by.effort) host answer kept.memory content
   pub writes : FromTo (KeptOutside (area_of (site_of host))) stretch.old by.story
   pub point : IsPoint stretch start.source booted by kept.content
   pub runs : RunsFrom host stretch end answer booted by kept script told status last
 
--- Of the next line's reply nothing was told by that moment, or a front: of the reply to what it came to, where the drive had failed so often, and its blocks read as
+-- Of the next line's reply nothing was told by that moment, or a front: of the reply to what it came to, where each drive had failed so often, and its blocks read as
 -- the line left them.
 pub record NextFront (host : Host) (now : At) (told : List ℕ) (m : Moment) : Type 0 where
   pub answer : Answer
@@ -330,7 +353,7 @@ pub record NextFront (host : Host) (now : At) (told : List ℕ) (m : Moment) : T
   pub next : Kept
   pub more : Script
   pub comes : NextLine host now.counts now.kept now.script answer later next more
-  pub by_then : later.drive ≡ m.faults (OnDrive 0)
+  pub by_then : (drive : ℕ) → later.drives drive ≡ m.faults (OnDrive drive)
   pub shows : IsSame next.content (contents m.tale)
   pub count : ℕ
   pub front : told ≡ take count (text_of answer)
@@ -341,35 +364,6 @@ IsNextFront host now told m = (told ≡ []) ⊎ NextFront host now told m
 -- the story goes on from one point to another
 abbrev pub StoryGoesOn : Option Story → Option Story → Type 0
 StoryGoesOn old new = (s : Story) → old ≡ Some s → (marks : List Mark) × (new ≡ Some (marked s marks))
-
--- what was told of lines by a moment of a run: whole replies, and a front of the next one; the point behind these is one of the run's story
-pub record LinesToldBy (host : Host) (stretch : Stretch) (first : At) (told : List ℕ) (m : Moment) : Type 0 where
-  pub so_far : List ℕ
-  pub rest : List ℕ
-  pub parts : told ≡ so_far ++ rest
-  pub at : At
-  pub lines : LinesTold host stretch 0 first so_far at
-  pub behind : StoryGoesOn at.story stretch.new
-  pub front : IsNextFront host at rest m
-
--- and of a run whose boot was answered
-pub record RunToldBy (host : Host) (stretch : Stretch) (start : Counts) (content : Image) (script : Script) (told : List ℕ) (m : Moment) : Type 0 where
-  pub booted : Counts
-  pub rose : RoseCalmly start booted
-  pub kept : Kept
-  pub boots : IsRebooted (drive_failures start booted) host (started content) accepted kept
-  pub by : Progress
-  pub calls : BootCalls (made_between stretch.before.effort by.effort) host accepted kept.memory content
-  pub writes : FromTo (KeptOutside (area_of (site_of host))) stretch.old by.story
-  pub point : IsPoint stretch start.source booted by kept.content
-  pub lines : LinesToldBy host stretch (behind_boot booted by kept script) told m
-
--- By a moment of a run that began at t nothing was told, or what the script asks for, as far as it had come: values that were told are those of
--- blocks as the lines before left them, by the relation of lines alone. It says so too of a run that was stopped there.
-pub record IsToldBy (host : Host) (stretch : Stretch) (start : Counts) (script : Script) (t m : Moment) : Type 0 where
-  pub bytes : List ℕ
-  pub is_told : told m.tale ≡ told t.tale ++ bytes
-  pub tells : (bytes ≡ []) ⊎ RunToldBy host stretch start (contents t.tale) script bytes m
 
 -- Each block reads as it was kept. Where a database is open, and the run isn't over for want of places, numbers or memory, whatever a
 -- crash leaves has one replica of it, with the newest table that is in memory.
@@ -413,14 +407,25 @@ pub record IsSated (told : List ℕ) (status : RunStatus) : Type 0 where
   pub replies : Contains (replies_in told) (refusal_line OutOfMemory) → ⊥
   pub end : status ≢ NoMemory
 
+-- the same in memory: of the drives that the last boot brought up, which they are
+pub record IsSameMemory (a b : Memory) : Type 0 where
+  pub opened : a.opened ≡ b.opened
+  pub up : (drive : DriveNo) → has_drive a.up drive ≡ has_drive b.up drive
+  pub clean : a.clean ≡ b.clean
+  pub begun : a.begun ≡ b.begun
+  pub entries : a.entries ≡ b.entries
+
 -- two ends with the same in memory and in each block that no replica may have
 abbrev pub IsSameEnd : Host → Kept → Kept → Type 0
-IsSameEnd host a b = (a.memory ≡ b.memory) × IsSameBeside (site_of host) b.content a.content
+IsSameEnd host a b = IsSameMemory a.memory b.memory × IsSameBeside (site_of host) b.content a.content
 
--- the table of drives is sound, and the home is its; and a database is found there only where the home has room for one
+-- the host has its home in a table of drives, and sees of it what is its own, which is sound; and a database is found there only where the home has room for one
 pub record HasHome (host : Host) (content : Image) : Type 0 where
+  pub table : Geometry
+  pub home : IsHome table host.home
+  pub view : host.drives ≡ own_view table host.home.host
+  pub own : host.own ≡ own_drives table host.home.host
   pub sound : IsSound host.drives
-  pub home : IsHome host.drives host.home
   pub room : (head : Head) → IsFound (site_of host) (on_site (site_of host) content) (Some head) → 8208 ≤ host.home.blocks
 
 -- where nothing failed and memory was never wanting, the drive's blocks and the script settle what is told, the status, and, where the run isn't

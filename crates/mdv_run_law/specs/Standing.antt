@@ -1,6 +1,7 @@
 -- How the drive stands with its history at each moment of a run.
 use Rattle.std.specs.Prelude.{◌≡◌, ◌≢◌, ◌⊎◌, ℕ, true, List, [], ◌∷◌, ◌++◌, length, Option, Some, Contains}
-use Rattle.mdv_run_law.specs.Below.{OutOfMemory, Entry, IsTab, Tab, IsRefusal, is_front_of, refusal_line, ok_line, entries_reply, Script, at_end, spent, too_long, line, Head, shows, Tale, told, Everywhere, left_in, replies_in, Line, Boot, IsLine, is_firm, IsReplica, History, Deed, Created, Event, HasBooted, Happening, history_after, log_of, Host, key_of, site_of, identity_of, Ask, Nothing, Memory, asked_by_line, AcksBy, AcksFront, issuable, issuable_front, StandsAt, Does, Reached, Knows, IsKnown}
+use Rattle.mdv_run_law.specs.Below.{Drives, OutOfMemory, Entry, on_site, IsTab, Tab, IsRefusal, is_front_of, refusal_line, ok_line, entries_reply, Script, at_end, spent, too_long, line, Head, shows, Tale, told, Everywhere, left_in, replies_in, Line, Boot, IsLine, is_firm, IsReplica, History, Deed, Created, Event, HasBooted, Happening, history_after, log_of, Host, key_of, site_of, identity_of, Ask, Nothing, Memory, asked_by_line, AcksBy, AcksFront, issuable, issuable_front, StandsAt, Does, Reached, Knows, IsKnown}
+use Rattle.mdv_engine_law.specs.Home.{StaysHome}
 use Rattle.mdv_store_law.specs.Machine as machine
 use Rattle.mdv_run_law.specs.Run.{IsNoCommand}
 
@@ -48,7 +49,7 @@ pub record AreOfLine (host : Host) (text : List ℕ) (now : Context) (reply : Li
   pub done : List Deed
   pub acks : AcksBy ask reply done
   pub does : Does host (issuable ask reply) done es
-  pub boots : IsLine text Boot → reply ≡ ok_line → HasBooted (key_of host) es
+  pub boots : IsLine text Boot → reply ≡ ok_line → (up : Drives) × HasBooted (key_of host) up es
   pub kept : (entries : List Entry) → then ≡ Some entries → HasEntries text reply now entries
 
 -- Events of the line in work, by the front of its reply that was told: they begin what it asks only where that is a front of `ok`, or of the reply
@@ -119,7 +120,7 @@ pub record AreOfRun (host : Host) (script : Script) (bytes : List ℕ) (es : Lis
   pub lines : List Event
   pub both : es ≡ boot ++ lines
   pub idle : AreIdle host boot
-  pub booted : HasBooted (key_of host) boot
+  pub booted : (up : Drives) × HasBooted (key_of host) up boot
   pub come : ComeOf host (InWork host (left_in bytes)) (Some []) script (replies_in bytes) lines
 
 -- from a history by some events of such a kind to one that the drive stands with, of which more is known
@@ -129,17 +130,18 @@ Goes host Come After m h = machine.Goes history_after (Happening host) Come (λ 
 -- whatever a crash leaves is a replica, with a table, of the database that a creation of this run made
 pub record ShowsMade (host : Host) (t : Tale) : Type 0 where
   pub number : ℕ
-  pub each : Everywhere (λ image. (head : Head) × IsReplica (site_of host) (image 0) head × (shows head ≡ true) × (head.master.identity ≡ identity_of host number)) t
+  pub each : Everywhere (λ image. (head : Head) × IsReplica (site_of host) (on_site (site_of host) image) head × (shows head ≡ true) × (head.master.identity ≡ identity_of host number)) t
 
--- A moment of a run of that script that began at t: the drive stands with each history that it stood with at the start, gone on
+-- A moment of a run of that script that began at t: nothing happened outside the host's blocks, and the drives stand with each history that it stood with at the start, gone on
 -- by the events of the boot and of the lines so far, in their order; each line's events begin what it asks only where it was answered
 -- `ok`, or that a call failed, or where no more of its reply was told than a front of one of these, and tell exactly what its reply
 -- acknowledges: a deed where it is `ok`, and of a read the values that it tells, each of which its block may have. Blocks of a volume are read and written only
--- where the last boot has found one value of each, or the volume was made since. Where a creation was told, whatever a crash leaves is a replica of a
+-- where the last boot in the history, if it brought up the volume's drives, has found one value of each, or the volume was made since. Where a creation was told, whatever a crash leaves is a replica of a
 -- database that this run made.
 pub record RunMoment (host : Host) (script : Script) (t m : Tale) : Type 0 where
   pub bytes : List ℕ
   pub is_told : told m ≡ told t ++ bytes
+  pub home : StaysHome host t m
   pub made : IsTold host script (replies_in bytes) (Created (key_of host)) → ShowsMade host m
   pub stands : (h : History) → StandsAt host h t → Goes host (AreOfRun host script bytes) Reached m h
 
@@ -161,6 +163,7 @@ pub record AreReplies (bytes : List ℕ) : Type 0 where
 pub record LinesMoment (host : Host) (script : Script) (first : Memory) (t m : Tale) : Type 0 where
   pub bytes : List ℕ
   pub is_told : told m ≡ told t ++ bytes
+  pub home : StaysHome host t m
   pub made : Knows host first t → IsTold host script (replies_in bytes) (Created (key_of host)) → ShowsMade host m
   pub goes : (h : History) → IsKnown host first h t → Goes host (ComeOf host (InWork host (left_in bytes)) (context_of first) script (replies_in bytes)) Reached m h
 
@@ -178,6 +181,7 @@ pub record RanTo (host : Host) (script : Script) (first now : Memory) (left : Sc
   pub is_told : told u ≡ told t ++ bytes
   pub replies : AreReplies bytes
   pub left_is : behind script (replies_in bytes) ≡ left
+  pub home : StaysHome host t u
   pub knows : Knows host first t → Knows host now u
   pub made : Knows host first t → IsTold host script (replies_in bytes) (Created (key_of host)) → HasMade host now u
   pub goes : (h : History) → IsKnown host first h t → Goes host (ComeOf host (NothingLeft (context_of now)) (context_of first) script (replies_in bytes)) (λ es after. IsKnown host now after u) u h

@@ -8,10 +8,10 @@ pub fn one_course()
     ensures { OneCourse }
 {}
 
-/// Over every life, any number of runs with any scripts and failures, each up to any of its moments, stopped there by a
-/// crash that may leave whatever a crash may leave, or not stopped, the drive stands with a history that acknowledges exactly what was told. So every
-/// boot that can read the drive finds the database whose creation was told, with every change that was told; and each
-/// block of a volume reads as its last acknowledged write, or one that was issued later.
+/// Over every life, any number of runs of any hosts of a table with any scripts and failures, each up to any of its moments, stopped there by a
+/// crash that may leave whatever a crash may leave, or not stopped, the drives stand with a history of each host, which acknowledges exactly what
+/// the host's own runs told, whatever the others did. So every boot of it that can read the drive finds the database whose creation was told, with
+/// every change that was told; and each block of a volume reads as its last acknowledged write, or one that was issued later.
 pub fn lives_stand()
     ensures stand { LivesStand }
     ensures home { RunsHaveHome }

@@ -1,9 +1,13 @@
-// How a run goes, by the numbers of its calls: a plain program to hold `run` against. A boot looks with
-// three calls and one for each open slot, and adopts with eight. A creation formats a place with six and
-// writes its first table with six, and so many has a change of the table. A block is written with two and read with
-// one, and each reply is told with one.
+// How a run goes, by the numbers of its calls: a plain program to hold `run` against. A boot brings each own drive up with
+// two calls, of which the second isn't made where the first fails; looks at the place with one call and one for each open
+// slot, where its drive is up; and adopts with eight. A creation formats a place with six and writes its first table with
+// six, and so many has a change of the table. A block is written with two and read with one, and each reply is told with
+// one.
 use crate::blocks::Block;
+use crate::ground::Ground;
+use crate::script::Line;
 use crate::spots::{Spots, Value};
+use crate::trouble::Trouble;
 use crate::writes::{Broken, adopted, changed, made, newest, volume_in};
 use crate::{Shown, ShownVolume};
 use mdv_base::Identity;
@@ -19,48 +23,16 @@ pub const PANIC: RunStatus = RunStatus::Panic {
     listed: 1,
 };
 
-/// A line of a script, by its kind, or a `tab` block.
-#[derive(Clone, Copy, Debug, PartialEq, Eq)]
-pub enum Line {
-    /// A creation with `-f`.
-    Forced,
-    Boot,
-    /// The volume of that number, 0 or 1, on the slice of that number.
-    Volume(u8),
-    /// A write of a block of the volume.
-    Write(u8, u64, Value),
-    /// A read of one.
-    Read(u8, u64),
-    /// The block of that number.
-    Tab(u64),
-}
-
-/// What goes wrong in a run. Calls are counted from 0 at the run's start.
-#[derive(Clone, Copy, Debug, PartialEq, Eq)]
-pub enum Trouble {
-    Nothing,
-    /// That call fails.
-    Fail(u64),
-    /// These two calls fail, of which the first comes before the second.
-    FailBoth(u64, u64),
-    /// The drive is lost from that call on.
-    Lose(u64),
-    /// So many calls pass, and no later one.
-    Stop(u64),
-}
-
 /// What was told ok: the creation of a database, and volumes.
 #[derive(Clone, Copy, Debug, PartialEq, Eq)]
 pub struct Promised {
     pub database: Option<Identity>,
-    pub volumes: [bool; 2],
+    pub volumes: [bool; 3],
 }
 
-/// What is known of the drive between two runs, and within one.
+/// What is known of the drives between two runs, and within one.
 #[derive(Clone, Copy)]
 pub struct Known {
-    /// How many blocks the volumes have.
-    pub sizes: [u64; 2],
     /// What the place shows by the writes that were answered.
     pub shown: Option<Shown>,
     pub spots: Spots,
@@ -71,10 +43,14 @@ pub struct Known {
 #[derive(Drop)]
 pub struct Course {
     alloc: Global,
+    ground: Ground,
+    away: &'static [u32],
     trouble: Trouble,
     fresh: u64,
     begun: u32,
     standing: Standing,
+    /// No call of the last boot failed.
+    clean: bool,
     pub known: Known,
     pub status: RunStatus,
     pub told: String,
@@ -101,69 +77,26 @@ fn open_slots(shown: Option<Shown>) -> u64 {
     }
 }
 
-impl Line {
-    /// Adds the line with its newline.
-    pub(crate) fn push_to(self, alloc: Global, script: &mut String) -> Result<(), AllocError> {
-        match self {
-            Line::Forced => script.push_str("metadb -a -f c0t0d0s7\n"),
-            Line::Boot => script.push_str("boot\n"),
-            Line::Volume(n) => {
-                script.push_str(format!(in alloc; "metainit d{n} 1 1 c0t0d0s{n}\n")?.as_str())
-            }
-            Line::Write(n, at, value) => {
-                let hex = value.written();
-                script.push_str(format!(in alloc; "write d{n} {at} {hex}\n")?.as_str())
-            }
-            Line::Read(n, at) => {
-                script.push_str(format!(in alloc; "read d{n} {at} 1\n")?.as_str())
-            }
-            Line::Tab(number) => Block(number).push_to(script),
-        }
-    }
-}
-
-impl Trouble {
-    // The first call on the drive that fails, of so many from that one on.
-    fn failing(self, from: u64, count: u64) -> Option<u64> {
-        let call = match self {
-            Trouble::Nothing => return None,
-            Trouble::Fail(call) => call,
-            Trouble::FailBoth(call, other) if call < from => other,
-            Trouble::FailBoth(call, _) => call,
-            Trouble::Lose(call) => call.max(from),
-            Trouble::Stop(call) => call.max(from),
-        };
-        if call >= from && call < from.saturating_add(count) {
-            Some(call)
-        } else {
-            None
-        }
-    }
-
-    // A lost drive lets replies be told.
-    fn fails_reply(self, call: u64) -> bool {
-        match self {
-            Trouble::Lose(_) => false,
-            _ => self.failing(call, 1).is_some(),
-        }
-    }
-}
-
 impl Course {
-    /// The course of a run of these lines. `fresh` is the word of the run that no other run has.
+    /// The course of a run of these lines, with these drives away. `fresh` is the word of the run that no other run has.
     pub(crate) fn of(
         alloc: Global,
         fresh: u64,
+        ground: Ground,
         known: Known,
         lines: &[Line],
+        away: &'static [u32],
         trouble: Trouble,
     ) -> Result<Course, AllocError> {
         let mut course = Course {
             alloc,
+            ground,
+            away,
             trouble,
             fresh,
             begun: 0,
             standing: Standing::Down,
+            clean: false,
             known,
             status: RunStatus::Done,
             told: String::new(alloc),
@@ -178,8 +111,13 @@ impl Course {
     }
 
     // Whether so many calls on the drive pass; none is made behind the first that fails.
-    fn passes(&mut self, count: u64) -> bool {
-        match self.trouble.failing(self.calls, count) {
+    fn passes(&mut self, drive: u32, count: u64) -> bool {
+        let failing = if self.away.contains(&drive) {
+            Some(self.calls)
+        } else {
+            self.trouble.failing(drive, self.calls, count)
+        };
+        match failing {
             Some(call) => {
                 self.calls = call.saturating_add(1);
                 false
@@ -191,12 +129,39 @@ impl Course {
         }
     }
 
+    // Whatever comes of a drive, the next one is brought up too.
     fn boot(&mut self) {
-        if !self.passes(open_slots(self.known.shown).saturating_add(3)) {
-            self.standing = Standing::Down;
-            return;
+        let home = self.ground.home.drive;
+        let mut is_home_up = false;
+        self.clean = true;
+        for drive in self.ground.own {
+            if !self.brings_up(*drive) {
+                self.clean = false;
+            } else if *drive == home {
+                is_home_up = true;
+            }
         }
-        self.known.spots.settle();
+        let slots = open_slots(self.known.shown);
+        if is_home_up && self.passes(home, slots.saturating_add(1)) {
+            self.adopt();
+        } else {
+            self.clean = false;
+            self.standing = Standing::Down;
+        }
+    }
+
+    // Whether the drive is read and synced, so that no crash takes back what its volumes hold.
+    fn brings_up(&mut self, drive: u32) -> bool {
+        let is_up = self.passes(drive, 2);
+        for volume in 0..3 {
+            if is_up && self.ground.volume(volume).drive == drive {
+                self.known.spots.settle(volume);
+            }
+        }
+        is_up
+    }
+
+    fn adopt(&mut self) {
         match self.known.shown {
             None => self.standing = Standing::Empty,
             Some(shown) => {
@@ -209,7 +174,8 @@ impl Course {
 
     // Whether so many calls passed that write what the place shows then; else the run is over.
     fn write_table(&mut self, calls: u64, new: Shown) -> bool {
-        if self.passes(calls) {
+        let home = self.ground.home.drive;
+        if self.passes(home, calls) {
             self.known.shown = Some(new);
             true
         } else {
@@ -224,6 +190,8 @@ impl Course {
         }
         match line {
             Line::Tab(number) => self.tab(number),
+            Line::Forced if !self.clean => self.refuse("refused E13 WrongState Down\n"),
+            Line::Elsewhere => self.refuse("refused E6 NoSuchSlice\n"),
             _ => self.command(line),
         }
     }
@@ -233,7 +201,6 @@ impl Course {
             (_, Line::Boot) => self.boot_line(),
             (Standing::Empty, Line::Forced) => self.creation(),
             (Standing::InUse, Line::Forced) => self.refuse("refused E7 SliceInUse\n"),
-            (Standing::Down, Line::Forced) => self.refuse("refused E13 WrongState Down\n"),
             (Standing::InUse, Line::Volume(number)) => self.change(number),
             (Standing::InUse, Line::Write(number, at, value)) => self.write(number, at, value),
             (Standing::InUse, Line::Read(number, at)) => self.read(number, at),
@@ -266,10 +233,11 @@ impl Course {
             number: self.begun,
         };
         self.begun = self.begun.saturating_add(1);
-        if !self.passes(6) {
+        let home = self.ground.home.drive;
+        if !self.passes(home, 6) {
             return self.refuse(FAULT);
         }
-        if !self.passes(6) {
+        if !self.passes(home, 6) {
             self.panic(Broken::Creation(identity));
             return Ok(());
         }
@@ -300,15 +268,12 @@ impl Course {
         if self.volume(number).is_some() {
             return self.refuse("refused E5 NameTaken\n");
         }
+        let area = self.ground.volume(number);
         let volume = ShownVolume {
             number: u16::from(number),
+            target: area.target,
             slice: number,
-            blocks: self
-                .known
-                .sizes
-                .get(usize::from(number))
-                .copied()
-                .unwrap_or(0),
+            blocks: area.blocks,
         };
         if self.write_table(6, changed(&shown, volume)) && self.tell(OK)? {
             if let Some(promised) = self.known.promised.volumes.get_mut(usize::from(number)) {
@@ -323,12 +288,13 @@ impl Course {
         if let Some(refusal) = self.block_refusal(number, at) {
             return self.refuse(refusal);
         }
+        let drive = self.ground.volume(number).drive;
         self.known.spots.spot(number, at).allow(value);
-        if !self.passes(1) {
+        if !self.passes(drive, 1) {
             return self.refuse(FAULT);
         }
         self.known.spots.spot(number, at).newest = value;
-        if !self.passes(1) {
+        if !self.passes(drive, 1) {
             return self.refuse(FAULT);
         }
         if self.tell(OK)? {
@@ -341,7 +307,8 @@ impl Course {
         if let Some(refusal) = self.block_refusal(number, at) {
             return self.refuse(refusal);
         }
-        if !self.passes(1) {
+        let drive = self.ground.volume(number).drive;
+        if !self.passes(drive, 1) {
             return self.refuse(FAULT);
         }
         let value = self.known.spots.spot(number, at).newest.read();

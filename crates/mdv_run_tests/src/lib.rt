@@ -7,17 +7,31 @@ mod blocks;
 #[cfg(test)]
 mod course;
 #[cfg(test)]
+mod drives_tests;
+#[cfg(test)]
+mod ground;
+#[cfg(test)]
+mod hosts_tests;
+#[cfg(test)]
 mod life;
 #[cfg(test)]
 mod life_tests;
 mod reading;
 #[cfg(test)]
 mod reading_tests;
+#[cfg(test)]
+mod script;
 mod shown;
 #[cfg(test)]
 mod spots;
 #[cfg(test)]
+mod story;
+#[cfg(test)]
 mod tab_tests;
+#[cfg(test)]
+mod torn_tests;
+#[cfg(test)]
+mod trouble;
 #[cfg(test)]
 mod trouble_tests;
 #[cfg(test)]

@@ -1,7 +1,10 @@
-// A life: runs over one drive, each with its script, its trouble and its end, held against the plain course
-// of a run, the plain reading of the place and what the blocks of the volumes may hold.
-use crate::course::{Course, Known, Line, Promised, Trouble};
+// A life: runs over the drives of a table, each with its script, its trouble, the drives that are away and its end, held
+// against the plain course of a run, the plain reading of the place and what the blocks of the volumes may hold.
+use crate::course::{Course, Known, Promised};
+use crate::ground::{Area, Ground, SMALL};
+use crate::script::{Line, script_of};
 use crate::spots::{FOLLOWED, Spots, Value};
+use crate::trouble::Trouble;
 use crate::writes::{may_show, newest, volume_in};
 use crate::{PlaceBlocks, Shown, read_place};
 use mdv_base::{Block, DriveNo, ZERO_BLOCK};
@@ -13,46 +16,6 @@ use std::alloc::{AllocError, Global};
 use std::process::Abort;
 use std::test::Fail;
 
-/// A drive and its table: how many blocks it has, where the place begins, and where the slices 0 and 1 begin and how
-/// many blocks they have.
-#[derive(Clone, Copy)]
-pub struct Ground {
-    pub table: &'static str,
-    pub blocks: u64,
-    head: u64,
-    starts: [u64; 2],
-    sizes: [u64; 2],
-}
-
-/// As small a drive as a place and two volumes take.
-pub const SMALL: Ground = Ground {
-    table: "host alpha
-drive c0t0d0 8224 alpha disk.img
-slice c0t0d0s0 0 8
-slice c0t0d0s1 8 8
-slice c0t0d0s7 16 8208 db
-",
-    blocks: 8224,
-    head: 32,
-    starts: [0, 8],
-    sizes: [8, 8],
-};
-
-/// A drive with more slices, and blocks behind the place.
-pub const WIDE: Ground = Ground {
-    table: "host alpha
-drive c0t0d0 40000 alpha d0.img
-slice c0t0d0s0 0 1000
-slice c0t0d0s1 1000 990
-slice c0t0d0s3 2000 4000
-slice c0t0d0s7 12000 28000 db
-",
-    blocks: 40000,
-    head: 12016,
-    starts: [0, 1000],
-    sizes: [1000, 990],
-};
-
 // The blocks of the two bodies, counted from the place's first.
 const FIRST_BODY: u64 = 4;
 
@@ -61,8 +24,8 @@ const SECOND_BODY: u64 = 4098;
 // One less than a number that 1 to 12 divide, so it picks the last of up to 12 values.
 const LAST: u32 = 27719;
 
-/// How a run's time ends: the drive goes on as it is, or a crash leaves of each block the value that is
-/// on the disk, the newest one, or a drawn one. A drive that was lost is then brought back.
+/// How a run's time ends: the drives go on as they are, or a crash leaves of each block the value that is
+/// on the disk, the newest one, or a drawn one. A drive that was lost meanwhile is then brought back.
 #[derive(Clone, Copy, Debug, PartialEq, Eq)]
 pub enum End {
     Quiet,
@@ -71,20 +34,22 @@ pub enum End {
     Drawn(u64),
 }
 
-/// One run.
+/// One run. The drives that are away are lost from its start until the next run begins that has them.
 #[derive(Clone, Copy, Debug)]
 pub struct Step<'a> {
     pub lines: &'a [Line],
+    pub away: &'static [u32],
     pub trouble: Trouble,
     pub end: End,
 }
 
-/// The drive, and what is known of it. After a quiet end of a run in which the write of a table failed the next run
-/// has no trouble: till then a crash may leave what isn't shown.
+/// The drives, and what is known of them. Those that aren't alpha's are lost all the time. After a quiet end of a run in
+/// which the write of a table failed the next run has no trouble: till then a crash may leave what isn't shown.
 #[derive(Drop)]
 pub struct Life {
     ground: Ground,
     shelf: MemShelf,
+    away: &'static [u32],
     calls: u64,
     runs: u64,
     told: String,
@@ -92,30 +57,65 @@ pub struct Life {
 }
 
 impl Life {
-    /// A life over a blank drive.
-    pub(crate) fn new(alloc: Global, ground: Ground) -> Result<Life, AllocError> {
-        Ok(Life {
+    /// A life over blank drives.
+    pub(crate) fn new(alloc: Global, ground: Ground) -> Result<Life, Fail> {
+        let mut life = Life {
             ground,
-            shelf: MemShelf::new(alloc, &[ground.blocks])?,
+            shelf: MemShelf::new(alloc, ground.sizes)?,
+            away: &[],
             calls: 0,
             runs: 0,
             told: String::new(alloc),
             known: Known {
-                sizes: ground.sizes,
                 shown: None,
                 spots: Spots::new(),
                 promised: Promised {
                     database: None,
-                    volumes: [false; 2],
+                    volumes: [false; 3],
                 },
             },
-        })
+        };
+        for drive in 0..life.shelf.drives() {
+            if !ground.own.contains(&drive) {
+                life.lose(drive)?;
+            }
+        }
+        Ok(life)
+    }
+
+    fn lose(&mut self, drive: u32) -> Result<(), Fail> {
+        if drive >= self.shelf.drives() {
+            return Err(Fail::from("no such drive"));
+        }
+        self.shelf.lose(DriveNo(drive));
+        Ok(())
+    }
+
+    fn bring_back(&mut self, drive: u32) -> Result<(), Fail> {
+        if drive >= self.shelf.drives() {
+            return Err(Fail::from("no such drive"));
+        }
+        self.shelf.bring_back(DriveNo(drive));
+        Ok(())
+    }
+
+    // Takes these drives away and brings all others back. What isn't as it was on the drives that aren't away.
+    fn take_away(&mut self, away: &'static [u32]) -> Result<Option<&'static str>, Fail> {
+        for drive in self.ground.own {
+            match (self.away.contains(drive), away.contains(drive)) {
+                (false, true) => self.lose(*drive)?,
+                (true, false) => self.bring_back(*drive)?,
+                _ => {}
+            }
+        }
+        self.away = away;
+        if self.look()? != self.known.shown {
+            return Ok(Some("the place isn't as it was"));
+        }
+        self.look_at_all()
     }
 
     fn ask(&mut self, trouble: Trouble) -> Result<(), Fail> {
-        if self.shelf.drives() == 0 {
-            return Err(Fail::from("no drive"));
-        }
         match trouble {
             Trouble::Nothing => {}
             Trouble::Fail(call) => self.shelf.fail_call(self.calls.saturating_add(call))?,
@@ -123,9 +123,13 @@ impl Life {
                 self.shelf.fail_call(self.calls.saturating_add(call))?;
                 self.shelf.fail_call(self.calls.saturating_add(other))?;
             }
-            Trouble::Lose(call) => self
-                .shelf
-                .lose_at(DriveNo(0), self.calls.saturating_add(call))?,
+            Trouble::Lose(drive, call) => {
+                if drive >= self.shelf.drives() {
+                    return Err(Fail::from("no such drive"));
+                }
+                self.shelf
+                    .lose_at(DriveNo(drive), self.calls.saturating_add(call))?;
+            }
             Trouble::Stop(calls) => self.shelf.stop_after(calls),
         }
         Ok(())
@@ -136,62 +140,78 @@ impl Life {
             End::Quiet => {}
             End::Stable => self.shelf.crash(&[]),
             End::Newest => {
-                let all = self.ground.blocks as usize;
+                let all = self.ground.written as usize;
                 self.shelf.crash(&vec![in alloc; LAST; all]?);
             }
             End::Drawn(seed) => {
-                let last = self.ground.head.saturating_add(SECOND_BODY);
-                self.shelf.crash(&drawn(alloc, seed, last)?);
+                self.shelf.crash(&drawn(alloc, seed, self.ground.written)?);
             }
         }
-        if self.shelf.drives() == 0 {
-            return Err(Fail::from("no drive"));
+        match step.trouble {
+            Trouble::Lose(drive, _) if !self.away.contains(&drive) => self.bring_back(drive),
+            _ => Ok(()),
         }
-        if let Trouble::Lose(_) = step.trouble {
-            self.shelf.bring_back(DriveNo(0));
-        }
-        Ok(())
     }
 
-    fn read(&mut self, at: u64, out: &mut [Block]) -> Result<(), Fail> {
-        if out.is_empty() || self.shelf.drives() == 0 {
+    fn read(&mut self, drive: u32, at: u64, out: &mut [Block]) -> Result<(), Fail> {
+        if out.is_empty() || drive >= self.shelf.drives() {
             return Err(Fail::from("nothing to read"));
         }
-        let blocks = self.shelf.blocks(DriveNo(0));
+        let blocks = self.shelf.blocks(DriveNo(drive));
         if at > blocks || out.len() as u64 > blocks - at {
             return Err(Fail::from("no such blocks"));
         }
-        if self.shelf.read(DriveNo(0), at, out).is_err() {
+        if self.shelf.read(DriveNo(drive), at, out).is_err() {
             return Err(Fail::from("a failed read"));
         }
         self.calls = self.calls.saturating_add(1);
         Ok(())
     }
 
+    // What the place shows; what it did where its drive is away.
     fn look(&mut self) -> Result<Option<Shown>, Fail> {
-        let at = self.ground.head;
+        let Area {
+            drive,
+            target,
+            start,
+            ..
+        } = self.ground.home;
+        if self.away.contains(&drive) {
+            return Ok(self.known.shown);
+        }
         let mut head = [ZERO_BLOCK; 4];
         let mut first = [ZERO_BLOCK];
         let mut second = [ZERO_BLOCK];
-        self.read(at, &mut head)?;
-        self.read(at.saturating_add(FIRST_BODY), &mut first)?;
-        self.read(at.saturating_add(SECOND_BODY), &mut second)?;
+        self.read(drive, start, &mut head)?;
+        self.read(drive, start.saturating_add(FIRST_BODY), &mut first)?;
+        self.read(drive, start.saturating_add(SECOND_BODY), &mut second)?;
         Ok(read_place(&PlaceBlocks {
+            target,
             head,
             first_body: first[0],
             second_body: second[0],
         }))
     }
 
-    // Whether what the blocks of the volume hold now is allowed.
+    fn look_at_all(&mut self) -> Result<Option<&'static str>, Fail> {
+        for volume in 0..3 {
+            if !self.look_at(volume)? {
+                return Ok(Some("a block of a volume isn't allowed"));
+            }
+        }
+        Ok(None)
+    }
+
+    // Whether what the blocks of the volume hold now is allowed, where its drive isn't away.
     fn look_at(&mut self, volume: u8) -> Result<bool, Fail> {
-        let number = usize::from(volume);
-        let start = self.ground.starts.get(number).copied();
-        let size = self.ground.sizes.get(number).copied();
+        let area = self.ground.volume(volume);
+        if self.away.contains(&area.drive) {
+            return Ok(true);
+        }
         let mut blocks = [ZERO_BLOCK; FOLLOWED as usize];
-        let followed = FOLLOWED.min(size.ok_or("a volume")?) as usize;
+        let followed = FOLLOWED.min(area.blocks) as usize;
         let blocks = blocks.get_mut(..followed).ok_or("its blocks")?;
-        self.read(start.ok_or("a volume")?, blocks)?;
+        self.read(area.drive, area.start, blocks)?;
         for (at, block) in blocks.iter().enumerate() {
             let value = Value::of(block).ok_or("no value")?;
             let spot = self.known.spots.spot(volume, at as u64);
@@ -205,7 +225,8 @@ impl Life {
 
     // The status of a run of these lines.
     fn run(&mut self, alloc: Global, lines: &[Line], fresh: u64) -> Result<RunStatus, AllocError> {
-        let mut source = MemSource::new(script_of(alloc, lines)?.into_bytes());
+        let script = script_of(alloc, &self.ground, lines)?;
+        let mut source = MemSource::new(script.into_bytes());
         let words = [format!(in alloc; "alpha")?];
         let table = self.ground.table.as_bytes();
         Ok(run(&words, table, &mut self.shelf, &mut source, fresh))
@@ -242,13 +263,10 @@ impl Life {
         }
         self.known = course.known;
         self.known.shown = shown;
-        if !self.look_at(0)? || !self.look_at(1)? {
-            return Ok(Some("a block of a volume isn't allowed"));
+        match self.look_at_all()? {
+            None if !has_promised(&self.known) => Ok(Some("what was promised isn't there")),
+            found => Ok(found),
         }
-        if !has_promised(&self.known) {
-            return Ok(Some("what was promised isn't there"));
-        }
-        Ok(None)
     }
 }
 
@@ -259,23 +277,15 @@ pub(crate) fn next(state: u64) -> u64 {
         .wrapping_add(1_442_695_040_888_963_407)
 }
 
-// Choices for the blocks up to that one.
-fn drawn(alloc: Global, seed: u64, last: u64) -> Result<Vec<u32>, AllocError> {
+// Choices for so many blocks.
+fn drawn(alloc: Global, seed: u64, count: u64) -> Result<Vec<u32>, AllocError> {
     let mut choice = Vec::new(alloc);
     let mut state = seed;
-    for _ in 0..=last {
+    for _ in 0..count {
         state = next(state);
         choice.push(((state >> 33) % 4) as u32)?;
     }
     Ok(choice)
-}
-
-fn script_of(alloc: Global, lines: &[Line]) -> Result<String, AllocError> {
-    let mut script = String::new(alloc);
-    for line in lines {
-        line.push_to(alloc, &mut script)?;
-    }
-    Ok(script)
 }
 
 /// Plays a run and its end: the status and the bytes told are those of its course, the place then shows
@@ -285,8 +295,18 @@ pub(crate) fn play<R: Abort + AllocGlobal>(
     life: &mut Life,
     step: Step,
 ) -> Result<Course, Fail> {
+    let moved = life.take_away(step.away)?;
+    assert!(rt; moved.is_none(), "{step:?} {moved:?}");
     let fresh = life.runs.saturating_add(0x0102_0304_0506_0700);
-    let course = Course::of(rt.alloc(), fresh, life.known, step.lines, step.trouble)?;
+    let course = Course::of(
+        rt.alloc(),
+        fresh,
+        life.ground,
+        life.known,
+        step.lines,
+        step.away,
+        step.trouble,
+    )?;
     let wrong = life.go_on(rt.alloc(), &course, &step, fresh)?;
     assert!(rt; wrong.is_none(), "{step:?} {wrong:?}");
     Ok(course)
@@ -298,12 +318,13 @@ fn has_promised(known: &Known) -> bool {
     let Promised { database, volumes } = known.promised;
     let shown = match known.shown {
         Some(shown) => shown,
-        None => return database.is_none() && volumes == [false; 2],
+        None => return database.is_none() && volumes == [false; 3],
     };
-    let [lower, upper] = volumes;
+    let [first, second, third] = volumes;
     (database.is_none() || database == Some(shown.identity))
-        && (!lower || has_volume(&shown, 0))
-        && (!upper || has_volume(&shown, 1))
+        && (!first || has_volume(&shown, 0))
+        && (!second || has_volume(&shown, 1))
+        && (!third || has_volume(&shown, 2))
 }
 
 fn has_volume(shown: &Shown, number: u16) -> bool {
@@ -315,7 +336,16 @@ fn has_volume(shown: &Shown, number: u16) -> bool {
 
 /// A life so far, on a small drive: runs of these lines with no trouble.
 pub(crate) fn begun<R: Abort + AllocGlobal>(rt: &R, runs: &[&[Line]]) -> Result<Life, Fail> {
-    let mut life = Life::new(rt.alloc(), SMALL)?;
+    begun_on(rt, SMALL, runs)
+}
+
+/// A life so far on such drives.
+pub(crate) fn begun_on<R: Abort + AllocGlobal>(
+    rt: &R,
+    ground: Ground,
+    runs: &[&[Line]],
+) -> Result<Life, Fail> {
+    let mut life = Life::new(rt.alloc(), ground)?;
     for lines in runs {
         play(rt, &mut life, calm(lines))?;
     }
@@ -326,6 +356,7 @@ pub(crate) fn begun<R: Abort + AllocGlobal>(rt: &R, runs: &[&[Line]]) -> Result<
 pub(crate) fn calm(lines: &[Line]) -> Step<'_> {
     Step {
         lines,
+        away: &[],
         trouble: Trouble::Nothing,
         end: End::Quiet,
     }

@@ -1,16 +1,20 @@
 // Drawn lives of several runs.
-use crate::course::{Line, Trouble};
-use crate::life::{End, Ground, Life, SMALL, Step, WIDE, calm, next, play};
+use crate::ground::{Ground, SMALL, THREE, WIDE};
+use crate::life::{End, Life, Step, calm, next, play};
+use crate::script::Line;
 use crate::spots::Value;
+use crate::trouble::Trouble;
 use std::alloc::{AllocError, Global};
 use std::process::Abort;
 use std::test::Fail;
 
 fn drawn_line(state: u64) -> Line {
-    let volume = ((state >> 48) % 2) as u8;
+    let volume = ((state >> 48) % 3) as u8;
     let at = (state >> 52) % 9;
-    match (state >> 33) % 18 {
+    match (state >> 33) % 20 {
         0..=2 => Line::Forced,
+        18 => Line::Elsewhere,
+        19 => Line::Volume(volume),
         3..=5 => Line::Boot,
         6 | 7 => Line::Volume(volume),
         8..=11 => Line::Read(volume, at),
@@ -33,14 +37,21 @@ fn drawn_lines(alloc: Global, state: u64) -> Result<Vec<Line>, AllocError> {
     Ok(lines)
 }
 
+// One of the items by a drawn number.
+fn pick<T: Copy>(items: &[T], state: u64, other: T) -> T {
+    let place = state % (items.len() as u64).max(1);
+    items.get(place as usize).copied().unwrap_or(other)
+}
+
 // A step of these lines by a drawn number.
-fn step_of(lines: &[Line], state: u64) -> Step<'_> {
+fn step_of<'a>(ground: &Ground, lines: &'a [Line], state: u64) -> Step<'a> {
     let call = (state >> 20) % 40;
+    let away = pick(ground.away, state >> 45, &[]);
     let trouble = match (state >> 30) % 6 {
         0 => Trouble::Nothing,
         1 => Trouble::Fail(call),
         2 => Trouble::FailBoth(call, call.saturating_add(1 + (state >> 16) % 16)),
-        3 => Trouble::Lose(call),
+        3 => Trouble::Lose(pick(ground.own, state >> 36, 0), call),
         _ => Trouble::Stop(call),
     };
     let end = match (state >> 40) % 4 {
@@ -51,14 +62,20 @@ fn step_of(lines: &[Line], state: u64) -> Step<'_> {
     };
     Step {
         lines,
+        away,
         trouble,
         end,
     }
 }
 
-const WHOLE: &[Line] = &[Line::Forced, Line::Volume(1), Line::Volume(0)];
+const WHOLE: &[Line] = &[
+    Line::Forced,
+    Line::Volume(1),
+    Line::Volume(2),
+    Line::Volume(0),
+];
 
-// Lives of ten runs; every other one begins with a database of two volumes.
+// Lives of ten runs; every other one begins with a database of three volumes.
 fn expect_drawn<R: Abort + AllocGlobal>(rt: &R, ground: Ground, lives: u64) -> Result<(), Fail> {
     for seed in 0..lives {
         let mut life = Life::new(rt.alloc(), ground)?;
@@ -69,7 +86,7 @@ fn expect_drawn<R: Abort + AllocGlobal>(rt: &R, ground: Ground, lives: u64) -> R
         for _ in 0..10 {
             state = next(state);
             let lines = drawn_lines(rt.alloc(), state)?;
-            play(rt, &mut life, step_of(&lines, state))?;
+            play(rt, &mut life, step_of(&ground, &lines, state))?;
         }
     }
     Ok(())
@@ -78,6 +95,11 @@ fn expect_drawn<R: Abort + AllocGlobal>(rt: &R, ground: Ground, lives: u64) -> R
 #[test]
 fn drawn_lives(rt: HostRuntime) -> Result<(), Fail> {
     expect_drawn(&rt, SMALL, 400)
+}
+
+#[test]
+fn drawn_lives_on_three_drives(rt: HostRuntime) -> Result<(), Fail> {
+    expect_drawn(&rt, THREE, 500)
 }
 
 #[test]

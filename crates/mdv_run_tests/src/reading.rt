@@ -1,26 +1,32 @@
 // A place is read by comparing bytes, with nothing of the crates that write one. It is the place of 8192
-// blocks from block 16 of c0t0d0s7 on, and the host is alpha.
+// blocks from block 16 of slice 7 on, of a drive of controller 0 and disk 0, and the host is alpha.
 ghost use Rattle.std.specs.Prelude.{◌≡◌, ◌<◌, ◌^◌, IfSome, None, length};
 ghost use Rattle.mdv_run_tests.specs.Numbers.{IsMarked};
 
 use crate::{Shown, ShownTable, ShownVolume};
 use mdv_base::{Block, Identity, Mark};
 
-/// The blocks of a place that say what it shows: its first four, and the first one of each slot's body.
+/// The blocks of a place that say what it shows: its first four, and the first one of each slot's body; and the target
+/// number of its drive.
 #[derive(Clone, Copy)]
 pub struct PlaceBlocks {
+    pub target: u8,
     pub head: [Block; 4],
     pub first_body: Block,
     pub second_body: Block,
 }
 
-// What stands in a master behind the identity: the host, the slice, the place, and that it is 0 of 1.
-const WHOSE: &[u8] =
-    b"\0\x05alpha\0\0\0\0\0\0\0\0\0\0\0\0\0\0\0\0\0\0\0\0\0\0\0\0\0\0\0\0\0\0\x07\0\0\0\x10\0\0\x20\0\0\x01";
+// What stands in a master behind the identity: the host and a controller; then, behind the target, the disk, the slice, the
+// place, and that it is 0 of 1.
+const WHOSE: &[u8] = b"\0\x05alpha\0\0\0\0\0\0\0\0\0\0\0\0\0\0\0\0\0\0\0\0\0\0\0\0\0\0\0\0";
+
+const WHERE: &[u8] = b"\0\x07\0\0\0\x10\0\0\x20\0\0\x01";
 
 // What stands in a record between its length and the number of its volumes: one list, of this one place, and neither
-// a set nor pools.
-const BEFORE_VOLUMES: &[u8] = b"\x01\x01\0\0\0\x07\0\0\0\x10\0\0\x20\0\0\0\0\0\0\0\0\0";
+// a set nor pools. The target stands between the two.
+const ONE_PLACE: &[u8] = b"\x01\x01\0";
+
+const NO_MORE: &[u8] = b"\0\x07\0\0\0\x10\0\0\x20\0\0\0\0\0\0\0\0\0";
 
 // What stands in a volume between its number and its drive's: a stripe without a pool, alone and of width 1, with an
 // interlace of 32 blocks, on a slice.
@@ -32,10 +38,10 @@ pub fn read_place(place: &PlaceBlocks) -> Option<Shown>
     ensures within { IfSome result (λ s. (s.claim < 2 ^ 63) × IfSome s.first (λ t. IsMarked t.mark) × IfSome s.second (λ t. IsMarked t.mark)) }
 {
     let [master, claim, first, second] = &place.head;
-    let identity = identity_of(master)?;
+    let identity = identity_of(master, place.target)?;
     let claim = claim_of(claim)?;
-    let first = table_of(first, &place.first_body)?;
-    let second = table_of(second, &place.second_body)?;
+    let first = table_of(first, &place.first_body, place.target)?;
+    let second = table_of(second, &place.second_body, place.target)?;
     if first.is_none() && second.is_none() {
         return None;
     }
@@ -47,8 +53,8 @@ pub fn read_place(place: &PlaceBlocks) -> Option<Shown>
     })
 }
 
-fn identity_of(master: &Block) -> Option<Identity> {
-    if !begins(master, b"MDVREPL1") || !is_exactly(&master[20..], WHOSE) {
+fn identity_of(master: &Block, target: u8) -> Option<Identity> {
+    if !begins(master, b"MDVREPL1") || !is_zero(behind(&master[20..], WHOSE, target, WHERE)?) {
         return None;
     }
     Some(Identity {
@@ -68,7 +74,7 @@ fn claim_of(claim: &Block) -> Option<u64>
 
 // The table of an open slot, none of a closed one; None where the gate isn't of its form, or stands open over a body
 // that isn't the record of a table.
-fn table_of(gate: &Block, body: &Block) -> Option<Option<ShownTable>>
+fn table_of(gate: &Block, body: &Block, target: u8) -> Option<Option<ShownTable>>
     ensures { IfSome result (λ t. IfSome t (λ t. IsMarked t.mark)) }
 {
     if !begins(gate, b"MDVGATE1") || !is_zero(&gate[29..]) {
@@ -81,39 +87,54 @@ fn table_of(gate: &Block, body: &Block) -> Option<Option<ShownTable>>
                 boot: below_limit(number(&gate[9..17]))?,
                 count: below_limit(number(&gate[17..25]))?,
             };
-            Some(Some(table_in(mark, body, number(&gate[25..29]))?))
+            Some(Some(table_in(mark, body, number(&gate[25..29]), target)?))
         }
         _ => None,
     }
 }
 
 // The table of this mark whose record of so many bytes stands in the body.
-fn table_in(mark: Mark, body: &Block, bytes: u64) -> Option<ShownTable>
+fn table_in(mark: Mark, body: &Block, bytes: u64, target: u8) -> Option<ShownTable>
     ensures { IfSome result (λ t. t.mark ≡ mark) }
 {
-    if !begins(body, b"MDVREC01")
-        || number(&body[8..12]) != bytes
-        || !begins(&body[12..], BEFORE_VOLUMES)
-    {
+    if !begins(body, b"MDVREC01") || number(&body[8..12]) != bytes {
         return None;
     }
-    let (lower, upper) = match (number(&body[34..36]), bytes) {
-        (0, 36) => (None, None),
-        (1, 86) => (Some(volume_of(&body[36..86])?), None),
-        (2, 136) => (
-            Some(volume_of(&body[36..86])?),
-            Some(volume_of(&body[86..136])?),
-        ),
+    let _places = behind(&body[12..], ONE_PLACE, target, NO_MORE)?;
+    let count = match (number(&body[34..36]), bytes) {
+        (0, 36) => 0,
+        (1, 86) => 1,
+        (2, 136) => 2,
+        (3, 186) => 3,
         _ => return None,
     };
-    Some(ShownTable { mark, lower, upper })
+    Some(ShownTable {
+        mark,
+        volumes: [
+            one_of(&body[36..86], count > 0)?,
+            one_of(&body[86..136], count > 1)?,
+            one_of(&body[136..186], count > 2)?,
+        ],
+    })
+}
+
+// The volume, where the table has so many.
+fn one_of(text: &[u8], is_there: bool) -> Option<Option<ShownVolume>>
+    requires { length text.now ≡ 50 }
+{
+    if is_there {
+        Some(Some(volume_of(text)?))
+    } else {
+        Some(None)
+    }
 }
 
 fn volume_of(text: &[u8]) -> Option<ShownVolume>
     requires { length text.now ≡ 50 }
 {
     if !begins(&text[2..], STRIPE)
-        || !is_zero(&text[15..18])
+        || text[15] != 0
+        || text[17] != 0
         || !is_zero(&text[19..27])
         || !is_zero(&text[35..])
     {
@@ -121,17 +142,19 @@ fn volume_of(text: &[u8]) -> Option<ShownVolume>
     }
     Some(ShownVolume {
         number: u16::try_from(number(&text[..2])).ok()?,
+        target: text[16],
         slice: text[18],
         blocks: number(&text[27..35]),
     })
 }
 
-// The text, with zeros behind it.
-fn is_exactly(bytes: &[u8], text: &[u8]) -> bool {
-    match bytes.strip_prefix(text) {
-        Some(rest) => is_zero(rest),
-        None => false,
+// What stands behind two texts with a byte between them.
+fn behind<'a>(bytes: &'a [u8], first: &[u8], between: u8, second: &[u8]) -> Option<&'a [u8]> {
+    let (byte, rest) = bytes.strip_prefix(first)?.split_first()?;
+    if *byte != between {
+        return None;
     }
+    rest.strip_prefix(second)
 }
 
 fn begins(bytes: &[u8], text: &[u8]) -> bool {

@@ -16,7 +16,9 @@ const OPEN_ONE: &[u8] = b"MDVGATE1\x01\0\0\0\0\0\0\x01\x01\0\0\0\0\0\0\0\x03\0\0
 
 const OPEN_TWO: &[u8] = b"MDVGATE1\x01\0\0\0\0\0\0\x01\x01\0\0\0\0\0\0\0\x03\0\0\0\x88";
 
-// The records with d0 on slice 3, and with d5 on slice 0 and d8191 on slice 1.
+const OPEN_THREE: &[u8] = b"MDVGATE1\x01\0\0\0\0\0\0\x01\x01\0\0\0\0\0\0\0\x03\0\0\0\xba";
+
+// The records with d0 on slice 3, with d5 on slice 0 and d8191 on slice 1 of c0t2d0, and with all three.
 const RECORD_ONE: &[u8] =
     b"MDVREC01\0\0\0\x56\x01\x01\0\0\0\x07\0\0\0\x10\0\0\x20\0\0\0\0\0\0\0\0\0\0\x01\
 \0\0\0\0\0\0\0\x01\0\x01\0\0\0\x20\0\0\0\0\x03\0\0\0\0\0\0\0\0\0\0\0\0\0\0\x0f\xa0";
@@ -24,7 +26,19 @@ const RECORD_ONE: &[u8] =
 const RECORD_TWO: &[u8] =
     b"MDVREC01\0\0\0\x88\x01\x01\0\0\0\x07\0\0\0\x10\0\0\x20\0\0\0\0\0\0\0\0\0\0\x02\
 \0\x05\0\0\0\0\0\x01\0\x01\0\0\0\x20\0\0\0\0\0\0\0\0\0\0\0\0\0\0\0\0\0\0\0\0\x08\0\0\0\0\0\0\0\0\0\0\0\0\0\0\0\
-\x1f\xff\0\0\0\0\0\x01\0\x01\0\0\0\x20\0\0\0\0\x01\0\0\0\0\0\0\0\0\0\0\0\0\0\0\0\x01";
+\x1f\xff\0\0\0\0\0\x01\0\x01\0\0\0\x20\0\0\x02\0\x01\0\0\0\0\0\0\0\0\0\0\0\0\0\0\0\x01";
+
+const RECORD_THREE: &[u8] =
+    b"MDVREC01\0\0\0\xba\x01\x01\0\0\0\x07\0\0\0\x10\0\0\x20\0\0\0\0\0\0\0\0\0\0\x03\
+\0\0\0\0\0\0\0\x01\0\x01\0\0\0\x20\0\0\0\0\x03\0\0\0\0\0\0\0\0\0\0\0\0\0\0\x0f\xa0\0\0\0\0\0\0\0\0\0\0\0\0\0\0\0\
+\0\x05\0\0\0\0\0\x01\0\x01\0\0\0\x20\0\0\0\0\0\0\0\0\0\0\0\0\0\0\0\0\0\0\0\0\x08\0\0\0\0\0\0\0\0\0\0\0\0\0\0\0\
+\x1f\xff\0\0\0\0\0\x01\0\x01\0\0\0\x20\0\0\x02\0\x01\0\0\0\0\0\0\0\0\0\0\0\0\0\0\0\x01";
+
+// A replica on slice 7 of c0t1d0, which shows the table without volumes.
+const MASTER_OF_ONE: &[u8] =
+    b"MDVREPL1\x01\x02\x03\x04\x05\x06\x07\x08\0\0\0\x02\0\x05alpha\0\0\0\0\0\0\0\0\0\0\0\0\0\0\0\0\0\0\0\0\0\0\0\0\0\0\0\0\x01\0\x07\0\0\0\x10\0\0\x20\0\0\x01";
+
+const RECORD_OF_ONE: &[u8] = b"MDVREC01\0\0\0\x24\x01\x01\0\x01\0\x07\0\0\0\x10\0\0\x20";
 
 // The text and zeros behind it.
 fn block(text: &[u8]) -> Block {
@@ -38,9 +52,10 @@ fn block(text: &[u8]) -> Block {
 // The four blocks of a head and the first ones of both bodies.
 type Blocks = [&'static [u8]; 6];
 
-fn shown_of(blocks: &Blocks) -> Option<Shown> {
+fn shown_of(blocks: &Blocks, target: u8) -> Option<Shown> {
     let [master, claim, first, second, first_body, second_body] = *blocks;
     read_place(&PlaceBlocks {
+        target,
         head: [block(master), block(claim), block(first), block(second)],
         first_body: block(first_body),
         second_body: block(second_body),
@@ -52,40 +67,54 @@ const MARK: Mark = Mark {
     count: 3,
 };
 
-const EMPTY: ShownTable = ShownTable {
-    mark: MARK,
-    lower: None,
-    upper: None,
+const D0: ShownVolume = ShownVolume {
+    number: 0,
+    target: 0,
+    slice: 3,
+    blocks: 4000,
 };
 
-const WITH_ONE: ShownTable = ShownTable {
-    mark: MARK,
-    lower: Some(ShownVolume {
-        number: 0,
-        slice: 3,
-        blocks: 4000,
-    }),
-    upper: None,
+const D5: ShownVolume = ShownVolume {
+    number: 5,
+    target: 0,
+    slice: 0,
+    blocks: 8,
 };
 
-const WITH_TWO: ShownTable = ShownTable {
-    mark: MARK,
-    lower: Some(ShownVolume {
-        number: 5,
-        slice: 0,
-        blocks: 8,
-    }),
-    upper: Some(ShownVolume {
-        number: 8191,
-        slice: 1,
-        blocks: 1,
-    }),
+const D8191: ShownVolume = ShownVolume {
+    number: 8191,
+    target: 2,
+    slice: 1,
+    blocks: 1,
 };
+
+const EMPTY: &[ShownVolume] = &[];
+
+const WITH_ONE: &[ShownVolume] = &[D0];
+
+const WITH_TWO: &[ShownVolume] = &[D5, D8191];
+
+const WITH_THREE: &[ShownVolume] = &[D0, D5, D8191];
+
+// The table of these volumes.
+fn table_of(volumes: &[ShownVolume]) -> ShownTable {
+    ShownTable {
+        mark: MARK,
+        volumes: [
+            volumes.first().copied(),
+            volumes.get(1).copied(),
+            volumes.get(2).copied(),
+        ],
+    }
+}
 
 const NONE: &[u8] = b"";
 
+// The volumes of the table of an open slot.
+type Volumes = Option<&'static [ShownVolume]>;
+
 // The blocks, and the tables shown.
-const SHOWN: &[(Blocks, Option<ShownTable>, Option<ShownTable>)] = &[
+const SHOWN: &[(Blocks, Volumes, Volumes)] = &[
     (
         [MASTER, CLAIM, OPEN, CLOSED, RECORD, NONE],
         Some(EMPTY),
@@ -111,9 +140,21 @@ const SHOWN: &[(Blocks, Option<ShownTable>, Option<ShownTable>)] = &[
         Some(WITH_TWO),
         None,
     ),
+    (
+        [
+            MASTER,
+            CLAIM,
+            OPEN_THREE,
+            OPEN_ONE,
+            RECORD_THREE,
+            RECORD_ONE,
+        ],
+        Some(WITH_THREE),
+        Some(WITH_ONE),
+    ),
 ];
 
-fn is_shown(blocks: &Blocks, first: Option<ShownTable>, second: Option<ShownTable>) -> bool {
+fn is_shown(blocks: &Blocks, target: u8, first: Volumes, second: Volumes) -> bool {
     let identity = Identity {
         fresh: 0x0102_0304_0506_0708,
         number: 2,
@@ -121,17 +162,21 @@ fn is_shown(blocks: &Blocks, first: Option<ShownTable>, second: Option<ShownTabl
     let want = Shown {
         identity,
         claim: 258,
-        first,
-        second,
+        first: first.map(table_of),
+        second: second.map(table_of),
     };
-    shown_of(blocks) == Some(want)
+    shown_of(blocks, target) == Some(want)
 }
 
 #[test]
 fn shows_the_tables_of_open_slots(rt: HostRuntime) {
     for (blocks, first, second) in SHOWN {
-        assert!(rt; is_shown(blocks, *first, *second), "{blocks:?}");
+        assert!(rt; is_shown(blocks, 0, *first, *second), "{blocks:?}");
+        assert!(rt; shown_of(blocks, 1).is_none(), "{blocks:?}");
     }
+    let blocks = [MASTER_OF_ONE, CLAIM, OPEN, CLOSED, RECORD_OF_ONE, NONE];
+    assert!(rt; is_shown(&blocks, 1, Some(EMPTY), None));
+    assert!(rt; shown_of(&blocks, 0).is_none());
 }
 
 const HIDDEN: &[Blocks] = &[
@@ -144,11 +189,13 @@ const HIDDEN: &[Blocks] = &[
     [MASTER, CLAIM, OPEN, OPEN, RECORD, NONE],
     [MASTER, CLAIM, OPEN_ONE, CLOSED, RECORD, NONE],
     [MASTER, CLAIM, OPEN_ONE, CLOSED, RECORD_TWO, NONE],
+    [MASTER, CLAIM, OPEN, CLOSED, RECORD_OF_ONE, NONE],
+    [MASTER_OF_ONE, CLAIM, OPEN, CLOSED, RECORD, NONE],
 ];
 
 #[test]
 fn shows_no_table(rt: HostRuntime) {
     for blocks in HIDDEN {
-        assert!(rt; shown_of(blocks).is_none(), "{blocks:?}");
+        assert!(rt; shown_of(blocks, 0).is_none(), "{blocks:?}");
     }
 }

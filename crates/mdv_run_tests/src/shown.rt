@@ -4,20 +4,21 @@ ghost use Rattle.mdv_run_tests.specs.declared.shown.ShownTable.{ShownTable};
 
 use mdv_base::{Identity, Mark};
 
-/// A volume that a record shows: its number, and the slice of c0t0d0 that it has, of so many blocks.
+/// A volume that a record shows: its number, and the slice that it has, of the drive of controller 0 and disk 0 with this
+/// target, of so many blocks.
 #[derive(Clone, Copy, Debug, PartialEq, Eq)]
 pub struct ShownVolume {
     pub number: u16,
+    pub target: u8,
     pub slice: u8,
     pub blocks: u64,
 }
 
-/// The table of an open slot. No life makes more than two volumes.
+/// The table of an open slot, with the volumes as they stand in its record. No life makes more than three.
 #[derive(Clone, Copy, Debug, PartialEq, Eq)]
 pub struct ShownTable {
     pub mark: Mark,
-    pub lower: Option<ShownVolume>,
-    pub upper: Option<ShownVolume>,
+    pub volumes: [Option<ShownVolume>; 3],
 }
 
 /// What a place shows: whose database it is, the number of its claim, and the tables of its open slots.

@@ -1,4 +1,4 @@
-// What the first blocks of the volumes d0 and d1 hold, and what their histories allow.
+// What the first blocks of the volumes d0, d1 and d2 hold, and what their histories allow.
 use mdv_base::{Block, ZERO_BLOCK};
 
 /// How many blocks of a volume are followed. Scripts name no later one.
@@ -21,9 +21,9 @@ pub struct Spot {
     allowed: [bool; 4],
 }
 
-/// The followed blocks of both volumes, those of d0 first.
+/// The followed blocks of the volumes, those of d0 first.
 #[derive(Clone, Copy)]
-pub struct Spots([Spot; 18]);
+pub struct Spots([Spot; 27]);
 
 impl Value {
     pub(crate) const ALL: [Value; 4] = [Value::Zeros, Value::Ab, Value::Cd, Value::Long];
@@ -84,7 +84,7 @@ impl Spots {
             newest: Value::Zeros,
             allowed: [true, false, false, false],
         };
-        Spots([spot; 18])
+        Spots([spot; 27])
     }
 
     /// The block of the volume, the last followed one for a later one.
@@ -92,12 +92,13 @@ impl Spots {
         let number = u64::from(volume)
             .saturating_mul(FOLLOWED)
             .saturating_add(at.min(FOLLOWED - 1));
-        &mut self.0[number.min(17) as usize]
+        &mut self.0[number.min(26) as usize]
     }
 
-    /// A boot has read the drive: each block has the value that a read gives.
-    pub(crate) fn settle(&mut self) {
-        for spot in self.0.iter_mut() {
+    /// A boot has synced the drive of the volume: each of its blocks has the value that a read gives.
+    pub(crate) fn settle(&mut self, volume: u8) {
+        for at in 0..FOLLOWED {
+            let spot = self.spot(volume, at);
             spot.allow_only(spot.newest);
         }
     }

@@ -1,5 +1,5 @@
 // `tab` blocks, and lines of the grammar that aren't built.
-use crate::life::SMALL;
+use crate::ground::SMALL;
 use mdv_port::MemSource;
 use mdv_run::run;
 use mdv_run_law::RunStatus;
@@ -29,7 +29,7 @@ fn status_of(
     told: &[u8],
 ) -> Result<Option<RunStatus>, AllocError> {
     let words = [format!(in alloc; "alpha")?];
-    let mut shelf = MemShelf::new(alloc, &[SMALL.blocks])?;
+    let mut shelf = MemShelf::new(alloc, SMALL.sizes)?;
     shelf.stop_after(calls);
     let status = run(&words, SMALL.table.as_bytes(), &mut shelf, source, 7);
     if shelf.told() == told {

@@ -1,7 +1,8 @@
 // Lives of volumes and their blocks.
-use crate::course::{Line, Trouble};
 use crate::life::{End, Step, begun, play};
+use crate::script::Line;
 use crate::spots::Value;
+use crate::trouble::Trouble;
 use std::process::Abort;
 use std::test::Fail;
 
@@ -34,12 +35,14 @@ fn expect_stop<R: Abort + AllocGlobal>(
     let mut life = begun(rt, &[before])?;
     let step = Step {
         lines: &[line],
+        away: &[],
         trouble: Trouble::Stop(calls),
         end,
     };
     let stopped = play(rt, &mut life, step)?;
     let mut reads = Step {
         lines: READ_TWICE,
+        away: &[],
         trouble: Trouble::Nothing,
         end,
     };

@@ -18,8 +18,7 @@ pub(crate) fn made(identity: Identity) -> Shown {
         claim: 1,
         first: Some(ShownTable {
             mark: Mark { boot: 1, count: 0 },
-            lower: None,
-            upper: None,
+            volumes: [None; 3],
         }),
         second: None,
     }
@@ -36,14 +35,13 @@ pub(crate) fn newest(shown: &Shown) -> Option<ShownTable> {
 
 /// The table's volume of that number.
 pub(crate) fn volume_in(table: &ShownTable, number: u16) -> Option<ShownVolume> {
-    match table.lower {
-        Some(volume) if volume.number == number => return Some(volume),
-        _ => {}
+    for volume in table.volumes {
+        match volume {
+            Some(volume) if volume.number == number => return Some(volume),
+            _ => {}
+        }
     }
-    match table.upper {
-        Some(volume) if volume.number == number => Some(volume),
-        _ => None,
-    }
+    None
 }
 
 /// What a boot leaves: it draws one more than the greatest number, claims it, and writes the newest table under it.
@@ -72,11 +70,27 @@ pub(crate) fn changed(before: &Shown, volume: ShownVolume) -> Shown {
         count: table.mark.count.saturating_add(1),
         ..table.mark
     };
-    let (lower, upper) = match table.lower {
-        Some(other) if other.number < volume.number => (Some(other), Some(volume)),
-        other => (Some(volume), other),
-    };
-    with_spare(before, Some(ShownTable { mark, lower, upper }))
+    let volumes = with_volume(table.volumes, volume);
+    with_spare(before, Some(ShownTable { mark, volumes }))
+}
+
+// The volumes with one more, in the order of their numbers.
+fn with_volume(volumes: [Option<ShownVolume>; 3], volume: ShownVolume) -> [Option<ShownVolume>; 3] {
+    let [first, second, _] = volumes;
+    if !is_lower(first, volume) {
+        [Some(volume), first, second]
+    } else if !is_lower(second, volume) {
+        [first, Some(volume), second]
+    } else {
+        [first, second, Some(volume)]
+    }
+}
+
+fn is_lower(other: Option<ShownVolume>, volume: ShownVolume) -> bool {
+    match other {
+        Some(other) => other.number < volume.number,
+        None => false,
+    }
 }
 
 // The slot that doesn't hold the newest table has this one.

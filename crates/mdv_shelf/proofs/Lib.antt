@@ -7,6 +7,7 @@ pub mod Everywhere
 pub mod Moments
 pub mod Noted
 pub mod InTime
+pub mod Among
 pub mod Settled
 pub mod Stories
 pub mod Telling

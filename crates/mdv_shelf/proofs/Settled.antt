@@ -141,3 +141,7 @@ module _ (drive at : ℕ) (blocks : List (List ℕ)) (old : Option Tale) where
     synced ∙ ap (λ (o : Option Tale). and_then o (Synced drive)) (wrote ∙ ap (λ (o : Option Tale). and_then o (Wrote drive at blocks)) told_so),
     settled_both t drive at blocks,
   )
+
+-- a drive of which no block is written stays synced
+pub synced_still : (drive : ℕ) (t m : Tale) → ((block : ℕ) → IsKept t m drive block) → IsSynced drive t → IsSynced drive m
+synced_still drive t m kept synced block x left = synced block x ((kept block).left x left) ∙ sym (kept block).last

@@ -9,6 +9,7 @@ pub mod Everywhere
 pub mod Story
 pub mod Shelves
 pub mod Made
+pub mod Drives
 pub mod MemHistory
 pub mod MemStory
 pub mod MemShelf

@@ -50,7 +50,7 @@ module _ (key : Key) where
   log_step sites h (Reads other volume at blocks) may = refl
   log_step sites h (Acknowledges place other volume at blocks) may = refl
   log_step sites h (Shows place other volume at blocks) may = refl
-  log_step sites h (Boots other) may = refl
+  log_step sites h (Boots other up) may = refl
   log_step sites h Stops may = refl
   log_step sites h Crashes may = refl
 
@@ -81,7 +81,7 @@ module _ (key : Key) where
     may_step h (Reads other volume at blocks) may = tt
     may_step h (Acknowledges place other volume at blocks) may = tt
     may_step h (Shows place other volume at blocks) may = tt
-    may_step h (Boots other) may = tt
+    may_step h (Boots other up) may = tt
     may_step h Stops may = tt
     may_step h Crashes may = tt
 
@@ -113,7 +113,7 @@ module _ (key : Key) where
   tells_all (Reads other volume at blocks ∷ es) = tells_all es
   tells_all (Acknowledges place other volume at blocks ∷ es) = tells_all es
   tells_all (Shows place other volume at blocks ∷ es) = tells_all es
-  tells_all (Boots other ∷ es) = tells_all es
+  tells_all (Boots other up ∷ es) = tells_all es
   tells_all (Stops ∷ es) = tells_all es
   tells_all (Crashes ∷ es) = tells_all es
 
@@ -140,7 +140,7 @@ module _ (key : Key) where
   begins_all (Reads other volume at blocks ∷ es) = begins_all es
   begins_all (Acknowledges place other volume at blocks ∷ es) = begins_all es
   begins_all (Shows place other volume at blocks ∷ es) = begins_all es
-  begins_all (Boots other ∷ es) = begins_all es
+  begins_all (Boots other up ∷ es) = begins_all es
   begins_all (Stops ∷ es) = begins_all es
   begins_all (Crashes ∷ es) = begins_all es
 

@@ -74,7 +74,7 @@ module _ (sites : Sites) (key : Key) (site : Site) (is_site : IsSite sites key s
   step_goes h (Reads other beside at blocks) may are = tt
   step_goes h (Acknowledges place other beside at blocks) may are = tt
   step_goes h (Shows place other beside at blocks) may are = tt
-  step_goes h (Boots other) may are = tt
+  step_goes h (Boots other up) may are = tt
   step_goes h Stops may are = tt
   step_goes h Crashes may are = (tt, tt)
 

@@ -262,6 +262,7 @@ module _ (sites : Sites) (h : History) (key : Key) (site : Site) (es : List log.
         others = λ other differ. ap (λ (g : History). log_of g.databases other) after ∙ others other differ;
         volumes = ap (λ (g : History). g.volumes) after;
         woken = ap (λ (g : History). g.woken) after;
+        up = ap (λ (g : History). g.up) after;
       }
 
 pub databases_go : DatabasesGo

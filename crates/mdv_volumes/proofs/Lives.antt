@@ -30,7 +30,7 @@ module _ (key : Key) (volume : VolId) where
   one_may sites h (Reads other beside at blocks) may = tt
   one_may sites h (Acknowledges place other beside at blocks) may = tt
   one_may sites h (Shows place other beside at blocks) may = tt
-  one_may sites h (Boots other) may = tt
+  one_may sites h (Boots other up) may = tt
   one_may sites h Stops may = tt
   one_may sites h Crashes may = (tt, tt)
 

@@ -1,12 +1,13 @@
 -- A history over drives that begin anew, or go on as they were.
 use Rattle.std.proofs.Common.{ℕ, List, [], ◌∷◌, refl}
-use Rattle.mdv_store_law.proofs.Covering.{kept_covers}
+use Rattle.mdv_store_law.proofs.Frame.{frames}
 use Rattle.mdv_store_law.proofs.Lawful as database_law
-use Rattle.mdv_volumes.specs.Below.{IsImage, KeptOutside, Tale, nowhere}
+use Rattle.mdv_volumes.specs.Below.{Area, IsDisjoint, IsImage, Key, KeptOutside, Map, Tale, VolId}
 use Rattle.mdv_volumes.specs.Databases.{log_of}
 use Rattle.mdv_volumes.specs.Histories.{Stands}
 use Rattle.mdv_volumes.specs.History.{Crashes, History, Stops, history_after_all}
-use Rattle.mdv_volumes.specs.HistoryLaws.{RestartsGo}
+use Rattle.mdv_volumes.specs.Happening.{IsNamed}
+use Rattle.mdv_volumes.specs.HistoryLaws.{IsElsewhere, RestartsGo}
 use Rattle.mdv_volumes.specs.Standing.{LeavesNoMore}
 use Rattle.mdv_volumes.specs.Tables.{Sites}
 use Rattle.mdv_volumes.proofs.Found.{none_found}
@@ -23,13 +24,15 @@ crashed_stands sites h t u less stands = record {
   volumes = λ key volume v named. (restarts_stand.goes v (h.volumes key volume) t u less (stands.volumes key volume v named)).follows;
 }
 
-kept_stands : (sites : Sites) (h : History) (t m : Tale) → KeptOutside nowhere t m → Stands sites h t → Stands sites h m
-kept_stands sites h t m kept stands = record {
-  databases = λ key site is. let before = stands.databases key site is in record { is_log = before.is_log; covers = kept_covers site (log_of h.databases key) t m kept before.covers };
+elsewhere_stands : (sites : Sites) (h : History) (area : Area) (t m : Tale) → IsElsewhere sites h.databases area → KeptOutside area t m → Stands sites h t → Stands sites h m
+elsewhere_stands sites h area t m apart kept stands = record {
+  databases = λ key site is. let before = stands.databases key site is in record { is_log = before.is_log; covers = frames.covers site area (log_of h.databases key) t m (λ drive block in_area in_place. apart.places key site is drive block in_place in_area) kept before.covers };
   laid = stands.laid;
   apart = stands.apart;
-  volumes = λ key volume v named. frames_stand.kept v (h.volumes key volume) t m (λ b drive block lt has. kept drive block refl) (stands.volumes key volume v named);
-}
+  volumes = λ key volume v named. frames_stand.outside v area (h.volumes key volume) t m (disjoint key volume v named) (apart.volumes key volume v named) kept (stands.volumes key volume v named);
+} where
+  disjoint : (key : Key) (volume : VolId) (v : Map) → IsNamed sites h.databases key volume v → IsDisjoint v
+  disjoint key volume v named = (stands.laid key named.site named.version named.is_site named.found).disjoint volume v named.map
 
 pub restarts_go : RestartsGo
 restarts_go = record {
@@ -40,7 +43,7 @@ restarts_go = record {
     tells = refl;
     stands = record { databases = stands.databases; laid = stands.laid; apart = stands.apart; volumes = stands.volumes };
   };
-  kept = kept_stands;
+  elsewhere = elsewhere_stands;
   new_drives = λ sites image told none. record {
     databases = λ key site is. database_law.new_drives_stand.stand site image told (none key site is);
     laid = λ key site version is found. absurd (none_found version found);

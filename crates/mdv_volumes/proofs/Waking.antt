@@ -63,6 +63,7 @@ awake sites h key [] t found stands = record {
   happens = record { course = tt; begins = refl; tells = refl; stands = stands };
   woken = λ w has. absurd (omega (arith, has.1));
   databases = refl;
+  up = refl;
 }
 awake sites h key (w ∷ ws) t found stands =
     let own = All-head (IsFoundBy sites h.databases key t) w ws found in
@@ -76,6 +77,7 @@ awake sites h key (w ∷ ws) t found stands =
           (counts_stay next key ws w.volume w.count (λ k d lt same. same_count sites h key t stands w _ own (behind k d lt) same) (woke_count h key w)))
           (λ later. rest.woken x later) (first_or_behind w x ws has);
       databases = rest.databases;
+      up = rest.up;
     }
 
 -- a volume whose blocks lie together on a drive that is up has one value in each of them, or none of its drives is up

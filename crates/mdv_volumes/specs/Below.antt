@@ -1,4 +1,5 @@
 -- The words of the crates below in which this crate speaks, so that a file of it needs one line of import.
+pub use Rattle.mdv_base.specs.DriveSet.{Drives}
 pub use Rattle.mdv_base.specs.declared.drive.SliceName.{SliceName}
 pub use Rattle.mdv_base.specs.declared.mark.Identity.{Identity}
 pub use Rattle.mdv_base.specs.declared.name.Key.{Key}

@@ -88,7 +88,7 @@ MayHappen sites h (OfVolume key volume e) = lives.MayHappen (h.volumes key volum
 MayHappen sites h (Reads key volume at blocks) = HasRange sites h.databases key volume at (length blocks) × AreReadable (h.volumes key volume) at blocks
 MayHappen sites h (Acknowledges place key volume at blocks) = IsUntoldAt h.untold place (Wrote key volume at blocks) × HasRange sites h.databases key volume at (length blocks) × HaveOnly (h.volumes key volume) at blocks
 MayHappen sites h (Shows place key volume at blocks) = IsUntoldAt h.untold place (Saw key volume at blocks)
-MayHappen sites h (Boots key) = Unit {0}
+MayHappen sites h (Boots key up) = Unit {0}
 MayHappen sites h Stops = Unit {0}
 MayHappen sites h Crashes = (h.answered ≡ []) × (h.untold ≡ [])
 
@@ -109,7 +109,7 @@ tells (OfVolume key volume e) = []
 tells (Reads key volume at blocks) = []
 tells (Acknowledges place key volume at blocks) = Wrote key volume at blocks ∷ []
 tells (Shows place key volume at blocks) = Saw key volume at blocks ∷ []
-tells (Boots key) = []
+tells (Boots key up) = []
 tells Stops = []
 tells Crashes = []
 
@@ -133,7 +133,7 @@ begins (OfVolume key volume e) = begun_of key volume e
 begins (Reads key volume at blocks) = []
 begins (Acknowledges place key volume at blocks) = []
 begins (Shows place key volume at blocks) = []
-begins (Boots key) = []
+begins (Boots key up) = []
 begins Stops = []
 begins Crashes = []
 
@@ -148,7 +148,7 @@ IsIssue Which (OfVolume key volume e) = Unit {0}
 IsIssue Which (Reads key volume at blocks) = Unit {0}
 IsIssue Which (Acknowledges place key volume at blocks) = Unit {0}
 IsIssue Which (Shows place key volume at blocks) = Unit {0}
-IsIssue Which (Boots key) = Unit {0}
+IsIssue Which (Boots key up) = Unit {0}
 IsIssue Which Stops = ⊥
 IsIssue Which Crashes = ⊥
 

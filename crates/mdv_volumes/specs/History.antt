@@ -1,6 +1,6 @@
 -- What a host's drives have lived through: the databases that were begun there, the blocks of volumes, and what was done and isn't told.
 use Rattle.std.specs.Prelude.{ℕ, ◌+◌, Bool, false, not, ◌&&◌, nat_le, if◌then◌else◌, List, [], ◌∷◌, ◌++◌, filter, length, take, drop, min}
-use Rattle.mdv_volumes.specs.Below.{Change, Identity, Key, VolId, VolumeLog}
+use Rattle.mdv_volumes.specs.Below.{Change, Drives, Identity, Key, VolId, VolumeLog}
 use Rattle.mdv_store_law.specs.Log as log
 use Rattle.mdv_store_law.specs.Machine.{after_all, all_of}
 use Rattle.mdv_volumes.specs.Databases.{Database, is_volume, same_key, with_creation, with_event}
@@ -15,12 +15,13 @@ pub data Deed : Type 0 where
   Saw : Key → VolId → ℕ → List (List ℕ) → Deed
 
 -- The databases; the log of each volume's blocks; writes that were answered and aren't on the disk; what was done and isn't told, writes that
--- are on the disk and reads; and of how many first blocks of a volume the last boot found one value.
+-- are on the disk and reads; which drives the last boot of a key brought up, and of how many first blocks of a volume one value was found since it began.
 pub record History : Type 0 where
   pub databases : List Database
   pub volumes : Key → VolId → VolumeLog
   pub answered : List Deed
   pub untold : List Deed
+  pub up : Key → Drives
   pub woken : Key → VolId → ℕ
 
 pub data Event : Type 0 where
@@ -36,8 +37,8 @@ pub data Event : Type 0 where
   Acknowledges : ℕ → Key → VolId → ℕ → List (List ℕ) → Event
   -- that of a read's `ok` was told, behind these values
   Shows : ℕ → Key → VolId → ℕ → List (List ℕ) → Event
-  -- a boot of the key begins
-  Boots : Key → Event
+  -- a boot of the key begins, which brings these drives up
+  Boots : Key → Drives → Event
   -- a run ends; what it did and didn't tell, nobody will be told
   Stops : Event
   -- drives begin anew, between two runs
@@ -51,7 +52,7 @@ databases_after ds (OfVolume key volume e) = ds
 databases_after ds (Reads key volume at blocks) = ds
 databases_after ds (Acknowledges place key volume at blocks) = ds
 databases_after ds (Shows place key volume at blocks) = ds
-databases_after ds (Boots key) = ds
+databases_after ds (Boots key up) = ds
 databases_after ds Stops = ds
 databases_after ds Crashes = ds
 
@@ -63,7 +64,7 @@ events_at key volume (OfVolume other beside e) = if is_volume key volume other b
 events_at key volume (Reads other beside at blocks) = []
 events_at key volume (Acknowledges place other beside at blocks) = []
 events_at key volume (Shows place other beside at blocks) = []
-events_at key volume (Boots other) = []
+events_at key volume (Boots other up) = []
 events_at key volume Stops = []
 events_at key volume Crashes = lives.Crashes ∷ []
 
@@ -96,7 +97,7 @@ answered_after deeds (OfVolume key volume e) = answered_by key volume e deeds
 answered_after deeds (Reads key volume at blocks) = deeds
 answered_after deeds (Acknowledges place key volume at blocks) = deeds
 answered_after deeds (Shows place key volume at blocks) = deeds
-answered_after deeds (Boots key) = deeds
+answered_after deeds (Boots key up) = deeds
 answered_after deeds Stops = []
 answered_after deeds Crashes = deeds
 
@@ -120,7 +121,7 @@ untold_after answered untold (OfVolume key volume e) = flushed_by key volume e a
 untold_after answered untold (Reads key volume at blocks) = Saw key volume at blocks ∷ untold
 untold_after answered untold (Acknowledges place key volume at blocks) = without place untold
 untold_after answered untold (Shows place key volume at blocks) = without place untold
-untold_after answered untold (Boots key) = untold
+untold_after answered untold (Boots key up) = untold
 untold_after answered untold Stops = []
 untold_after answered untold Crashes = untold
 
@@ -139,9 +140,20 @@ woken_after woken (OfVolume key volume e) other beside = if is_volume key volume
 woken_after woken (Reads key volume at blocks) other beside = woken other beside
 woken_after woken (Acknowledges place key volume at blocks) other beside = woken other beside
 woken_after woken (Shows place key volume at blocks) other beside = woken other beside
-woken_after woken (Boots key) other beside = if same_key key other then 0 else woken other beside
+woken_after woken (Boots key up) other beside = if same_key key other then 0 else woken other beside
 woken_after woken Stops other beside = 0
 woken_after woken Crashes other beside = 0
+
+abbrev pub up_after : (Key → Drives) → Event → Key → Drives
+up_after up (Creation key identity) other = up other
+up_after up (OfDatabase key identity e) other = up other
+up_after up (OfVolume key volume e) other = up other
+up_after up (Reads key volume at blocks) other = up other
+up_after up (Acknowledges place key volume at blocks) other = up other
+up_after up (Shows place key volume at blocks) other = up other
+up_after up (Boots key drives) other = if same_key key other then drives else up other
+up_after up Stops other = up other
+up_after up Crashes other = up other
 
 abbrev pub history_after : History → Event → History
 history_after h e = record {
@@ -149,6 +161,7 @@ history_after h e = record {
   volumes = volumes_after h.volumes e;
   answered = answered_after h.answered e;
   untold = untold_after h.answered h.untold e;
+  up = up_after h.up e;
   woken = woken_after h.woken e;
 }
 

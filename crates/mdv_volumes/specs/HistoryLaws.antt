@@ -1,6 +1,6 @@
 -- Laws of histories: of each volume, of databases and of deeds, over crashes, boots, writes and reads.
 use Rattle.std.specs.Prelude.{◌≡◌, ◌⊎◌, ◌+◌, ◌<◌, ◌≤◌, ℕ, true, List, [], ◌∷◌, ◌++◌, length, slice_index_or, Bool, if◌then◌else◌, map, Option, Some, None, All, Contains}
-use Rattle.mdv_volumes.specs.Below.{AllOnDisk, AllRead, Among, AreApart, AreDisjoint, Change, Follows, HasDriveBlock, Identity, Image, IsOfGeometry, Key, KeptOutside, Map, Rewriting, Site, Table, Tale, Version, VolId, area_of, nowhere, only, opening, restarted}
+use Rattle.mdv_volumes.specs.Below.{AllOnDisk, AllRead, Among, AreApart, AreDisjoint, Area, Change, Follows, HasDriveBlock, Identity, Image, IsOfGeometry, Key, KeptOutside, Map, Rewriting, Site, Table, Tale, Version, VolId, area_of, area_of_map, nowhere, only, opening, restarted}
 use Rattle.mdv_shelf.specs.Settle.{IsSynced}
 use Rattle.mdv_store_law.specs.Log as log
 use Rattle.mdv_store_law.specs.Machine.{all_of}
@@ -57,7 +57,7 @@ log_events_at key (OfVolume other volume e) = []
 log_events_at key (Reads other volume at blocks) = []
 log_events_at key (Acknowledges place other volume at blocks) = []
 log_events_at key (Shows place other volume at blocks) = []
-log_events_at key (Boots other) = []
+log_events_at key (Boots other up) = []
 log_events_at key Stops = []
 log_events_at key Crashes = []
 
@@ -100,14 +100,19 @@ ReadsGo = (sites : Sites) (h : History) (key : Key) (volume : VolId) (at : ℕ) 
 
 -- nothing happened yet
 abbrev pub new_history : History
-new_history = record { databases = []; volumes = λ key volume b. only []; answered = []; untold = []; woken = λ key volume. 0 }
+new_history = record { databases = []; volumes = λ key volume b. only []; answered = []; untold = []; up = λ key. []; woken = λ key volume. 0 }
+
+-- no place of a database has a block of the area, nor has a volume of a table that a boot may find
+pub record IsElsewhere (sites : Sites) (databases : List Database) (area : Area) : Type 0 where
+  pub places : (key : Key) (site : Site) → IsSite sites key site → AreApart (area_of site) area
+  pub volumes : (key : Key) (volume : VolId) (v : Map) → IsNamed sites databases key volume v → AreApart area (area_of_map v)
 
 -- drives begin anew, or go on as they were
 pub record RestartsGo : Type 0 where
   pub crashed : (sites : Sites) (h : History) (t u : Tale) → LeavesNoMore t u → Stands sites h t → Happens sites h (Stops ∷ Crashes ∷ []) [] [] u
   pub ended : (sites : Sites) (h : History) (t : Tale) → Stands sites h t → Happens sites h (Stops ∷ []) [] [] t
-  -- where nothing is done all stands as it did
-  pub kept : (sites : Sites) (h : History) (t m : Tale) → KeptOutside nowhere t m → Stands sites h t → Stands sites h m
+  -- what is done to no block of theirs, as where nothing is done, leaves all as it stood
+  pub elsewhere : (sites : Sites) (h : History) (area : Area) (t m : Tale) → IsElsewhere sites h.databases area → KeptOutside area t m → Stands sites h t → Stands sites h m
   -- new drives, on which no boot finds a database, whatever else they hold
   pub new_drives : (sites : Sites) (image : Image) (told : List ℕ) → ((key : Key) (site : Site) → IsSite sites key site → IsFound site (image site.at.drive.0) None) → Stands sites new_history (restarted image told)
 
@@ -141,6 +146,7 @@ pub record IsLifted (sites : Sites) (h : History) (key : Key) (es : List log.Eve
   pub others : (other : Key) → (key ≡ other → ⊥) → log_of (history_after_all h (lifted key (identity_in (current_of h.databases key)) es)).databases other ≡ log_of h.databases other
   pub volumes : (history_after_all h (lifted key (identity_in (current_of h.databases key)) es)).volumes ≡ h.volumes
   pub woken : (history_after_all h (lifted key (identity_in (current_of h.databases key)) es)).woken ≡ h.woken
+  pub up : (history_after_all h (lifted key (identity_in (current_of h.databases key)) es)).up ≡ h.up
 
 -- A key's log goes on, with nothing done outside the place of its database: so does the history, if each table that is made by a change is ready.
 abbrev pub DatabasesGo : Type 0
@@ -192,6 +198,7 @@ pub record AreAwake (sites : Sites) (h : History) (key : Key) (ws : List Waking)
   pub happens : Happens sites h (wakings key ws) [] [] t
   pub woken : (w : Waking) → Contains ws w → (history_after_all h (wakings key ws)).woken key w.volume ≡ w.count
   pub databases : (history_after_all h (wakings key ws)).databases ≡ h.databases
+  pub up : (history_after_all h (wakings key ws)).up ≡ h.up
 
 -- each drive on which a block of it has a copy passes the test
 abbrev pub IsUpon : (ℕ → Bool) → Map → Type 0

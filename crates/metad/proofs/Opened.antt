@@ -1,9 +1,8 @@
 -- One more drive behind those that were opened.
-use Rattle.std.proofs.Common.{◌≡◌, ◌⊎◌, ◌<◌, ◌+◌, ℕ, suc, zero, refl, sym, ◌∙◌, ap, inl, inr, List, [], ◌∷◌, ◌++◌, length, take, get_or, Some, arith}
+use Rattle.std.proofs.Common.{◌≡◌, ◌⊎◌, ◌<◌, ◌+◌, ℕ, suc, zero, refl, sym, ◌∙◌, ap, inl, inr, List, [], ◌∷◌, ◌++◌, length, map, take, get_or, Some, arith}
 use Rattle.std.proofs.lemmas.List.{map-append}
 use Rattle.std.proofs.Math.Seq.{take-suc}
 use Rattle.mdv_name.specs.declared.drive_line.DriveLine.{DriveLine}
-use Rattle.metad.specs.Bench.{sizes_of, sizes_in}
 use Rattle.metad.specs.declared.disk.FileId.{FileId}
 use Rattle.metad.specs.declared.image.Image.{Image}
 use Rattle.metad.specs.Image.{id_of}
@@ -37,12 +36,13 @@ own_push images image own fresh i k id at_i at_k = both (at_push images image i 
     both (inr last_i) (inl front_k) = absurd (none_at images id (fresh id last_i.1) k front_k)
     both (inr last_i) (inr last_k) = last_i.0 ∙ sym last_k.0
 
-pub sizes_push : (images : List Image) (image : Image) (drives : List DriveLine) (i : ℕ) (line : DriveLine) → sizes_of images ≡ sizes_in (take i drives) → i < length drives → line ≡ get_or drives i line → image.blocks ≡ line.blocks → sizes_of (images ++ image ∷ []) ≡ sizes_in (take (i + 1) drives)
-sizes_push images image drives i line same below is blocks =
+-- What is the same of each image and its line is so of one more.
+pub lines_push : {Y : Type 0} (of_image : Image → Y) (of_line : DriveLine → Y) (images : List Image) (image : Image) (drives : List DriveLine) (i : ℕ) (line : DriveLine) → map of_image images ≡ map of_line (take i drives) → i < length drives → line ≡ get_or drives i line → of_image image ≡ of_line line → map of_image (images ++ image ∷ []) ≡ map of_line (take (i + 1) drives)
+lines_push of_image of_line images image drives i line same below is one =
     let next : suc i ≡ i + 1 = omega arith in
-    map-append (λ (x : Image). x.blocks) images (image ∷ [])
-    ∙ ap (λ (l : List ℕ). l ++ image.blocks ∷ []) same
-    ∙ ap (λ (n : ℕ). sizes_in (take i drives) ++ n ∷ []) (blocks ∙ ap (λ (l : DriveLine). l.blocks) is)
-    ∙ sym (map-append (λ (l : DriveLine). l.blocks) (take i drives) (get_or drives i line ∷ []))
-    ∙ ap sizes_in (sym (take-suc drives i line below))
-    ∙ ap (λ (n : ℕ). sizes_in (take n drives)) next
+    map-append of_image images (image ∷ [])
+    ∙ ap (λ l. l ++ of_image image ∷ []) same
+    ∙ ap (λ y. map of_line (take i drives) ++ y ∷ []) (one ∙ ap of_line is)
+    ∙ sym (map-append of_line (take i drives) (get_or drives i line ∷ []))
+    ∙ ap (map of_line) (sym (take-suc drives i line below))
+    ∙ ap (λ (n : ℕ). map of_line (take n drives)) next

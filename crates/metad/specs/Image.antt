@@ -3,7 +3,7 @@ use Rattle.std.specs.Prelude.{◌≡◌, ◌≤◌, ◌+◌, ◌-◌, ◌^◌, �
 use Rattle.metad.specs.declared.disk.FileId.{FileId}
 use Rattle.metad.specs.declared.image.Image.{Image}
 use Rattle.metad.specs.declared.image.State.{State}
-use Rattle.metad.specs.declared.image.State.TheVariants.{Open, Shut, Lost}
+use Rattle.metad.specs.declared.image.State.TheVariants.{Open, Shut, Lost, Foreign}
 
 -- one more failure, where the count can rise
 abbrev pub one_more : ℕ → ℕ
@@ -14,17 +14,20 @@ abbrev pub IsOpen : State → Type 0
 IsOpen (Open disk) = Unit {0}
 IsOpen (Shut held) = ⊥
 IsOpen (Lost id) = ⊥
+IsOpen Foreign = ⊥
 
 -- the file is held, and calls reach it no more
 abbrev pub shut : State → State
 shut (Open disk) = Shut (record { disk = disk })
 shut (Shut held) = Shut held
 shut (Lost id) = Lost id
+shut Foreign = Foreign
 
 abbrev pub open_id : State → Option FileId
 open_id (Open disk) = Some disk.id
 open_id (Shut held) = None
 open_id (Lost id) = id
+open_id Foreign = None
 
 -- the file that calls reach, or may reach under no other name
 abbrev pub id_of : Image → Option FileId

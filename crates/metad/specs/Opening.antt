@@ -1,18 +1,21 @@
 -- Which images become drives when a run starts.
-use Rattle.std.specs.Prelude.{◌≡◌, ◌≢◌, ◌*◌, ◌+◌, ℕ, false, true, None, Some, List, [], ◌∷◌, All, map, slice_get, Contains}
+use Rattle.std.specs.Prelude.{◌≡◌, ◌≢◌, ◌*◌, ◌+◌, ℕ, Bool, false, true, not, None, Some, List, [], ◌∷◌, All, map, slice_get, Contains}
 use Rattle.std.specs.String.{string_bytes}
+use Rattle.mdv_home.specs.Drives.{is_own}
 use Rattle.mdv_name.specs.Lines.{lines}
+use Rattle.mdv_name.specs.declared.drive_line.DriveKind.{DriveKind}
+use Rattle.mdv_name.specs.declared.drive_line.DriveLine.{DriveLine}
 use Rattle.metad.specs.declared.disk.FileId.{FileId}
 use Rattle.metad.specs.declared.disk.Seen.{Seen}
 use Rattle.metad.specs.declared.disk.Unopened.{Unopened}
 use Rattle.metad.specs.declared.disk.Unopened.TheVariants as unopened
 use Rattle.metad.specs.declared.image.Image.{Image}
 use Rattle.metad.specs.declared.image.State.{State}
-use Rattle.metad.specs.declared.image.State.TheVariants.{Open, Shut, Lost}
+use Rattle.metad.specs.declared.image.State.TheVariants.{Open, Shut, Lost, Foreign}
 use Rattle.metad.specs.declared.journal.Journal.{Journal}
 use Rattle.metad.specs.declared.journal.Note.{Note}
 use Rattle.metad.specs.declared.reason.Reason.{Reason}
-use Rattle.metad.specs.declared.reason.Reason.TheVariants.{OtherLength, SameFile, FailedBefore}
+use Rattle.metad.specs.declared.reason.Reason.TheVariants.{OtherLength, SameFile}
 use Rattle.metad.specs.Image.{id_of}
 
 -- the drive at this place has the file
@@ -66,8 +69,28 @@ abbrev pub lost_one : State → ℕ
 lost_one (Lost id) = 1
 lost_one (Open disk) = 0
 lost_one (Shut held) = 0
+lost_one Foreign = 0
 
 -- how many drives are lost
 abbrev pub lost_count : List Image → ℕ
 lost_count [] = 0
 lost_count (image ∷ images) = lost_one image.state + lost_count images
+
+abbrev pub is_foreign : State → Bool
+is_foreign Foreign = true
+is_foreign (Open disk) = false
+is_foreign (Shut held) = false
+is_foreign (Lost id) = false
+
+-- the drive is an own one of the host that the words name, being one
+abbrev pub is_own_by : List (List ℕ) → DriveKind → Bool
+is_own_by (host ∷ []) kind = is_own host kind
+is_own_by _ kind = false
+
+-- which images are of drives that aren't the host's own
+abbrev pub foreign_of : List Image → List Bool
+foreign_of images = map (λ i. is_foreign i.state) images
+
+-- which drives of a table those are
+abbrev pub foreign_in : List (List ℕ) → List DriveLine → List Bool
+foreign_in words drives = map (λ drive. not (is_own_by words drive.kind)) drives

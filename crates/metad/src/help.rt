@@ -6,7 +6,7 @@ pub const HELP: &str = "\
 usage: metad HOST < SCRIPT
        metad --help | --version
 
-Runs the volume manager of one host over a drive in an image file. It reads drives.tab
+Runs the volume manager of one host over drives in image files. It reads drives.tab
 in the working folder:
 
     host H
@@ -14,14 +14,17 @@ in the working folder:
     slice cCtTdDsN START BLOCKS db
     slice cCtTdDsN START BLOCKS
 
-HOST is that H. FILE is an image of BLOCKS * 512 bytes, or a block device of that length;
-make an image, say, with truncate -s 8388608 disk0.img for 16384 blocks. One slice is marked
-db: there a state database may lie, from block START of the drive on; it needs 8208 blocks.
-Others, as many as there are, are for volumes, and share no block with it.
+HOST is one of the hosts H, and its own drives are those whose lines have its name, as many as
+there are. FILE is an image of BLOCKS * 512 bytes, or a block device of that length; make an
+image, say, with truncate -s 8388608 disk0.img for 16384 blocks. Of the slices on the host's
+own drives one is marked db: there a state database may lie, from block START of the drive on;
+it needs 8208 blocks. Others are for volumes, and share no block with it. The table may have
+other hosts too, drives with the word shared for H, and lines mediator H BLOCKS FILE: a run
+opens none of those files. So runs of different hosts may go on at the same time.
 
-An image is locked while the program runs, and synced when it is opened. One that can't be
-opened for reading and writing, has another length, is in use by another run or is the file
-of a drive before it is a lost drive: each call on it fails.
+An own image is locked while the program runs, and synced when it is opened. One that can't be
+opened for reading and writing, has another length, is in use by another run or is the file of
+an own drive before it is a lost drive: each call on it fails, and those on others don't.
 
 Once a write or a sync on an image failed, no later call of that run reaches it, and the file
 drives.failed beside drives.tab remembers it: until the system starts anew, what the system

@@ -19,6 +19,8 @@ pub enum State {
     Shut(Held),
     /// It was never opened. The file is kept where no other name of it may be opened either.
     Lost(Option<FileId>),
+    /// It isn't an own drive of the run's host, so nothing of it is opened.
+    Foreign,
 }
 
 /// A drive that lies in a file or on a block device, and how often a call on it failed.
@@ -63,6 +65,20 @@ impl Image {
         }
     }
 
+    /// A drive of so many blocks that isn't the host's own: each call on it fails.
+    pub fn foreign(blocks: u64) -> Image
+        requires { blocks ≤ 2 ^ 40 }
+        ensures state { result.state ≡ State.Foreign }
+        ensures blocks { result.blocks ≡ blocks }
+        ensures fresh { result.faults ≡ 0 }
+    {
+        Image {
+            state: State::Foreign,
+            blocks,
+            faults: 0,
+        }
+    }
+
     pub fn blocks(&self) -> u64
         ensures { result ≡ self.now.blocks }
     {
@@ -76,7 +92,7 @@ impl Image {
         match &self.state {
             State::Open(disk) => Some(disk.id()),
             State::Lost(id) => *id,
-            State::Shut(_) => None,
+            State::Shut(_) | State::Foreign => None,
         }
     }
 
@@ -89,7 +105,7 @@ impl Image {
                 .file()
                 .read_exact_at(out.as_flattened_mut(), at * BLOCK_BYTES)
                 .is_ok(),
-            State::Shut(_) | State::Lost(_) => false,
+            State::Shut(_) | State::Lost(_) | State::Foreign => false,
         };
         self.answer(done)
     }
@@ -103,7 +119,7 @@ impl Image {
                 .file()
                 .write_all_at(from.as_flattened(), at * BLOCK_BYTES)
                 .is_ok(),
-            State::Shut(_) | State::Lost(_) => false,
+            State::Shut(_) | State::Lost(_) | State::Foreign => false,
         };
         self.answer_change(done)
     }
@@ -113,7 +129,7 @@ impl Image {
     {
         let done = match &self.state {
             State::Open(disk) => disk.file().sync_data().is_ok(),
-            State::Shut(_) | State::Lost(_) => false,
+            State::Shut(_) | State::Lost(_) | State::Foreign => false,
         };
         self.answer_change(done)
     }

@@ -1,4 +1,4 @@
-ghost use Rattle.std.specs.Prelude.{◌≡◌, false, ◌∷◌, [], IsSome, IsTrue, IfSome, IfNone, map};
+ghost use Rattle.std.specs.Prelude.{◌≡◌, ◌↔◌, ◌∷◌, [], Contains, IsSome, IsTrue, IfSome, IfNone, map};
 ghost use Rattle.std.specs.String.{string_bytes};
 ghost use Rattle.mdv_home.specs.Home.{IsHome};
 ghost use Rattle.mdv_home.specs.declared.geometry.Home.{Home};
@@ -14,11 +14,9 @@ use std::fmt;
 pub enum Misfit {
     /// There are so many words in place of one.
     Words(usize),
-    /// The table doesn't have this host alone.
+    /// The table doesn't have this host.
     Host,
-    /// The table has so many drives in place of one.
-    Drives(usize),
-    /// The host has no home on its drive.
+    /// The host has no home on its drives.
     Home,
 }
 
@@ -31,33 +29,29 @@ pub fn misfit_of(words: &[String], table: &Geometry) -> Option<Misfit>
     let [host] = words else {
         return Some(Misfit::Words(words.len()));
     };
-    match home_in(table, host.as_bytes()) {
+    let host = host.as_bytes();
+    match home_in(table, host) {
         Some(_) => None,
-        None => Some(misfit_in(host.as_bytes(), table)),
+        None => Some(misfit_in(host, table)),
     }
 }
 
 // What doesn't fit where the host has no home in the table.
 fn misfit_in(host: &[u8], table: &Geometry) -> Misfit
+    requires { Fits (host.now ∷ []) table.now → ⊥ }
     ensures { IsMisfit (host.now ∷ []) table.now result }
 {
-    if !is_only_host(table.hosts.as_slice(), host) {
-        return Misfit::Host;
-    }
-    match table.drives.as_slice().len() {
-        1 => Misfit::Home,
-        count => Misfit::Drives(count),
+    if has_host(table.hosts.as_slice(), host) {
+        Misfit::Home
+    } else {
+        Misfit::Host
     }
 }
 
-fn is_only_host(hosts: &[Name], host: &[u8]) -> bool
-    ensures yes { IsTrue result → hosts.now ≡ host.now ∷ [] }
-    ensures no { result ≡ false → hosts.now ≡ host.now ∷ [] → ⊥ }
+fn has_host(hosts: &[Name], host: &[u8]) -> bool
+    ensures { IsTrue result ↔ Contains hosts.now host.now }
 {
-    match hosts {
-        [name] => name.as_bytes() == host,
-        _ => false,
-    }
+    hosts.iter().any(|name| name.as_bytes() == host)
 }
 
 impl fmt::Display for Misfit {
@@ -68,11 +62,10 @@ impl fmt::Display for Misfit {
     fn fmt<W: fmt::Write>(&self, f: &mut fmt::Formatter<W>) -> fmt::Result {
         match *self {
             Misfit::Words(count) => write!(f, "words: {count} in place of the one host"),
-            Misfit::Host => write!(f, "host: drives.tab doesn't have this host alone"),
-            Misfit::Drives(count) => write!(f, "drives: {count} in place of one"),
+            Misfit::Host => write!(f, "host: drives.tab doesn't have this host"),
             Misfit::Home => write!(
                 f,
-                "home: not exactly one slice of the host's own drive is marked db, or another has a block of it"
+                "home: not exactly one slice of the host's own drives is marked db, or another slice has a block of it"
             ),
         }
     }

@@ -1,8 +1,9 @@
-ghost use Rattle.std.specs.Prelude.{◌≡◌, ◌<◌, ◌≤◌, ◌+◌, ◌^◌, All, IfErr, IfOk, IsOk, vec_len, length};
+ghost use Rattle.std.specs.Prelude.{◌≡◌, ◌<◌, ◌≤◌, ◌+◌, ◌^◌, All, IfErr, IfOk, IsOk, false, map, not, vec_len, length};
+ghost use Rattle.std.specs.String.{string_bytes};
 ghost use Rattle.mdv_name.specs.declared.geometry.Geometry.{Geometry};
 ghost use Rattle.mdv_name.specs.Geometry.{IsGeometry as IsTable};
 ghost use Rattle.metad.specs.Bench.{sizes_of, sizes_in};
-ghost use Rattle.metad.specs.Opening.{HaveOwnFiles, HasNoFile, IsFresh, IsUnseen, lost_count, lost_one};
+ghost use Rattle.metad.specs.Opening.{HaveOwnFiles, HasNoFile, IsFresh, IsUnseen, foreign_in, foreign_of, is_foreign, is_own_by, lost_count, lost_one};
 
 use crate::disk::{Disk, Unopened};
 use crate::image::Image;
@@ -10,11 +11,11 @@ use crate::journal::SystemStart;
 use crate::lines::line_at;
 use crate::misfit::misfit_of;
 use crate::reason::{Call, LostDrive, Reason};
-use mdv_name::{DriveLine, Geometry, GeometryFault};
+use mdv_name::{DriveKind, DriveLine, Geometry, GeometryFault};
 use std::alloc::AllocError;
 use std::io::{self, ErrorKind};
 
-/// What a run starts with: the drives of the table, a line for each that is lost, and what is told where
+/// What a run starts with: the drives of the table, a line for each own one that is lost, and what is told where
 /// the use is faulty. All that is told is made before the run begins, while memory can still be had.
 #[derive(Drop)]
 pub struct Start {
@@ -23,8 +24,8 @@ pub struct Start {
     pub misfit: Option<String>,
 }
 
-/// Opens the drives of the table, in its order; none where the text isn't a table. Only memory may be
-/// wanting.
+/// Opens those drives of the table that are the own ones of the host that the words name, in its order; none where the words
+/// aren't one, and none where the text isn't a table. Only memory may be wanting.
 pub fn open_table(
     rt: &HostRuntime,
     words: &[String],
@@ -35,6 +36,7 @@ pub fn open_table(
     ensures drives { IfOk result (λ s. (t : Geometry) → IsTable table.now t → sizes_of s.images.items ≡ sizes_in t.drives) }
     ensures own { IfOk result (λ s. HaveOwnFiles s.images.items) }
     ensures lost { IfOk result (λ s. vec_len s.lost ≡ lost_count s.images.items) }
+    ensures foreign { IfOk result (λ s. (t : Geometry) → IsTable table.now t → foreign_of s.images.items ≡ foreign_in (map string_bytes words.now) t.drives) }
 {
     match Geometry::read(rt.alloc(), table) {
         Ok(geometry) => {
@@ -42,7 +44,7 @@ pub fn open_table(
                 Some(misfit) => Some(format!(in rt.alloc(); "{misfit}")?),
                 None => None,
             };
-            let opened = open_drives(rt, start, &geometry)?;
+            let opened = open_drives(rt, start, words, &geometry)?;
             Ok(Start {
                 images: opened.images,
                 lost: opened.lost,
@@ -84,6 +86,7 @@ struct Opened {
 fn open_drives(
     rt: &HostRuntime,
     start: &io::Result<SystemStart>,
+    words: &[String],
     geometry: &Geometry,
 ) -> Result<Opened, AllocError>
     requires { All (λ drive. drive.blocks ≤ 2 ^ 40) geometry.now.drives }
@@ -91,15 +94,56 @@ fn open_drives(
     ensures drives { IfOk result (λ o. sizes_of o.images.items ≡ sizes_in geometry.now.drives) }
     ensures own { IfOk result (λ o. HaveOwnFiles o.images.items) }
     ensures lost { IfOk result (λ o. vec_len o.lost ≡ lost_count o.images.items) }
+    ensures foreign { IfOk result (λ o. foreign_of o.images.items ≡ foreign_in (map string_bytes words.now) geometry.now.drives) }
 {
     let lines = geometry.drives.as_slice();
     let mut images = Vec::new(rt.alloc());
     let mut lost = Vec::new(rt.alloc());
     for line in lines {
-        let image = open_line(rt, start, line, &images, lines, &mut lost)?;
+        let image = image_of(rt, start, words, line, &images, lines, &mut lost)?;
         images.push(image)?;
     }
     Ok(Opened { images, lost })
+}
+
+// The drive of the line, which is opened where it is the host's own.
+fn image_of(
+    rt: &HostRuntime,
+    start: &io::Result<SystemStart>,
+    words: &[String],
+    line: &DriveLine,
+    others: &[Image],
+    lines: &[DriveLine],
+    lost: &mut Vec<String>,
+) -> Result<Image, AllocError>
+    requires few { line.now.blocks ≤ 2 ^ 40 }
+    requires lines { length others.now ≤ length lines.now }
+    ensures blocks { IfOk result (λ image. image.blocks ≡ line.now.blocks) }
+    ensures own { IfOk result (λ image. IsFresh others.now image) }
+    ensures lost { IfOk result (λ image. vec_len lost.new ≡ vec_len lost.old + lost_one image.state) }
+    ensures foreign { IfOk result (λ image. is_foreign image.state ≡ not (is_own_by (map string_bytes words.now) line.now.kind)) }
+{
+    if is_own(words, line.kind) {
+        open_line(rt, start, line, others, lines, lost)
+    } else {
+        Ok(Image::foreign(line.blocks))
+    }
+}
+
+// Whether the words name one host, and the drive is its own.
+fn is_own(words: &[String], kind: DriveKind) -> bool
+    ensures { result ≡ is_own_by (map string_bytes words.now) kind }
+{
+    let [host] = words else {
+        return false;
+    };
+    match kind {
+        DriveKind::Own {
+            drive: _,
+            host: owner,
+        } => owner.as_bytes() == host.as_bytes(),
+        DriveKind::Shared { .. } | DriveKind::Mediator { .. } => false,
+    }
 }
 
 // The drive of the line; where it is lost, that is told.
@@ -116,6 +160,7 @@ fn open_line(
     ensures blocks { IfOk result (λ image. image.blocks ≡ line.now.blocks) }
     ensures own { IfOk result (λ image. IsFresh others.now image) }
     ensures lost { IfOk result (λ image. vec_len lost.new ≡ vec_len lost.old + lost_one image.state) }
+    ensures tried { IfOk result (λ image. is_foreign image.state ≡ false) }
 {
     match open_drive(rt, start, line, others, lines) {
         Ok(disk) => Ok(Image::open(disk, line.blocks)),

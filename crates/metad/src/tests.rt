@@ -6,7 +6,6 @@ use super::*;
 use crate::disk::{Disk, FileId, Locked, Unopened};
 use crate::image::Image;
 use crate::journal::Note;
-use crate::misfit::Misfit;
 use crate::opening::Start;
 use mdv_base::{Block, DriveNo, Failed, Identity, ZERO_BLOCK};
 use mdv_port::Source;
@@ -104,13 +103,17 @@ enum Step {
     Soft(&'static str, &'static str),
     /// The drives are those with which a run over such a table begins, and of which this is told.
     Begin(&'static str, &'static str),
-    /// A run that begins beside it tells this, and ends.
+    /// A run of host a that begins beside it tells this, and ends.
     Beside(&'static str, &'static str),
+    /// A run of that host.
+    BesideOf(&'static str, &'static str, &'static str),
     End,
     /// The only drive is what is opened there, also for writing or not, and is noted by another path.
     Open(&'static str, bool, &'static str),
     /// The only drive was lost from the start.
     Lost,
+    /// The only drive is another host's.
+    Foreign,
     Done(Call),
     Fails(Call),
     /// The file has a block of each of these bytes, and no more.
@@ -214,12 +217,13 @@ impl Scene {
         Ok(true)
     }
 
-    fn start(&self, table: &str) -> io::Result<Start>
+    fn start(&self, host: &str, table: &str) -> io::Result<Start>
         ensures { IfOk result (λ start. vec_len start.images < 2 ^ 32) }
     {
+        let words = strings(self.rt.alloc(), &[host])?;
         let table = self.text(table)?;
         let system = self.system();
-        Ok(open_table(&self.rt, &[], table.as_bytes(), &system)?)
+        Ok(open_table(&self.rt, &words, table.as_bytes(), &system)?)
     }
 
     // Whether these are the lines of the drives that are lost.
@@ -233,14 +237,14 @@ impl Scene {
     }
 
     fn begin(&mut self, table: &str, lost: &str) -> io::Result<bool> {
-        let start = self.start(table)?;
+        let start = self.start("a", table)?;
         let is_told = self.tells(&start.lost, lost)?;
         self.bench = FileBench::new(start.images, Vec::new(self.rt.alloc()));
         Ok(is_told)
     }
 
-    fn beside(&self, table: &str, lost: &str) -> io::Result<bool> {
-        let start = self.start(table)?;
+    fn beside(&self, host: &str, table: &str, lost: &str) -> io::Result<bool> {
+        let start = self.start(host, table)?;
         self.tells(&start.lost, lost)
     }
 
@@ -251,8 +255,8 @@ impl Scene {
         Ok(true)
     }
 
-    fn lose(&mut self) -> io::Result<bool> {
-        self.bench = one_drive(self.rt.alloc(), Image::lost(8, None))?;
+    fn take(&mut self, image: Image) -> io::Result<bool> {
+        self.bench = one_drive(self.rt.alloc(), image)?;
         Ok(true)
     }
 
@@ -365,9 +369,11 @@ impl Scene {
             Step::Hard(path, link) => self.hard(path, link),
             Step::Soft(path, link) => self.soft(path, link),
             Step::Begin(table, lost) => self.begin(table, lost),
-            Step::Beside(table, lost) => self.beside(table, lost),
+            Step::Beside(table, lost) => self.beside("a", table, lost),
+            Step::BesideOf(host, table, lost) => self.beside(host, table, lost),
             Step::Open(path, writable, noted) => self.hold(path, *writable, noted),
-            Step::Lost => self.lose(),
+            Step::Lost => self.take(Image::lost(8, None)),
+            Step::Foreign => self.take(Image::foreign(8)),
             Step::Has(path, bytes) => self.has(path, bytes),
             Step::Remembers(path) => self.remembers(path),
             Step::Names(path, want) => self.names(path, *want),
@@ -518,6 +524,47 @@ const LOST_DRIVE: &[Step] = &[
     Step::Fails(Call::Sync),
 ];
 
+const FOREIGN_DRIVE: &[Step] = &[
+    Step::Foreign,
+    Step::Done(Call::Give),
+    Step::Fails(Call::Read(7, &[0])),
+    Step::Fails(Call::Write(7, &[0])),
+    Step::Fails(Call::Sync),
+    Step::Fails(Call::Read(0, &[0])),
+];
+
+// Two hosts, of which b has a drive without a file, a drive that both reach, and a mediator.
+const TWO_HOSTS: &str = "host a
+host b
+drive c0t0d0 8 a @a0.img
+drive c0t1d0 8 b @b1.img
+drive c0t2d0 8 a @a2.img
+drive c0t3d0 8 b @none
+drive c0t4d0 8 shared @shared
+mediator a 32 @mediator
+";
+
+const TWO_RUNS: &[Step] = &[
+    Step::File("@a0.img", 8),
+    Step::File("@b1.img", 8),
+    Step::File("@a2.img", 8),
+    Step::Begin(TWO_HOSTS, ""),
+    Step::BesideOf("b", TWO_HOSTS, "c0t3d0 @none: missing\n"),
+    Step::Beside(
+        TWO_HOSTS,
+        "c0t0d0 @a0.img: in use by another run\nc0t2d0 @a2.img: in use by another run\n",
+    ),
+    Step::BesideOf("c", TWO_HOSTS, ""),
+    Step::End,
+    Step::Beside(TWO_HOSTS, ""),
+    Step::Hard("@b1.img", "@none"),
+    Step::BesideOf(
+        "b",
+        TWO_HOSTS,
+        "c0t3d0 @none: the same file as drive c0t1d0\n",
+    ),
+];
+
 const UNSYNCED: &[Step] = &[
     Step::Unsynced("/dev/null", "/third"),
     Step::Names("/third", true),
@@ -531,6 +578,8 @@ const SCENES: &[(&str, &[Step])] = &[
     ("a_full_disk_shuts_a_drive", FULL_DISK),
     ("a_lost_drive_fails_and_replies_are_told", LOST_DRIVE),
     ("a_file_that_cannot_be_synced_is_no_drive", UNSYNCED),
+    ("a_drive_of_another_host_fails", FOREIGN_DRIVE),
+    ("runs_of_two_hosts_open_their_own_drives", TWO_RUNS),
 ];
 
 // The place of the first step that isn't so. Where there is none, the folder goes.
@@ -556,20 +605,33 @@ drive c0t0d0 8 a none
 slice c0t0d0s7 0 8 db
 ";
 
+const NO_HOST: &str = "host: drives.tab doesn't have this host";
+
+const NO_HOME: &str =
+    "home: not exactly one slice of the host's own drives is marked db, or another slice has a block of it";
+
 // The words, the table of drives, and what standard error has behind Usage.
 const MISFITS: &[(&[&str], &str, &str)] = &[
     (&[], HOME, "words: 0 in place of the one host"),
     (&["a", "b"], HOME, "words: 2 in place of the one host"),
+    (&["b"], HOME, NO_HOST),
+    (&["a"], "", NO_HOST),
+    (&["a"], "host a\n", NO_HOME),
+    (&["a"], "host a\ndrive c0t0d0 8 a none\n", NO_HOME),
     (
         &["b"],
-        HOME,
-        "host: drives.tab doesn't have this host alone",
+        "host a\nhost b\ndrive c0t0d0 8 a none\nslice c0t0d0s7 0 8 db\n",
+        NO_HOME,
     ),
-    (&["a"], "host a\n", "drives: 0 in place of one"),
     (
         &["a"],
-        "host a\ndrive c0t0d0 8 a none\n",
-        "home: not exactly one slice of the host's own drive is marked db, or another has a block of it",
+        "host a\ndrive c0t0d0 8 a none\ndrive c0t1d0 8 a none\nslice c0t0d0s7 0 8 db\nslice c0t1d0s7 0 8 db\n",
+        NO_HOME,
+    ),
+    (
+        &["a"],
+        "host a\ndrive c0t0d0 8 a none\nslice c0t0d0s7 0 8 db\nslice c0t0d0s0 7 1\n",
+        NO_HOME,
     ),
     (
         &["a"],
@@ -599,18 +661,32 @@ fn has_misfit(rt: &HostRuntime, words: &[&str], table: &str, want: &str) -> bool
     }
 }
 
+// A use that fits: the host's own db slice lies on its second drive, and drives of others have such slices too.
+const FITTING: &str = "host a
+host b
+drive c0t0d0 8 b none
+drive c0t1d0 8 a none
+drive c0t2d0 8 a none
+drive c0t3d0 8 shared none
+slice c0t0d0s7 0 8 db
+slice c0t2d0s7 0 8 db
+slice c0t3d0s7 0 8 db
+";
+
 #[test]
 fn tells_what_does_not_fit(rt: HostRuntime) {
     for (words, table, want) in MISFITS {
         assert!(rt; has_misfit(&rt, words, table, want), "{want}");
     }
-    let three = shows(rt.alloc(), Misfit::Drives(3), "drives: 3 in place of one");
-    assert!(rt; three == Ok(true));
+    for host in ["a", "b"] {
+        let fitting = misfit(&rt, &[host], FITTING);
+        assert!(rt; matches!(fitting, Ok(None)), "{host}");
+    }
 }
 
 const NO_IMAGE: &[u8] = b"host a
 drive c0t0d0 8 a no-such-image
-slice c0t0d0s7 0 8 db
+slice c0t0d0s7 0 8
 ";
 
 fn is_faulty_use(ending: &Ending) -> bool {
@@ -618,13 +694,13 @@ fn is_faulty_use(ending: &Ending) -> bool {
         return false;
     };
     status::number(&ending.status) == 2
-        && misfit.as_str() == "host: drives.tab doesn't have this host alone"
+        && misfit.as_str() == NO_HOME
         && lost.as_str() == "c0t0d0 no-such-image: missing"
 }
 
 #[test]
 fn a_faulty_use_is_told_with_its_causes(rt: HostRuntime) {
-    let Ok(words) = strings(rt.alloc(), &["b"]) else {
+    let Ok(words) = strings(rt.alloc(), &["a"]) else {
         assert!(rt; false);
         return;
     };

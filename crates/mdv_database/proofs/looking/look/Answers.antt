@@ -1,108 +1,99 @@
-use Rattle.std.proofs.Common.{◌≡◌, ◌∙◌, ℕ, List, Option, Some, Ok, ap, subst, refl, arith, rules}
-use Rattle.mdv_database.specs.Below.{Tale, Then, Synced, last, and_then}
-use Rattle.mdv_shelf.specs.Shelves.{KeptOn, MadeCalls}
-use Rattle.mdv_shelf.proofs.Between.{between_of, between_one, between_then}
-use Rattle.mdv_shelf.proofs.Blocks.{last_unwritten}
-use Rattle.mdv_shelf.proofs.Counts.{took_more, took_one}
-use Rattle.mdv_shelf.proofs.Settled.{synced_drive}
-use Rattle.mdv_database.proofs.Counting.{err_is, looked_counted}
-use Rattle.mdv_database.proofs.Finding.{looked_by}
-use Rattle.mdv_database.specs.Counts.{made_behind}
-use Rattle.mdv_shelf.specs.Made.{made_of}
+use Rattle.std.proofs.Common.{◌<◌, ◌∙◌, Ok, Err, slice_index_or, arith}
+use Rattle.mdv_shelf.proofs.InTime.{kept_on_more}
+use Rattle.mdv_shelf.specs.Tale.{last}
+use Rattle.mdv_database.specs.Below.{Site}
 use Rattle.mdv_database.specs.Database.{site_of}
-use Rattle.mdv_database.specs.Looks.{Finds}
-use Rattle.mdv_database.proofs.Quiet.{unwritten_synced}
-use Rattle.mdv_shelf.specs.Calls.{OnDrive}
-use Rattle.mdv_shelf.proofs.InTime.{kept_on_call, kept_on_more}
+use Rattle.mdv_database.proofs.Counting.{err_is, found_counted, head_counted}
+use Rattle.mdv_database.proofs.Finding.{headed_by, headless_by, looked_at, not_found}
+use Rattle.mdv_database.proofs.Quiet.{if_some_weaker}
 use Rattle.mdv_database.proofs.looking.look.Goals as goal
-use Rattle.mdv_database.proofs.looking.look.Goals.{After-find}
+use Rattle.mdv_database.proofs.looking.look.Goals.{After-head_at, In-Ok-Some}
 
--- the reads leave the tale, and the sync is one call more
-synced_tale : (g : _) (c : After-find g) → g.S.Shelf.tale c.sync.new.self ≡ and_then (g.S.Shelf.tale c.args.shelf.now) (Synced c.args.at.drive.0)
-synced_tale g c = c.in-Ok-sync.ensures.syncs ∙ ap (λ (o : Option Tale). and_then o (Synced c.args.at.drive.0)) c.read.ensures.reads.same
+abbrev site : (g : _) (c : After-head_at g) → Site
+site g c = site_of c.args.drives.now c.args.key.now c.args.at (g.S.Shelf.sizes c.args.shelf.now)
 
--- the read and the sync
-two : (g : _) (c : After-find g) → MadeCalls g.S.Shelf c.args.shelf.now c.sync.new.self 2 0
-two g c =
-    took_more g.S.Shelf.calls g.S.Shelf.written _ _ _ 1 1 0 0 2 0 (omega arith) (omega arith)
-    (took_one g.S.Shelf.calls g.S.Shelf.written _ _ 0 c.read.ensures.counted) (took_one g.S.Shelf.calls g.S.Shelf.written _ _ 0 c.sync.ensures.counted)
+-- no head is there
+pub returns-in-Ok-None-clause-reads : goal.returns-in-Ok-None-clause-reads
+returns-in-Ok-None-clause-reads g c = record {
+  same = c.head_at.ensures.reads.same;
+  gave = λ t is. (
+      let here = site g (goal.at.returns-in-Ok-None-clause-reads g c).After-head_at in
+      let seen = rw c.in-Ok-None.field-0-is at (c.in-Ok-None.ensures.reads.gave t is) in
+      record { found = λ head replica shown. absurd (cc (seen.spelled head replica.readable.of_head)); looked = headless_by g.S.Shelf here (last t c.args.at.drive.0) _ _ c.head_at.ensures.counted });
+}
 
--- what was found there is told of the blocks before the sync, and of the calls before it too
-finds : (g : _) (c : After-find g) (t : Tale) → g.S.Shelf.tale c.args.shelf.now ≡ Some t
-    → Finds (made_of g.S.Shelf c.args.shelf.now c.find.new.shelf) (site_of c.args.drives.now c.args.key.now c.args.at (g.S.Shelf.sizes c.args.shelf.now)) (last t c.args.at.drive.0) c.find.result
-finds g c t is =
-    let told = synced_tale g c ∙ ap (λ (o : Option Tale). and_then o (Synced c.args.at.drive.0)) is in
-    let now = c.find.ensures.reads.gave (Then t (Synced c.args.at.drive.0)) told in
-    let content : last (Then t (Synced c.args.at.drive.0)) c.args.at.drive.0 ≡ last t c.args.at.drive.0 = λ i block. last_unwritten t (Synced c.args.at.drive.0) c.args.at.drive.0 block refl i in
-    let sizes : g.S.Shelf.sizes c.sync.new.self ≡ g.S.Shelf.sizes c.args.shelf.now = c.sync.ensures.keeps.same_sizes ∙ c.read.ensures.keeps.same_sizes in
-    let here : Finds (made_behind g.S.Shelf 2 c.sync.new.self c.find.new.shelf) (site_of c.args.drives.now c.args.key.now c.args.at (g.S.Shelf.sizes c.args.shelf.now)) (last t c.args.at.drive.0) c.find.result =
-    subst (λ (s : List ℕ). Finds (made_behind g.S.Shelf 2 c.sync.new.self c.find.new.shelf) (site_of c.args.drives.now c.args.key.now c.args.at s) (last t c.args.at.drive.0) c.find.result) sizes
-    (subst (λ (f : ℕ → List ℕ). Finds (made_behind g.S.Shelf 2 c.sync.new.self c.find.new.shelf) (site_of c.args.drives.now c.args.key.now c.args.at (g.S.Shelf.sizes c.sync.new.self)) f c.find.result) content now) in
-    record { found = here.found; looked = looked_by g.S.Shelf (site_of c.args.drives.now c.args.key.now c.args.at (g.S.Shelf.sizes c.args.shelf.now)) (last t c.args.at.drive.0) _ _ _ c.find.result (two g c) here.looked }
+-- or another one
+pub returns-then-not-is_of_database-clause-reads : goal.returns-then-not-is_of_database-clause-reads
+returns-then-not-is_of_database-clause-reads g c = record {
+  same = c.head_at.ensures.reads.same;
+  gave = λ t is. (
+      let here = site g (goal.at.returns-then-not-is_of_database-clause-reads g c).After-head_at in
+      let seen = rw c.in-Ok-Some.field-0-is at (c.in-Ok-Some.ensures.reads.gave t is) in
+      record {
+        found = not_found here (last t c.args.at.drive.0) c.in-Ok-Some.head seen.value (λ both. absurd (cc (c.if-not-is_of_database.true, c.is_of_database.ensures.1 both)));
+        looked = headless_by g.S.Shelf here (last t c.args.at.drive.0) _ _ c.head_at.ensures.counted;
+      });
+}
 
-pub returns-in_err-found-clause-moments : goal.returns-in_err-found-clause-moments
-returns-in_err-found-clause-moments g c = unwritten_synced c.args.at.drive.0 _ _ (c.find.ensures.reads.same ∙ synced_tale g (goal.at.returns-in_err-found-clause-moments g c).After-find)
+pub returns-in_ok-found-in-Ok-Some-clause-reads : goal.returns-in_ok-found-in-Ok-Some-clause-reads
+returns-in_ok-found-in-Ok-Some-clause-reads g c = record {
+  same = c.in_ok-found-in-Ok-Some.ensures.reads.same ∙ c.head_at.ensures.reads.same;
+  gave = λ t is. (
+      let here = site g (goal.at.returns-in_ok-found-in-Ok-Some-clause-reads g c).After-head_at in
+      let seen = rw c.in-Ok-Some.field-0-is at (c.in-Ok-Some.ensures.reads.gave t is) in
+      let of_database = c.is_of_database.ensures.0 c.if-not-is_of_database.false in
+      record {
+        found = looked_at here (last t c.args.at.drive.0) c.in-Ok-Some.head seen.value of_database.0 of_database.1 c.in_ok-found-in-Ok-Some.found
+            (if_some_weaker c.in_ok-found-in-Ok-Some.found _ _ (λ found there. there.in_hand) (rw c.head_at.ensures.kept.keeps.same_sizes at c.in_ok-found-in-Ok-Some.ensures.answer.is))
+            (c.in_ok-found-in-Ok-Some.ensures.reads.gave t (c.head_at.ensures.reads.same ∙ is));
+        looked = headed_by g.S.Shelf here (last t c.args.at.drive.0) _ _ c.head_at.ensures.counted c.in-Ok-Some.head seen.value of_database.0 of_database.1 _ (Ok c.in_ok-found-in-Ok-Some.found)
+            c.in_ok-found-in-Ok-Some.ensures.same c.in_ok-found-in-Ok-Some.ensures.counted;
+      });
+}
 
-pub returns-in_err-found-clause-end : goal.returns-in_err-found-clause-end
-returns-in_err-found-clause-end g c = λ t is. (
-  Then t (Synced c.args.at.drive.0),
-  c.find.ensures.reads.same ∙ synced_tale g (goal.at.returns-in_err-found-clause-end g c).After-find ∙ ap (λ (o : Option Tale). and_then o (Synced c.args.at.drive.0)) is,
-  record {
-    finds = rw (err_is c.from_residual.result c.in_err-found.field-0.0 c.from_residual.ensures.1) (rw (c.in_err-found.was {u = tt}) at (finds g (goal.at.returns-in_err-found-clause-end g c).After-find t is));
-    synced = search rules;
-  },
-)
+pub returns-in_err-found-in-Ok-Some-clause-reads : goal.returns-in_err-found-in-Ok-Some-clause-reads
+returns-in_err-found-in-Ok-Some-clause-reads g c = rw (err_is c.from_residual.result c.in_err-found-in-Ok-Some.field-0.0 c.from_residual.ensures.1) (record {
+  same = c.find_table.ensures.reads.same ∙ c.head_at.ensures.reads.same;
+  gave = λ t is. (
+      let here = site g (goal.at.returns-in_err-found-in-Ok-Some-clause-reads g c).After-head_at in
+      let seen = rw c.in-Ok-Some.field-0-is at (c.in-Ok-Some.ensures.reads.gave t is) in
+      let of_database = c.is_of_database.ensures.0 c.if-not-is_of_database.false in
+      record {
+        found = tt;
+        looked = headed_by g.S.Shelf here (last t c.args.at.drive.0) _ _ c.head_at.ensures.counted c.in-Ok-Some.head seen.value of_database.0 of_database.1 _ (Err c.in_err-found-in-Ok-Some.field-0.0) tt c.in_err-found-in-Ok-Some.ensures.counted;
+      });
+})
 
-pub returns-clause-moments : goal.returns-clause-moments
-returns-clause-moments g c = unwritten_synced c.args.at.drive.0 _ _ (c.find.ensures.reads.same ∙ synced_tale g (goal.at.returns-clause-moments g c).After-find)
+-- the drive has the place's first block
+there : (g : _) (c : In-Ok-Some g) → c.args.at.first < slice_index_or (g.S.Shelf.sizes c.args.shelf.now) c.args.at.drive.0 0
+there g c =
+    let form = rw c.in-Ok-Some.field-0-is at c.in-Ok-Some.ensures.form in
+    let within = form.of_place.within in
+    let least = form.of_place.least in
+    omega (arith, within, least)
 
-pub returns-clause-end : goal.returns-clause-end
-returns-clause-end g c = λ t is. (
-  Then t (Synced c.args.at.drive.0),
-  c.find.ensures.reads.same ∙ synced_tale g (goal.at.returns-clause-end g c).After-find ∙ ap (λ (o : Option Tale). and_then o (Synced c.args.at.drive.0)) is,
-  record { finds = rw (c.in_ok-found.was {u = tt}) at (finds g (goal.at.returns-clause-end g c).After-find t is); synced = synced_drive t c.args.at.drive.0 },
-)
+pub returns-in_ok-found-in-Ok-Some-clause-counted : goal.returns-in_ok-found-in-Ok-Some-clause-counted
+returns-in_ok-found-in-Ok-Some-clause-counted g c =
+    found_counted g.S.Shelf _ _ _ c.in-Ok-Some.head c.args.at.first _ (Ok c.in_ok-found-in-Ok-Some.found) (there g (goal.at.returns-in_ok-found-in-Ok-Some-clause-counted g c).In-Ok-Some)
+    c.in_ok-found-in-Ok-Some.ensures.same c.head_at.ensures.counted c.in_ok-found-in-Ok-Some.ensures.counted
 
-pub returns-in-Err-clause-end : goal.returns-in-Err-clause-end
-returns-in-Err-clause-end g c = λ t is. (t, c.read.ensures.reads.same ∙ is, record { finds = record { found = tt; looked = tt }; synced = tt })
+pub returns-in_err-found-in-Ok-Some-clause-counted : goal.returns-in_err-found-in-Ok-Some-clause-counted
+returns-in_err-found-in-Ok-Some-clause-counted g c =
+    rw (err_is c.from_residual.result c.in_err-found-in-Ok-Some.field-0.0 c.from_residual.ensures.1)
+    (found_counted g.S.Shelf _ _ _ c.in-Ok-Some.head c.args.at.first _ (Err c.in_err-found-in-Ok-Some.field-0.0) (there g (goal.at.returns-in_err-found-in-Ok-Some-clause-counted g c).In-Ok-Some)
+    tt c.head_at.ensures.counted c.in_err-found-in-Ok-Some.ensures.counted)
 
-pub returns-in-Err-sync-clause-end : goal.returns-in-Err-sync-clause-end
-returns-in-Err-sync-clause-end g c = λ t is. (t, c.in-Err-sync.ensures.syncs ∙ c.read.ensures.reads.same ∙ is, record { finds = record { found = tt; looked = tt }; synced = tt })
+pub returns-then-not-is_of_database-clause-counted : goal.returns-then-not-is_of_database-clause-counted
+returns-then-not-is_of_database-clause-counted g c = head_counted g.S.Shelf _ _ c.args.at.first _ c.head_at.ensures.counted
+
+pub returns-in-Ok-None-clause-counted : goal.returns-in-Ok-None-clause-counted
+returns-in-Ok-None-clause-counted g c = head_counted g.S.Shelf _ _ c.args.at.first _ c.head_at.ensures.counted
 
 pub returns-in-Err-clause-counted : goal.returns-in-Err-clause-counted
-returns-in-Err-clause-counted g c = between_of g.S.Shelf.calls g.S.Shelf.written _ _ 1 0 1 5 0 (omega arith) (omega arith) (omega arith) (took_one g.S.Shelf.calls g.S.Shelf.written _ _ 0 c.read.ensures.counted)
+returns-in-Err-clause-counted g c = head_counted g.S.Shelf _ _ c.args.at.first _ c.head_at.ensures.counted
 
-pub returns-in-Err-sync-clause-counted : goal.returns-in-Err-sync-clause-counted
-returns-in-Err-sync-clause-counted g c =
-    between_then g.S.Shelf.calls g.S.Shelf.written _ _ _ 1 1 0 1 1 0 1 5 0 (omega arith) (omega arith) (omega arith)
-    (between_one g.S.Shelf.calls g.S.Shelf.written _ _ 0 c.read.ensures.counted) (between_one g.S.Shelf.calls g.S.Shelf.written _ _ 0 c.sync.ensures.counted)
+pub returns-in_err-found-in-Ok-Some-clause-kept : goal.returns-in_err-found-in-Ok-Some-clause-kept
+returns-in_err-found-in-Ok-Some-clause-kept g c = kept_on_more c.in-Ok-Some.ensures.cause.calm c.head_at.ensures.kept c.find_table.ensures.kept
 
-pub returns-in_err-found-clause-counted : goal.returns-in_err-found-clause-counted
-returns-in_err-found-clause-counted g c = looked_counted g.S.Shelf _ _ _ c.from_residual.result (two g (goal.at.returns-in_err-found-clause-counted g c).After-find)
-    (rw (err_is c.from_residual.result c.in_err-found.field-0.0 c.from_residual.ensures.1) c.in_err-found.ensures.counted)
-
-pub returns-clause-counted : goal.returns-clause-counted
-returns-clause-counted g c = looked_counted g.S.Shelf _ _ _ (Ok c.in_ok-found.found) (two g (goal.at.returns-clause-counted g c).After-find) c.in_ok-found.ensures.counted
-
-pub returns-in-Err-clause-kept : goal.returns-in-Err-clause-kept
-returns-in-Err-clause-kept g c = kept_on_call g.S.Shelf (OnDrive c.args.at.drive.0) _ _ c.read.ensures.noted c.read.ensures.keeps c.read.ensures.cause.others
-
-pub returns-in-Err-sync-clause-kept : goal.returns-in-Err-sync-clause-kept
-returns-in-Err-sync-clause-kept g c =
-    kept_on_more (search rules) (kept_on_call g.S.Shelf (OnDrive c.args.at.drive.0) _ _ c.read.ensures.noted c.read.ensures.keeps c.read.ensures.cause.others)
-    (kept_on_call g.S.Shelf (OnDrive c.args.at.drive.0) _ _ c.sync.ensures.noted c.sync.ensures.keeps c.sync.ensures.cause.others)
-
--- no call stands behind one that failed
-all_kept : (g : _) (c : After-find g) → KeptOn g.S.Shelf c.args.shelf.now c.find.new.shelf (OnDrive c.args.at.drive.0)
-all_kept g c =
-    kept_on_more (c.in-Ok-sync.ensures.cause.own.calm ∙ search rules)
-    (kept_on_more (search rules)
-    (kept_on_call g.S.Shelf (OnDrive c.args.at.drive.0) _ _ c.read.ensures.noted c.read.ensures.keeps c.read.ensures.cause.others)
-    (kept_on_call g.S.Shelf (OnDrive c.args.at.drive.0) _ _ c.sync.ensures.noted c.sync.ensures.keeps c.sync.ensures.cause.others))
-    c.find.ensures.kept
-
-pub returns-in_err-found-clause-kept : goal.returns-in_err-found-clause-kept
-returns-in_err-found-clause-kept g c = all_kept g (goal.at.returns-in_err-found-clause-kept g c).After-find
-
-pub returns-clause-kept : goal.returns-clause-kept
-returns-clause-kept g c = all_kept g (goal.at.returns-clause-kept g c).After-find
+pub returns-in_ok-found-in-Ok-Some-clause-kept : goal.returns-in_ok-found-in-Ok-Some-clause-kept
+returns-in_ok-found-in-Ok-Some-clause-kept g c = kept_on_more c.in-Ok-Some.ensures.cause.calm c.head_at.ensures.kept c.find_table.ensures.kept

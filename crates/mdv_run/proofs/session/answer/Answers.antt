@@ -15,17 +15,19 @@ use Rattle.mdv_base.specs.declared.refusal.Refusal.TheVariants.{BadLine}
 use Rattle.mdv_shelf.specs.Shelves.{DriveFailures, GivingFailed}
 use Rattle.mdv_shelf.proofs.Moments.{moments_weaker}
 use Rattle.mdv_engine_law.proofs.Plain.{bad_line_plain}
-use Rattle.mdv_engine_law.proofs.Staying.{turn_stays}
+use Rattle.mdv_engine_law.proofs.Staying.{stays_still, turn_stays}
 use Rattle.mdv_run_law.proofs.Turning.{line_moment, line_ran}
 use Rattle.mdv_run_law.proofs.Entries.{command_entries, tab_entries}
-use Rattle.mdv_run.specs.Promise.{LineEnd}
+use Rattle.mdv_run.specs.Promise.{IsWorkOf, LineEnd}
+use Rattle.mdv_engine_law.specs.Standing.{LeavesDone}
+use Rattle.mdv_words.specs.declared.command.Command.{Command}
 use Rattle.mdv_shelf.proofs.InTime.{in_time_of_on}
 use Rattle.mdv_shelf.proofs.Noted.{moment_weaker}
 use Rattle.mdv_run.proofs.Fronts.{AnswerFront, LineFront, front_of, only_refused}
 use Rattle.mdv_engine.specs.Ends.{CarriesOut, OnlyAnswers}
 use Rattle.mdv_engine.specs.Tab.{KeepsLines}
 use Rattle.mdv_engine.proofs.Entering.{kept_begun, kept_host, kept_well}
-use Rattle.mdv_run.proofs.Answering.{uncut_replied, command_reply, told_reply, no_boot, line_executed, refused_turned, refused_down, refused_keeps, refused_knows, turn_writes}
+use Rattle.mdv_run.proofs.Answering.{asks_none, command_works, stays_as, uncut_replied, command_reply, told_reply, no_boot, line_executed, refused_turned, refused_down, refused_keeps, refused_knows, turn_home, turn_writes}
 use Rattle.mdv_run.proofs.session.answer.Goals as goal
 
 pub exec-requires-clause-form : goal.exec-requires-clause-form
@@ -53,16 +55,17 @@ returns-in-Ok-Command-clause-end g c = λ t told.
     let new = c.exec.new.self.state in
     let command = c.in-Ok-Command.command in
     let is : IsLine c.args.line.now (words.Exec c.in-Ok-Command.command) = rw c.in-Ok-Command.field-0-is at c.in-Ok-Command.ensures.value in
-    let drive = DriveFailures g.B.Shelf c.args.bench.now c.exec.new.bench 0 in
+    let outcomes = DriveFailures g.B.Shelf c.args.bench.now c.exec.new.bench in
     let replies = GivingFailed g.B.Shelf c.args.bench.now c.exec.new.bench in
     let made = made_of g.B.Shelf c.args.bench.now c.exec.new.bench in
     let end = c.exec.ensures.end t told in (
       end.0,
       end.1,
       record {
-        answered = λ knows. line_executed c.args.line.now (words.Exec command) is drive replies made host old new c.exec.result t end.0 (end.2.answered knows) (turn_writes host (asked_by host command) old _ _ c.exec.ensures.moments.each t end.0 told end.1);
-        ran = λ on more. line_ran host c.args.line.now (asked_by host command) more old new t end.0 (end.2.turned on) (inl (inr (words.Exec command, is, refl))) (inl (no_boot c.args.line.now (words.Exec command) is (λ same. cc (same))))
-            (λ knows. command_entries drive replies made host old new c.exec.result t end.0 c.args.line.now (end.2.turned on).bytes (end.2.turned on).is_told command is (end.2.answered knows) on);
+        answered = λ knows. line_executed c.args.line.now (words.Exec command) is outcomes replies made host old new c.exec.result t end.0 (end.2.answered knows) (turn_writes host (asked_by host command) old _ _ c.exec.ensures.moments.each t end.0 told end.1)
+            end.2.quiet (λ ok other same. subst (λ (x : Command). LeavesDone host old x end.0) (cc (same)) (end.2.done ok));
+        ran = λ on more. line_ran host c.args.line.now (asked_by host command) more old new t end.0 (end.2.turned on) (turn_home host (asked_by host command) old _ _ c.exec.ensures.moments.each t end.0 told end.1) (inl (inr (words.Exec command, is, refl))) (inl (no_boot c.args.line.now (words.Exec command) is (λ same. cc (same))))
+            (λ knows. command_entries outcomes replies made host old new c.exec.result t end.0 c.args.line.now (end.2.turned on).bytes (end.2.turned on).is_told command is (end.2.answered knows) on);
         knows = end.2.knows;
       },
     )
@@ -73,21 +76,22 @@ returns-in-Ok-Command-clause-stays g c = record {
   told = c.exec.ensures.counted.told;
   given = c.exec.ensures.counted.given;
   rests = c.exec.ensures.moments.rests;
+  writes = command_works c.args.engine.now c.args.line.now c.in-Ok-Command.command (rw c.in-Ok-Command.field-0-is at c.in-Ok-Command.ensures.value) _ _ c.exec.ensures.moments.each;
   tells =
       let is : IsLine c.args.line.now (words.Exec c.in-Ok-Command.command) = rw c.in-Ok-Command.field-0-is at c.in-Ok-Command.ensures.value in
       moment_weaker g.B.Shelf (λ t m. Knows c.args.engine.now.host c.args.engine.now.state t.tale → TellsFront (CarriesOut c.args.engine.now.host c.in-Ok-Command.command) c.args.engine.now.state t m) (LineFront c.args.engine.now.host c.args.line.now c.args.engine.now.state) _ _
-      (λ t m up down here known. front_of (CarriesOut c.args.engine.now.host c.in-Ok-Command.command) (λ failures kept answer next. IsAnswered failures c.args.engine.now.host kept c.args.line.now answer next) c.args.engine.now.state t m (λ failures kept answer next came. inr (inl (words.Exec c.in-Ok-Command.command, is, came))) (here known)) c.exec.ensures.moments.fronts;
+      (λ t m up down here known. front_of (CarriesOut c.args.engine.now.host c.in-Ok-Command.command) (λ outcomes kept answer next. IsAnswered outcomes c.args.engine.now.host kept c.args.line.now answer next) c.args.engine.now.state t m (λ outcomes kept answer next came. inr (inl (words.Exec c.in-Ok-Command.command, is, came))) (here known)) c.exec.ensures.moments.fronts;
 }
 
 pub returns-in-Ok-Command-clause-answer : goal.returns-in-Ok-Command-clause-answer
 returns-in-Ok-Command-clause-answer g c = record {
-  cause = command_reply (DriveFailures g.B.Shelf c.args.bench.now c.exec.new.bench 0) _ c.exec.result c.exec.ensures.answer.cause;
+  cause = command_reply (DriveFailures g.B.Shelf c.args.bench.now c.exec.new.bench) _ c.exec.result c.exec.ensures.answer.cause;
   same = c.exec.ensures.answer.host;
   well = c.exec.ensures.answer.well;
   begun = c.exec.ensures.answer.begun;
   counted = λ n calls.
       let is : IsLine c.args.line.now (words.Exec c.in-Ok-Command.command) = rw c.in-Ok-Command.field-0-is at c.in-Ok-Command.ensures.value in
-      subst (λ (k : ℕ). RoseByAtMost k (g.B.Shelf.calls c.args.bench.now) (g.B.Shelf.calls c.exec.new.bench)) (sym (spelled_calls c.args.line.now (words.Exec c.in-Ok-Command.command) is n calls)) c.exec.ensures.counted.most.in_calls;
+      subst (λ (k : ℕ). RoseByAtMost k (g.B.Shelf.calls c.args.bench.now) (g.B.Shelf.calls c.exec.new.bench)) (sym (spelled_calls c.args.engine.now.host c.args.line.now (words.Exec c.in-Ok-Command.command) is n calls)) c.exec.ensures.counted.most.in_calls;
 }
 
 -- a block of entries
@@ -106,16 +110,16 @@ returns-in-Ok-Tab-clause-end g c = λ t told.
     let new = c.keep_tab.new.self.state in
     let lines = c.in-Ok-Tab.lines.now in
     let is : IsLine c.args.line.now (words.Tab c.in-Ok-Tab.lines.now) = rw c.in-Ok-Tab.field-0-is at c.in-Ok-Tab.ensures.value in
-    let drive = DriveFailures g.B.Shelf c.args.bench.now c.keep_tab.new.bench 0 in
+    let outcomes = DriveFailures g.B.Shelf c.args.bench.now c.keep_tab.new.bench in
     let replies = GivingFailed g.B.Shelf c.args.bench.now c.keep_tab.new.bench in
     let made = made_of g.B.Shelf c.args.bench.now c.keep_tab.new.bench in
     let end = c.keep_tab.ensures.end t told in (
       end.0,
       end.1,
       record {
-        answered = λ knows. line_executed c.args.line.now (words.Tab lines) is drive replies made host old new c.keep_tab.result t end.0 end.2.answered end.2.kept;
-        ran = λ on more. line_ran host c.args.line.now Nothing more old new t end.0 (end.2.turned on) (inl (inr (words.Tab lines, is, refl))) (inl (no_boot c.args.line.now (words.Tab lines) is (λ same. cc (same))))
-            (λ knows. tab_entries drive replies made host old new c.keep_tab.result t end.0 c.args.line.now (end.2.turned on).bytes (end.2.turned on).is_told lines is end.2.answered on);
+        answered = λ knows. line_executed c.args.line.now (words.Tab lines) is outcomes replies made host old new c.keep_tab.result t end.0 end.2.answered end.2.kept (λ quiet. end.2.kept) (λ ok command same. absurd (cc (same)));
+        ran = λ on more. line_ran host c.args.line.now Nothing more old new t end.0 (end.2.turned on) (stays_still host t end.0 end.2.kept) (inl (inr (words.Tab lines, is, refl))) (inl (no_boot c.args.line.now (words.Tab lines) is (λ same. cc (same))))
+            (λ knows. tab_entries outcomes replies made host old new c.keep_tab.result t end.0 c.args.line.now (end.2.turned on).bytes (end.2.turned on).is_told lines is end.2.answered on);
         knows = λ kept. end.2.knows;
       },
     )
@@ -126,10 +130,11 @@ returns-in-Ok-Tab-clause-stays g c = record {
   told = c.keep_tab.ensures.counted.told;
   given = λ uncut. c.keep_tab.ensures.counted.given (uncut_replied _ c.keep_tab.ensures.answer.said c.keep_tab.result c.keep_tab.ensures.answer.cause uncut);
   rests = c.keep_tab.ensures.moments.rests;
+  writes = asks_none c.args.engine.now.host c.args.engine.now.state (IsWorkOf c.args.engine.now c.args.line.now) (λ s m within more. inl within) _ _ c.keep_tab.ensures.moments.each;
   tells =
       let is : IsLine c.args.line.now (words.Tab c.in-Ok-Tab.lines.now) = rw c.in-Ok-Tab.field-0-is at c.in-Ok-Tab.ensures.value in
       moment_weaker g.B.Shelf (λ t m. Knows c.args.engine.now.host c.args.engine.now.state t.tale → TellsFront (KeepsLines c.in-Ok-Tab.lines.now) c.args.engine.now.state t m) (LineFront c.args.engine.now.host c.args.line.now c.args.engine.now.state) _ _
-      (λ t m up down here known. front_of (KeepsLines c.in-Ok-Tab.lines.now) (λ failures kept answer next. IsAnswered failures c.args.engine.now.host kept c.args.line.now answer next) c.args.engine.now.state t m (λ failures kept answer next came. inr (inl (words.Tab c.in-Ok-Tab.lines.now, is, came))) (here known)) c.keep_tab.ensures.moments.fronts;
+      (λ t m up down here known. front_of (KeepsLines c.in-Ok-Tab.lines.now) (λ outcomes kept answer next. IsAnswered outcomes c.args.engine.now.host kept c.args.line.now answer next) c.args.engine.now.state t m (λ outcomes kept answer next came. inr (inl (words.Tab c.in-Ok-Tab.lines.now, is, came))) (here known)) c.keep_tab.ensures.moments.fronts;
 }
 
 pub returns-in-Ok-Tab-clause-answer : goal.returns-in-Ok-Tab-clause-answer
@@ -140,7 +145,7 @@ returns-in-Ok-Tab-clause-answer g c = record {
   begun = kept_begun c.in-Ok-Tab.lines.now c.args.engine.now c.keep_tab.new.self c.keep_tab.ensures.answer.said c.keep_tab.ensures.answer.kept;
   counted = λ n calls.
       let is : IsLine c.args.line.now (words.Tab c.in-Ok-Tab.lines.now) = rw c.in-Ok-Tab.field-0-is at c.in-Ok-Tab.ensures.value in
-      subst (λ (k : ℕ). RoseByAtMost k (g.B.Shelf.calls c.args.bench.now) (g.B.Shelf.calls c.keep_tab.new.bench)) (sym (spelled_calls c.args.line.now (words.Tab c.in-Ok-Tab.lines.now) is n calls)) (rose_at_most 1 1 _ _ (omega arith) c.keep_tab.ensures.counted.once.in_calls);
+      subst (λ (k : ℕ). RoseByAtMost k (g.B.Shelf.calls c.args.bench.now) (g.B.Shelf.calls c.keep_tab.new.bench)) (sym (spelled_calls c.args.engine.now.host c.args.line.now (words.Tab c.in-Ok-Tab.lines.now) is n calls)) (rose_at_most 1 1 _ _ (omega arith) c.keep_tab.ensures.counted.once.in_calls);
 }
 
 -- a line that isn't in the grammar
@@ -156,18 +161,18 @@ pub returns-in-Err-BadLine-clause-end : goal.returns-in-Err-BadLine-clause-end
 returns-in-Err-BadLine-clause-end g c =
     let host = c.args.engine.now.host in
     let old = c.args.engine.now.state in
-    let drive = DriveFailures g.B.Shelf c.args.bench.now c.refuse.new.bench 0 in
+    let outcomes = DriveFailures g.B.Shelf c.args.bench.now c.refuse.new.bench in
     let replies = GivingFailed g.B.Shelf c.args.bench.now c.refuse.new.bench in
     let made = made_of g.B.Shelf c.args.bench.now c.refuse.new.bench in
     let never : IsNoCommand c.args.line.now = rw c.in-Err-BadLine.field-0-is at c.in-Err-BadLine.ensures.fault in
-    subst (λ (e : Engine). Ends (LineEnd drive replies made host c.args.line.now old e.state c.refuse.result) (g.B.Shelf.tale c.args.bench.now) (g.B.Shelf.tale c.refuse.new.bench)) (sym c.refuse.ensures.answer.same)
+    subst (λ (e : Engine). Ends (LineEnd outcomes replies made host c.args.line.now old e.state c.refuse.result) (g.B.Shelf.tale c.args.bench.now) (g.B.Shelf.tale c.refuse.new.bench)) (sym c.refuse.ensures.answer.same)
     (λ t told. (
     let end = c.refuse.ensures.end t told in (
       end.0,
       end.1,
       record {
-        answered = λ knows. record { answer = refusing BadLine; done = inl (never, c.refuse.ensures.answer.calm, refused_down host old BadLine bad_line_plain replies c.refuse.result t end.0 end.2); calls = inl (never, between_of g.B.Shelf.calls g.B.Shelf.written _ _ 1 0 1 1 0 (omega arith) (omega arith) (omega arith) c.refuse.ensures.counted.once); writes = inl end.2.kept; replied = end.2.replied };
-        ran = λ on more. line_ran host c.args.line.now Nothing more old old t end.0 (refused_turned host old BadLine bad_line_plain replies c.refuse.result t end.0 end.2 Nothing on) (inl (inl (never, refl))) (inl (never Boot)) (λ knows. refused_keeps host old BadLine bad_line_plain replies c.refuse.result t end.0 end.2 c.args.line.now Nothing on);
+        answered = λ knows. record { answer = refusing BadLine; done = inl (never, c.refuse.ensures.answer.calm, refused_down host old BadLine bad_line_plain replies c.refuse.result t end.0 end.2); calls = inl (never, between_of g.B.Shelf.calls g.B.Shelf.written _ _ 1 0 1 1 0 (omega arith) (omega arith) (omega arith) c.refuse.ensures.counted.once); writes = inl end.2.kept; unwritten = λ on quiet. end.2.kept; leaves = λ on ok. absurd (cc (ok)); replied = end.2.replied };
+        ran = λ on more. line_ran host c.args.line.now Nothing more old old t end.0 (refused_turned host old BadLine bad_line_plain replies c.refuse.result t end.0 end.2 Nothing on) (stays_still host t end.0 end.2.kept) (inl (inl (never, refl))) (inl (never Boot)) (λ knows. refused_keeps host old BadLine bad_line_plain replies c.refuse.result t end.0 end.2 c.args.line.now Nothing on);
         knows = λ kept. refused_knows host old BadLine bad_line_plain replies c.refuse.result t end.0 end.2;
       },
     )))
@@ -178,10 +183,11 @@ returns-in-Err-BadLine-clause-stays g c = record {
   told = c.refuse.ensures.counted.told;
   given = λ uncut. c.refuse.ensures.counted.given (uncut_replied _ (outcome.Refused BadLine) c.refuse.result c.refuse.ensures.answer.cause uncut);
   rests = (c.refuse.ensures.moments.line Nothing).rests;
+  writes = asks_none c.args.engine.now.host c.args.engine.now.state (IsWorkOf c.args.engine.now c.args.line.now) (λ s m within more. inl within) _ _ (c.refuse.ensures.moments.line Nothing).each;
   tells =
       let never : IsNoCommand c.args.line.now = rw c.in-Err-BadLine.field-0-is at c.in-Err-BadLine.ensures.fault in
       moment_weaker g.B.Shelf (AnswerFront c.args.engine.now.host (refusing BadLine) c.args.engine.now.state) (LineFront c.args.engine.now.host c.args.line.now c.args.engine.now.state) _ _
-      (λ t m up down here known. front_of (OnlyAnswers (refusing BadLine)) (λ failures kept answer next. IsAnswered failures c.args.engine.now.host kept c.args.line.now answer next) c.args.engine.now.state t m (λ failures kept answer next is. inl (never, is.0, only_refused BadLine failures kept answer next is)) (here known)) (c.refuse.ensures.moments.line Nothing).fronts;
+      (λ t m up down here known. front_of (OnlyAnswers (refusing BadLine)) (λ outcomes kept answer next. IsAnswered outcomes c.args.engine.now.host kept c.args.line.now answer next) c.args.engine.now.state t m (λ outcomes kept answer next is. inl (never, is.0, only_refused BadLine outcomes kept answer next is)) (here known)) (c.refuse.ensures.moments.line Nothing).fronts;
 }
 
 pub returns-in-Err-BadLine-clause-answer : goal.returns-in-Err-BadLine-clause-answer
@@ -191,7 +197,7 @@ returns-in-Err-BadLine-clause-answer g c = record {
   well = subst (λ (e : Engine). IsWell c.args.engine.now.host e.state) (sym c.refuse.ensures.answer.same) c.requires.well;
   begun = subst (λ (e : Engine). e.state.begun ≤ c.args.engine.now.state.begun + 1) (sym c.refuse.ensures.answer.same) (omega arith);
   counted = λ n calls.
-      subst (λ (k : ℕ). RoseByAtMost k (g.B.Shelf.calls c.args.bench.now) (g.B.Shelf.calls c.refuse.new.bench)) (sym (refused_calls c.args.line.now (rw c.in-Err-BadLine.field-0-is at c.in-Err-BadLine.ensures.fault) n calls))
+      subst (λ (k : ℕ). RoseByAtMost k (g.B.Shelf.calls c.args.bench.now) (g.B.Shelf.calls c.refuse.new.bench)) (sym (refused_calls c.args.engine.now.host c.args.line.now (rw c.in-Err-BadLine.field-0-is at c.in-Err-BadLine.ensures.fault) n calls))
       (rose_at_most 1 1 (g.B.Shelf.calls c.args.bench.now) (g.B.Shelf.calls c.refuse.new.bench) (omega arith) c.refuse.ensures.counted.once.in_calls);
 }
 
@@ -203,7 +209,7 @@ pub returns-in-Ok-Boot-clause-end : goal.returns-in-Ok-Boot-clause-end
 returns-in-Ok-Boot-clause-end g c = c.boot_anew.ensures.end c.args.line.now (rw c.in-Ok-Boot.field-0-is at c.in-Ok-Boot.ensures.value)
 
 pub returns-in-Ok-Boot-clause-stays : goal.returns-in-Ok-Boot-clause-stays
-returns-in-Ok-Boot-clause-stays g c = c.boot_anew.ensures.stays c.args.line.now (rw c.in-Ok-Boot.field-0-is at c.in-Ok-Boot.ensures.value)
+returns-in-Ok-Boot-clause-stays g c = stays_as g.B.Shelf c.args.engine.now (λ x. IsLine x Boot) _ _ _ c.args.line.now (rw c.in-Ok-Boot.field-0-is at c.in-Ok-Boot.ensures.value) c.boot_anew.ensures.stays
 
 pub returns-in-Ok-Boot-clause-answer : goal.returns-in-Ok-Boot-clause-answer
 returns-in-Ok-Boot-clause-answer g c =
@@ -212,7 +218,7 @@ returns-in-Ok-Boot-clause-answer g c =
       same = up.same;
       well = up.well;
       begun = up.begun;
-      counted = λ n calls. up.counted n (spelled_calls c.args.line.now Boot (rw c.in-Ok-Boot.field-0-is at c.in-Ok-Boot.ensures.value) n calls);
+      counted = λ n calls. up.counted n (spelled_calls c.args.engine.now.host c.args.line.now Boot (rw c.in-Ok-Boot.field-0-is at c.in-Ok-Boot.ensures.value) n calls);
     }
 
 pub returns-in-Ok-Boot-clause-kept : goal.returns-in-Ok-Boot-clause-kept
@@ -226,14 +232,12 @@ pub returns-in-Err-Memory-clause-end : goal.returns-in-Err-Memory-clause-end
 returns-in-Err-Memory-clause-end g c = c.refuse_unread.ensures.end c.args.line.now
 
 pub returns-in-Err-Memory-clause-stays : goal.returns-in-Err-Memory-clause-stays
-returns-in-Err-Memory-clause-stays g c =
-    let stays = c.refuse_unread.ensures.stays in
-    record { home = stays.home; told = stays.told; given = stays.given; rests = stays.rests; tells = stays.tells c.args.line.now }
+returns-in-Err-Memory-clause-stays g c = stays_as g.B.Shelf c.args.engine.now (λ x. Unit {0}) _ _ _ c.args.line.now tt c.refuse_unread.ensures.stays
 
 pub returns-in-Err-Memory-clause-answer : goal.returns-in-Err-Memory-clause-answer
 returns-in-Err-Memory-clause-answer g c =
     let up = c.refuse_unread.ensures.answer in
-    record { cause = up.cause; same = up.same; well = up.well; begun = up.begun; counted = λ n calls. up.counted n (text_some c.args.line.now n calls) }
+    record { cause = up.cause; same = up.same; well = up.well; begun = up.begun; counted = λ n calls. up.counted n (text_some c.args.engine.now.host c.args.line.now n calls) }
 
 pub returns-in-Ok-Tab-clause-kept : goal.returns-in-Ok-Tab-clause-kept
 returns-in-Ok-Tab-clause-kept g c = in_time_of_on g.B.Shelf _ _ OnReplies c.keep_tab.ensures.kept

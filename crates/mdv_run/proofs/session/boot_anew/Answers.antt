@@ -5,9 +5,9 @@ use Rattle.std.proofs.Common.{◌≡◌, ◌≤◌, ◌+◌, ℕ, List, [], inl,
 use Rattle.mdv_engine_law.specs.Line.{Nothing}
 use Rattle.std.proofs.lemmas.List.{append-nil}
 use Rattle.mdv_shelf.specs.Shelves.{DriveFailures, GivingFailed}
-use Rattle.mdv_run.specs.Below.{IsLine, LinesMoment, Memory, Script, line, OnDrive, OnReplies, Moments, Ends, told, Boot, Host, StaysHome, BootMoment, BootedTo, TurnMoment, Engine, IsWell, Knows, IsRebooted, Tale, kept_at}
-use Rattle.mdv_run.specs.Promise.{LineEnd}
-use Rattle.mdv_run.proofs.Answering.{uncut_replied, line_executed, accepted_ok, accepted_turned, ended_reply, reply_more, told_reply, turn_writes}
+use Rattle.mdv_run.specs.Below.{IsLine, LinesMoment, Memory, Script, line, OnReplies, Moments, Ends, told, Boot, Host, StaysHome, BootMoment, BootedTo, TurnMoment, Engine, IsWell, Knows, IsRebooted, Tale, kept_at}
+use Rattle.mdv_run.specs.Promise.{IsWorkOf, LineEnd, SomeFailed}
+use Rattle.mdv_run.proofs.Answering.{asks_none, loud_ok, same_within, uncut_replied, line_executed, accepted_ok, accepted_turned, ended_reply, reply_more, told_reply, turn_writes}
 use Rattle.std.specs.Option.{option_map}
 use Rattle.mdv_shelf.specs.Shelves.{AtEachMoment}
 use Rattle.mdv_shelf.specs.Story.{OfTales, Story, tale_of}
@@ -30,11 +30,15 @@ use Rattle.mdv_shelf.specs.Area.{KeptOutside}
 use Rattle.mdv_store_law.specs.Site.{area_of}
 use Rattle.mdv_engine_law.proofs.Efforts.{boot_too}
 use Rattle.mdv_engine_law.proofs.Knowing.{knows_kept}
-use Rattle.mdv_engine_law.proofs.Staying.{both_stay, boot_stays, turn_stays}
+use Rattle.mdv_engine_law.proofs.Staying.{both_stay, boot_stays, stays_still, turn_stays}
 use Rattle.mdv_run_law.proofs.Booting.{boot_line, boot_turn, booted_line, booted_turn, booted_ran}
-use Rattle.mdv_shelf.proofs.InTime.{in_time_both, in_time_of_on}
-use Rattle.mdv_run.proofs.Keeping.{drive_apart, replies_apart}
+use Rattle.mdv_shelf.proofs.Among.{in_time_of_among}
+use Rattle.mdv_run.proofs.Keeping.{in_time_replied, replies_apart}
 use Rattle.mdv_run.proofs.session.boot_anew.Goals as goal
+
+-- no block was written but the replica's
+abbrev BootWorks : Engine → Tale → Tale → Type 0
+BootWorks engine s m = (text : List ℕ) → IsLine text Boot → IsWorkOf engine text s m
 
 -- a boot, and then the telling of it
 module _ (host other : Host) (same : other ≡ host) (old new : Memory) (a b c : Option Tale) (boots : Moments (BootMoment host) a b) (booted : Ends (BootedTo host new) a b) (turns : Moments (TurnMoment other Nothing new) b c) where
@@ -56,10 +60,10 @@ returns-in-Ok-clause-end g c = λ text boots.
     let host = c.args.engine.now.host in
     let old = c.args.engine.now.state in
     let new = c.reboot.new.self.state in
-    let drive = DriveFailures g.B.Shelf c.args.bench.now c.accept.new.bench 0 in
+    let outcomes = DriveFailures g.B.Shelf c.args.bench.now c.accept.new.bench in
     let replies = GivingFailed g.B.Shelf c.args.bench.now c.accept.new.bench in
     let made = made_of g.B.Shelf c.args.bench.now c.accept.new.bench in
-    subst (λ (e : Engine). Ends (LineEnd drive replies made host text old e.state c.accept.result) (g.B.Shelf.tale c.args.bench.now) (g.B.Shelf.tale c.accept.new.bench)) (sym c.accept.ensures.answer.same)
+    subst (λ (e : Engine). Ends (LineEnd outcomes replies made host text old e.state c.accept.result) (g.B.Shelf.tale c.args.bench.now) (g.B.Shelf.tale c.accept.new.bench)) (sym c.accept.ensures.answer.same)
     (λ t is. (
     let quiet = moments_end (BootMoment host) _ _ c.reboot.ensures.moments t is in
     let up = c.in-Ok.ensures.end t is in
@@ -67,35 +71,38 @@ returns-in-Ok-clause-end g c = λ text boots.
       end.0,
       end.1,
       record {
-        answered = λ knows. line_executed text Boot boots drive replies made host old new c.accept.result t end.0
+        answered = λ knows. line_executed text Boot boots outcomes replies made host old new c.accept.result t end.0
             (executed _ _ _ _ made host Boot old new accepted c.accept.result t up.0 end.0
-            (within_calm _ _ _ c.accept.ensures.answer.calm)
-            (calm_before _ _ _ (c.reboot.ensures.kept.others OnReplies replies_apart)).some
+            (λ drive. within_calm _ _ _ (c.accept.ensures.answer.calm drive))
+            (calm_before _ _ _ (c.reboot.ensures.kept.others OnReplies (replies_apart c.args.engine.now.host.own))).some
             (ap told (some_is _ up.0 quiet.0 up.1 quiet.1) ∙ quiet.2.quiet) up.2.rebooted end.2
-            (boot_too (made_of g.B.Shelf c.args.bench.now c.reboot.new.shelf) (and_more 1 made) (with_more g.B.Shelf.calls g.B.Shelf.written _ _ _ 1 c.accept.ensures.counted.once) host accepted new (contents t) up.2.calls))
-            (turn_writes host Nothing old _ _ (both_turns host c.reboot.new.self.host c.in-Ok.ensures.answer.host old new _ _ _ c.reboot.ensures.moments (λ s start. (let there = c.in-Ok.ensures.end s start in (there.0, there.1, there.2.booted refl))) c.accept.ensures.moments.each) t end.0 is end.1);
-        ran = λ on more. booted_ran host old new t up.0 (up.2.booted refl) text more boots c.in-Ok.ensures.answer.fresh end.0 (accepted_turned host new _ c.accept.result up.0 end.0 end.2 on) (accepted_ok host new _ c.accept.result up.0 end.0 end.2 on);
+            (boot_too (DriveFailures g.B.Shelf c.args.bench.now c.reboot.new.shelf) (DriveFailures g.B.Shelf c.args.bench.now c.reboot.new.shelf) (same_within (DriveFailures g.B.Shelf c.args.bench.now c.reboot.new.shelf)) (made_of g.B.Shelf c.args.bench.now c.reboot.new.shelf) (and_more 1 made) (with_more g.B.Shelf.calls g.B.Shelf.written _ _ _ 1 c.accept.ensures.counted.once) host accepted new (contents t) up.2.effort))
+            (turn_writes host Nothing old _ _ (both_turns host c.reboot.new.self.host c.in-Ok.ensures.answer.host old new _ _ _ c.reboot.ensures.moments (λ s start. (let there = c.in-Ok.ensures.end s start in (there.0, there.1, there.2.booted refl))) c.accept.ensures.moments.each) t end.0 is end.1)
+            (λ quiet. absurd (loud_ok _ c.accept.result c.accept.ensures.answer.cause quiet)) (λ ok command same. absurd (cc (same)));
+        ran = λ on more. booted_ran host old new t up.0 (up.2.booted refl) text more boots c.in-Ok.ensures.answer.fresh end.0 (accepted_turned host new _ c.accept.result up.0 end.0 end.2 on) (stays_still host up.0 end.0 end.2.kept) (accepted_ok host new _ c.accept.result up.0 end.0 end.2 on);
         knows = λ kept known. knows_kept host up.0 end.0 end.2.kept new (up.2.booted refl).knows;
       },
     )))
 
 pub returns-in-Ok-clause-stays : goal.returns-in-Ok-clause-stays
-returns-in-Ok-clause-stays g c = λ text boots.
+returns-in-Ok-clause-stays g c =
     let host = c.args.engine.now.host in
     let old = c.args.engine.now.state in
     let new = c.reboot.new.self.state in
     let quiet = moments_weaker (BootMoment host) (λ t m. told m ≡ told t) _ _ (λ t m moment. moment.quiet) c.reboot.ensures.moments in record {
       home = both_stay host _ _ _ (boot_stays host _ _ c.reboot.ensures.moments)
           (subst (λ (h : Host). Moments (StaysHome h) (g.B.Shelf.tale c.reboot.new.shelf) (g.B.Shelf.tale c.accept.new.bench)) c.in-Ok.ensures.answer.host (turn_stays c.reboot.new.self.host Nothing c.reboot.new.self.state _ _ c.accept.ensures.moments.each));
-      given = λ uncut. c.accept.ensures.counted.given (uncut_replied _ outcome.Ok c.accept.result c.accept.ensures.answer.cause uncut) ∙ c.reboot.ensures.kept.others OnReplies replies_apart;
+      given = λ uncut. c.accept.ensures.counted.given (uncut_replied _ outcome.Ok c.accept.result c.accept.ensures.answer.cause uncut) ∙ c.reboot.ensures.kept.others OnReplies (replies_apart c.args.engine.now.host.own);
       told = λ on. told_behind g.B.Shelf g.met.B.Shelf.telling _ _ _ c.reboot.ensures.kept.goes quiet (c.accept.ensures.counted.told on);
       rests = rests_behind g.B.Shelf g.met.B.Shelf.telling _ _ _ c.reboot.ensures.kept.goes quiet c.accept.ensures.moments.rests;
-      tells = each_joined (OfTales (λ t m. told m ≡ told t)) (AnswerFront host accepted new) (LineFront host text old) _ _ _ _ _ _
+      writes = asks_none host old (BootWorks c.args.engine.now) (λ s m within text boots more. inl within) _ _
+          (both_turns host c.reboot.new.self.host c.in-Ok.ensures.answer.host old new _ _ _ c.reboot.ensures.moments (λ s start. (let there = c.in-Ok.ensures.end s start in (there.0, there.1, there.2.booted refl))) c.accept.ensures.moments.each);
+      tells = λ text boots. each_joined (OfTales (λ t m. told m ≡ told t)) (AnswerFront host accepted new) (LineFront host text old) _ _ _ _ _ _
           (λ s u v first mid last turn there ahead m here within knows. inl here)
           (λ s u v first mid last turn m here within ahead knows.
           let up = c.in-Ok.ensures.end (tale_of s) (g.met.B.Shelf.telling c.args.bench.now ∙ ap (λ (o : Option Story). option_map tale_of o) first) in
           let same = some_is (g.B.Shelf.tale c.reboot.new.shelf) up.0 (tale_of u) up.1 (g.met.B.Shelf.telling c.reboot.new.shelf ∙ ap (λ (o : Option Story). option_map tale_of o) mid) in
-          boot_front host old new text boots (moment s _) (moment u _) m turn (subst (λ (x : Tale). IsRebooted (DriveFailures g.B.Shelf c.args.bench.now c.reboot.new.shelf 0) host (kept_at old (tale_of s)) accepted (kept_at new x)) same up.2.rebooted)
+          boot_front host old new text boots (moment s _) (moment u _) m turn (subst (λ (x : Tale). IsRebooted (DriveFailures g.B.Shelf c.args.bench.now c.reboot.new.shelf) host (kept_at old (tale_of s)) accepted (kept_at new x)) same up.2.rebooted)
           (here (subst (λ (x : Tale). Knows host new x) same (up.2.booted refl).knows)))
           (moments_of_tales g.B.Shelf g.met.B.Shelf.telling _ _ (λ t m. told m ≡ told t) c.reboot.ensures.kept.goes quiet)
           (subst (λ (h : Host). AtEachMoment g.B.Shelf (AnswerFront h accepted new) c.reboot.new.shelf c.accept.new.bench) c.in-Ok.ensures.answer.host c.accept.ensures.moments.fronts);
@@ -113,7 +120,9 @@ returns-in-Err-clause-end g c = λ text boots t is.
         answered = λ knows. record {
           answer = Over c.in-Err.end;
           done = inr (inl (Boot, boots, done.2.rebooted));
-          calls = inr (inl (Boot, boots, done.2.calls));
+          calls = inr (inl (Boot, boots, done.2.effort));
+          unwritten = λ on quiet. absurd quiet;
+          leaves = λ on ok. absurd (cc (ok));
           writes = inr (Boot, boots, subst (KeptOutside (area_of (site_of host)) t) (some_is _ quiet.0 done.0 quiet.1 done.1) quiet.2.kept);
           replied = record { piece = []; is_told = ap told (some_is _ done.0 quiet.0 done.1 quiet.1) ∙ quiet.2.quiet ∙ sym (append-nil (told t)); as_told = (c.reply_at.ensures, refl) };
         };
@@ -129,44 +138,45 @@ returns-in-Err-clause-moments g c = λ text more is.
     moments_weaker (BootMoment host) (LinesMoment host (line text more) old) _ _ (λ t m moment. boot_line host text more is old t m moment) c.reboot.ensures.moments
 
 pub returns-in-Err-clause-stays : goal.returns-in-Err-clause-stays
-returns-in-Err-clause-stays g c = λ text boots. record {
+returns-in-Err-clause-stays g c = record {
   home = boot_stays c.args.engine.now.host _ _ c.reboot.ensures.moments;
   told = λ on. absurd (never_ended c.in-Err.end (subst IsReplied c.reply_at.ensures on));
-  given = λ uncut. c.reboot.ensures.kept.others OnReplies replies_apart;
+  given = λ uncut. c.reboot.ensures.kept.others OnReplies (replies_apart c.args.engine.now.host.own);
   rests = rests_quiet g.B.Shelf g.met.B.Shelf.telling _ _ c.reboot.ensures.kept.goes (moments_weaker (BootMoment c.args.engine.now.host) (λ t m. told m ≡ told t) _ _ (λ t m moment. moment.quiet) c.reboot.ensures.moments);
-  tells = moment_weaker g.B.Shelf (OfTales (λ t m. told m ≡ told t)) (LineFront c.args.engine.now.host text c.args.engine.now.state) _ _ (λ t m up below here known. inl here) (moments_of_tales g.B.Shelf g.met.B.Shelf.telling _ _ (λ t m. told m ≡ told t) c.reboot.ensures.kept.goes
+  writes = moments_weaker (BootMoment c.args.engine.now.host) (BootWorks c.args.engine.now) _ _ (λ s m moment text boots more. inl moment.kept) c.reboot.ensures.moments;
+  tells = λ text boots. moment_weaker g.B.Shelf (OfTales (λ t m. told m ≡ told t)) (LineFront c.args.engine.now.host text c.args.engine.now.state) _ _ (λ t m up below here known. inl here) (moments_of_tales g.B.Shelf g.met.B.Shelf.telling _ _ (λ t m. told m ≡ told t) c.reboot.ensures.kept.goes
       (moments_weaker (BootMoment c.args.engine.now.host) (λ t m. told m ≡ told t) _ _ (λ t m moment. moment.quiet) c.reboot.ensures.moments));
 }
 
 pub returns-in-Err-clause-answer : goal.returns-in-Err-clause-answer
 returns-in-Err-clause-answer g c = record {
   line = record {
-    counted = λ n calls. over_calls g.B.Shelf _ _ c.in-Err.end c.reboot.new.self.state c.in-Err.ensures.counted n calls;
-    cause = subst (HasReplyCause (DriveFailures g.B.Shelf c.args.bench.now c.reboot.new.shelf 0).some _) (sym c.reply_at.ensures) (ended_reply (DriveFailures g.B.Shelf c.args.bench.now c.reboot.new.shelf 0) _ c.in-Err.end c.in-Err.ensures.answer.cause);
+    counted = λ n calls. over_calls g.B.Shelf _ _ c.args.engine.now.host.own c.in-Err.end c.reboot.new.self.state c.in-Err.ensures.counted n calls;
+    cause = subst (HasReplyCause (SomeFailed (DriveFailures g.B.Shelf c.args.bench.now c.reboot.new.shelf)) _) (sym c.reply_at.ensures) (ended_reply c.args.engine.now.host (DriveFailures g.B.Shelf c.args.bench.now c.reboot.new.shelf) _ c.in-Err.end c.in-Err.ensures.answer.cause);
     same = c.in-Err.ensures.answer.host;
     well = c.in-Err.ensures.answer.well;
     begun = (let same = c.in-Err.ensures.answer.begun in omega arith);
   };
-  kept = in_time_of_on g.B.Shelf _ _ (OnDrive 0) c.reboot.ensures.kept;
+  kept = in_time_of_among c.reboot.ensures.kept;
 }
 
 pub returns-in-Ok-clause-answer : goal.returns-in-Ok-clause-answer
 returns-in-Ok-clause-answer g c = record {
   line = record {
-    counted = λ n calls. boot_calls g.B.Shelf _ _ _ c.reboot.new.self.state c.in-Ok.ensures.counted c.accept.ensures.counted.once n calls;
-    cause = told_reply (DriveFailures g.B.Shelf c.args.bench.now c.accept.new.bench 0).some (GivingFailed g.B.Shelf c.args.bench.now c.accept.new.bench) outcome.Ok c.accept.result
-        (reply_more _ _ (calm_before _ _ _ (c.reboot.ensures.kept.others OnReplies replies_apart)).some outcome.Ok c.accept.result c.accept.ensures.answer.cause);
+    counted = λ n calls. boot_calls g.B.Shelf _ _ _ c.args.engine.now.host.own c.reboot.new.self.state c.in-Ok.ensures.counted c.accept.ensures.counted.once n calls;
+    cause = told_reply (SomeFailed (DriveFailures g.B.Shelf c.args.bench.now c.accept.new.bench)) (GivingFailed g.B.Shelf c.args.bench.now c.accept.new.bench) outcome.Ok c.accept.result
+        (reply_more _ _ (calm_before _ _ _ (c.reboot.ensures.kept.others OnReplies (replies_apart c.args.engine.now.host.own))).some outcome.Ok c.accept.result c.accept.ensures.answer.cause);
     same = ap (λ (e : Engine). e.host) c.accept.ensures.answer.same ∙ c.in-Ok.ensures.answer.host;
     well = subst (λ (e : Engine). IsWell c.args.engine.now.host e.state) (sym c.accept.ensures.answer.same) c.in-Ok.ensures.answer.well;
     begun = subst (λ (e : Engine). e.state.begun ≤ c.args.engine.now.state.begun + 1) (sym c.accept.ensures.answer.same) (let same = c.in-Ok.ensures.answer.begun in omega arith);
   };
-  kept = in_time_both drive_apart c.reboot.ensures.kept c.accept.ensures.kept;
+  kept = in_time_replied c.reboot.ensures.kept c.accept.ensures.kept;
 }
 
 -- the database that the boot opened is the one that is open, as its calls tell
 pub returns-in-Ok-clause-opens : goal.returns-in-Ok-clause-opens
-returns-in-Ok-clause-opens g c = λ on. subst (λ (e : Engine). OpenedTook (made_of g.B.Shelf c.args.bench.now c.accept.new.bench) e.state.opened e.state.down) (sym c.accept.ensures.answer.same)
-    (opened_took g.B.Shelf _ _ _ _ _ c.in-Ok.ensures.counted c.accept.ensures.counted.once)
+returns-in-Ok-clause-opens g c = λ on. subst (λ (e : Engine). OpenedTook c.args.engine.now.host (made_of g.B.Shelf c.args.bench.now c.accept.new.bench) e.state) (sym c.accept.ensures.answer.same)
+    (opened_took g.B.Shelf _ _ _ c.args.engine.now.host c.reboot.new.self.state c.in-Ok.ensures.counted c.accept.ensures.counted.once)
 
 pub returns-in-Err-clause-opens : goal.returns-in-Err-clause-opens
 returns-in-Err-clause-opens g c = λ on. absurd (never_ended c.in-Err.end (subst IsReplied c.reply_at.ensures on))

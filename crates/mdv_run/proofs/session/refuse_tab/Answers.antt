@@ -1,4 +1,4 @@
-use Rattle.std.proofs.Common.{◌≤◌, ◌+◌, refl, inl, inr, ap, subst, sym, arith}
+use Rattle.std.proofs.Common.{ℕ, List, length, ◌<◌, ◌≤◌, ◌+◌, refl, inl, inr, ap, subst, sym, arith}
 use Rattle.mdv_base.specs.declared.refusal.Refusal.TheVariants.{TooMany}
 use Rattle.mdv_shelf.proofs.Between.{between_of}
 use Rattle.mdv_shelf.proofs.Counts.{rose_at_most}
@@ -11,12 +11,12 @@ use Rattle.mdv_engine_law.specs.Answers.{refusing}
 use Rattle.mdv_engine_law.specs.Line.{Nothing}
 use Rattle.mdv_engine_law.specs.declared.answer.Outcome.TheVariants as outcome
 use Rattle.mdv_engine_law.proofs.Plain.{too_many_plain}
-use Rattle.mdv_engine_law.proofs.Staying.{turn_stays}
+use Rattle.mdv_engine_law.proofs.Staying.{stays_still, turn_stays}
 use Rattle.mdv_engine.specs.Ends.{OnlyAnswers}
 use Rattle.mdv_run.specs.Below.{line, tab_text, Ends, Engine, IsAnswered, IsWell, LinesMoment, TurnMoment}
-use Rattle.mdv_run.specs.Promise.{LineEnd}
+use Rattle.mdv_run.specs.Promise.{IsWorkOf, LineEnd}
 use Rattle.mdv_run_law.proofs.Turning.{line_moment, line_ran}
-use Rattle.mdv_run.proofs.Answering.{many_comes, no_boot, refused_down, refused_keeps, refused_knows, refused_turned, told_reply, uncut_replied}
+use Rattle.mdv_run.proofs.Answering.{asks_none, many_comes, no_boot, refused_down, refused_keeps, refused_knows, refused_turned, told_reply, uncut_replied}
 use Rattle.mdv_run.proofs.Counting.{wider}
 use Rattle.mdv_run.proofs.Fronts.{AnswerFront, LineFront, front_of, only_refused}
 use Rattle.mdv_run.proofs.session.refuse_tab.Goals as goal
@@ -35,10 +35,10 @@ returns-clause-end g c = λ lines many.
     let host = c.args.engine.now.host in
     let old = c.args.engine.now.state in
     let text = tab_text lines in
-    let drive = DriveFailures g.B.Shelf c.args.bench.now c.refuse.new.bench 0 in
+    let outcomes = DriveFailures g.B.Shelf c.args.bench.now c.refuse.new.bench in
     let replies = GivingFailed g.B.Shelf c.args.bench.now c.refuse.new.bench in
     let made = made_of g.B.Shelf c.args.bench.now c.refuse.new.bench in
-    subst (λ (e : Engine). Ends (LineEnd drive replies made host text old e.state c.refuse.result) (g.B.Shelf.tale c.args.bench.now) (g.B.Shelf.tale c.refuse.new.bench)) (sym c.refuse.ensures.answer.same)
+    subst (λ (e : Engine). Ends (LineEnd outcomes replies made host text old e.state c.refuse.result) (g.B.Shelf.tale c.args.bench.now) (g.B.Shelf.tale c.refuse.new.bench)) (sym c.refuse.ensures.answer.same)
     (λ t told. (
     let end = c.refuse.ensures.end t told in (
       end.0,
@@ -46,12 +46,14 @@ returns-clause-end g c = λ lines many.
       record {
         answered = λ knows. record {
           answer = refusing TooMany;
-          done = many_comes lines drive host _ _ _ many c.refuse.ensures.answer.calm (refused_down host old TooMany too_many_plain replies c.refuse.result t end.0 end.2);
+          done = many_comes lines outcomes host _ _ _ many c.refuse.ensures.answer.calm (refused_down host old TooMany too_many_plain replies c.refuse.result t end.0 end.2);
           calls = inr (inl (words.Tab lines, refl, between_of g.B.Shelf.calls g.B.Shelf.written _ _ 1 0 1 1 0 (omega arith) (omega arith) (omega arith) c.refuse.ensures.counted.once));
           writes = inl end.2.kept;
+          unwritten = λ on quiet. end.2.kept;
+          leaves = λ on ok. absurd (cc (ok));
           replied = end.2.replied;
         };
-        ran = λ on more. line_ran host text Nothing more old old t end.0 (refused_turned host old TooMany too_many_plain replies c.refuse.result t end.0 end.2 Nothing on) (inl (inr (words.Tab lines, refl, refl))) (inl (no_boot text (words.Tab lines) refl (λ same. cc (same))))
+        ran = λ on more. line_ran host text Nothing more old old t end.0 (refused_turned host old TooMany too_many_plain replies c.refuse.result t end.0 end.2 Nothing on) (stays_still host t end.0 end.2.kept) (inl (inr (words.Tab lines, refl, refl))) (inl (no_boot text (words.Tab lines) refl (λ same. cc (same))))
             (λ knows. refused_keeps host old TooMany too_many_plain replies c.refuse.result t end.0 end.2 text Nothing on);
         knows = λ kept. refused_knows host old TooMany too_many_plain replies c.refuse.result t end.0 end.2;
       },
@@ -63,8 +65,9 @@ returns-clause-stays g c = record {
   told = c.refuse.ensures.counted.told;
   given = λ uncut. c.refuse.ensures.counted.given (uncut_replied _ (outcome.Refused TooMany) c.refuse.result c.refuse.ensures.answer.cause uncut);
   rests = (c.refuse.ensures.moments.line Nothing).rests;
+  writes = asks_none c.args.engine.now.host c.args.engine.now.state (λ s m. (lines : List ℕ) → 65536 < length lines → IsWorkOf c.args.engine.now (tab_text lines) s m) (λ s m within lines many more. inl within) _ _ (c.refuse.ensures.moments.line Nothing).each;
   tells = λ lines many. moment_weaker g.B.Shelf (AnswerFront c.args.engine.now.host (refusing TooMany) c.args.engine.now.state) (LineFront c.args.engine.now.host (tab_text lines) c.args.engine.now.state) _ _
-      (λ t m up down here known. front_of (OnlyAnswers (refusing TooMany)) (λ failures kept answer next. IsAnswered failures c.args.engine.now.host kept (tab_text lines) answer next) c.args.engine.now.state t m (λ failures kept answer next is. many_comes lines failures c.args.engine.now.host kept next answer many is.0 (only_refused TooMany failures kept answer next is)) (here known)) (c.refuse.ensures.moments.line Nothing).fronts;
+      (λ t m up down here known. front_of (OnlyAnswers (refusing TooMany)) (λ outcomes kept answer next. IsAnswered outcomes c.args.engine.now.host kept (tab_text lines) answer next) c.args.engine.now.state t m (λ outcomes kept answer next is. many_comes lines outcomes c.args.engine.now.host kept next answer many is.0 (only_refused TooMany outcomes kept answer next is)) (here known)) (c.refuse.ensures.moments.line Nothing).fronts;
 }
 
 pub returns-clause-answer : goal.returns-clause-answer

@@ -1,4 +1,4 @@
-use Rattle.std.proofs.Common.{◌≤◌, ◌+◌, refl, inl, inr, ap, subst, sym, arith}
+use Rattle.std.proofs.Common.{ℕ, List, ◌≤◌, ◌+◌, refl, inl, inr, ap, subst, sym, arith}
 use Rattle.mdv_base.specs.declared.refusal.Refusal.TheVariants.{OutOfMemory}
 use Rattle.mdv_shelf.proofs.Between.{between_of}
 use Rattle.mdv_shelf.proofs.Counts.{rose_at_most}
@@ -15,8 +15,8 @@ use Rattle.mdv_engine_law.proofs.Plain.{memory_plain}
 use Rattle.mdv_engine_law.proofs.Staying.{turn_stays}
 use Rattle.mdv_engine.specs.Ends.{OnlyAnswers}
 use Rattle.mdv_run.specs.Below.{line, Ends, Engine, IsAnswered, IsWell, LinesMoment}
-use Rattle.mdv_run.specs.Promise.{LineEnd}
-use Rattle.mdv_run.proofs.Answering.{refused_down, refused_knows, told_reply, uncut_replied, unread_moment, unread_ran}
+use Rattle.mdv_run.specs.Promise.{IsWorkOf, LineEnd}
+use Rattle.mdv_run.proofs.Answering.{asks_none, refused_down, refused_knows, told_reply, uncut_replied, unread_moment, unread_ran}
 use Rattle.mdv_run.proofs.Counting.{wider}
 use Rattle.mdv_run.proofs.Fronts.{AnswerFront, LineFront, front_of, only_refused}
 use Rattle.mdv_run.proofs.session.refuse_unread.Goals as goal
@@ -32,10 +32,10 @@ pub returns-clause-end : goal.returns-clause-end
 returns-clause-end g c = λ text.
     let host = c.args.engine.now.host in
     let old = c.args.engine.now.state in
-    let drive = DriveFailures g.B.Shelf c.args.bench.now c.refuse.new.bench 0 in
+    let outcomes = DriveFailures g.B.Shelf c.args.bench.now c.refuse.new.bench in
     let replies = GivingFailed g.B.Shelf c.args.bench.now c.refuse.new.bench in
     let made = made_of g.B.Shelf c.args.bench.now c.refuse.new.bench in
-    subst (λ (e : Engine). Ends (LineEnd drive replies made host text old e.state c.refuse.result) (g.B.Shelf.tale c.args.bench.now) (g.B.Shelf.tale c.refuse.new.bench)) (sym c.refuse.ensures.answer.same)
+    subst (λ (e : Engine). Ends (LineEnd outcomes replies made host text old e.state c.refuse.result) (g.B.Shelf.tale c.args.bench.now) (g.B.Shelf.tale c.refuse.new.bench)) (sym c.refuse.ensures.answer.same)
     (λ t told. (
     let end = c.refuse.ensures.end t told in (
       end.0,
@@ -46,6 +46,8 @@ returns-clause-end g c = λ text.
           done = inr (inr (c.refuse.ensures.answer.calm, refused_down host old OutOfMemory memory_plain replies c.refuse.result t end.0 end.2));
           calls = inr (inr (refl, between_of g.B.Shelf.calls g.B.Shelf.written _ _ 1 0 1 1 0 (omega arith) (omega arith) (omega arith) c.refuse.ensures.counted.once));
           writes = inl end.2.kept;
+          unwritten = λ on quiet. end.2.kept;
+          leaves = λ on ok. absurd (cc (ok));
           replied = end.2.replied;
         };
         ran = λ on more. unread_ran host text old replies c.refuse.result t end.0 end.2 on more;
@@ -59,8 +61,9 @@ returns-clause-stays g c = record {
   told = c.refuse.ensures.counted.told;
   given = λ uncut. c.refuse.ensures.counted.given (uncut_replied _ (outcome.Refused OutOfMemory) c.refuse.result c.refuse.ensures.answer.cause uncut);
   rests = (c.refuse.ensures.moments.line Nothing).rests;
-  tells = λ text. moment_weaker g.B.Shelf (AnswerFront c.args.engine.now.host (refusing OutOfMemory) c.args.engine.now.state) (LineFront c.args.engine.now.host text c.args.engine.now.state) _ _
-      (λ t m up down here known. front_of (OnlyAnswers (refusing OutOfMemory)) (λ failures kept answer next. IsAnswered failures c.args.engine.now.host kept text answer next) c.args.engine.now.state t m (λ failures kept answer next is. inr (inr (is.0, only_refused OutOfMemory failures kept answer next is))) (here known)) (c.refuse.ensures.moments.line Nothing).fronts;
+  writes = asks_none c.args.engine.now.host c.args.engine.now.state (λ s m. (text : List ℕ) → Unit {0} → IsWorkOf c.args.engine.now text s m) (λ s m within text any more. inl within) _ _ (c.refuse.ensures.moments.line Nothing).each;
+  tells = λ text any. moment_weaker g.B.Shelf (AnswerFront c.args.engine.now.host (refusing OutOfMemory) c.args.engine.now.state) (LineFront c.args.engine.now.host text c.args.engine.now.state) _ _
+      (λ t m up down here known. front_of (OnlyAnswers (refusing OutOfMemory)) (λ outcomes kept answer next. IsAnswered outcomes c.args.engine.now.host kept text answer next) c.args.engine.now.state t m (λ outcomes kept answer next is. inr (inr (is.0, only_refused OutOfMemory outcomes kept answer next is))) (here known)) (c.refuse.ensures.moments.line Nothing).fronts;
 }
 
 pub returns-clause-answer : goal.returns-clause-answer

@@ -1,8 +1,11 @@
 use Rattle.mdv_run.proofs.Counting.{none_took}
-use Rattle.std.proofs.Common.{◌+◌, ◌≡◌, refl, ap, subst, inl, Err}
-use Rattle.mdv_run.specs.Below.{counts, asked_of, told, Host, RunMoment, host_of}
+use Rattle.std.proofs.Common.{◌+◌, ◌*◌, length, ◌≡◌, refl, ap, subst, inl, inr, Err}
+use Rattle.mdv_run.specs.Below.{counts, asked_of, HasStatusCause, Host, RunMoment, host_of}
 use Rattle.mdv_run.specs.Promise.{HasRun, between}
-use Rattle.mdv_run.proofs.Fronting.{fronts_quiet}
+use Rattle.mdv_run.proofs.Fronting.{IsBooting, fronts_quiet}
+use Rattle.mdv_engine_law.specs.Home.{site_of}
+use Rattle.mdv_shelf.proofs.Frame.{kept_outside_same}
+use Rattle.mdv_store_law.specs.Site.{area_of}
 use Rattle.mdv_shelf.proofs.Moments.{moments_none}
 use Rattle.mdv_engine_law.proofs.Kept.{kept_itself}
 use Rattle.mdv_engine_law.proofs.Staying.{nothing_stays}
@@ -13,12 +16,23 @@ use Rattle.mdv_run.proofs.session.run.Goals as goal
 
 pub run_host-requires : goal.run_host-requires
 run_host-requires g c =
-    ready_host _ _ _ c.args.fresh c.in-Ok.start.drives c.in-Ok.start.home c.in-Ok.ensures.value c.ranges.fresh.fits
+    ready_host _ _ _ c.args.fresh c.in-Ok.start.drives c.in-Ok.start.own c.in-Ok.start.home c.in-Ok.ensures.value c.ranges.fresh.fits
+
+pub returns-in-Ok-clause-usage : goal.returns-in-Ok-clause-usage
+returns-in-Ok-clause-usage g c =
+    let start = c.in-Ok.ensures.value in
+    record {
+      exactly = λ known. (
+        λ is. absurd (elim c.run_host.ensures.has_run.causes [ inl wanted ↦ known wanted | inr cause ↦ subst (HasStatusCause _ _) is cause ]),
+        λ none. absurd (none start.table c.in-Ok.start.home start.used),
+      );
+      untouched = λ none. absurd (none start.table c.in-Ok.start.home start.used);
+    }
 
 pub returns-in-Ok-clause-used : goal.returns-in-Ok-clause-used
 returns-in-Ok-clause-used g c = λ drives home used.
     subst (λ (h : Host). HasRun g.B.Shelf g.I.Source h c.args.bench.now c.args.script.now c.run_host.new.bench c.run_host.new.script c.run_host.result)
-    (one_host _ _ _ c.args.fresh c.in-Ok.start.drives drives c.in-Ok.start.home home c.in-Ok.ensures.value used)
+    (one_host _ _ _ c.args.fresh c.in-Ok.start.drives c.in-Ok.start.own c.in-Ok.start.home c.in-Ok.ensures.value drives home used)
     c.run_host.ensures.has_run
 
 pub returns-in-Err-Usage-clause-usage : goal.returns-in-Err-Usage-clause-usage
@@ -36,8 +50,8 @@ returns-in-Err-Memory-clause-used g c = λ drives home used.
       runs = λ t is input left. inl (record { wanting = refl; untouched = (refl, refl) });
       stands = λ input left. moments_of_tales g.B.Shelf g.met.B.Shelf.telling _ _ (RunMoment host (asked_of input)) (kept_itself g.B.Shelf c.args.bench.now).goes
           (moments_none (RunMoment host (asked_of input)) _ _ refl (λ t. nothing_run host (asked_of input) t));
-      tells = λ input left. fronts_quiet g.B.Shelf g.met.B.Shelf.telling host (counts (g.B.Shelf.faults c.args.bench.now) (g.I.Source.faults c.args.script.now)) (asked_of input) (between g.B.Shelf c.args.bench.now c.args.bench.now) _ _ (kept_itself g.B.Shelf c.args.bench.now).goes (moments_none (λ t m. told m ≡ told t) _ _ refl (λ t. refl));
+      tells = λ input left. fronts_quiet g.B.Shelf g.met.B.Shelf.telling host (counts (g.B.Shelf.faults c.args.bench.now) (g.I.Source.faults c.args.script.now)) (asked_of input) (between g.B.Shelf c.args.bench.now c.args.bench.now) _ _ (kept_itself g.B.Shelf c.args.bench.now).goes (moments_none (IsBooting host) _ _ refl (λ t. (refl, kept_outside_same (area_of (site_of host)) t)));
       home = nothing_stays host _ _ refl;
-      counted = λ input left n calls. none_took _ (13 + n);
+      counted = λ input left n calls. none_took _ (2 * length host.own + 11 + n);
       causes = inl refl;
     }

@@ -1,25 +1,28 @@
-use Rattle.mdv_run.proofs.Counting.{booted_calls, ended_calls, only_boot, run_calls}
+use Rattle.mdv_run.proofs.Counting.{booted_calls, only_boot, run_calls}
 use Rattle.mdv_engine_law.proofs.Kept.{kept_itself}
 use Rattle.mdv_shelf.specs.Made.{effort_of}
 use Rattle.mdv_shelf.proofs.Made.{by_efforts}
 use Rattle.mdv_engine_law.specs.Answers.{accepted}
 use Rattle.mdv_engine_law.specs.Line.{contents}
 use Rattle.mdv_engine_law.proofs.Efforts.{boot_too}
-use Rattle.std.proofs.Common.{◌≡◌, Err, inr, false, refl, sym, ◌∙◌, ap, subst, arith}
+use Rattle.std.proofs.Common.{◌≡◌, ◌+◌, ◌*◌, length, Err, inr, false, refl, sym, ◌∙◌, ap, subst, arith}
 use Rattle.mdv_run.specs.Below.{asked_of, told, OnDrive, OnReplies, Moments, Host, boot_answer, unbooted, BootMoment, BootedTo, Knows, RunStatus, counts, HasStatusCause, IsWholeRun, RunMoment, LinesMoment, Engine, StaysHome}
 use Rattle.mdv_shelf.proofs.Moments.{moments_after, moments_weaker, moments_end, some_is}
 use Rattle.mdv_run.specs.Turns.{LinesRun}
 use Rattle.mdv_run_law.proofs.Booting.{boot_run, lines_run}
-use Rattle.mdv_run.proofs.Whole.{boot_writes, point_between, whole_over, whole_lines, over_cause}
+use Rattle.mdv_run.proofs.Whole.{boot_calm, boot_writes, point_between, whole_over, whole_lines, over_cause}
 use Rattle.mdv_run.specs.Promise.{between, point_at}
 use Rattle.mdv_shelf.specs.Shelves.{AtEachMoment}
-use Rattle.mdv_run.proofs.Fronting.{RunFront, fronts_quiet, fronts_whole}
+use Rattle.mdv_run.proofs.Fronting.{IsBooting, RunFront, fronts_quiet, fronts_whole}
 use Rattle.mdv_run.proofs.Shown.{last_earlier, shown_earlier}
 use Rattle.mdv_run.proofs.Went.{cause_within, run_earlier}
 use Rattle.mdv_engine_law.proofs.Staying.{both_stay, boot_stays}
 use Rattle.mdv_shelf.proofs.Noted.{kept_more, moments_of_tales}
-use Rattle.mdv_shelf.proofs.InTime.{kept_of_on}
-use Rattle.mdv_run.proofs.Keeping.{replies_apart}
+use Rattle.mdv_shelf.proofs.Among.{in_time_of_among, kept_of_among}
+use Rattle.mdv_engine_law.specs.declared.answer.Answer.TheVariants.{Over}
+use Rattle.mdv_run_law.specs.Run.{drive_failures}
+use Rattle.mdv_run.specs.Calls.{ScriptCalls}
+use Rattle.mdv_run.proofs.Answering.{same_within}
 use Rattle.mdv_run.proofs.session.run_host.Goals as goal
 
 pub returns-in-Ok-clause-has_run : goal.returns-in-Ok-clause-has_run
@@ -35,32 +38,33 @@ returns-in-Ok-clause-has_run g c = record {
       let there = point_at g.B.Shelf g.I.Source c.boot.new.shelf c.args.script.now in
       let end = counts (g.B.Shelf.faults c.run_lines.new.bench) (g.I.Source.faults c.run_lines.new.script) in
       let silent = moments_weaker (BootMoment host) (λ t m. told m ≡ told t) _ _ (λ t m moment. moment.quiet) c.boot.ensures.moments in
-      inr (whole_lines host (between g.B.Shelf c.args.bench.now c.run_lines.new.bench) start t (asked_of input) _ mid end (record { drive = c.boot.ensures.kept.keeps.no_fewer_faults (OnDrive 0); source = refl; replies = c.boot.ensures.kept.others OnReplies replies_apart })
-      done.0 lines.0 c.in-Ok.engine.state c.run_lines.result (g.B.Shelf.story c.boot.new.shelf) (effort_of g.B.Shelf c.boot.new.shelf) (point_between g.B.Shelf g.met.B.Shelf.telling _ c.boot.new.shelf _ (g.I.Source.faults c.args.script.now) done.0 done.1 c.boot.ensures.kept silent c.run_lines.ensures.kept.goes) lines.1 (ap told (some_is _ done.0 quiet.0 done.1 quiet.1) ∙ quiet.2.quiet) done.2.rebooted (boot_too _ _ (by_efforts g.B.Shelf c.args.bench.now c.boot.new.shelf) host accepted c.in-Ok.engine.state (contents t) done.2.calls) (boot_writes g.B.Shelf g.met.B.Shelf.telling host _ _ c.boot.ensures.moments)
+      inr (whole_lines host (between g.B.Shelf c.args.bench.now c.run_lines.new.bench) start t (asked_of input) _ mid end (boot_calm g.B.Shelf c.args.bench.now c.boot.new.shelf c.args.host.own (g.I.Source.faults c.args.script.now) c.boot.ensures.kept)
+      done.0 lines.0 c.in-Ok.engine.state c.run_lines.result (g.B.Shelf.story c.boot.new.shelf) (effort_of g.B.Shelf c.boot.new.shelf) (point_between g.B.Shelf g.met.B.Shelf.telling _ c.boot.new.shelf _ (g.I.Source.faults c.args.script.now) done.0 done.1 (in_time_of_among c.boot.ensures.kept) silent c.run_lines.ensures.kept.goes) lines.1 (ap told (some_is _ done.0 quiet.0 done.1 quiet.1) ∙ quiet.2.quiet) done.2.rebooted (boot_too (drive_failures start mid) (drive_failures start mid) (same_within (drive_failures start mid)) _ _ (by_efforts g.B.Shelf c.args.bench.now c.boot.new.shelf) host accepted c.in-Ok.engine.state (contents t) done.2.effort) (boot_writes g.B.Shelf g.met.B.Shelf.telling host _ _ c.boot.ensures.moments)
       (run_earlier host (between g.B.Shelf c.boot.new.shelf c.run_lines.new.bench) (between g.B.Shelf c.args.bench.now c.run_lines.new.bench) (record { quiet = refl; uncalled = refl })
       (λ bytes piece shown some seen. shown_earlier g.B.Shelf g.met.B.Shelf.telling _ _ _ c.boot.ensures.kept.goes silent bytes piece shown some seen)
-      (λ bytes drive content seen. last_earlier g.B.Shelf g.met.B.Shelf.telling _ _ _ c.boot.ensures.kept.goes silent bytes drive content seen)
+      (λ bytes drives content seen. last_earlier g.B.Shelf g.met.B.Shelf.telling _ _ _ c.boot.ensures.kept.goes silent bytes drives content seen)
       there end c.in-Ok.engine.state (asked_of input) c.run_lines.result done.0 lines.0
       (subst (λ (h : Host). LinesRun h (between g.B.Shelf c.boot.new.shelf c.run_lines.new.bench) there end c.in-Ok.engine.state false (asked_of input) c.run_lines.result done.0 lines.0) c.in-Ok.ensures.answer.engine.0 (lines.2 knows))));
   stands = λ input left.
       let host = c.args.host in
-      moments_of_tales g.B.Shelf g.met.B.Shelf.telling _ _ (RunMoment host (asked_of input)) (kept_more (kept_of_on c.boot.ensures.kept) c.run_lines.ensures.kept).goes
+      moments_of_tales g.B.Shelf g.met.B.Shelf.telling _ _ (RunMoment host (asked_of input)) (kept_more (kept_of_among c.boot.ensures.kept) c.run_lines.ensures.kept).goes
       (moments_after (BootMoment host) (BootedTo host c.in-Ok.engine.state) (LinesMoment host (asked_of input) c.in-Ok.engine.state) (RunMoment host (asked_of input)) _ _ _
       (λ t m moment. boot_run host (asked_of input) t m moment)
       (λ t u m booted lines. lines_run host (asked_of input) c.in-Ok.engine.state t u m c.in-Ok.ensures.answer.engine.3 booted lines)
       c.boot.ensures.moments (λ t is. (let up = c.in-Ok.ensures.end t is in (up.0, up.1, up.2.booted refl)))
       (subst (λ (h : Host). Moments (LinesMoment h (asked_of input) c.in-Ok.engine.state) (g.B.Shelf.tale c.boot.new.shelf) (g.B.Shelf.tale c.run_lines.new.bench)) c.in-Ok.ensures.answer.engine.0 (c.run_lines.ensures.lines.moments input left)));
-  tells = λ input left. fronts_whole g.B.Shelf g.met.B.Shelf.telling c.args.host (counts (g.B.Shelf.faults c.args.bench.now) (g.I.Source.faults c.args.script.now)) (asked_of input) _ _ _ c.in-Ok.engine.state c.boot.ensures.kept
-      (record { drive = c.boot.ensures.kept.keeps.no_fewer_faults (OnDrive 0); source = refl; replies = c.boot.ensures.kept.others OnReplies replies_apart }) c.run_lines.ensures.kept.goes (moments_weaker (BootMoment c.args.host) (λ t m. told m ≡ told t) _ _ (λ t m moment. moment.quiet) c.boot.ensures.moments)
-      (λ t is. (let end = c.in-Ok.ensures.end t is in (end.0, end.1, (end.2.rebooted, (end.2.booted refl).knows, end.2.calls)))) (boot_writes g.B.Shelf g.met.B.Shelf.telling c.args.host _ _ c.boot.ensures.moments)
+  tells = λ input left. fronts_whole g.B.Shelf g.met.B.Shelf.telling c.args.host (counts (g.B.Shelf.faults c.args.bench.now) (g.I.Source.faults c.args.script.now)) (asked_of input) _ _ _ c.in-Ok.engine.state (in_time_of_among c.boot.ensures.kept)
+      (boot_calm g.B.Shelf c.args.bench.now c.boot.new.shelf c.args.host.own (g.I.Source.faults c.args.script.now) c.boot.ensures.kept) c.run_lines.ensures.kept.goes (moments_weaker (BootMoment c.args.host) (IsBooting c.args.host) _ _ (λ t m moment. (moment.quiet, moment.kept)) c.boot.ensures.moments)
+      (λ t is. (let end = c.in-Ok.ensures.end t is in (end.0, end.1, (end.2.rebooted, record { booted = end.2.booted refl; synced = end.2.synced refl }, end.2.effort)))) (boot_writes g.B.Shelf g.met.B.Shelf.telling c.args.host _ _ c.boot.ensures.moments)
       (subst (λ (h : Host). AtEachMoment g.B.Shelf (RunFront h (between g.B.Shelf c.boot.new.shelf c.run_lines.new.bench) (point_at g.B.Shelf g.I.Source c.boot.new.shelf c.args.script.now) c.in-Ok.engine.state (asked_of input)) c.boot.new.shelf c.run_lines.new.bench) c.in-Ok.ensures.answer.engine.0 (c.run_lines.ensures.lines.tells input left));
   home = let host = c.args.host in
       both_stay host _ _ _ (boot_stays host _ _ c.boot.ensures.moments)
       (subst (λ (h : Host). Moments (StaysHome h) (g.B.Shelf.tale c.boot.new.shelf) (g.B.Shelf.tale c.run_lines.new.bench)) c.in-Ok.ensures.answer.engine.0 c.run_lines.ensures.lines.home);
-  counted = λ input left n calls. run_calls _ _ _ n (booted_calls g.B.Shelf _ _ c.in-Ok.engine.state c.in-Ok.ensures.counted) (c.run_lines.ensures.lines.counted input left n calls);
+  counted = λ input left n calls. run_calls _ _ _ (2 * length c.args.host.own + 11) n (booted_calls g.B.Shelf _ _ c.args.host.own accepted c.in-Ok.engine.state c.in-Ok.ensures.counted)
+      (c.run_lines.ensures.lines.counted input left n (subst (λ (h : Host). ScriptCalls h (asked_of input) n) (sym c.in-Ok.ensures.answer.engine.0) calls));
   causes = inr (cause_within (counts (g.B.Shelf.faults c.args.bench.now) (g.I.Source.faults c.args.script.now)) (counts (g.B.Shelf.faults c.boot.new.shelf) (g.I.Source.faults c.args.script.now))
       (counts (g.B.Shelf.faults c.run_lines.new.bench) (g.I.Source.faults c.run_lines.new.script)) (counts (g.B.Shelf.faults c.run_lines.new.bench) (g.I.Source.faults c.run_lines.new.script)) c.run_lines.result
-      (record { drive = c.boot.ensures.kept.keeps.no_fewer_faults (OnDrive 0); source = omega arith; replies = c.boot.ensures.kept.keeps.no_fewer_faults OnReplies }) (record { drive = omega arith; source = omega arith; replies = omega arith }) c.run_lines.ensures.lines.causes);
+      (record { drives = λ drive. c.boot.ensures.kept.keeps.no_fewer_faults (OnDrive drive); source = omega arith; replies = c.boot.ensures.kept.keeps.no_fewer_faults OnReplies }) (record { drives = λ drive. omega arith; source = omega arith; replies = omega arith }) c.run_lines.ensures.lines.causes);
 }
 
 pub returns-in-Err-clause-has_run : goal.returns-in-Err-clause-has_run
@@ -72,22 +76,22 @@ returns-in-Err-clause-has_run g c = record {
       let start = counts (g.B.Shelf.faults c.args.bench.now) (g.I.Source.faults c.args.script.now) in
       let end = counts (g.B.Shelf.faults c.boot.new.shelf) (g.I.Source.faults c.args.script.now) in
       inr (subst (λ (s : RunStatus). IsWholeRun host (between g.B.Shelf c.args.bench.now c.boot.new.shelf) start end t (asked_of input) (g.B.Shelf.tale c.boot.new.shelf) s) (sym c.over.ensures)
-      (whole_over host (between g.B.Shelf c.args.bench.now c.boot.new.shelf) start t (asked_of input) _ Engine end (record { drive = c.boot.ensures.kept.keeps.no_fewer_faults (OnDrive 0); source = refl; replies = c.boot.ensures.kept.others OnReplies replies_apart })
-      done.0 (unbooted 0) c.in-Err.end (point_between g.B.Shelf g.met.B.Shelf.telling _ c.boot.new.shelf _ (g.I.Source.faults c.args.script.now) done.0 done.1 c.boot.ensures.kept (moments_weaker (BootMoment host) (λ t m. told m ≡ told t) _ _ (λ t m moment. moment.quiet) c.boot.ensures.moments) (kept_itself g.B.Shelf c.boot.new.shelf).goes) done.1 (ap told (some_is _ done.0 quiet.0 done.1 quiet.1) ∙ quiet.2.quiet) done.2.rebooted
-      (boot_too _ _ (by_efforts g.B.Shelf c.args.bench.now c.boot.new.shelf) host (boot_answer {T = Engine} (Err c.in-Err.end)) (unbooted 0) (contents t) done.2.calls) (boot_writes g.B.Shelf g.met.B.Shelf.telling host _ _ c.boot.ensures.moments)));
+      (whole_over host (between g.B.Shelf c.args.bench.now c.boot.new.shelf) start t (asked_of input) _ Engine end (boot_calm g.B.Shelf c.args.bench.now c.boot.new.shelf c.args.host.own (g.I.Source.faults c.args.script.now) c.boot.ensures.kept)
+      done.0 (unbooted 0) c.in-Err.end (point_between g.B.Shelf g.met.B.Shelf.telling _ c.boot.new.shelf _ (g.I.Source.faults c.args.script.now) done.0 done.1 (in_time_of_among c.boot.ensures.kept) (moments_weaker (BootMoment host) (λ t m. told m ≡ told t) _ _ (λ t m moment. moment.quiet) c.boot.ensures.moments) (kept_itself g.B.Shelf c.boot.new.shelf).goes) done.1 (ap told (some_is _ done.0 quiet.0 done.1 quiet.1) ∙ quiet.2.quiet) done.2.rebooted
+      (boot_too (drive_failures start end) (drive_failures start end) (same_within (drive_failures start end)) _ _ (by_efforts g.B.Shelf c.args.bench.now c.boot.new.shelf) host (boot_answer {T = Engine} (Err c.in-Err.end)) (unbooted 0) (contents t) done.2.effort) (boot_writes g.B.Shelf g.met.B.Shelf.telling host _ _ c.boot.ensures.moments)));
   stands = λ input left.
       let host = c.args.host in
       moments_of_tales g.B.Shelf g.met.B.Shelf.telling _ _ (RunMoment host (asked_of input)) c.boot.ensures.kept.goes
       (moments_weaker (BootMoment host) (RunMoment host (asked_of input)) _ _ (λ t m moment. boot_run host (asked_of input) t m moment) c.boot.ensures.moments);
-  tells = λ input left. fronts_quiet g.B.Shelf g.met.B.Shelf.telling c.args.host (counts (g.B.Shelf.faults c.args.bench.now) (g.I.Source.faults c.args.script.now)) (asked_of input) (between g.B.Shelf c.args.bench.now c.boot.new.shelf) _ _ c.boot.ensures.kept.goes (moments_weaker (BootMoment c.args.host) (λ t m. told m ≡ told t) _ _ (λ t m moment. moment.quiet) c.boot.ensures.moments);
+  tells = λ input left. fronts_quiet g.B.Shelf g.met.B.Shelf.telling c.args.host (counts (g.B.Shelf.faults c.args.bench.now) (g.I.Source.faults c.args.script.now)) (asked_of input) (between g.B.Shelf c.args.bench.now c.boot.new.shelf) _ _ c.boot.ensures.kept.goes (moments_weaker (BootMoment c.args.host) (IsBooting c.args.host) _ _ (λ t m moment. (moment.quiet, moment.kept)) c.boot.ensures.moments);
   home = boot_stays c.args.host _ _ c.boot.ensures.moments;
-  counted = λ input left n calls. only_boot _ _ n (ended_calls g.B.Shelf _ _ c.in-Err.end (unbooted 0) c.in-Err.ensures.counted);
+  counted = λ input left n calls. only_boot _ _ (2 * length c.args.host.own + 11) n (booted_calls g.B.Shelf _ _ c.args.host.own (Over c.in-Err.end) (unbooted 0) c.in-Err.ensures.counted);
   causes = inr (subst (λ (s : RunStatus). HasStatusCause (counts (g.B.Shelf.faults c.args.bench.now) (g.I.Source.faults c.args.script.now)) (counts (g.B.Shelf.faults c.boot.new.shelf) (g.I.Source.faults c.args.script.now)) s) (sym c.over.ensures)
-      (over_cause Engine _ _ c.in-Err.end false c.in-Err.ensures.answer.cause));
+      (over_cause Engine _ _ c.args.host c.in-Err.end false c.in-Err.ensures.answer.cause));
 }
 
 pub returns-in-Ok-clause-kept : goal.returns-in-Ok-clause-kept
-returns-in-Ok-clause-kept g c = kept_more (kept_of_on c.boot.ensures.kept) c.run_lines.ensures.kept
+returns-in-Ok-clause-kept g c = kept_more (kept_of_among c.boot.ensures.kept) c.run_lines.ensures.kept
 
 pub returns-in-Err-clause-kept : goal.returns-in-Err-clause-kept
-returns-in-Err-clause-kept g c = kept_of_on c.boot.ensures.kept
+returns-in-Err-clause-kept g c = kept_of_among c.boot.ensures.kept

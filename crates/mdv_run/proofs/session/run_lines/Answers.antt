@@ -1,7 +1,9 @@
 use Rattle.mdv_run.proofs.Counting.{all_left, took_on, took_over}
 use Rattle.std.proofs.Common.{◌≤◌, false, refl, sym, ◌∙◌, subst, arith}
 use Rattle.mdv_run.specs.Below.{Reader, asked_of, asked_before, OnDrive, OnReplies, Moments, Ends, Host, IsReady, Knows, IsWell, counts, LinesMoment, StaysHome}
-use Rattle.mdv_run.specs.Promise.{between, point_at}
+use Rattle.mdv_run.specs.Promise.{TurnWrites, between, point_at}
+use Rattle.mdv_run_law.specs.Told.{WorkWrites}
+use Rattle.mdv_shelf.proofs.Moments.{moments_weaker}
 use Rattle.mdv_run.specs.Turns.{LinesRun}
 use Rattle.mdv_shelf.specs.Shelves.{AtEachMoment}
 use Rattle.mdv_run.proofs.Fronting.{RunFront, fronts_more, fronts_start}
@@ -22,7 +24,7 @@ loop-refused-init g c = record {
   limit = subst (λ (r : Reader). r.lines ≤ 1048576) (sym c.new-reader.ensures) (omega arith);
   kept = kept_itself g.B.Shelf c.args.bench.now;
   source = omega arith;
-  calls = λ input left n calls. all_left (g.B.Shelf.calls c.args.bench.now) _ (asked_of input) n (script_at_start _ _ _ c.new-reader.ensures left) calls;
+  calls = λ input left n calls. all_left c.args.engine.now.host (g.B.Shelf.calls c.args.bench.now) _ (asked_of input) n (script_at_start _ _ _ c.new-reader.ensures left) calls;
   home = nothing_stays c.args.engine.now.host _ _ refl;
   fronts = λ input left. fronts_start c.args.engine.now.host (point_at g.B.Shelf g.I.Source c.args.bench.now c.args.script.now) c.args.engine.now.state (asked_of input) g.B.Shelf g.met.B.Shelf.telling c.args.bench.now refl;
   so_far = λ input left. so_far_start c.args.engine.now.host c.args.engine.now.state input _ (between g.B.Shelf c.args.bench.now c.args.bench.now) _ _ (script_at_start _ _ _ c.new-reader.ensures left);
@@ -34,19 +36,20 @@ loop-refused-preserved g c =
     let before = c.loop-refused.invariant in record {
       host = answer.same ∙ before.host;
       ready = subst (λ (h : Host). IsReady h (g.B.Shelf.sizes c.take_turn.new.bench)) (sym answer.same)
-          (record { table = before.ready.table; sound = before.ready.sound; home = before.ready.home; small = before.ready.small; fresh = before.ready.fresh; drive = c.in-On.ensures.kept.keeps.same_sizes ∙ before.ready.drive });
+          (record { table = before.ready.table; home = before.ready.home; view = before.ready.view; own = before.ready.own; sound = before.ready.sound; small = before.ready.small; fresh = before.ready.fresh; drives = c.in-On.ensures.kept.keeps.same_sizes ∙ before.ready.drives });
       well = subst (λ (h : Host). IsWell h c.take_turn.new.engine.state) (sym answer.same) answer.well;
       begun = answer.begun;
       limit = (answer.on tt).1;
       kept = kept_more before.kept (kept_of_time c.in-On.ensures.kept);
       source = let first = before.source in let more = answer.source in omega arith;
-      calls = λ input left n calls. took_on _ _ _ n _ _ (before.calls input left n calls) answer.counted;
+      calls = λ input left n calls. took_on c.args.engine.now.host c.loop-refused.engine.host before.host _ _ _ n _ _ (before.calls input left n calls) answer.counted;
       home = both_stay c.args.engine.now.host _ _ _ before.home
           (subst (λ (h : Host). Moments (StaysHome h) (g.B.Shelf.tale c.loop-refused.bench) (g.B.Shelf.tale c.take_turn.new.bench)) before.host c.in-On.ensures.stays.home);
       fronts = λ input left. subst (λ (h : Host). AtEachMoment g.B.Shelf (RunFront h (between g.B.Shelf c.args.bench.now c.take_turn.new.bench) (point_at g.B.Shelf g.I.Source c.args.bench.now c.args.script.now) c.args.engine.now.state (asked_of input)) c.args.bench.now c.take_turn.new.bench) (sym answer.same)
           (let here = before.so_far input left in
-          fronts_more c.loop-refused.engine.host (point_at g.B.Shelf g.I.Source c.args.bench.now c.args.script.now) c.args.engine.now.state (asked_of input) g.B.Shelf g.met.B.Shelf.telling _ _ _ (point_at g.B.Shelf g.I.Source c.loop-refused.bench c.loop-refused.script) refl c.loop-refused.engine.state c.loop-refused.any_refused here.left before.kept.goes c.in-On.ensures.kept.goes
-          (before.fronts input left) here.went (λ t is. (let ran = here.ran t is in (ran.0, ran.1, ran.2.knows))) (c.in-On.ensures.stays.tells here.left here.comes));
+          fronts_more c.loop-refused.engine.host (point_at g.B.Shelf g.I.Source c.args.bench.now c.args.script.now) c.args.engine.now.state (asked_of input) g.B.Shelf g.met.B.Shelf.telling _ _ _ refl (point_at g.B.Shelf g.I.Source c.loop-refused.bench c.loop-refused.script) refl c.loop-refused.engine.state c.loop-refused.any_refused here.left before.kept.goes c.in-On.ensures.kept.goes
+          (before.fronts input left) here.went here.ran (c.in-On.ensures.stays.tells here.left here.comes) (c.in-On.ensures.moments here.left here.comes)
+          (moments_weaker (TurnWrites g.I.Source c.loop-refused.engine c.loop-refused.script c.loop-refused.reader.reader) (WorkWrites c.loop-refused.engine.host c.loop-refused.engine.state here.left) _ _ (λ s m writes. writes here.left here.comes) c.in-On.ensures.stays.writes));
       so_far = λ input left.
           let here = before.so_far input left in
           subst (λ (h : Host). SoFar h (between g.B.Shelf c.args.bench.now c.take_turn.new.bench) (point_at g.B.Shelf g.I.Source c.args.bench.now c.args.script.now) (point_at g.B.Shelf g.I.Source c.take_turn.new.bench c.take_turn.new.script) c.args.engine.now.state c.take_turn.new.engine.state c.in-On.refused input (asked_before c.take_turn.new.reader.reader (g.I.Source.left c.take_turn.new.script)) (g.B.Shelf.tale c.args.bench.now) (g.B.Shelf.tale c.take_turn.new.bench)) (sym answer.same)
@@ -72,8 +75,9 @@ returns-in-Over-clause-lines g c =
           }) c.in-Over.ensures.end);
       tells = λ input left. subst (λ (h : Host). AtEachMoment g.B.Shelf (RunFront h (between g.B.Shelf c.args.bench.now c.take_turn.new.bench) (point_at g.B.Shelf g.I.Source c.args.bench.now c.args.script.now) c.args.engine.now.state (asked_of input)) c.args.bench.now c.take_turn.new.bench) before.host
           (let here = before.so_far input left in
-          fronts_more c.loop-refused.engine.host (point_at g.B.Shelf g.I.Source c.args.bench.now c.args.script.now) c.args.engine.now.state (asked_of input) g.B.Shelf g.met.B.Shelf.telling _ _ _ (point_at g.B.Shelf g.I.Source c.loop-refused.bench c.loop-refused.script) refl c.loop-refused.engine.state c.loop-refused.any_refused here.left before.kept.goes c.in-Over.ensures.kept.goes
-          (before.fronts input left) here.went (λ t is. (let ran = here.ran t is in (ran.0, ran.1, ran.2.knows))) (c.in-Over.ensures.stays.tells here.left here.comes));
+          fronts_more c.loop-refused.engine.host (point_at g.B.Shelf g.I.Source c.args.bench.now c.args.script.now) c.args.engine.now.state (asked_of input) g.B.Shelf g.met.B.Shelf.telling _ _ _ refl (point_at g.B.Shelf g.I.Source c.loop-refused.bench c.loop-refused.script) refl c.loop-refused.engine.state c.loop-refused.any_refused here.left before.kept.goes c.in-Over.ensures.kept.goes
+          (before.fronts input left) here.went here.ran (c.in-Over.ensures.stays.tells here.left here.comes) (c.in-Over.ensures.moments here.left here.comes)
+          (moments_weaker (TurnWrites g.I.Source c.loop-refused.engine c.loop-refused.script c.loop-refused.reader.reader) (WorkWrites c.loop-refused.engine.host c.loop-refused.engine.state here.left) _ _ (λ s m writes. writes here.left here.comes) c.in-Over.ensures.stays.writes));
       moments = λ input left.
           let here = before.so_far input left in
           subst (λ (h : Host). Moments (LinesMoment h (asked_of input) c.args.engine.now.state) (g.B.Shelf.tale c.args.bench.now) (g.B.Shelf.tale c.take_turn.new.bench)) before.host
@@ -81,10 +85,10 @@ returns-in-Over-clause-lines g c =
           c.in-Over.ensures.moments);
       home = both_stay c.args.engine.now.host _ _ _ before.home
           (subst (λ (h : Host). Moments (StaysHome h) (g.B.Shelf.tale c.loop-refused.bench) (g.B.Shelf.tale c.take_turn.new.bench)) before.host c.in-Over.ensures.stays.home);
-      counted = λ input left n calls. took_over _ _ _ n _ (before.calls input left n calls) c.in-Over.ensures.answer.counted;
+      counted = λ input left n calls. took_over c.args.engine.now.host c.loop-refused.engine.host before.host _ _ _ n _ (before.calls input left n calls) c.in-Over.ensures.answer.counted;
       causes = cause_within (counts (g.B.Shelf.faults c.args.bench.now) (g.I.Source.faults c.args.script.now)) (counts (g.B.Shelf.faults c.loop-refused.bench) (g.I.Source.faults c.loop-refused.script)) (counts (g.B.Shelf.faults c.take_turn.new.bench) (g.I.Source.faults c.take_turn.new.script)) (counts (g.B.Shelf.faults c.take_turn.new.bench) (g.I.Source.faults c.take_turn.new.script)) c.in-Over.status
-          (record { drive = before.kept.keeps.no_fewer_faults (OnDrive 0); source = before.source; replies = before.kept.keeps.no_fewer_faults OnReplies })
-          (record { drive = omega arith; source = omega arith; replies = omega arith }) c.in-Over.ensures.answer.cause;
+          (record { drives = λ drive. before.kept.keeps.no_fewer_faults (OnDrive drive); source = before.source; replies = before.kept.keeps.no_fewer_faults OnReplies })
+          (record { drives = λ drive. omega arith; source = omega arith; replies = omega arith }) c.in-Over.ensures.answer.cause;
     }
 
 pub returns-in-Over-clause-kept : goal.returns-in-Over-clause-kept

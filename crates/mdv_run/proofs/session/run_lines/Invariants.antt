@@ -16,7 +16,7 @@ invariant-loop-refused g l = record {
   limit : l.reader.reader.lines ≤ 1048576;
   kept : Kept g.B.Shelf l.fn.bench l.bench;
   source : g.I.Source.faults l.fn.script ≤ g.I.Source.faults l.script;
-  calls : (input : List ℕ) → g.I.Source.left l.fn.script ≡ Some input → (n : ℕ) → ScriptCalls (asked_of input) n → CallsLeft (asked_before l.reader.reader (g.I.Source.left l.script)) (g.B.Shelf.calls l.fn.bench) (g.B.Shelf.calls l.bench) n;
+  calls : (input : List ℕ) → g.I.Source.left l.fn.script ≡ Some input → (n : ℕ) → ScriptCalls l.fn.engine.host (asked_of input) n → CallsLeft l.fn.engine.host (asked_before l.reader.reader (g.I.Source.left l.script)) (g.B.Shelf.calls l.fn.bench) (g.B.Shelf.calls l.bench) n;
   home : Moments (StaysHome l.fn.engine.host) (g.B.Shelf.tale l.fn.bench) (g.B.Shelf.tale l.bench);
   fronts : (input : List ℕ) → g.I.Source.left l.fn.script ≡ Some input → AtEachMoment g.B.Shelf (RunFront l.engine.host (between g.B.Shelf l.fn.bench l.bench) (point_at g.B.Shelf g.I.Source l.fn.bench l.fn.script) l.fn.engine.state (asked_of input)) l.fn.bench l.bench;
   so_far : (input : List ℕ) → g.I.Source.left l.fn.script ≡ Some input → SoFar l.engine.host (between g.B.Shelf l.fn.bench l.bench) (point_at g.B.Shelf g.I.Source l.fn.bench l.fn.script) (point_at g.B.Shelf g.I.Source l.bench l.script) l.fn.engine.state l.engine.state l.any_refused input (asked_before l.reader.reader (g.I.Source.left l.script)) (g.B.Shelf.tale l.fn.bench) (g.B.Shelf.tale l.bench);

@@ -5,9 +5,9 @@ use Rattle.mdv_shelf.specs.Made.{made_between}
 use Rattle.mdv_shelf.proofs.Between.{between_of}
 use Rattle.mdv_shelf.proofs.Made.{by_efforts}
 use Rattle.mdv_engine_law.specs.declared.answer.Outcome.TheVariants as outcome
-use Rattle.std.proofs.Common.{◌≡◌, ◌≤◌, ℕ, refl, sym, ap, subst, arith}
+use Rattle.std.proofs.Common.{◌≡◌, ◌≤◌, ℕ, List, inl, refl, sym, ap, subst, arith}
 use Rattle.mdv_engine_law.specs.Line.{Nothing}
-use Rattle.mdv_run.specs.Below.{Script, Engine, IsReplied, line, too_long, asked_before, IsItemTurn, Item, TooLong, End, Spent, Moments, TurnMoment, IsWell, OnDrive, OnReplies, ScriptTooLong, counts, told, LinesMoment, RanTo}
+use Rattle.mdv_run.specs.Below.{Script, Engine, IsReplied, line, too_long, asked_before, IsItem, IsItemTurn, Item, TooLong, End, Spent, Moments, TurnMoment, IsWell, OnDrive, OnReplies, ScriptTooLong, counts, told, LinesMoment, RanTo}
 use Rattle.mdv_run_law.specs.Run.{EndsAs}
 use Rattle.mdv_shelf.proofs.Stories.{moment}
 use Rattle.mdv_shelf.proofs.Telling.{each_within, rests_quiet}
@@ -17,14 +17,18 @@ use Rattle.mdv_run.proofs.Fronts.{AnswerFront, LineFront, ScriptFront, line_fron
 use Rattle.mdv_shelf.proofs.Moments.{moments_none, moments_weaker}
 use Rattle.mdv_engine_law.proofs.Plain.{too_long_plain}
 use Rattle.mdv_run.specs.declared.session.Turn.{Turn}
-use Rattle.mdv_run.specs.Promise.{TurnEnd, point_at}
+use Rattle.mdv_run.specs.Promise.{IsWorkOf, TurnEnd, TurnWrites, point_at}
+use Rattle.mdv_engine_law.specs.Home.{site_of}
+use Rattle.mdv_run_law.specs.Told.{WorkWrites}
+use Rattle.mdv_shelf.proofs.Frame.{kept_outside_same}
+use Rattle.mdv_store_law.specs.Site.{area_of}
 use Rattle.mdv_run.specs.Turns.{HasTurnCause}
 use Rattle.mdv_run_law.proofs.Lining.{lines_start}
 use Rattle.mdv_run_law.proofs.Turning.{long_moment, long_ran}
 use Rattle.mdv_run.proofs.Leading.{passes_in_time, end_is, spent_is, long_is, item_is, leads_line, leads_long, on_replied, lost_reply, ended_turn, unread_turn, same_left, turn_cause}
-use Rattle.mdv_engine_law.proofs.Staying.{nothing_stays, turn_stays}
+use Rattle.mdv_engine_law.proofs.Staying.{nothing_stays, stays_still, turn_stays}
 use Rattle.mdv_base.specs.declared.refusal.Refusal.TheVariants.{LineTooLong}
-use Rattle.mdv_run.proofs.Answering.{answered_too, uncut_replied, told_reply, refused_turned, refused_down, refused_knows}
+use Rattle.mdv_run.proofs.Answering.{answered_too, asks_none, uncut_replied, told_reply, refused_turned, refused_down, refused_knows}
 use Rattle.mdv_engine_law.specs.Answers.{refusing}
 use Rattle.mdv_run.proofs.session.take_turn.Goals as goal
 
@@ -55,7 +59,7 @@ returns-in-Ok-Item-clause-end g c = λ lines before t told.
       end.1,
       subst (λ (turn : Turn). TurnEnd host now last old new c.args.any_refused lines rest turn t end.0) (sym c.turn_of.ensures)
           (record {
-            turns = λ knows. leads_line now last c.answer_item.result (record { drive = c.answer_item.ensures.kept.keeps.no_fewer_faults (OnDrive 0); source = c.in-Ok-Item.ensures.cause.calm; replies = c.answer_item.ensures.kept.keeps.no_fewer_faults OnReplies; given = c.answer_item.ensures.stays.given })
+            turns = λ knows. leads_line now last c.answer_item.result (record { drives = λ drive. c.answer_item.ensures.kept.keeps.no_fewer_faults (OnDrive drive); source = c.in-Ok-Item.ensures.cause.calm; replies = c.answer_item.ensures.kept.keeps.no_fewer_faults OnReplies; given = c.answer_item.ensures.stays.given })
                 host old new c.args.any_refused lines script.0 script.1 rest t end.0 (passes_in_time g.B.Shelf g.met.B.Shelf.telling _ _ _ _ t end.0 c.answer_item.ensures.kept told end.1) script.2 script.4 (answered_too (made_between now.effort last.effort) (by_efforts g.B.Shelf c.args.bench.now c.answer_item.new.bench) (end.2.answered knows));
             ran = λ on left is. subst (λ (s : Script). RanTo host s old new left t end.0) (sym script.2)
                 (subst (λ (s : Script). RanTo host (line script.1 s) old new left t end.0) (sym (same_left left script.0 is script.4)) (end.2.ran (on_replied c.answer_item.result c.args.any_refused _ refl on) left));
@@ -74,8 +78,8 @@ returns-in-Ok-Item-clause-answer g c = record {
   counted = λ lines before n calls.
       let reads : IsItemTurn lines Item c.next.new.self (g.I.Source.left c.next.new.source) = rw c.in-Ok-Item.field-0-is at (c.in-Ok-Item.ensures.reads lines before) in
       let script = item_is lines c.next.new.self (g.I.Source.left c.next.new.source) reads in
-      subst (λ (turn : Turn). TurnTook turn (asked_before c.next.new.self.reader (g.I.Source.left c.next.new.source)) (g.B.Shelf.calls c.args.bench.now) (g.B.Shelf.calls c.answer_item.new.bench) n) (sym c.turn_of.ensures)
-      (line_took _ _ lines _ script.1 script.0 script.2 script.4 (λ k takes. c.answer_item.ensures.answer.counted k (script.1, script.3, takes)) n calls c.answer_item.result c.args.any_refused);
+      subst (λ (turn : Turn). TurnTook c.args.engine.now.host turn (asked_before c.next.new.self.reader (g.I.Source.left c.next.new.source)) (g.B.Shelf.calls c.args.bench.now) (g.B.Shelf.calls c.answer_item.new.bench) n) (sym c.turn_of.ensures)
+      (line_took c.args.engine.now.host _ _ lines _ script.1 script.0 script.2 script.4 (λ k takes. c.answer_item.ensures.answer.counted k (script.1, script.3, takes)) n calls c.answer_item.result c.args.any_refused);
   goes_on = λ on lines before.
       let reads : IsItemTurn lines Item c.next.new.self (g.I.Source.left c.next.new.source) = rw c.in-Ok-Item.field-0-is at (c.in-Ok-Item.ensures.reads lines before) in
       let script = item_is lines c.next.new.self (g.I.Source.left c.next.new.source) reads in
@@ -88,6 +92,11 @@ returns-in-Ok-Item-clause-stays g c = record {
   told = λ on. c.answer_item.ensures.stays.told (on_replied c.answer_item.result c.args.any_refused _ c.turn_of.ensures on);
   given = λ on. c.answer_item.ensures.stays.given (λ is. subst IsReplied is (on_replied c.answer_item.result c.args.any_refused _ c.turn_of.ensures on));
   rests = c.answer_item.ensures.stays.rests;
+  writes = moments_weaker (λ s m. (text : List ℕ) → IsItem text c.next.new.self.item → IsWorkOf c.args.engine.now text s m) (TurnWrites g.I.Source c.args.engine.now c.args.script.now c.args.reader.now.reader) _ _
+      (λ s m works lines before.
+      let reads : IsItemTurn lines Item c.next.new.self (g.I.Source.left c.next.new.source) = rw c.in-Ok-Item.field-0-is at (c.in-Ok-Item.ensures.reads lines before) in
+      let script = item_is lines c.next.new.self (g.I.Source.left c.next.new.source) reads in
+      subst (λ (x : Script). WorkWrites c.args.engine.now.host c.args.engine.now.state x s m) (sym script.2) (works script.1 script.3 script.0)) c.answer_item.ensures.stays.writes;
   tells = λ lines before.
       let reads : IsItemTurn lines Item c.next.new.self (g.I.Source.left c.next.new.source) = rw c.in-Ok-Item.field-0-is at (c.in-Ok-Item.ensures.reads lines before) in
       let script = item_is lines c.next.new.self (g.I.Source.left c.next.new.source) reads in
@@ -120,13 +129,13 @@ returns-in-Ok-TooLong-clause-end g c = λ lines before t told.
       subst (λ (e : Engine). TurnEnd host now last old e.state c.args.any_refused lines rest c.turn_of-in-Ok-TooLong.result t end.0) (sym c.refuse.ensures.answer.same)
           (subst (λ (turn : Turn). TurnEnd host now last old old c.args.any_refused lines rest turn t end.0) (sym c.turn_of-in-Ok-TooLong.ensures)
           (record {
-            turns = λ knows. leads_long now last c.refuse.result (record { drive = c.refuse.ensures.kept.keeps.no_fewer_faults (OnDrive 0); source = c.in-Ok-TooLong.ensures.cause.calm; replies = c.refuse.ensures.kept.keeps.no_fewer_faults OnReplies; given = λ uncut. c.refuse.ensures.counted.given (uncut_replied _ (outcome.Refused LineTooLong) c.refuse.result c.refuse.ensures.answer.cause uncut) }) c.refuse.ensures.answer.calm
+            turns = λ knows. leads_long now last c.refuse.result (record { drives = λ drive. c.refuse.ensures.kept.keeps.no_fewer_faults (OnDrive drive); source = c.in-Ok-TooLong.ensures.cause.calm; replies = c.refuse.ensures.kept.keeps.no_fewer_faults OnReplies; given = λ uncut. c.refuse.ensures.counted.given (uncut_replied _ (outcome.Refused LineTooLong) c.refuse.result c.refuse.ensures.answer.cause uncut) }) c.refuse.ensures.answer.calm
                 host old c.args.any_refused lines script.0 rest t end.0 (passes_in_time g.B.Shelf g.met.B.Shelf.telling _ _ _ _ t end.0 c.refuse.ensures.kept told end.1) script.1 script.2 (refused_down host old LineTooLong too_long_plain _ c.refuse.result t end.0 end.2) end.2.replied end.2.kept
                 ((by_efforts g.B.Shelf c.args.bench.now c.refuse.new.bench).within 1 1 0 (between_of g.B.Shelf.calls g.B.Shelf.written _ _ 1 0 1 1 0 (omega arith) (omega arith) (omega arith) c.refuse.ensures.counted.once));
             ran = λ on left is.
                 let turned = refused_turned host old LineTooLong too_long_plain _ c.refuse.result t end.0 end.2 Nothing (on_replied c.refuse.result c.args.any_refused _ refl on) in
                 subst (λ (s : Script). RanTo host s old old left t end.0) (sym script.1)
-                (subst (λ (s : Script). RanTo host (too_long s) old old left t end.0) (sym (same_left left script.0 is script.2)) (long_ran host left old t end.0 turned));
+                (subst (λ (s : Script). RanTo host (too_long s) old old left t end.0) (sym (same_left left script.0 is script.2)) (long_ran host left old t end.0 turned (stays_still host t end.0 end.2.kept)));
             knows = λ kept. refused_knows host old LineTooLong too_long_plain _ c.refuse.result t end.0 end.2;
           })),
     )
@@ -142,8 +151,8 @@ returns-in-Ok-TooLong-clause-answer g c = record {
   counted = λ lines before n calls.
       let reads : IsItemTurn lines TooLong c.next.new.self (g.I.Source.left c.next.new.source) = rw c.in-Ok-TooLong.field-0-is at (c.in-Ok-TooLong.ensures.reads lines before) in
       let script = long_is lines c.next.new.self (g.I.Source.left c.next.new.source) reads in
-      subst (λ (turn : Turn). TurnTook turn (asked_before c.next.new.self.reader (g.I.Source.left c.next.new.source)) (g.B.Shelf.calls c.args.bench.now) (g.B.Shelf.calls c.refuse.new.bench) n) (sym c.turn_of-in-Ok-TooLong.ensures)
-      (long_took _ _ lines _ script.0 script.1 script.2 (rose_at_most 1 1 _ _ (omega arith) c.refuse.ensures.counted.once.in_calls) n calls c.refuse.result c.args.any_refused);
+      subst (λ (turn : Turn). TurnTook c.args.engine.now.host turn (asked_before c.next.new.self.reader (g.I.Source.left c.next.new.source)) (g.B.Shelf.calls c.args.bench.now) (g.B.Shelf.calls c.refuse.new.bench) n) (sym c.turn_of-in-Ok-TooLong.ensures)
+      (long_took c.args.engine.now.host _ _ lines _ script.0 script.1 script.2 (rose_at_most 1 1 _ _ (omega arith) c.refuse.ensures.counted.once.in_calls) n calls c.refuse.result c.args.any_refused);
   goes_on = λ on lines before.
       let reads : IsItemTurn lines TooLong c.next.new.self (g.I.Source.left c.next.new.source) = rw c.in-Ok-TooLong.field-0-is at (c.in-Ok-TooLong.ensures.reads lines before) in
       let script = long_is lines c.next.new.self (g.I.Source.left c.next.new.source) reads in
@@ -156,6 +165,7 @@ returns-in-Ok-TooLong-clause-stays g c = record {
   told = λ on. c.refuse.ensures.counted.told (on_replied c.refuse.result c.args.any_refused _ c.turn_of-in-Ok-TooLong.ensures on);
   given = λ on. c.refuse.ensures.counted.given (on_replied c.refuse.result c.args.any_refused _ c.turn_of-in-Ok-TooLong.ensures on);
   rests = (c.refuse.ensures.moments.line Nothing).rests;
+  writes = asks_none c.args.engine.now.host c.args.engine.now.state (TurnWrites g.I.Source c.args.engine.now c.args.script.now c.args.reader.now.reader) (λ s m within lines before. inl within) _ _ (c.refuse.ensures.moments.line Nothing).each;
   tells = λ lines before.
       let reads : IsItemTurn lines TooLong c.next.new.self (g.I.Source.left c.next.new.source) = rw c.in-Ok-TooLong.field-0-is at (c.in-Ok-TooLong.ensures.reads lines before) in
       let script = long_is lines c.next.new.self (g.I.Source.left c.next.new.source) reads in
@@ -210,7 +220,7 @@ returns-in-Err-clause-end g c = λ lines before t told. (
   t,
   told,
   record {
-    turns = λ knows. unread_turn c.args.engine.now.host _ _ (record { drive = refl; source = c.in-Err.ensures.cause.failed; no_fewer = c.next.ensures.cause.later; replies = refl }) refl refl c.args.engine.now.state c.args.any_refused lines _ t;
+    turns = λ knows. unread_turn c.args.engine.now.host _ _ (record { drives = λ drive. refl; source = c.in-Err.ensures.cause.failed; no_fewer = c.next.ensures.cause.later; replies = refl }) refl refl c.args.engine.now.state c.args.any_refused lines _ t;
     ran = λ on. absurd on;
     knows = λ kept known. known;
   },
@@ -222,6 +232,7 @@ returns-in-Ok-End-clause-stays g c = record {
   told = λ on. absurd on;
   given = λ on. absurd on;
   rests = rests_quiet g.B.Shelf g.met.B.Shelf.telling _ _ (kept_itself g.B.Shelf c.args.bench.now).goes (moments_none (λ t m. told m ≡ told t) _ _ refl (λ t. refl));
+  writes = moments_none (TurnWrites g.I.Source c.args.engine.now c.args.script.now c.args.reader.now.reader) _ _ refl (λ t lines before. inl (kept_outside_same (area_of (site_of c.args.engine.now.host)) t));
   tells = λ lines before. still_front g.B.Shelf c.args.engine.now.host c.args.engine.now.state _ c.args.any_refused lines c.args.bench.now;
 }
 
@@ -231,6 +242,7 @@ returns-in-Ok-Spent-clause-stays g c = record {
   told = λ on. absurd on;
   given = λ on. absurd on;
   rests = rests_quiet g.B.Shelf g.met.B.Shelf.telling _ _ (kept_itself g.B.Shelf c.args.bench.now).goes (moments_none (λ t m. told m ≡ told t) _ _ refl (λ t. refl));
+  writes = moments_none (TurnWrites g.I.Source c.args.engine.now c.args.script.now c.args.reader.now.reader) _ _ refl (λ t lines before. inl (kept_outside_same (area_of (site_of c.args.engine.now.host)) t));
   tells = λ lines before. still_front g.B.Shelf c.args.engine.now.host c.args.engine.now.state _ c.args.any_refused lines c.args.bench.now;
 }
 
@@ -240,6 +252,7 @@ returns-in-Err-clause-stays g c = record {
   told = λ on. absurd on;
   given = λ on. absurd on;
   rests = rests_quiet g.B.Shelf g.met.B.Shelf.telling _ _ (kept_itself g.B.Shelf c.args.bench.now).goes (moments_none (λ t m. told m ≡ told t) _ _ refl (λ t. refl));
+  writes = moments_none (TurnWrites g.I.Source c.args.engine.now c.args.script.now c.args.reader.now.reader) _ _ refl (λ t lines before. inl (kept_outside_same (area_of (site_of c.args.engine.now.host)) t));
   tells = λ lines before. still_front g.B.Shelf c.args.engine.now.host c.args.engine.now.state _ c.args.any_refused lines c.args.bench.now;
 }
 

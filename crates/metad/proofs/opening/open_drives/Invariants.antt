@@ -1,6 +1,6 @@
-use Rattle.std.proofs.Common.{◌≡◌, vec_len, take}
+use Rattle.std.proofs.Common.{◌≡◌, vec_len, map, string_bytes, take}
 use Rattle.metad.specs.Bench.{sizes_of, sizes_in}
-use Rattle.metad.specs.Opening.{HaveOwnFiles, lost_count}
+use Rattle.metad.specs.Opening.{HaveOwnFiles, foreign_in, foreign_of, lost_count}
 use Rattle.metad.proofs.opening.open_drives.Given as goal
 
 abbrev pub invariant-loop-line : goal.invariant-loop-line
@@ -9,4 +9,5 @@ invariant-loop-line l = record {
   sizes : sizes_of l.images.items ≡ sizes_in (take l.line-index l.geometry.drives);
   own : HaveOwnFiles l.images.items;
   lost : vec_len l.lost ≡ lost_count l.images.items;
+  foreign : foreign_of l.images.items ≡ foreign_in (map string_bytes l.words) (take l.line-index l.geometry.drives);
 }

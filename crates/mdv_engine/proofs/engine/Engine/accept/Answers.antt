@@ -18,12 +18,12 @@ returns-clause-moments g c =
     let host = c.args.self.now.host in
     let memory = c.args.self.now.state in record {
       each = moments_weaker (TellMoment (text_of accepted)) (TurnMoment host Nothing memory) _ _ (ok_told host memory) c.tell.ensures.fronts;
-      fronts = fronts_alone g.B.Shelf g.met.B.Shelf.telling _ _ (OnlyAnswers accepted) host memory accepted memory (λ failures calm content. (calm, refl, refl)) c.tell.ensures.kept.goes (c.tell.ensures.counted.drives 0) c.tell.ensures.fronts;
+      fronts = fronts_alone g.B.Shelf g.met.B.Shelf.telling _ _ (OnlyAnswers accepted) host memory accepted memory (λ failures calm content. (calm, refl, refl)) c.tell.ensures.kept.goes (c.tell.ensures.counted.drives) c.tell.ensures.fronts;
       rests = telling_rests g.B.Shelf g.met.B.Shelf.telling _ _ (text_of accepted) c.tell.ensures.kept.goes c.tell.ensures.fronts c.tell.ensures.counted.drives;
     }
 
 pub returns-clause-answer : goal.returns-clause-answer
-returns-clause-answer g c = record { cause = reply_cause _ c.tell.ensures.answers.0 outcome.Ok c.tell.result c.tell.ensures.answers.1; calm = c.tell.ensures.counted.drives 0; same = refl }
+returns-clause-answer g c = record { cause = reply_cause _ c.tell.ensures.answers.0 outcome.Ok c.tell.result c.tell.ensures.answers.1; calm = c.tell.ensures.counted.drives; same = refl }
 
 pub returns-clause-counted : goal.returns-clause-counted
 returns-clause-counted g c = record {

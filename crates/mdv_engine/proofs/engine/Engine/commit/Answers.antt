@@ -7,7 +7,7 @@ use Rattle.mdv_shelf.specs.Shelves.{DriveFailures}
 use Rattle.mdv_engine_law.specs.Replies.{HasAnswerCause}
 use Rattle.mdv_base.specs.Causes.{Failures}
 use Rattle.mdv_engine_law.specs.declared.answer.Answer.{Answer}
-use Rattle.mdv_engine.specs.Below.{key_of, ReplicaFull, MakeStripe, Changed, Local, place_of, PlaceAt, OnDrive, TooLong, HasCommitCause, Newest, IsPlainAnswer}
+use Rattle.mdv_engine.specs.Below.{any_of, key_of, ReplicaFull, MakeStripe, Changed, Local, place_of, OnDrive, TooLong, HasCommitCause, Newest, IsPlainAnswer}
 use Rattle.mdv_engine_law.specs.Answers.{accepted, refusing}
 use Rattle.mdv_engine_law.specs.declared.answer.Answer.TheVariants.{Over}
 use Rattle.mdv_engine_law.specs.declared.answer.Ended.TheVariants as ended
@@ -22,7 +22,8 @@ use Rattle.mdv_engine.proofs.Ending.{no_creation, refused_answer}
 use Rattle.mdv_engine.proofs.Parts.{commit_goes, commit_goes_to, commit_opened, commit_quiet}
 use Rattle.mdv_words.specs.declared.command.Command.TheVariants as command
 use Rattle.mdv_engine.proofs.Counting.{committed_counted, counted_as}
-use Rattle.mdv_engine.proofs.Sites.{kept_here, laid_open}
+use Rattle.mdv_engine.proofs.Sites.{laid_open}
+use Rattle.mdv_engine.proofs.Drives.{calm_all, failed_at, failed_one}
 use Rattle.mdv_engine.proofs.engine.Engine.commit.Goals as goal
 use Rattle.mdv_engine.proofs.engine.Engine.commit.Goals.{in-Ok, in-Err-Lost, in-Err-TooLong, in-Err-Spent}
 
@@ -43,7 +44,7 @@ returns-clause-moments g c = λ change is.
     let at_is : c.place_at-at.result ≡ place_of host.home = c.place_at-at.ensures ∙ ap (λ (e : Engine). place_of e.host.home) c.self.view_is in
     let opened : memory.opened ≡ Some db = ap (λ (e : Engine). e.state.opened) (sym c.self.view_is) ∙ c.in-Some.is in
     let placed = opened_has memory db (λ (n : Newest). IsTableOf host n.blocks c.args.next) opened c.requires.placed in
-    changing_moments host _ c.requires.ready _ at_is memory c.requires.well.sound change c.args.next db opened (next_of host memory change c.args.next db opened is) placed _ _ (commit_quiet _ _ _ _ _ _ c.commit.ensures.moments) (commit_goes _ _ _ _ _ _ host.drives (Local host.home.host) (Some change) c.commit.ensures.moments)
+    changing_moments host _ c.requires.ready _ at_is memory change c.args.next db opened (next_of host memory change c.args.next db opened is) placed _ _ (commit_quiet _ _ _ _ _ _ c.commit.ensures.moments) (commit_goes _ _ _ _ _ _ host.drives (Local host.home.host) (Some change) c.commit.ensures.moments)
 
 pub returns-clause-end : goal.returns-clause-end
 returns-clause-end g c = λ volume slice is.
@@ -61,25 +62,25 @@ returns-clause-end g c = λ volume slice is.
     elim c.match-commit.branch [
       | in-Ok w ↦
           end_as host memory volume slice _ _ accepted _ w.result-is _ _ (opened_as _ memory same _ _ w.in-Ok.ensures.answer.1) _
-          (committed_answer host _ c.requires.ready _ at_is memory c.requires.well.sound volume slice next db opened chosen placed _ _ (commit_quiet _ _ _ _ _ _ c.commit.ensures.moments) w.in-Ok.ensures.answer.2.in_room _ (subst (λ (p : PlaceAt). (DriveFailures g.S.Shelf c.args.shelf.now c.commit.new.shelf p.drive.0).none) at_is w.in-Ok.ensures.answer.0) w.in-Ok.ensures.answer.2.countable (commit_opened _ _ _ _ _ _ host.drives (Local host.home.host) (Some change) w.in-Ok.ensures.end))
-          (committed_carried host _ c.requires.ready _ at_is memory c.requires.well.sound change next db opened chosen placed _ _ (commit_quiet _ _ _ _ _ _ c.commit.ensures.moments) (commit_opened _ _ _ _ _ _ host.drives (Local host.home.host) (Some change) w.in-Ok.ensures.end) (commit_goes_to _ _ _ _ _ _ host.drives (Local host.home.host) (Some change) w.in-Ok.ensures.end))
+          (committed_answer host _ c.requires.ready _ at_is memory volume slice next db opened chosen placed _ _ (commit_quiet _ _ _ _ _ _ c.commit.ensures.moments) w.in-Ok.ensures.answer.2.in_room _ (calm_all g.S.Shelf _ _ c.place_at-at.result.drive.0 c.commit.ensures.kept w.in-Ok.ensures.answer.0) w.in-Ok.ensures.answer.2.countable (commit_opened _ _ _ _ _ _ host.drives (Local host.home.host) (Some change) w.in-Ok.ensures.end))
+          (committed_carried host _ c.requires.ready _ at_is memory change next db opened chosen placed _ _ (commit_quiet _ _ _ _ _ _ c.commit.ensures.moments) (commit_opened _ _ _ _ _ _ host.drives (Local host.home.host) (Some change) w.in-Ok.ensures.end) (commit_goes_to _ _ _ _ _ _ host.drives (Local host.home.host) (Some change) w.in-Ok.ensures.end))
       | in-Err-Lost w ↦
           let failed = subst (HasCommitCause (DriveFailures g.S.Shelf c.args.shelf.now c.commit.new.shelf c.place_at-at.result.drive.0) db next) w.in-Err-Lost.field-0-is w.in-Err-Lost.ensures.answer.1 in
-          let rose = subst (λ (p : PlaceAt). (DriveFailures g.S.Shelf c.args.shelf.now c.commit.new.shelf p.drive.0).some) at_is failed.0 in
+          let rose = failed_at g.S.Shelf _ _ c.place_at-at.result _ at_is c.commit.ensures.kept failed.0 in
           end_as host memory volume slice _ _ (Over (ended.Lost 0 1)) _ w.result-is memory _ (opened_still _ memory same _ db w.in-Err-Lost.ensures.answer.0 opened) _
-          (lost_answer host _ c.requires.ready _ at_is memory c.requires.well.sound volume slice next db opened chosen placed _ _ (commit_quiet _ _ _ _ _ _ c.commit.ensures.moments) failed.1.in_room _ memory rose)
-          (lost_carried host _ c.requires.ready _ at_is memory c.requires.well.sound change next db opened chosen placed _ _ (commit_quiet _ _ _ _ _ _ c.commit.ensures.moments) memory stays)
+          (lost_answer host _ c.requires.ready _ at_is memory volume slice next db opened chosen placed _ _ (commit_quiet _ _ _ _ _ _ c.commit.ensures.moments) failed.1.in_room _ memory rose)
+          (lost_carried host _ c.requires.ready _ at_is memory change next db opened chosen placed _ _ (commit_quiet _ _ _ _ _ _ c.commit.ensures.moments) memory stays)
       | in-Err-TooLong w ↦
           let nothing = ap g.S.Shelf.tale (rw w.in-Err-TooLong.field-0-is at w.in-Err-TooLong.ensures.counted) in
           let long = subst (HasCommitCause (DriveFailures g.S.Shelf c.args.shelf.now c.commit.new.shelf c.place_at-at.result.drive.0) db next) w.in-Err-TooLong.field-0-is w.in-Err-TooLong.ensures.answer.1 in
           end_as host memory volume slice _ _ _ _ w.result-is memory _ (opened_still _ memory same _ db w.in-Err-TooLong.ensures.answer.0 opened) _
-          (long_answer host _ c.requires.ready _ at_is memory c.requires.well.sound volume slice next db opened chosen placed _ _ nothing _ (ap (λ (s : g.row.S.Denot). g.S.Shelf.faults s (OnDrive 0)) (rw w.in-Err-TooLong.field-0-is at w.in-Err-TooLong.ensures.counted)) _ _ long.0 (ap (λ (f : TooLong). f.bytes) long.1) (ap (λ (f : TooLong). f.room) long.1))
+          (long_answer host _ c.requires.ready _ at_is memory volume slice next db opened chosen placed _ _ nothing _ (λ drive. ap (λ (s : g.row.S.Denot). g.S.Shelf.faults s (OnDrive drive)) (rw w.in-Err-TooLong.field-0-is at w.in-Err-TooLong.ensures.counted)) _ _ long.0 (ap (λ (f : TooLong). f.bytes) long.1) (ap (λ (f : TooLong). f.room) long.1))
           (refused_carried host memory change _ _ (ap g.S.Shelf.tale (rw w.in-Err-TooLong.field-0-is at w.in-Err-TooLong.ensures.counted)) _)
       | in-Err-Spent w ↦
           let nothing = ap g.S.Shelf.tale (rw w.in-Err-Spent.field-0-is at w.in-Err-Spent.ensures.counted) in
           let reached = subst (HasCommitCause (DriveFailures g.S.Shelf c.args.shelf.now c.commit.new.shelf c.place_at-at.result.drive.0) db next) w.in-Err-Spent.field-0-is w.in-Err-Spent.ensures.answer.1 in
           end_as host memory volume slice _ _ (Over ended.Spent) _ w.result-is memory _ (opened_still _ memory same _ db w.in-Err-Spent.ensures.answer.0 opened) _
-          (spent_answer host _ c.requires.ready _ at_is memory c.requires.well.sound volume slice next db opened chosen placed _ _ nothing _ (ap (λ (s : g.row.S.Denot). g.S.Shelf.faults s (OnDrive 0)) (rw w.in-Err-Spent.field-0-is at w.in-Err-Spent.ensures.counted)) reached.0 reached.1)
+          (spent_answer host _ c.requires.ready _ at_is memory volume slice next db opened chosen placed _ _ nothing _ (λ drive. ap (λ (s : g.row.S.Denot). g.S.Shelf.faults s (OnDrive drive)) (rw w.in-Err-Spent.field-0-is at w.in-Err-Spent.ensures.counted)) reached.0 reached.1)
           (spent_carried host memory change _ _ (ap g.S.Shelf.tale (rw w.in-Err-Spent.field-0-is at w.in-Err-Spent.ensures.counted)))
     ]
 
@@ -96,14 +97,14 @@ returns-clause-answer g c = λ change. record {
     | in-Err-Spent w ↦ subst IsPlainAnswer (sym w.result-is) tt
   ];
   cause =
-      let fails = DriveFailures g.S.Shelf c.args.shelf.now c.commit.new.shelf 0 in
+      let fails = any_of (DriveFailures g.S.Shelf c.args.shelf.now c.commit.new.shelf) in
       let at_is : c.place_at-at.result ≡ place_of c.args.self.now.host.home = c.place_at-at.ensures ∙ ap (λ (e : Engine). place_of e.host.home) c.self.view_is in
       elim c.match-commit.branch [
-        | in-Ok w ↦ said_cause fails accepted _ w.result-is (subst (λ (p : PlaceAt). (DriveFailures g.S.Shelf c.args.shelf.now c.commit.new.shelf p.drive.0).none) at_is w.in-Ok.ensures.answer.0)
+        | in-Ok w ↦ said_cause fails accepted _ w.result-is (calm_all g.S.Shelf _ _ c.place_at-at.result.drive.0 c.commit.ensures.kept w.in-Ok.ensures.answer.0)
         | in-Err-Lost w ↦ said_cause fails (Over (ended.Lost 0 1)) _ w.result-is
-            (subst (λ (p : PlaceAt). (DriveFailures g.S.Shelf c.args.shelf.now c.commit.new.shelf p.drive.0).some) at_is (subst (HasCommitCause (DriveFailures g.S.Shelf c.args.shelf.now c.commit.new.shelf c.place_at-at.result.drive.0) c.in-Some.database c.args.next) w.in-Err-Lost.field-0-is w.in-Err-Lost.ensures.answer.1).0, refl, refl)
-        | in-Err-TooLong w ↦ said_cause fails (refusing (ReplicaFull w.in-Err-TooLong.fault.bytes w.in-Err-TooLong.fault.room)) _ w.result-is (ap (λ (s : g.row.S.Denot). g.S.Shelf.faults s (OnDrive 0)) (rw w.in-Err-TooLong.field-0-is at w.in-Err-TooLong.ensures.counted))
-        | in-Err-Spent w ↦ said_cause fails (Over ended.Spent) _ w.result-is (ap (λ (s : g.row.S.Denot). g.S.Shelf.faults s (OnDrive 0)) (rw w.in-Err-Spent.field-0-is at w.in-Err-Spent.ensures.counted))
+            ((c.place_at-at.result.drive.0, failed_one g.S.Shelf _ _ c.place_at-at.result.drive.0 c.commit.ensures.kept (subst (HasCommitCause (DriveFailures g.S.Shelf c.args.shelf.now c.commit.new.shelf c.place_at-at.result.drive.0) c.in-Some.database c.args.next) w.in-Err-Lost.field-0-is w.in-Err-Lost.ensures.answer.1).0), refl, refl)
+        | in-Err-TooLong w ↦ said_cause fails (refusing (ReplicaFull w.in-Err-TooLong.fault.bytes w.in-Err-TooLong.fault.room)) _ w.result-is (λ drive. ap (λ (s : g.row.S.Denot). g.S.Shelf.faults s (OnDrive drive)) (rw w.in-Err-TooLong.field-0-is at w.in-Err-TooLong.ensures.counted))
+        | in-Err-Spent w ↦ said_cause fails (Over ended.Spent) _ w.result-is (λ drive. ap (λ (s : g.row.S.Denot). g.S.Shelf.faults s (OnDrive drive)) (rw w.in-Err-Spent.field-0-is at w.in-Err-Spent.ensures.counted))
       ];
   free = λ on has. absurd (no_creation (key_of c.args.self.now.host) (Changed (key_of c.args.self.now.host) change) (λ is. absurd (cc (is))) has);
   host = search rules;
@@ -118,9 +119,9 @@ nothing_open_plain = record { one_line = refl; begins = refl }
 
 pub returns-in_default-clause-answer : goal.returns-in_default-clause-answer
 returns-in_default-clause-answer g c = λ change.
-    let failures = DriveFailures g.S.Shelf c.args.shelf.now c.args.shelf.now 0 in
-    subst (λ (e : Engine). HasAnswered failures (ToDo (Changed (key_of c.args.self.now.host) change)) c.args.self.now (refusing NoDatabase) e) (sym c.self.view_is)
-    (refused_answer failures (ToDo (Changed (key_of c.args.self.now.host) change)) c.args.self.now c.requires.well NoDatabase refl nothing_open_plain)
+    let calls = DriveFailures g.S.Shelf c.args.shelf.now c.args.shelf.now in
+    subst (λ (e : Engine). HasAnswered calls (ToDo (Changed (key_of c.args.self.now.host) change)) c.args.self.now (refusing NoDatabase) e) (sym c.self.view_is)
+    (refused_answer calls (ToDo (Changed (key_of c.args.self.now.host) change)) c.args.self.now c.requires.well NoDatabase (λ drive. refl) nothing_open_plain)
 
 pub returns-clause-counted : goal.returns-clause-counted
 returns-clause-counted g c = λ volume slice.
@@ -133,4 +134,4 @@ returns-clause-counted g c = λ volume slice.
     ]
 
 pub returns-clause-kept : goal.returns-clause-kept
-returns-clause-kept g c = kept_here c.place_at-at.result c.place_at-at.ensures c.commit.ensures.kept
+returns-clause-kept g c = (c.place_at-at.result.drive.0, c.commit.ensures.kept)

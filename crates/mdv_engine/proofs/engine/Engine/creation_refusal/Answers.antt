@@ -11,8 +11,8 @@ pub returns-then-not-at : goal.returns-then-not-at
 returns-then-not-at c =
     there _ _ c.self.view_is c.args.slice c.args.force (subst (λ (x : Engine). IsSound x.host.drives) (sym c.self.view_is) c.requires.sound) c.in-Some.at c.in-Some.ensures.value false _ _ _ _ (search rules) refl refl refl refl
 
-pub returns-then-self : goal.returns-then-self
-returns-then-self c =
+pub returns-then-not-self : goal.returns-then-not-self
+returns-then-not-self c =
     there _ _ c.self.view_is c.args.slice c.args.force (subst (λ (x : Engine). IsSound x.host.drives) (sym c.self.view_is) c.requires.sound) c.in-Some.at c.in-Some.ensures.value true true _ _ _ (search rules) (search rules) refl refl refl
 
 pub returns-then-is_some : goal.returns-then-is_some

@@ -7,14 +7,16 @@ use Rattle.mdv_shelf.proofs.Counts.{at_most_then}
 use Rattle.mdv_words.specs.Line as words
 use Rattle.mdv_engine_law.proofs.Executing.{came_more, command_cause, executed}
 use Rattle.mdv_base.proofs.Causes.{calm_before, within_calm}
+use Rattle.mdv_engine_law.proofs.Widening.{any_more}
 use Rattle.mdv_engine_law.proofs.Longer.{replied_more}
 use Rattle.mdv_engine_law.proofs.Fronts.{fronts_then, telling_rests}
+use Rattle.mdv_engine_law.proofs.Writing.{done_still}
 use Rattle.mdv_engine_law.proofs.Turning.{Carried, carried_ends, turn_carry, turn_tell, turned, knows_after}
 use Rattle.mdv_engine.specs.Ends.{CarriesOut, LeavesMade}
 use Rattle.mdv_engine_law.specs.Efforts.{LossCalls, blocks_of, calls_of, wanting_calls}
 use Rattle.mdv_shelf.specs.Made.{made_of}
 use Rattle.mdv_engine_law.specs.Replies.{IsLost}
-use Rattle.mdv_engine.proofs.Counting.{calm_given, command_calls, command_most, done_told, replied_calls, telling_most, done_then, fault_then, fault_told, lost_told, none_at_most, not_lost, quiet_told, spent_told, told_lost, unlooked_told, unwritten_told, wanting_told, whole_or_lost}
+use Rattle.mdv_engine.proofs.Counting.{calm_given, command_calls, command_most, done_told, replied_calls, telling_most, done_then, fault_then, fault_told, lost_told, none_at_most, not_lost, quiet_told, spent_told, told_lost, told_ok, unlooked_told, unwritten_told, wanting_told, whole_or_lost}
 use Rattle.mdv_engine.proofs.engine.Engine.exec.Goals as goal
 
 pub returns-clause-moments : goal.returns-clause-moments
@@ -33,10 +35,10 @@ returns-clause-moments g c =
           c.carry_out-answer.ensures.moments (carried_ends host asked old new answer _ _ c.carry_out-answer.ensures.moments carried) c.tell.ensures.fronts;
       fronts = fronts_then g.B.Shelf g.met.B.Shelf.telling _ _ _ (CarriesOut host c.args.command.now) host old answer new
           (λ failed more cause kept next is. came_more failed more cause host kept next answer c.args.command.now is)
-          c.carry_out-answer.ensures.kept.goes
+          c.carry_out-answer.ensures.kept.1.goes
           (moments_weaker (CarryMoment host asked old) (λ t m. told m ≡ told t) _ _ (λ t m moment. moment.quiet) c.carry_out-answer.ensures.moments)
-          (λ t is. (let end = c.carry_out-answer.ensures.end t is in (end.0, end.1, end.2.carry.answered))) c.tell.ensures.kept.goes (c.tell.ensures.counted.drives 0) c.tell.ensures.fronts;
-      rests = rests_behind g.B.Shelf g.met.B.Shelf.telling _ _ _ c.carry_out-answer.ensures.kept.goes
+          (λ t is. (let end = c.carry_out-answer.ensures.end t is in (end.0, end.1, end.2.carry.answered))) c.tell.ensures.kept.goes c.tell.ensures.counted.drives c.tell.ensures.fronts;
+      rests = rests_behind g.B.Shelf g.met.B.Shelf.telling _ _ _ c.carry_out-answer.ensures.kept.1.goes
           (moments_weaker (CarryMoment host asked old) (λ t m. told m ≡ told t) _ _ (λ t m moment. moment.quiet) c.carry_out-answer.ensures.moments)
           (telling_rests g.B.Shelf g.met.B.Shelf.telling _ _ (text_of answer) c.tell.ensures.kept.goes c.tell.ensures.fronts c.tell.ensures.counted.drives);
     }
@@ -57,8 +59,8 @@ returns-clause-end g c = λ t is.
       end.1,
       record {
         answered = λ known. executed _ _ _ _ _ host (words.Exec c.args.command.now) old new answer c.tell.result t done.0 end.0
-            (within_calm _ _ _ (c.tell.ensures.counted.drives 0))
-            (calm_before _ _ _ (c.carry_out-answer.ensures.kept.others OnReplies (λ is. absurd (cc (is))))).some
+            (λ drive. within_calm _ _ _ (c.tell.ensures.counted.drives drive))
+            (calm_before _ _ _ (c.carry_out-answer.ensures.kept.1.others OnReplies (λ is. absurd (cc (is))))).some
             quiet (done.2.carry.answered known) end.2
             (replied_calls g.B.Shelf.calls g.B.Shelf.written _ _ _ _ c.args.command.now new.opened answer c.tell.result _ c.tell.ensures.answers.1 c.tell.ensures.counted.once c.tell.ensures.counted.silent
             (command_calls g.B.Shelf.tale g.B.Shelf.calls g.B.Shelf.written _ _ c.args.command.now new.opened answer c.carry_out-answer.ensures.counted));
@@ -67,6 +69,7 @@ returns-clause-end g c = λ t is.
         quiet = λ still.
             let same = quiet_told g.B.Shelf.tale g.B.Shelf.calls g.B.Shelf.written _ _ c.args.command.now new.opened _ answer c.tell.result _ c.tell.ensures.answers.1 still c.carry_out-answer.ensures.counted in
             subst (λ (x : Tale). KeptOutside nowhere x end.0) (some_is _ done.0 t done.1 (same ∙ is)) end.2.kept;
+        done = λ ok. done_still host old c.args.command.now done.0 end.0 end.2.kept (done.2.done (told_ok _ answer _ (rw ok at c.tell.ensures.answers.1)));
         lost = λ active listed is.
             let same = ap g.B.Shelf.tale (c.tell.ensures.counted.silent (subst IsLost (sym is) tt)) in
             subst (LeavesMade host old c.args.command.now) (some_is _ done.0 end.0 (same ∙ done.1) end.1) (done.2.lost active listed (told_lost _ answer active listed c.tell.ensures.answers.0 (rw is at c.tell.ensures.answers.1)));
@@ -75,8 +78,8 @@ returns-clause-end g c = λ t is.
 
 pub returns-clause-answer : goal.returns-clause-answer
 returns-clause-answer g c = record {
-  cause = command_cause _ _ _ _ c.tell.ensures.answers.0 (within_calm _ _ _ (c.tell.ensures.counted.drives 0))
-      (calm_before _ _ _ (c.carry_out-answer.ensures.kept.others OnReplies (λ is. absurd (cc (is))))).some
+  cause = command_cause _ _ _ _ c.tell.ensures.answers.0 (any_more _ _ (λ drive. within_calm _ _ _ (c.tell.ensures.counted.drives drive)))
+      (calm_before _ _ _ (c.carry_out-answer.ensures.kept.1.others OnReplies (λ is. absurd (cc (is))))).some
       c.carry_out-answer.result c.tell.result c.carry_out-answer.ensures.answer.cause c.tell.ensures.answers.1;
   host = c.carry_out-answer.ensures.answer.host;
   well = c.carry_out-answer.ensures.answer.well;
@@ -114,14 +117,14 @@ returns-clause-counted g c =
           let same = c.tell.ensures.counted.silent (subst IsLost (sym is) tt) in
           none_at_most g.B.Shelf.tale g.B.Shelf.calls g.B.Shelf.written _ _ 0 0
           (same ∙ spent_told g.B.Shelf.tale g.B.Shelf.calls g.B.Shelf.written _ _ c.args.command.now opened _ c.carry_out-answer.result c.tell.ensures.answers.0 (rw is at answers) by);
-      told = λ on. told_behind g.B.Shelf g.met.B.Shelf.telling _ _ _ c.carry_out-answer.ensures.kept.goes
+      told = λ on. told_behind g.B.Shelf g.met.B.Shelf.telling _ _ _ c.carry_out-answer.ensures.kept.1.goes
           (moments_weaker (CarryMoment c.args.self.now.host (asked_by c.args.self.now.host c.args.command.now) c.args.self.now.state) (λ t m. told m ≡ told t) _ _ (λ t m moment. moment.quiet) c.carry_out-answer.ensures.moments)
           (told_once g.B.Shelf _ _ c.tell.ensures.kept.goes c.tell.ensures.counted.one (c.tell.ensures.counted.once (not_lost c.tell.result on)) (replied_more _ _ c.carry_out-answer.ensures.answer.plain c.tell.result on _ _ c.tell.ensures.told) (c.tell.ensures.counted.calm on));
       given = λ uncut. elim (whole_or_lost c.tell.result uncut) [
-        | inl on ↦ calm_given g.B.Shelf.faults _ _ _ (c.carry_out-answer.ensures.kept.others OnReplies (λ is. absurd (cc (is)))) (c.tell.ensures.kept.keeps.no_fewer_faults OnReplies) (c.tell.ensures.counted.calm on OnReplies)
-        | inr lost ↦ ap (λ (x : g.row.B.Denot). g.B.Shelf.faults x OnReplies) (c.tell.ensures.counted.silent lost) ∙ c.carry_out-answer.ensures.kept.others OnReplies (λ is. absurd (cc (is)))
+        | inl on ↦ calm_given g.B.Shelf.faults _ _ _ (c.carry_out-answer.ensures.kept.1.others OnReplies (λ is. absurd (cc (is)))) (c.tell.ensures.kept.keeps.no_fewer_faults OnReplies) (c.tell.ensures.counted.calm on OnReplies)
+        | inr lost ↦ ap (λ (x : g.row.B.Denot). g.B.Shelf.faults x OnReplies) (c.tell.ensures.counted.silent lost) ∙ c.carry_out-answer.ensures.kept.1.others OnReplies (λ is. absurd (cc (is)))
       ];
     }
 
 pub returns-clause-kept : goal.returns-clause-kept
-returns-clause-kept g c = in_time_both (λ is. absurd (cc (is))) c.carry_out-answer.ensures.kept c.tell.ensures.kept
+returns-clause-kept g c = in_time_both (λ is. absurd (cc (is))) c.carry_out-answer.ensures.kept.1 c.tell.ensures.kept

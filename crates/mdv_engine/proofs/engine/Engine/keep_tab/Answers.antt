@@ -22,7 +22,7 @@ returns-clause-moments g c =
     let old = c.args.self.now.state in
     let answer = Said c.keep-outcome.result in record {
       each = moments_weaker (TellMoment (text_of answer)) (TurnMoment host Nothing old) _ _ (kept_told c.args.lines.now c.args.self.now c.keep-outcome.new.self c.keep-outcome.result c.keep-outcome.ensures) c.tell.ensures.fronts;
-      fronts = fronts_alone g.B.Shelf g.met.B.Shelf.telling _ _ (KeepsLines c.args.lines.now) host old answer c.keep-outcome.new.self.state (kept_comes c.args.lines.now c.args.self.now c.keep-outcome.new.self c.keep-outcome.result c.keep-outcome.ensures) c.tell.ensures.kept.goes (c.tell.ensures.counted.drives 0) c.tell.ensures.fronts;
+      fronts = fronts_alone g.B.Shelf g.met.B.Shelf.telling _ _ (KeepsLines c.args.lines.now) host old answer c.keep-outcome.new.self.state (kept_comes c.args.lines.now c.args.self.now c.keep-outcome.new.self c.keep-outcome.result c.keep-outcome.ensures) c.tell.ensures.kept.goes (c.tell.ensures.counted.drives) c.tell.ensures.fronts;
       rests = telling_rests g.B.Shelf g.met.B.Shelf.telling _ _ (text_of answer) c.tell.ensures.kept.goes c.tell.ensures.fronts c.tell.ensures.counted.drives;
     }
 
@@ -31,7 +31,7 @@ returns-clause-end g c = λ t is.
     let end = c.tell.ensures.told t is in (
       end.0,
       end.1,
-      kept_end c.args.lines.now c.args.self.now c.keep-outcome.new.self c.keep-outcome.result c.keep-outcome.ensures _ _ _ c.tell.result t end.0 (c.tell.ensures.counted.drives 0)
+      kept_end c.args.lines.now c.args.self.now c.keep-outcome.new.self c.keep-outcome.result c.keep-outcome.ensures _ _ _ c.tell.result t end.0 (c.tell.ensures.counted.drives)
           (between_of g.B.Shelf.calls g.B.Shelf.written _ _ 1 0 1 1 0 (omega arith) (omega arith) (omega arith) (c.tell.ensures.counted.once (only_told _ c.keep-outcome.result c.tell.result _ c.tell.ensures.answers.1))) end.2,
     )
 
@@ -40,7 +40,7 @@ returns-clause-answer g c = record {
   said = c.keep-outcome.result;
   kept = c.keep-outcome.ensures;
   cause = reply_cause _ c.tell.ensures.answers.0 c.keep-outcome.result c.tell.result c.tell.ensures.answers.1;
-  calm = c.tell.ensures.counted.drives 0;
+  calm = c.tell.ensures.counted.drives;
 }
 
 pub returns-clause-counted : goal.returns-clause-counted

@@ -1,7 +1,7 @@
 use Rattle.std.proofs.Common.{◌∙◌, refl, subst, sym}
 use Rattle.mdv_engine_law.specs.Commands as came
-use Rattle.mdv_engine.specs.Below.{Create, Created, key_of}
-use Rattle.mdv_engine_law.proofs.Allowed.{allowed_none, allowed_room, allowed_up}
+use Rattle.mdv_engine.specs.Below.{any_of, Create, Created, key_of}
+use Rattle.mdv_engine_law.proofs.Allowed.{allowed_none, allowed_room, allowed_clean}
 use Rattle.mdv_engine_law.proofs.Plain.{refusal_plain}
 use Rattle.mdv_engine_law.specs.declared.answer.Outcome.TheVariants as outcome
 use Rattle.mdv_engine_law.specs.Line.{ToDo}
@@ -19,18 +19,19 @@ make_database-requires-clause-room g c = allowed_room (case_at c.args.self.now) 
 pub make_database-requires-clause-none : goal.make_database-requires-clause-none
 make_database-requires-clause-none g c = allowed_none (case_at c.args.self.now) c.args.slice c.args.force (sym c.creation_refusal.ensures ∙ c.in-None.is)
 
-pub make_database-requires-clause-up : goal.make_database-requires-clause-up
-make_database-requires-clause-up g c = allowed_up (case_at c.args.self.now) c.args.slice c.args.force (sym c.creation_refusal.ensures ∙ c.in-None.is)
+pub make_database-requires-clause-clean : goal.make_database-requires-clause-clean
+make_database-requires-clause-clean g c = allowed_clean (case_at c.args.self.now) c.args.slice c.args.force (sym c.creation_refusal.ensures ∙ c.in-None.is)
 
 pub returns-in-Some-clause-end : goal.returns-in-Some-clause-end
 returns-in-Some-clause-end g c =
     command_ends _ c.args.self.now (Create c.args.slice c.args.force) (outcome.Refused c.in-Some.refusal) c.args.self.now _ _
-    (λ t start. (t, start, λ known. came.refused refl c.in-Some.refusal (sym c.creation_refusal.ensures ∙ c.in-Some.is) (refl, record { memory = refl; content = λ drive block. refl })))
+    (λ t start. (t, start, λ known. came.refused (λ drive. refl) c.in-Some.refusal (sym c.creation_refusal.ensures ∙ c.in-Some.is) (refl, record { memory = refl; content = λ drive block. refl })))
     (refused_carried c.args.self.now.host (ToDo (Created (key_of c.args.self.now.host))) c.args.self.now.state _ _ refl c.in-Some.refusal)
+    (λ on u. tt)
 
 pub returns-in-Some-clause-answer : goal.returns-in-Some-clause-answer
 returns-in-Some-clause-answer g c =
-    refused_answer _ _ c.args.self.now c.requires.well c.in-Some.refusal (judged_said (DriveFailures g.S.Shelf c.args.shelf.now c.args.shelf.now 0) c.in-Some.refusal (creation_judged (case_at c.args.self.now) c.args.slice c.args.force c.in-Some.refusal (sym c.creation_refusal.ensures ∙ c.in-Some.is)) refl) (refusal_plain (case_at c.args.self.now) (Create c.args.slice c.args.force) c.in-Some.refusal (sym c.creation_refusal.ensures ∙ c.in-Some.is))
+    refused_answer _ _ c.args.self.now c.requires.well c.in-Some.refusal (judged_said (any_of (DriveFailures g.S.Shelf c.args.shelf.now c.args.shelf.now)) c.in-Some.refusal (creation_judged (case_at c.args.self.now) c.args.slice c.args.force c.in-Some.refusal (sym c.creation_refusal.ensures ∙ c.in-Some.is)) (λ drive. refl)) (refusal_plain (case_at c.args.self.now) (Create c.args.slice c.args.force) c.in-Some.refusal (sym c.creation_refusal.ensures ∙ c.in-Some.is))
 
 pub returns-in-None-clause-end : goal.returns-in-None-clause-end
 returns-in-None-clause-end g c = c.make_database.ensures.end c.args.slice c.args.force (sym c.creation_refusal.ensures ∙ c.in-None.is)

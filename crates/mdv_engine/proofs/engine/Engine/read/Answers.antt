@@ -18,8 +18,9 @@ pub returns-in-Ok-clause-end : goal.returns-in-Ok-clause-end
 returns-in-Ok-clause-end g c =
     let read = c.in-Ok.ensures.ok in
     command_ends _ c.args.self.now (command.Read c.args.volume c.args.at c.args.count) (outcome.Values c.in-Ok.text) c.args.self.now _ _
-    (λ t start. (t, c.values.ensures.same ∙ start, λ known. came.done read.calm read.allowed (read.block, read.there, ap telling (read.as_told ∙ ap (values_reply c.args.at) (read.as_there t start)), record { memory = refl; content = λ drive block. refl })))
-    (λ t start. (t, c.values.ensures.same ∙ start, saw c.args.self.now.host (g.S.Shelf.sizes c.args.shelf.now) c.requires.ready c.args.self.now.state c.args.volume c.args.at c.args.count read.block (omega arith) read.there c.requires.well.sound t c.in-Ok.text (read.as_told ∙ ap (values_reply c.args.at) (read.as_there t start))))
+    (λ t start. (t, c.values.ensures.same ∙ start, λ known. came.done read.calm read.allowed (read.place, read.there, ap telling (read.as_told ∙ ap (values_reply c.args.at) (read.as_there t start)), record { memory = refl; content = λ drive block. refl })))
+    (λ t start. (t, c.values.ensures.same ∙ start, saw c.args.self.now.host (g.S.Shelf.sizes c.args.shelf.now) c.requires.ready c.args.self.now.state c.args.volume c.args.at c.args.count read.place (omega arith) read.there t c.in-Ok.text (read.as_told ∙ ap (values_reply c.args.at) (read.as_there t start))))
+    (λ on u. tt)
 
 pub returns-in-Ok-clause-answer : goal.returns-in-Ok-clause-answer
 returns-in-Ok-clause-answer g c = record {
@@ -37,15 +38,16 @@ returns-in-Err-clause-moments g c = moments_still c.args.self.now.host (ToSee (k
 pub returns-in-Err-clause-answer : goal.returns-in-Err-clause-answer
 returns-in-Err-clause-answer g c =
     refused_answer _ _ c.args.self.now c.requires.well c.in-Err.refusal
-    (unread_cause c.args.self.now.host c.args.self.now.state c.args.volume c.args.at c.args.count (DriveFailures g.S.Shelf c.args.shelf.now c.values.new.shelf 0) c.in-Err.refusal c.in-Err.ensures.err)
-    (unread_plain c.args.self.now.host c.args.self.now.state c.args.volume c.args.at c.args.count (DriveFailures g.S.Shelf c.args.shelf.now c.values.new.shelf 0) c.in-Err.refusal c.in-Err.ensures.err)
+    (unread_cause c.args.self.now.host c.args.self.now.state c.args.volume c.args.at c.args.count (DriveFailures g.S.Shelf c.args.shelf.now c.values.new.shelf) c.in-Err.refusal c.in-Err.ensures.err)
+    (unread_plain c.args.self.now.host c.args.self.now.state c.args.volume c.args.at c.args.count (DriveFailures g.S.Shelf c.args.shelf.now c.values.new.shelf) c.in-Err.refusal c.in-Err.ensures.err)
 
 pub returns-in-Err-clause-end : goal.returns-in-Err-clause-end
 returns-in-Err-clause-end g c =
-    let failures = DriveFailures g.S.Shelf c.args.shelf.now c.values.new.shelf 0 in
+    let failures = DriveFailures g.S.Shelf c.args.shelf.now c.values.new.shelf in
     command_ends _ c.args.self.now (command.Read c.args.volume c.args.at c.args.count) (outcome.Refused c.in-Err.refusal) c.args.self.now _ _
     (λ t start. (t, c.values.ensures.same ∙ start, λ known. unread_line c.args.self.now.host c.args.self.now.state c.args.volume c.args.at c.args.count failures t c.in-Err.refusal c.in-Err.ensures.err))
     (refused_carried c.args.self.now.host (ToSee (key_of c.args.self.now.host) c.args.volume c.args.at c.args.count) c.args.self.now.state _ _ c.values.ensures.same c.in-Err.refusal)
+    (λ on u. tt)
 
 pub returns-in-Ok-clause-counted : goal.returns-in-Ok-clause-counted
 returns-in-Ok-clause-counted g c = record { exactly = c.in-Ok.ensures.counted; few = omega arith }

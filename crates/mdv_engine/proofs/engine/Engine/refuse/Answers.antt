@@ -19,14 +19,14 @@ returns-clause-moments g c =
     let memory = c.args.self.now.state in record {
       line = λ ask. record {
         each = moments_weaker (TellMoment (text_of (refusing c.args.refusal.now))) (TurnMoment host ask memory) _ _ (refusal_told host memory ask c.args.refusal.now c.requires) c.tell.ensures.fronts;
-        fronts = fronts_alone g.B.Shelf g.met.B.Shelf.telling _ _ (OnlyAnswers (refusing c.args.refusal.now)) host memory (refusing c.args.refusal.now) memory (λ failures calm content. (calm, refl, refl)) c.tell.ensures.kept.goes (c.tell.ensures.counted.drives 0) c.tell.ensures.fronts;
+        fronts = fronts_alone g.B.Shelf g.met.B.Shelf.telling _ _ (OnlyAnswers (refusing c.args.refusal.now)) host memory (refusing c.args.refusal.now) memory (λ failures calm content. (calm, refl, refl)) c.tell.ensures.kept.goes (c.tell.ensures.counted.drives) c.tell.ensures.fronts;
         rests = telling_rests g.B.Shelf g.met.B.Shelf.telling _ _ (text_of (refusing c.args.refusal.now)) c.tell.ensures.kept.goes c.tell.ensures.fronts c.tell.ensures.counted.drives;
       };
       tells = c.tell.ensures.fronts;
     }
 
 pub returns-clause-answer : goal.returns-clause-answer
-returns-clause-answer g c = record { cause = reply_cause _ c.tell.ensures.answers.0 (outcome.Refused c.args.refusal.now) c.tell.result c.tell.ensures.answers.1; calm = c.tell.ensures.counted.drives 0; same = refl }
+returns-clause-answer g c = record { cause = reply_cause _ c.tell.ensures.answers.0 (outcome.Refused c.args.refusal.now) c.tell.result c.tell.ensures.answers.1; calm = c.tell.ensures.counted.drives; same = refl }
 
 pub returns-clause-counted : goal.returns-clause-counted
 returns-clause-counted g c = record {

@@ -12,8 +12,8 @@ use Rattle.mdv_engine.proofs.engine.Engine.values.Goals as goal
 pub returns-in-Err-clause-err : goal.returns-in-Err-clause-err
 returns-in-Err-clause-err g c =
     let counted : length c.read_blocks.new.out ≡ c.args.count = c.read_blocks.auto.out ∙ ap length c.as_mut_slice.ensures.value ∙ c.in_ok-blocks.ensures.ok in
-    let failures = DriveFailures g.S.Shelf c.args.shelf.now c.read_blocks.new.shelf 0 in
-    cause_is failures c.args.self.now.host c.args.self.now.state c.args.volume c.args.at c.args.count c.in-Err.refusal c.in_ok-_first.ensures.few c.in_ok-_first.ensures.free
+    let failures = DriveFailures g.S.Shelf c.args.shelf.now c.read_blocks.new.shelf in
+    cause_is failures c.args.self.now.host c.args.self.now.state c.args.volume c.args.at c.args.count c.in-Err.refusal c.in_ok-_place.ensures.few c.in_ok-_place.ensures.free
     (subst (λ (n : ℕ). HasBlocksCause failures c.args.self.now.host c.args.self.now.state c.args.volume c.args.at n c.in-Err.refusal) counted c.in-Err.ensures.err)
 
 pub returns-in-Ok-new-clause-ok : goal.returns-in-Ok-new-clause-ok
@@ -23,14 +23,24 @@ returns-in-Ok-new-clause-ok g c =
     let all : c.as_slice.result.now ≡ c.read_blocks.new.out =
     c.as_slice.ensures.value ∙ ap (λ (n : ℕ). take n (c.read_blocks.new.out ++ drop (length c.read_blocks.new.out) c.in_ok-blocks.blocks.items)) whole ∙ take-append_seam c.read_blocks.new.out _ in
     let read = c.in-Ok.ensures.ok in record {
-      block = read.block;
-      there = subst (λ (n : ℕ). AreBlocksAt c.args.self.now.host c.args.self.now.state c.args.volume c.args.at n read.block) counted read.there;
+      place = read.place;
+      there = subst (λ (n : ℕ). AreBlocksAt c.args.self.now.host c.args.self.now.state c.args.volume c.args.at n read.place) counted read.there;
       allowed = subst (λ (n : ℕ). read_refusal c.args.self.now.state.opened c.args.volume c.args.at n ≡ None) counted read.allowed;
       blocks = c.read_blocks.new.out;
       as_told = c.in-Ok-new.ensures ∙ ap (values_reply c.args.at) all;
       calm = read.calm;
-      as_there = λ t start. read.as_told ∙ read.as_there t start ∙ ap (blocks_of (last t 0) read.block) counted;
+      as_there = λ t start. read.as_told ∙ read.as_there t start ∙ ap (blocks_of (last t) read.place) counted;
     }
+
+pub new-requires : goal.new-requires
+new-requires g c =
+    let counted : length c.read_blocks.new.out ≡ c.args.count = c.read_blocks.auto.out ∙ ap length c.as_mut_slice.ensures.value ∙ c.in_ok-blocks.ensures.ok in
+    let whole : c.in_ok-blocks.blocks.len ≡ length c.read_blocks.new.out = sym (c.read_blocks.auto.out ∙ c.as_mut_slice.ensures.len) in
+    let all : c.as_slice.result.now ≡ c.read_blocks.new.out =
+    c.as_slice.ensures.value ∙ ap (λ (n : ℕ). take n (c.read_blocks.new.out ++ drop (length c.read_blocks.new.out) c.in_ok-blocks.blocks.items)) whole ∙ take-append_seam c.read_blocks.new.out _ in
+    let size = ap length all ∙ counted in
+    let small = (c.in_ok-_place.ensures.within (g.S.Shelf.sizes c.args.shelf.now) c.requires.ready).small in
+    let lies = c.in_ok-_place.ensures.ok.block_is in omega (arith, size, small, lies)
 
 pub returns-in-Err-clause-counted : goal.returns-in-Err-clause-counted
 returns-in-Err-clause-counted g c =
