@@ -1,0 +1,120 @@
+-- What a line on a volume of the open table is refused for: neither that there is no database, nor that the volume isn't there.
+use Rattle.std.proofs.Common.{◌≡◌, inl, inr, ℕ, Bool, true, false, List, [], ◌++◌, ◌+◌, Option, Some, All, sym, ◌∙◌, ap, subst, arith}
+use Rattle.std.proofs.lemmas.List.Elements.{All-append, All-cons, All-nil}
+use Rattle.std.specs.List.{find}
+use Rattle.std.specs.Option.{is_none}
+use Rattle.std.specs.Prelude.{nat_lt}
+use Rattle.mdv_base.specs.Order.{order, where_so}
+use Rattle.mdv_base.specs.Refusal.{number_of}
+use Rattle.mdv_base.specs.declared.refusal.Refusal.TheVariants.{IoFault, NameTaken, TooMany}
+use Rattle.mdv_base.proofs.Order.{first_holds}
+use Rattle.mdv_engine_law.specs.Answers.{refusing}
+use Rattle.mdv_engine_law.specs.Commands.{CameTo, ComesTo, Effect, case_of, refused, wanting, done, faulted, over}
+use Rattle.mdv_engine_law.specs.Failing.{Outcomes}
+use Rattle.mdv_engine_law.specs.Line.{Kept, record_room}
+use Rattle.mdv_engine_law.specs.Refusals.{Case, bytes_after, has_number, held, held_of_blocks, held_of_change, held_of_read, held_past, refusal_of, size_of}
+use Rattle.mdv_engine_law.specs.Replies.{refusal_line, text_of}
+use Rattle.mdv_engine_law.specs.declared.answer.Answer.{Answer}
+use Rattle.mdv_engine_law.specs.declared.answer.Answer.TheVariants.{Over}
+use Rattle.mdv_name.specs.SliceIndex.{slice_at}
+use Rattle.mdv_run_law.specs.Below.{Command, Create, Host, Line, MakeStripe, NoSuchSlice, OutOfMemory, OutOfRange, Read, Refusal, ReplicaFull, SliceInUse, SliceName, VolId, Volume, Write, WrongKind}
+use Rattle.mdv_run_law.specs.Run.{IsAnswered, IsSaid}
+use Rattle.mdv_store_law.specs.Site.{Newest}
+use Rattle.mdv_table.specs.Change as table
+use Rattle.mdv_table.specs.Change.{is_db}
+use Rattle.mdv_table.specs.Plan.{is_in_use, used_slices}
+use Rattle.mdv_table.specs.Volumes.{has_volume}
+use Rattle.mdv_table.specs.declared.change.Change.TheVariants as change
+use Rattle.mdv_words.proofs.Lines.{one_line}
+use Rattle.mdv_words.specs.Line.{Exec, IsLine}
+use Rattle.mdv_theorem.specs.Exchanges.{IsOn}
+use Rattle.mdv_theorem.proofs.Telling.{ok_is_none, one_number, values_are_none}
+
+-- it is neither NoDatabase nor NoSuchVolume
+abbrev pub IsAside : Refusal → Type 0
+IsAside r = (number_of r ≡ 2 → ⊥) × (number_of r ≡ 4 → ⊥)
+
+-- a refusal whose cause may hold
+where_all : (P : Refusal → Type 0) (holds : Bool) (r : Refusal) → P r → All P (where_so holds r)
+where_all P true r is = All-cons P r [] is (All-nil P)
+where_all P false r is = All-nil P
+
+-- those of a stripe, by its table
+stripe_aside : (gone taken db used : Bool) → All IsAside ((where_so gone NoSuchSlice ++ where_so taken NameTaken ++ where_so db WrongKind) ++ where_so used SliceInUse)
+stripe_aside gone taken db used =
+    let named : List Refusal = where_so gone NoSuchSlice ++ where_so taken NameTaken in
+    All-append IsAside (named ++ where_so db WrongKind) (where_so used SliceInUse)
+    (All-append IsAside named (where_so db WrongKind)
+    (All-append IsAside (where_so gone NoSuchSlice) (where_so taken NameTaken) (where_all IsAside gone NoSuchSlice (omega arith)) (where_all IsAside taken NameTaken (omega arith)))
+    (where_all IsAside db WrongKind (omega arith)))
+    (where_all IsAside used SliceInUse (omega arith))
+
+change_aside : (host : Host) (newest : Newest) (volume : VolId) (slice : SliceName) → All IsAside (held_of_change host (Some newest) (change.MakeStripe volume slice))
+change_aside host newest volume slice =
+    let size = bytes_after host newest (change.MakeStripe volume slice) in
+    let full : Refusal = ReplicaFull size (record_room newest) in
+    All-append IsAside (table.held host.drives newest.table.plan (change.MakeStripe volume slice)) (where_so (nat_lt (record_room newest) size) full)
+    (stripe_aside (is_none (slice_at host.drives.slices slice)) (has_volume newest.table.plan.volumes volume) (is_db (slice_at host.drives.slices slice)) (is_in_use host.drives.slices (used_slices newest.table.plan) slice))
+    (where_all IsAside (nat_lt (record_room newest) size) full (omega arith))
+
+-- of a volume that is there
+past_aside : (found : Option Volume) (of : Volume) (end : ℕ) → found ≡ Some of → All IsAside (held_past found end)
+past_aside found of end is = subst (λ (o : Option Volume). All IsAside (held_past o end)) (sym is) (where_all IsAside (nat_lt (size_of of.kind) end) OutOfRange (omega arith))
+
+module _ (case : Case) (newest : Newest) (opened : case.memory.opened ≡ Some newest) (volume : VolId) (of : Volume) (found : find (has_number volume) newest.table.plan.volumes ≡ Some of) where
+  -- with this database open
+  by_opened : (causes : Option Newest → List Refusal) → All IsAside (causes (Some newest)) → All IsAside (causes case.memory.opened)
+  by_opened causes is = subst (λ (o : Option Newest). All IsAside (causes o)) (sym opened) is
+
+  blocks_aside : (other : VolId) (end : ℕ) → other ≡ volume → All IsAside (held_of_blocks (Some newest) other end)
+  blocks_aside other end on = subst (λ (n : VolId). All IsAside (held_of_blocks (Some newest) n end)) (sym on) (past_aside (find (has_number volume) newest.table.plan.volumes) of end found)
+
+  held_aside : (command : Command) → IsOn volume command → All IsAside (held case command)
+  held_aside (Create slice force) on = absurd on
+  held_aside (MakeStripe other slice) on = by_opened (λ o. held_of_change case.host o (change.MakeStripe other slice)) (change_aside case.host newest other slice)
+  held_aside (Read other at count) on =
+      by_opened (λ o. held_of_read o other at count)
+      (All-append IsAside (held_of_blocks (Some newest) other (at + count)) (where_so (nat_lt 1024 count) TooMany) (blocks_aside other (at + count) on) (where_all IsAside (nat_lt 1024 count) TooMany (omega arith)))
+  held_aside (Write other at block) on = by_opened (λ o. held_of_blocks o other (at + 1)) (blocks_aside other (at + 1) on)
+
+  pub refused_aside : (command : Command) (r : Refusal) → IsOn volume command → refusal_of case command ≡ Some r → IsAside r
+  refused_aside command r on is = first_holds IsAside order (held case command) r (held_aside command on) is
+
+-- what an answer tells is one refusal's line
+pub aside_alike : (r s : Refusal) → refusal_line s ≡ refusal_line r → IsAside s → IsAside r
+aside_alike r s same is = let number = one_number s r same in (λ two. is.0 (number ∙ two), λ four. is.1 (number ∙ four))
+
+-- what is done is told by no refusal
+done_untold : (host : Host) (kept next : Kept) (command : Command) (answer : Answer) (r : Refusal) → Effect host kept command answer next → text_of answer ≡ refusal_line r → ⊥
+done_untold host kept next (Create slice force) answer r effect told = ok_is_none r (sym (ap text_of effect.0) ∙ told)
+done_untold host kept next (MakeStripe volume slice) answer r effect told = ok_is_none r (sym (ap text_of effect.0) ∙ told)
+done_untold host kept next (Read volume at count) answer r effect told = values_are_none at _ r (sym (ap text_of effect.2) ∙ told)
+done_untold host kept next (Write volume at block) answer r effect told = ok_is_none r (sym (ap text_of effect.2) ∙ told)
+
+-- what a line that spells a command comes to
+pub data Commanded (calls : Outcomes) (host : Host) (kept : Kept) (command : Command) (answer : Answer) (next : Kept) : Type 0 where
+  came : CameTo calls host kept command answer next → Commanded calls host kept command answer next
+  unread : answer ≡ refusing OutOfMemory → Commanded calls host kept command answer next
+
+pub commanded : (calls : Outcomes) (host : Host) (kept next : Kept) (text : List ℕ) (command : Command) (answer : Answer) → IsLine text (Exec command) → IsAnswered calls host kept text answer next → Commanded calls host kept command answer next
+commanded calls host kept next text command answer is (inl (none, quiet, turned)) = absurd (none (Exec command) is)
+commanded calls host kept next text command answer is (inr (inl (spelled, spells, comes))) = came (subst (λ (l : Line). ComesTo calls host kept l answer next) (one_line text spelled (Exec command) spells is) comes)
+commanded calls host kept next text command answer is (inr (inr (quiet, turned))) = unread turned.0
+
+-- where this is kept the volume is in the open table
+module _ (calls : Outcomes) (host : Host) (kept next : Kept) (newest : Newest) (opened : kept.memory.opened ≡ Some newest) (volume : VolId) (of : Volume) (found : find (has_number volume) newest.table.plan.volumes ≡ Some of) (command : Command) (on : IsOn volume command)
+    (answer : Answer) (said : IsSaid answer) (r : Refusal) (told : text_of answer ≡ refusal_line r) where
+  by_refusal : (s : Refusal) → answer ≡ refusing s → IsAside s → IsAside r
+  by_refusal s is aside = aside_alike r s (sym (ap text_of is) ∙ told) aside
+
+  came_aside : CameTo calls host kept command answer next → IsAside r
+  came_aside (refused quiet s why turned) = by_refusal s turned.0 (refused_aside (case_of host kept) newest opened volume of found command s on why)
+  came_aside (wanting quiet is left) = by_refusal OutOfMemory is (omega arith)
+  came_aside (done quiet free effect) = absurd (done_untold host kept next command answer r effect told)
+  came_aside (faulted free is left) = by_refusal IoFault is (omega arith)
+  came_aside (over end free is left) = (let never : IsSaid (Over end) = subst IsSaid is said in absurd never)
+
+  -- so it is refused for neither of the two
+  pub told_aside : Commanded calls host kept command answer next → IsAside r
+  told_aside (came is) = came_aside is
+  told_aside (unread is) = by_refusal OutOfMemory is (omega arith)

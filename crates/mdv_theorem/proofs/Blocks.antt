@@ -1,0 +1,233 @@
+-- A write of an earlier run that was acknowledged: the block is there at the start, and has its value, or one that was issued later.
+use Rattle.std.proofs.Common.{◌≡◌, ◌⊎◌, inl, inr, ⊎_elim, ℕ, ◌+◌, ◌-◌, ◌<◌, true, Option, None, List, [], ◌∷◌, ◌++◌, length, slice_index_or, Contains, refl, sym, ◌∙◌, ap, subst, arith}
+use Rattle.std.proofs.lemmas.List.Elements.{Contains-append_cases, Contains-append_left, Contains-append_right}
+use Rattle.mdv_base.specs.declared.name.Key.{Key}
+use Rattle.mdv_base.specs.declared.name.VolId.{VolId}
+use Rattle.mdv_engine_law.specs.Home.{site_of, sites_of}
+use Rattle.mdv_engine_law.specs.Line.{Ask, deeds}
+use Rattle.mdv_engine_law.specs.declared.host.Host.{Host}
+use Rattle.mdv_engine_law.specs.Replies.{issuable, ok_line}
+use Rattle.mdv_engine_law.proofs.Sites.{own_site}
+use Rattle.mdv_home.specs.Home.{IsHome}
+use Rattle.mdv_home.specs.declared.geometry.Home.{Home}
+use Rattle.mdv_map.specs.Logs.{is_among}
+use Rattle.mdv_map.specs.Maps.{Map, readings}
+use Rattle.mdv_map.proofs.Copies.{among_at}
+use Rattle.mdv_name.specs.declared.geometry.Geometry.{Geometry}
+use Rattle.mdv_run_law.specs.Lives.{Life, Ran}
+use Rattle.mdv_run_law.proofs.Deeds.{part_contains}
+use Rattle.mdv_shelf.specs.Everywhere.{Image}
+use Rattle.mdv_shelf.specs.Tale.{Among, Tale, last}
+use Rattle.mdv_shelf.proofs.Blocks.{both_ways}
+use Rattle.mdv_status.specs.Values.{significant}
+use Rattle.mdv_store_law.specs.Site.{IsFound}
+use Rattle.mdv_store_law.proofs.Machine.{all_more}
+use Rattle.mdv_table.specs.Slices.{IsSound}
+use Rattle.mdv_table.specs.declared.table.Table.{Table}
+use Rattle.mdv_volumes.specs.Databases.{is_volume, log_of}
+use Rattle.mdv_volumes.specs.Events.{Answers, Begins, Flushes, Issues, VolumeEvent, Woke, issued_to}
+use Rattle.mdv_volumes.specs.Events as lives
+use Rattle.mdv_volumes.specs.Happening.{HasRange, IsNamed, begins, begun_of, issued_by}
+use Rattle.mdv_volumes.specs.History.{Acknowledges, Boots, Changed, Crashes, Created, Creation, Deed, Event, OfDatabase, OfVolume, Reads, Saw, Shows, Stops, Wrote, events_at, events_of, history_after_all}
+use Rattle.mdv_volumes.specs.HistoryLaws.{new_history}
+use Rattle.mdv_volumes.specs.LogLaws.{MayBe}
+use Rattle.mdv_volumes.specs.Tables.{IsMapOf}
+use Rattle.mdv_volumes.proofs.Databases.{volume_key, volume_number}
+use Rattle.mdv_volumes.proofs.Found.{AreLasting, some_lasts}
+use Rattle.mdv_volumes.proofs.Lists.{contains_first}
+use Rattle.mdv_words.specs.declared.command.Command.TheVariants.{Write}
+use Rattle.mdv_theorem.specs.Exchanges.{Exchange, IsAcknowledged, MayBeWritten, exchanges_by}
+use Rattle.mdv_theorem.specs.Observed.{IsOrWasWritten}
+use Rattle.mdv_theorem.proofs.Found.{Found, asked_at, content, deed_told, es, its, its_course, key, lasting_found, lined, ok_sated, range_found, site}
+use Rattle.mdv_theorem.proofs.Lined.{AreLined, AreOfReply, AreReplied, IsLinedAt, host, lined_at, lined_begins}
+use Rattle.mdv_theorem.proofs.Lines.{lets, the_only}
+use Rattle.mdv_theorem.proofs.Places.{IsToldAt, at_among, may_at, told_at}
+
+module _ (key : Key) (volume : VolId) (number : ℕ) (x : List ℕ) where
+  -- one of these events issues blocks of the volume, and that value for this one
+  record IsIssued (begun : List Deed) : Type 0 where
+    at : ℕ
+    blocks : List (List ℕ)
+    deed : Contains begun (Wrote key volume at blocks)
+    among : is_among at (length blocks) number ≡ true
+    value : x ≡ slice_index_or blocks (number - at) []
+
+  issued_more : (first more : List Deed) → IsIssued more → IsIssued (first ++ more)
+  issued_more first more is = record { at = is.at; blocks = is.blocks; deed = Contains-append_right first more (Wrote key volume is.at is.blocks) is.deed; among = is.among; value = is.value }
+
+  issued_front : (first more : List Deed) → IsIssued first → IsIssued (first ++ more)
+  issued_front first more is = record { at = is.at; blocks = is.blocks; deed = Contains-append_left first more (Wrote key volume is.at is.blocks) is.deed; among = is.among; value = is.value }
+
+  -- what is among two lists is among one
+  among_both : (some more : List (List ℕ)) → Among (some ++ more) x → Among some x ⊎ Among more x
+  among_both [] more is = inr is
+  among_both (a ∷ some) more (inl same) = inl (inl same)
+  among_both (a ∷ some) more (inr is) = ⊎_elim (λ here. inl (inr here)) (λ behind. inr behind) (among_both some more is)
+
+  issue_of : (e : VolumeEvent) → Among (issued_to number (e ∷ [])) x → IsIssued (begun_of key volume e)
+  issue_of (Issues at blocks) = elim (both_ways (is_among at (length blocks) number)) [
+    | inl does ↦ rw does (λ is. record { at = at; blocks = blocks; deed = contains_first (Wrote key volume at blocks) []; among = does; value = ⊎_elim (λ same. same) (λ none. absurd none) is })
+    | inr never ↦ rw never (λ none. absurd none)
+  ]
+  issue_of (Answers at blocks) = λ none. absurd none
+  issue_of (Flushes at count) = λ none. absurd none
+  issue_of (Begins from logs) = λ none. absurd none
+  issue_of lives.Crashes = λ none. absurd none
+  issue_of (Woke count contents) = λ none. absurd none
+
+  volume_issue : (other : Key) (beside : VolId) (e : VolumeEvent) → Among (issued_to number (events_at key volume (OfVolume other beside e))) x → IsIssued (begun_of other beside e)
+  volume_issue other beside e = elim (both_ways (is_volume key volume other beside)) [
+    | inl does ↦ rw does (λ is. subst (λ (k : Key). IsIssued (begun_of k beside e)) (volume_key key volume other beside does) (subst (λ (v : VolId). IsIssued (begun_of key v e)) (volume_number key volume other beside does) (issue_of e is)))
+    | inr never ↦ rw never (λ none. absurd none)
+  ]
+
+  step_issue : (e : Event) → Among (issued_to number (events_at key volume e)) x → IsIssued (begins e)
+  step_issue (Creation other identity) is = absurd is
+  step_issue (OfDatabase other identity e) is = absurd is
+  step_issue (OfVolume other beside e) is = volume_issue other beside e is
+  step_issue (Reads other beside at blocks) is = absurd is
+  step_issue (Acknowledges place other beside at blocks) is = absurd is
+  step_issue (Shows place other beside at blocks) is = absurd is
+  step_issue (Boots other up) is = absurd is
+  step_issue Stops is = absurd is
+  step_issue Crashes is = absurd is
+
+  -- a value that was issued for the block came by a write that was begun
+  issued_deed : (es : List Event) → Among (issued_to number (events_of key volume es)) x → IsIssued (issued_by es)
+  issued_deed [] is = absurd is
+  issued_deed (e ∷ es) is =
+      let here = events_at key volume e in
+      let behind = events_of key volume es in
+      elim (among_both (issued_to number here) (issued_to number behind) (subst (λ (l : List (List ℕ)). Among l x) (all_more (lives.issues_of number) here behind) is)) [
+        | inl now ↦ issued_front (begins e) (issued_by es) (step_issue e now)
+        | inr later ↦ issued_more (begins e) (issued_by es) (issued_deed es later)
+      ]
+
+  -- of one block it is that block's
+  one_issue : (at : ℕ) (blocks : List (List ℕ)) (block : List ℕ) → blocks ≡ block ∷ [] → is_among at (length blocks) number ≡ true → x ≡ slice_index_or blocks (number - at) [] → (at ≡ number) × (x ≡ block)
+  one_issue at blocks block one among value =
+      let is = among_at at 1 number (subst (λ (l : List (List ℕ)). is_among at (length l) number ≡ true) one among) in
+      let lt = is.below in
+      let place = is.is in
+      let first : number - at ≡ 0 = omega (arith, lt, place) in
+      (omega (arith, lt, place), value ∙ ap (λ (l : List (List ℕ)). slice_index_or l (number - at) []) one ∙ ap (λ (i : ℕ). slice_index_or (block ∷ []) i []) first)
+
+-- the blocks that a deed writes
+abbrev blocks_of : Deed → List (List ℕ)
+blocks_of (Created other) = []
+blocks_of (Changed other change) = []
+blocks_of (Wrote other volume at blocks) = blocks
+blocks_of (Saw other volume at blocks) = []
+
+module _ (drives : Geometry) (home : Home) (made : Image) (before : List Ran) (t : Tale) (sound : IsSound drives) (is_home : IsHome drives home) (life : Life drives made before t) where
+  abbrev own : Host
+  own = host drives home
+
+  abbrev all : List Event
+  all = es drives home made before t sound is_home life
+
+  abbrev its_key : Key
+  its_key = key drives home t
+
+  module _ (first between : List Exchange) (write : Exchange) (volume : VolId) (number : ℕ) (old : List ℕ) (stood : exchanges_by home before ≡ first ++ write ∷ between) (acknowledged : IsAcknowledged volume number old write) where
+    abbrev deed : Deed
+    deed = Wrote its_key volume number (old ∷ [])
+
+    line : IsLinedAt drives home write between all
+    line = lined_at drives home first write between all (subst (λ (l : List Exchange). AreLined drives home l all) stood (lined drives home made before t sound is_home life))
+
+    replied : AreReplied drives home write.text ok_line line.own
+    replied = subst (λ (r : Option (List ℕ)). AreOfReply drives home write.text r line.own) acknowledged.told line.of_line
+
+    its_told : IsToldAt deed line.own
+    its_told =
+        let tells = deed_told drives home made before t sound is_home life write (Write volume number old) deed line.own refl acknowledged.asks replied in
+        told_at deed line.own tt (subst (λ (l : List Deed). Contains l deed) (sym tells) (contains_first deed []))
+
+    -- where it was told, what came before, and behind
+    abbrev event : Event
+    event = Acknowledges its_told.place its_key volume number (old ∷ [])
+
+    abbrev front : List Event
+    front = line.first ++ its_told.at.first
+
+    abbrev rest : List Event
+    rest = its_told.at.later ++ line.later
+
+    stands_so : all ≡ front ++ event ∷ rest
+    stands_so = at_among event all line.first line.own line.later line.is its_told.at
+
+    -- the volume was there with the block
+    its_range : HasRange (sites_of own) (history_after_all new_history front).databases its_key volume number 1
+    its_range = (may_at (sites_of own) new_history event all front rest stands_so (its_course drives home made before t sound is_home life)).0.1
+
+    abbrev its_map : Map
+    its_map = its_range.map
+
+    abbrev Lies : Table → Type 0
+    Lies table = IsMapOf own.drives table volume its_map
+
+    its_tables : AreLasting own.drives Lies (log_of (history_after_all new_history all).databases its_key)
+    its_tables = range_found drives home made before t sound is_home life front (event ∷ rest) volume number 1 stands_so its_range
+
+    -- what its own line issued behind that is the same value
+    own_issue : (at : ℕ) (blocks : List (List ℕ)) → Contains (issued_by its_told.at.later) (Wrote its_key volume at blocks) → deed ≡ Wrote its_key volume at blocks
+    own_issue at blocks has =
+        let issue = Wrote its_key volume at blocks in
+        let a = its_told.at.first in
+        let b = its_told.at.later in
+        let is : issued_by line.own ≡ issued_by a ++ issued_by b = ap issued_by its_told.at.is ∙ all_more begins a (event ∷ b) in
+        let here : Contains (issued_by line.own) issue = subst (λ (l : List Deed). Contains l issue) (sym is) (Contains-append_right (issued_by a) (issued_by b) issue has) in
+        let may = lets replied.ask ok_line issue (part_contains (issued_by line.own) (issuable replied.ask ok_line) issue replied.begins here) in
+        let asked = asked_at drives home made before t sound is_home life write ok_line (Write volume number old) line.own acknowledged.asks (ok_sated drives home made before t sound is_home life) replied in
+        the_only deed issue (subst (λ (a : Ask). Contains (deeds a) issue) asked may.asked)
+
+    later_value : (x : List ℕ) → IsIssued its_key volume number x (issued_by rest) → IsOrWasWritten volume number old between x
+    later_value x is =
+        let issue = Wrote its_key volume is.at is.blocks in
+        elim (Contains-append_cases (issued_by its_told.at.later) (issued_by line.later) issue (subst (λ (l : List Deed). Contains l issue) (all_more begins its_told.at.later line.later) is.deed)) [
+          | inl now ↦
+              let same = own_issue is.at is.blocks now in
+              inl (ap significant (one_issue its_key volume number x is.at is.blocks old (sym (ap blocks_of same)) is.among is.value).1)
+          | inr later ↦
+              let came = lined_begins drives home between line.later line.of_between issue later in
+              let value = one_issue its_key volume number x is.at is.blocks came.2.0 came.2.1 is.among is.value in
+              inr (came.0, came.2.0, came.1, subst (λ (n : ℕ). MayBeWritten volume n came.2.0 came.0) value.0 came.2.2, ap significant value.1)
+        ]
+
+    -- the values that its block may have
+    log_value : (x : List ℕ) → MayBe ((history_after_all new_history all).volumes its_key volume) number x → IsOrWasWritten volume number old between x
+    log_value x may =
+        let here : number + 0 ≡ number = omega arith in
+        let lasts = (its drives home made before t sound is_home life).lasts front rest its_told.place its_key volume number (old ∷ []) stands_so in
+        let so : MayBe ((history_after_all new_history (front ++ event ∷ rest)).volumes its_key volume) (number + 0) x =
+        subst (λ (l : List Event). MayBe ((history_after_all new_history l).volumes its_key volume) (number + 0) x) stands_so (subst (λ (n : ℕ). MayBe ((history_after_all new_history all).volumes its_key volume) n x) (sym here) may) in
+        elim (lasts.lasts 0 x (omega arith) so) [
+          | inl same ↦ inl (ap significant same)
+          | inr later ↦ later_value x (issued_deed its_key volume number x rest (subst (λ (n : ℕ). Among (issued_to n (events_of its_key volume rest)) x) here later))
+        ]
+
+    its_blocks : number < its_map.blocks
+    its_blocks = let within = its_range.within in omega (arith, within)
+
+    -- a table that a boot may find has it
+    its_named : IsNamed (sites_of own) (history_after_all new_history all).databases its_key volume its_map
+    its_named =
+        let some = some_lasts own.drives Lies (log_of (history_after_all new_history all).databases its_key) its_tables in
+        record { site = site_of own; is_site = own_site own; version = some.0; found = some.1; map = some.2 }
+
+    read_value : (x : List ℕ) → Among (readings its_map (last t) number) x → IsOrWasWritten volume number old between x
+    read_value x among = log_value x (inl ((its drives home made before t sound is_home life).reads volume its_map its_named number x its_blocks among))
+
+  -- An acknowledged write of an earlier run: each table that is found has the volume with the block, which has the write's value, or one that a line behind it may have written.
+  pub write_left : (first between : List Exchange) (write : Exchange) (volume : VolId) (number : ℕ) (old : List ℕ) → exchanges_by home before ≡ first ++ write ∷ between → IsAcknowledged volume number old write
+      → (IsFound (site drives home t) (content drives home t) None → ⊥)
+      × (v : Map) × ((table : Table) → Found drives home t table → IsMapOf own.drives table volume v) × (number < v.blocks) × ((x : List ℕ) → Among (readings v (last t) number) x → IsOrWasWritten volume number old between x)
+  write_left first between write volume number old stood acknowledged =
+      let found = lasting_found drives home made before t sound is_home life (Lies first between write volume number old stood acknowledged) (its_tables first between write volume number old stood acknowledged) in (
+        found.0,
+        its_map first between write volume number old stood acknowledged,
+        found.1,
+        its_blocks first between write volume number old stood acknowledged,
+        read_value first between write volume number old stood acknowledged,
+      )

@@ -1,0 +1,304 @@
+-- What a boot finds at the start of a run, behind the earlier ones: a volume that was shown to be there.
+use Rattle.std.proofs.Common.{◌≡◌, inl, inr, ℕ, Bool, true, List, [], ◌∷◌, ◌++◌, reverse, length, Option, Some, None, if◌then◌else◌, Contains, refl, sym, ◌∙◌, ap, subst}
+use Rattle.std.proofs.lemmas.List.Elements.{Contains-append_left, Contains-append_right}
+use Rattle.std.proofs.lemmas.Slice.Eq.{bytes_eq-Decides}
+use Rattle.mdv_base.specs.declared.drive.SliceName.{SliceName}
+use Rattle.mdv_base.specs.declared.mark.Mark.{Mark}
+use Rattle.mdv_base.specs.declared.name.Key.{Key}
+use Rattle.mdv_base.specs.declared.name.VolId.{VolId}
+use Rattle.mdv_engine_law.specs.Home.{key_of, site_of, sites_of}
+use Rattle.mdv_engine_law.specs.Line.{Ask, ToDo, ToSee, asked_by, on_site}
+use Rattle.mdv_engine_law.specs.Replies.{AcksBy, IsRefusal, ok_line}
+use Rattle.mdv_engine_law.specs.declared.host.Host.{Host}
+use Rattle.mdv_engine_law.proofs.Going.{may_course}
+use Rattle.mdv_engine_law.proofs.Sites.{own_site}
+use Rattle.mdv_home.specs.Home.{IsHome}
+use Rattle.mdv_home.specs.declared.geometry.Home.{Home}
+use Rattle.mdv_home.proofs.Viewing.{view_is_own}
+use Rattle.mdv_map.specs.Maps.{Map}
+use Rattle.mdv_name.specs.declared.geometry.Geometry.{Geometry}
+use Rattle.mdv_replica.specs.Form.{IsNewest}
+use Rattle.mdv_replica.specs.declared.replica.Head.{Head}
+use Rattle.mdv_replica.specs.declared.replica.Slot.{Slot}
+use Rattle.mdv_run_law.specs.Lives.{BlocksAre, Life, Ran}
+use Rattle.mdv_run_law.specs.Standing.{IsWanting}
+use Rattle.mdv_run_law.proofs.Coming.{no_ok, one_asked}
+use Rattle.mdv_run_law.proofs.Deeds.{change_has, deed_has, part_contains}
+use Rattle.mdv_run_law.proofs.Living.{among_reversed, blocks_hold}
+use Rattle.mdv_run_law.proofs.Made.{empty_is_log, some_told}
+use Rattle.mdv_shelf.specs.Everywhere.{Image}
+use Rattle.mdv_shelf.specs.Tale.{Tale, last}
+use Rattle.mdv_shelf.proofs.Everywhere.{last_image}
+use Rattle.mdv_status.specs.Values.{values_reply}
+use Rattle.mdv_store_law.specs.Log as log
+use Rattle.mdv_store_law.specs.Log.{AreMade, IsNotOlder, Log, Version, changes_of, empty_log, is_firm}
+use Rattle.mdv_store_law.specs.Part.{IsPart}
+use Rattle.mdv_store_law.specs.Site.{HasTable, IsFound, IsReplica, Site}
+use Rattle.mdv_store_law.specs.Standing.{Holds, Stands, nothing, replica}
+use Rattle.mdv_store_law.proofs.Agreeing.{newest_not_older}
+use Rattle.mdv_store_law.proofs.Lawful.{finds_hold}
+use Rattle.mdv_store_law.proofs.Logs.{told_acknowledges, told_firm}
+use Rattle.mdv_store_law.proofs.Machine.{after_more, all_more}
+use Rattle.mdv_store_law.proofs.Orders.{IsToldPart, all_told}
+use Rattle.mdv_store_law.proofs.Shown.{agrees_with, its_table, shown_slot, shown_version}
+use Rattle.mdv_table.specs.Slices.{IsSound}
+use Rattle.mdv_table.specs.declared.change.Change.{Change}
+use Rattle.mdv_table.specs.declared.change.Change.TheVariants.{MakeStripe}
+use Rattle.mdv_table.specs.declared.table.Table.{Table}
+use Rattle.mdv_volumes.specs.Databases.{log_of}
+use Rattle.mdv_volumes.specs.Happening.{HasRange, IsCourse, MayBeFound, MayHappen, tells, told_by}
+use Rattle.mdv_volumes.specs.History.{Acknowledges, Changed, Deed, Event, History, Reads, Saw, Shows, Wrote, history_after, history_after_all}
+use Rattle.mdv_volumes.specs.HistoryLaws.{database_deeds, log_events_of, new_history}
+use Rattle.mdv_volumes.specs.Tables.{IsMapOf}
+use Rattle.mdv_volumes.proofs.Found.{AreLasting}
+use Rattle.mdv_volumes.proofs.Keys.{databases_live}
+use Rattle.mdv_volumes.proofs.Lasting.{still_logs}
+use Rattle.mdv_volumes.proofs.Lists.{contains_first, course_front, course_rest}
+use Rattle.mdv_volumes.proofs.Tables.{tables_lie}
+use Rattle.mdv_words.specs.Line.{Exec}
+use Rattle.mdv_words.specs.declared.command.Command.{Command}
+use Rattle.mdv_words.specs.declared.command.Command.TheVariants as command
+use Rattle.mdv_theorem.specs.Exchanges.{Asks, Exchange, IsGranted, IsOn, IsTold, exchanges_by}
+use Rattle.mdv_theorem.proofs.Changes.{made_has}
+use Rattle.mdv_theorem.proofs.Lined.{AreLined, AreOfReply, AreReplied, host, lined_at, runs_lined}
+use Rattle.mdv_theorem.proofs.Lines.{never_in, values_want}
+use Rattle.mdv_theorem.proofs.Parting.{cut}
+use Rattle.mdv_theorem.proofs.Places.{at_among, may_at, seen_at, told_at}
+use Rattle.mdv_theorem.proofs.Ranges.{range_lasts}
+use Rattle.mdv_theorem.proofs.Telling.{values_are_none}
+
+module _ (drives : Geometry) (home : Home) (t : Tale) where
+  abbrev pub site : Site
+  site = site_of (host drives home)
+
+  abbrev pub key : Key
+  key = key_of (host drives home)
+
+  abbrev pub content : ℕ → List ℕ
+  content = on_site site (last t)
+
+  -- what a boot finds there
+  pub record Found (table : Table) : Type 0 where
+    pub head : Head
+    pub slot : Slot
+    pub mark : Mark
+    pub its_replica : IsReplica site content head
+    pub newest : IsNewest head slot
+    pub has : HasTable site content head slot mark table
+
+  -- it finds something, and whatever it finds is so
+  abbrev pub IsFoundWith : (Table → Type 0) → Type 0
+  IsFoundWith P = (IsFound site content None → ⊥) × ((table : Table) → Found table → P table)
+
+module _ (drives : Geometry) (home : Home) (made : Image) (before : List Ran) (t : Tale) (sound : IsSound drives) (is_home : IsHome drives home) (life : Life drives made before t) where
+  abbrev own : Host
+  own = host drives home
+
+  abbrev place : Site
+  place = site drives home t
+
+  abbrev own_key : Key
+  own_key = key drives home t
+
+  abbrev held : ℕ → List ℕ
+  held = content drives home t
+
+  pub its : BlocksAre drives home made before t
+  its = blocks_hold drives home made before t is_home (record { sound = sound; life = life; fair = tt })
+
+  abbrev pub es : List Event
+  es = its.history.es
+
+  abbrev pub now : History
+  now = history_after_all new_history es
+
+  abbrev pub database : Log
+  database = log_of now.databases own_key
+
+  pub its_course : IsCourse (sites_of own) new_history es
+  its_course = may_course own new_history es its.history.course
+
+  pub lined : AreLined drives home (exchanges_by home before) es
+  lined = runs_lined drives home before es its.history.come
+
+  its_sound : IsSound own.drives
+  its_sound = view_is_own.sound drives home.host sound
+
+  stands : Stands place database t
+  stands = its.history.stands.stands.databases own_key place (own_site own)
+
+  holds : Holds place database held
+  holds = stands.covers (last t) (last_image t)
+
+  firm_found : is_firm database ≡ true → IsFound place held None → ⊥
+  firm_found firm none = elim holds [
+    | nothing loose found ↦ absurd (cc (firm, loose))
+    | replica head agrees ↦ none head agrees.replica agrees.shown
+  ]
+
+  -- a table that is found is one that a boot may find
+  pub record FoundIs (table : Table) : Type 0 where
+    pub version : Version
+    pub found : MayBeFound database.family version
+    pub is_table : version.table ≡ table
+
+  pub found_is : (table : Table) → Found drives home t table → FoundIs table
+  found_is table is =
+      let agrees = agrees_with place database held is.head holds is.its_replica (shown_slot is.head is.slot is.mark is.has.bytes is.has.gate) in
+      let found = shown_version place database held is.head is.slot is.mark table is.has agrees in
+      record {
+        version = found.version;
+        found = (found.one_of, subst (λ (m : Mark). IsNotOlder m database.family) (sym found.mark) (newest_not_older place database held is.head agrees is.slot is.mark is.has.bytes is.has.gate is.newest));
+        is_table = its_table place database held is.head is.slot is.mark table is.has its_sound agrees found;
+      }
+
+  pub lasting_found : (P : Table → Type 0) → AreLasting own.drives P database → IsFoundWith drives home t P
+  lasting_found P are = (firm_found are.firm, λ table found. (let is = found_is table found in subst P is.is_table (are.all is.version is.found)))
+
+  -- a volume that was there at some event, where it lay then
+  pub range_found : (first later : List Event) (volume : VolId) (at count : ℕ) → es ≡ first ++ later → (range : HasRange (sites_of own) (history_after_all new_history first).databases own_key volume at count)
+      → AreLasting own.drives (λ table. IsMapOf own.drives table volume range.map) database
+  range_found first later volume at count is range =
+      let course = subst (IsCourse (sites_of own) new_history) is its_course in
+      let there = history_after_all new_history first in
+      let logs = still_logs (sites_of own) new_history first (course_front history_after (MayHappen (sites_of own)) new_history first later course) (λ other at has. empty_is_log at.drives) in
+      let same : now ≡ history_after_all there later = ap (history_after_all new_history) is ∙ after_more history_after new_history first later in
+      subst (λ (h : History). AreLasting own.drives (λ table. IsMapOf own.drives table volume range.map) (log_of h.databases own_key)) (sym same)
+      (range_lasts own there later volume at count logs range (course_rest history_after (MayHappen (sites_of own)) new_history first later course))
+
+  -- a line that was answered, with its events
+  pub record IsRepliedAt (one : Exchange) (reply : List ℕ) : Type 0 where
+    pub first : List Event
+    pub own : List Event
+    pub later : List Event
+    pub is : es ≡ first ++ (own ++ later)
+    pub replied : AreReplied drives home one.text reply own
+
+  pub replied_at : (one : Exchange) (reply : List ℕ) → Contains (exchanges_by home before) one → IsTold one reply → IsRepliedAt one reply
+  replied_at one reply has told =
+      let parts = cut (exchanges_by home before) one has in
+      let at = lined_at drives home parts.front one parts.rest es (subst (λ (l : List Exchange). AreLined drives home l es) parts.is lined) in
+      record { first = at.first; own = at.own; later = at.later; is = at.is; replied = subst (λ (r : Option (List ℕ)). AreOfReply drives home one.text r at.own) told at.of_line }
+
+  -- what it asked
+  pub asked_at : (one : Exchange) (reply : List ℕ) (spelled : Command) (here : List Event) → Asks one spelled → (IsWanting reply → ⊥) → (are : AreReplied drives home one.text reply here) → are.ask ≡ asked_by own spelled
+  asked_at one reply spelled here asks sated are = elim are.asks [
+    | inl is ↦ one_asked own one.text are.ask (asked_by own spelled) is (inr (Exec spelled, asks, refl))
+    | inr none ↦ absurd (sated none.1)
+  ]
+
+  pub ok_sated : IsWanting ok_line → ⊥
+  ok_sated wanting = no_ok ok_line wanting ((bytes_eq-Decides ok_line ok_line).1 refl)
+
+  -- `ok` told the deed that it asked
+  pub deed_told : (one : Exchange) (spelled : Command) (deed : Deed) (here : List Event) → asked_by own spelled ≡ ToDo deed → Asks one spelled → AreReplied drives home one.text ok_line here → told_by here ≡ deed ∷ []
+  deed_told one spelled deed here is asks are =
+      let acks : AcksBy (ToDo deed) ok_line are.done = subst (λ (a : Ask). AcksBy a ok_line are.done) (asked_at one ok_line spelled here asks ok_sated are ∙ is) are.acks in
+      are.tells ∙ acks ∙ ap (λ (ok : Bool). if ok then deed ∷ [] else []) ((bytes_eq-Decides ok_line ok_line).1 refl)
+
+  abbrev HasMap : VolId → Table → Type 0
+  HasMap volume table = (v : Map) × IsMapOf own.drives table volume v
+
+  -- where a range of its blocks was there, the volume is found
+  volume_found : (first later : List Event) (volume : VolId) (at count : ℕ) → es ≡ first ++ later → HasRange (sites_of own) (history_after_all new_history first).databases own_key volume at count → IsFoundWith drives home t (HasMap volume)
+  volume_found first later volume at count is range =
+      let found = lasting_found (λ table. IsMapOf own.drives table volume range.map) (range_found first later volume at count is range) in
+      (found.0, λ table is_found. (range.map, found.1 table is_found))
+
+  write_found : (one : Exchange) (volume : VolId) (at : ℕ) (block : List ℕ) → Contains (exchanges_by home before) one → Asks one (command.Write volume at block) → IsTold one ok_line → IsFoundWith drives home t (HasMap volume)
+  write_found one volume at block has asks told =
+      let deed = Wrote own_key volume at (block ∷ []) in
+      let answered = replied_at one ok_line has told in
+      let tells = deed_told one (command.Write volume at block) deed answered.own refl asks answered.replied in
+      let its_told = told_at deed answered.own tt (subst (λ (l : List Deed). Contains l deed) (sym tells) (contains_first deed [])) in
+      let event = Acknowledges its_told.place own_key volume at (block ∷ []) in
+      let first = answered.first ++ its_told.at.first in
+      let later = its_told.at.later ++ answered.later in
+      let is = at_among event es answered.first answered.own answered.later answered.is its_told.at in
+      let may = may_at (sites_of own) new_history event es first later is its_course in
+      volume_found first (event ∷ later) volume at 1 is may.0.1
+
+  -- a read that was told
+  read_found : (one : Exchange) (volume : VolId) (at count : ℕ) (reply : List ℕ) → Contains (exchanges_by home before) one → Asks one (command.Read volume at count) → IsTold one reply → (IsWanting reply → ⊥) → (IsRefusal reply → ⊥) → IsFoundWith drives home t (HasMap volume)
+  read_found one volume at count reply has asks told sated granted =
+      let answered = replied_at one reply has told in
+      let are = answered.replied in
+      let acks : AcksBy (ToSee own_key volume at count) reply are.done = subst (λ (a : Ask). AcksBy a reply are.done) (asked_at one reply (command.Read volume at count) answered.own asks sated are) are.acks in
+      elim acks [
+        | inl refused ↦ absurd (granted refused.0)
+        | inr values ↦
+            let deed = Saw own_key volume at values.blocks in
+            let its_told = told_at deed answered.own tt (subst (λ (l : List Deed). Contains l deed) (sym (are.tells ∙ values.seen)) (contains_first deed [])) in
+            seen_found volume at values.blocks its_told.place (answered.first ++ its_told.at.first) (its_told.at.later ++ answered.later)
+            (at_among (Shows its_told.place own_key volume at values.blocks) es answered.first answered.own answered.later answered.is its_told.at)
+      ]
+    where
+      seen_found : (beside : VolId) (from : ℕ) (blocks : List (List ℕ)) (spot : ℕ) (first later : List Event) → es ≡ first ++ Shows spot own_key beside from blocks ∷ later → IsFoundWith drives home t (HasMap beside)
+      seen_found beside from blocks spot first later is =
+          let may = may_at (sites_of own) new_history (Shows spot own_key beside from blocks) es first later is its_course in
+          elim (seen_at own_key beside from blocks new_history first (spot, may.0.0, may.0.1)) [
+            | inl none ↦ absurd (never_in (Saw own_key beside from blocks) none)
+            | inr at ↦
+                let event = Reads own_key beside from blocks in
+                let more = Shows spot own_key beside from blocks ∷ later in
+                let all = at_among event es [] first more is at in
+                let could = may_at (sites_of own) new_history event es at.first (at.later ++ more) all its_course in
+                volume_found at.first (event ∷ (at.later ++ more)) beside from (length blocks) all could.0.0
+          ]
+
+  -- what was told of the database
+  abbrev pub events : List log.Event
+  events = log_events_of own_key es
+
+  pub its_log : database ≡ log.log_after_all empty_log events
+  its_log = databases_live.is own_key (sites_of own) new_history es its_course
+
+  pub log_course : log.IsCourse own.drives empty_log events
+  log_course = databases_live.may own_key place (sites_of own) new_history es (own_site own) its_course
+
+  -- a table that is found was made by changes, that one among them
+  abbrev HasChange : Change → Table → Type 0
+  HasChange change table = (changes : List Change) × AreMade own.drives changes table × Contains changes change
+
+  change_found : (change : Change) → Contains (told_by es) (Changed own_key change) → IsFoundWith drives home t (HasChange change)
+  change_found change told =
+      let deeds : log.told_by events ≡ database_deeds own_key (told_by es) = databases_live.tells own_key es in
+      let has : Contains (log.told_by events) (Some change) = subst (λ (l : List (Option Change)). Contains l (Some change)) (sym deeds) (deed_has own_key (told_by es) (Some change) told) in
+      let later = told_acknowledges own.drives empty_log events (empty_is_log own.drives) log_course (some_told (log.told_by events) (Some change) has) in
+      let same : database.acknowledged ≡ Some later.0 = ap (λ (lg : Log). lg.acknowledged) its_log ∙ later.1 in
+      let part : IsPart (changes_of (log.told_by events)) (reverse later.0) = subst (λ (o : Option (List Change)). IsToldPart own.drives o (changes_of (log.told_by events))) later.1 (all_told own.drives empty_log events [] (empty_is_log own.drives) refl log_course) in
+      let among = among_reversed later.0 change (part_contains (changes_of (log.told_by events)) (reverse later.0) change part (change_has (log.told_by events) change has)) in (
+        firm_found (told_firm own.drives database later.0 stands.is_log same),
+        λ table is. (
+            let found = finds_hold place database held is.head is.slot is.mark table its_sound stands.is_log holds is.its_replica is.newest is.has in
+            let extends = found.told later.0 same in
+            (found.version.changes, found.made, subst (λ (l : List Change). Contains l change) (sym extends.is) (Contains-append_right extends.more later.0 change among))),
+      )
+
+  made_found : (one : Exchange) (volume : VolId) (slice : SliceName) → Contains (exchanges_by home before) one → Asks one (command.MakeStripe volume slice) → IsTold one ok_line → IsFoundWith drives home t (HasMap volume)
+  made_found one volume slice has asks told =
+      let change = MakeStripe volume slice in
+      let deed = Changed own_key change in
+      let answered = replied_at one ok_line has told in
+      let tells_it = deed_told one (command.MakeStripe volume slice) deed answered.own refl asks answered.replied in
+      let here : Contains (told_by answered.own) deed = subst (λ (l : List Deed). Contains l deed) (sym tells_it) (contains_first deed []) in
+      let behind : Contains (told_by (answered.own ++ answered.later)) deed = subst (λ (l : List Deed). Contains l deed) (sym (all_more tells answered.own answered.later)) (Contains-append_left (told_by answered.own) (told_by answered.later) deed here) in
+      let all : Contains (told_by es) deed =
+      subst (λ (l : List Deed). Contains l deed) (sym (ap told_by answered.is ∙ all_more tells answered.first (answered.own ++ answered.later)))
+      (Contains-append_right (told_by answered.first) (told_by (answered.own ++ answered.later)) deed behind) in
+      let found = change_found change all in
+      (found.0, λ table is. table_has table volume slice is (found.1 table is))
+    where
+      table_has : (table : Table) (other : VolId) (there : SliceName) → Found drives home t table → HasChange (MakeStripe other there) table → HasMap other table
+      table_has table other there is made =
+          let has = made_has own.drives made.0 table other there made.1 made.2 in
+          let lies = tables_lie.some own.drives table has.0 is.has.is.of_geometry has.1.0 in
+          (lies.0, subst (λ (n : VolId). IsMapOf own.drives table n lies.0) has.1.1 lies.1)
+
+  -- A volume that was shown to be there is found: there is a database, and each table that may be found of it has the volume.
+  pub shown_found : (one : Exchange) (volume : VolId) (spelled : Command) → Contains (exchanges_by home before) one → Asks one spelled → IsOn volume spelled → IsGranted one spelled → IsFoundWith drives home t (HasMap volume)
+  shown_found one volume (command.Create slice force) has asks on granted = absurd on
+  shown_found one volume (command.MakeStripe other slice) has asks on granted = subst (λ (n : VolId). IsFoundWith drives home t (HasMap n)) on (made_found one other slice has asks granted)
+  shown_found one volume (command.Read other at count) has asks on granted =
+      subst (λ (n : VolId). IsFoundWith drives home t (HasMap n)) on (read_found one other at count (values_reply granted.0 granted.1) has asks granted.2 (values_want granted.0 granted.1) (λ is. values_are_none granted.0 granted.1 is.0 is.1))
+  shown_found one volume (command.Write other at block) has asks on granted = subst (λ (n : VolId). IsFoundWith drives home t (HasMap n)) on (write_found one other at block has asks granted)

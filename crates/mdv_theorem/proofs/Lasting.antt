@@ -1,0 +1,131 @@
+-- What a read tells of a block whose write was acknowledged, in this run or an earlier one: that write's value, or one that a line behind it may have written.
+use Rattle.std.proofs.Common.{◌≡◌, ◌⊎◌, inl, inr, ℕ, ◌+◌, ◌<◌, List, [], ◌∷◌, ◌++◌, Contains, refl, sym, ◌∙◌, ap, subst}
+use Rattle.std.proofs.lemmas.List.Elements.{Contains-append_left, Contains-append_right}
+use Rattle.mdv_engine_law.specs.Answers.{accepted}
+use Rattle.mdv_engine_law.specs.Line.{Kept, Memory, contents}
+use Rattle.mdv_home.specs.Home.{IsHome}
+use Rattle.mdv_home.specs.declared.geometry.Home.{Home}
+use Rattle.mdv_name.specs.declared.geometry.Geometry.{Geometry}
+use Rattle.mdv_port.specs.Script.{Script}
+use Rattle.mdv_run_law.specs.Below.{Among, Host, IsSound, Map, Table, VolId, readings, run_map}
+use Rattle.mdv_run_law.specs.Lives.{Ran, host_of}
+use Rattle.mdv_run_law.specs.Run.{started}
+use Rattle.mdv_run_law.proofs.Extents.{SeesHome}
+use Rattle.mdv_status.specs.Values.{significant, values_reply}
+use Rattle.mdv_volumes.specs.Tables.{IsMapOf}
+use Rattle.mdv_theorem.specs.Exchanges.{Exchange, IsAcknowledged, IsSameBlock, MayBeWritten, TellsBlock, exchanges_by}
+use Rattle.mdv_theorem.specs.Observed.{IsOrWasWritten, WritesLast}
+use Rattle.mdv_theorem.specs.Running.{Running}
+use Rattle.mdv_theorem.proofs.Agreeing.{told_there}
+use Rattle.mdv_theorem.proofs.Blocks.{write_left}
+use Rattle.mdv_theorem.proofs.Contents.{IsToldOf, WasWritten, acked_block, content_steps, first_left, told_block}
+use Rattle.mdv_theorem.proofs.Living.{lived_life}
+use Rattle.mdv_theorem.proofs.Parting.{in_first, in_second, parts}
+use Rattle.mdv_theorem.proofs.Reading.{one_map}
+use Rattle.mdv_theorem.proofs.Staying.{its_home, its_sound, passed}
+use Rattle.mdv_theorem.proofs.Steps.{Failed, Reached, Steps, reached}
+use Rattle.mdv_theorem.proofs.Tables.{Keeps, Offers, keeps_boot, keeps_open, keeps_steps, map_carried, open_keeps, stands_line}
+
+-- a block that has a value, or one that a line may have written, is told so
+was_told : (volume : VolId) (number : ℕ) (old block x : List ℕ) (lines : List Exchange) → IsSameBlock block x → IsOrWasWritten volume number old lines x → IsOrWasWritten volume number old lines block
+was_told volume number old block x lines same (inl is) = inl (same ∙ is)
+was_told volume number old block x lines same (inr (one, new, has, may, is)) = inr (one, new, has, may, same ∙ is)
+
+-- lines before others, and behind them
+more_behind : (volume : VolId) (number : ℕ) (old x : List ℕ) (lines more : List Exchange) → IsOrWasWritten volume number old lines x → IsOrWasWritten volume number old (lines ++ more) x
+more_behind volume number old x lines more (inl is) = inl is
+more_behind volume number old x lines more (inr (one, new, has, may, is)) = inr (one, new, Contains-append_left lines more one has, may, is)
+
+more_before : (volume : VolId) (number : ℕ) (old x : List ℕ) (lines more : List Exchange) → (one : Exchange) (new : List ℕ) → Contains more one → MayBeWritten volume number new one → x ≡ new → IsOrWasWritten volume number old (lines ++ more) x
+more_before volume number old x lines more one new has may is = inr (one, new, Contains-append_right lines more one has, may, ap significant is)
+
+module _ (drives : Geometry) (home : Home) (before : List Ran) (script : Script) (sound : IsSound drives) (is_home : IsHome drives home) (run : Running drives home before script) (here : List Exchange) (read : Exchange) (at : Reached run here read)
+    (volume : VolId) (number : ℕ) (block : List ℕ) (tells : TellsBlock volume number block read) where
+  abbrev host : Host
+  host = host_of drives home run.fresh
+
+  abbrev own : IsSound host.drives
+  own = its_sound drives home before script sound is_home run
+
+  abbrev sees : SeesHome host
+  sees = its_home drives home before script sound is_home run
+
+  told : IsToldOf host volume number block at.kept at.next
+  told = told_block host at.calls at.kept at.next read at.answer at.comes at.said at.told volume number block tells
+
+  -- the volume lies there
+  abbrev Lies : ℕ → ℕ → ℕ → Table → Type 0
+  Lies drive first count table = IsMapOf host.drives table volume (run_map drive first count)
+
+  -- from a line on, behind which its block had that value
+  module _ (drive first count : ℕ) (within : number < count) (lines es : List Exchange) (mid : Kept) (keeps : Keeps host (Lies drive first count) mid) (steps : Steps host (Failed run) mid es at.kept)
+      (old : List ℕ) (was : IsOrWasWritten volume number old lines (mid.content drive (first + number))) where
+    its_value : IsSameBlock block (at.kept.content drive (first + number))
+    its_value = told_there host own sees volume number drive first count at.kept at.next block (keeps_steps host own sees (Lies drive first count) (map_carried host.drives volume (run_map drive first count)) (Failed run) mid at.kept es keeps steps) told
+
+    then_value : (at.kept.content drive (first + number) ≡ mid.content drive (first + number)) ⊎ WasWritten host own sees volume drive first count number within es at.kept → IsOrWasWritten volume number old (lines ++ es) block
+    then_value (inl same) = was_told volume number old block (mid.content drive (first + number)) (lines ++ es) (its_value ∙ ap significant same) (more_behind volume number old (mid.content drive (first + number)) lines es was)
+    then_value (inr (one, new, has, may, reads)) = was_told volume number old block (at.kept.content drive (first + number)) (lines ++ es) its_value (more_before volume number old (at.kept.content drive (first + number)) lines es one new has may reads)
+
+    last_value : IsOrWasWritten volume number old (lines ++ es) block
+    last_value = then_value (content_steps host own sees volume drive first count number within (Failed run) mid at.kept es keeps steps)
+
+  -- the write is one of this run
+  written_here : (front between : List Exchange) (write : Exchange) (old : List ℕ) → here ≡ front ++ write ∷ between → IsAcknowledged volume number old write → IsOrWasWritten volume number old between block
+  written_here front between write old is acknowledged =
+      let way = passed drives home before script sound is_home run here read at front between write is in
+      let step = way.step in
+      let to = acked_block host step.calls step.kept step.mid write step.answer step.comes step.said step.told volume number old acknowledged in
+      let stands = stands_line host own sees step.calls write.text step.answer step.kept step.mid way.stands step.comes step.said in
+      let keeps = keeps_open host (Lies to.drive to.first to.count) step.mid to.newest stands (ap (λ (m : Memory). m.opened) to.memory ∙ to.opened) to.lies in
+      last_value to.drive to.first to.count to.within [] between step.mid keeps step.after old (inl (ap significant to.reads))
+
+  -- it is one of an earlier run: what that left is what this one began with, and its boot wrote no block of a volume
+  module _ (first rest : List Exchange) (write : Exchange) (old : List ℕ) (stood : exchanges_by home before ≡ first ++ write ∷ rest) (acknowledged : IsAcknowledged volume number old write) where
+    -- where the volume lay as the run began
+    record Left : Type 0 where
+      v : Map
+      offers : Offers host (λ table. IsMapOf host.drives table volume v) (contents run.t.tale)
+      reads : (x : List ℕ) → Among (readings v (contents run.t.tale) number) x → IsOrWasWritten volume number old rest x
+
+    left : Left
+    left =
+        let is = write_left drives home run.made before run.t.tale sound is_home (lived_life drives run.made before run.t.tale run.life) first rest write volume number old stood acknowledged in
+        record {
+          v = is.1;
+          offers = record { found = is.0; each = λ head slot mark table replica newest has. is.2 table (record { head = head; slot = slot; mark = mark; its_replica = replica; newest = newest; has = has }) };
+          reads = is.4;
+        }
+
+    abbrev Has : Map → Table → Type 0
+    Has v table = IsMapOf host.drives table volume v
+
+    booted_so : Keeps host (Has left.v) at.first
+    booted_so = keeps_boot host own sees (Has left.v) at.booted (started (contents run.t.tale)) at.first accepted left.offers at.boots tt
+
+    -- there it is read
+    same : left.v ≡ run_map told.drive told.first told.count
+    same =
+        let there = open_keeps host (Has left.v) at.kept told.newest (keeps_steps host own sees (Has left.v) (map_carried host.drives volume left.v) (Failed run) at.first at.kept here booted_so at.steps) told.opened in
+        one_map host.drives told.newest.table own there.1 volume left.v (run_map told.drive told.first told.count) there.0 told.lies
+
+    first_value : IsOrWasWritten volume number old rest (at.first.content told.drive (told.first + number))
+    first_value =
+        let x = contents run.t.tale told.drive (told.first + number) in
+        let offers = subst (λ (v : Map). Offers host (Has v) (contents run.t.tale)) same left.offers in
+        let kept_on = first_left host own sees volume told.drive told.first told.count number told.within at.booted accepted (started (contents run.t.tale)) at.first offers at.boots tt in
+        let was = left.reads x (subst (λ (v : Map). Among (readings v (contents run.t.tale) number) x) (sym same) (inl refl)) in
+        subst (λ (y : List ℕ). IsOrWasWritten volume number old rest y) (sym kept_on) was
+
+    written_before : IsOrWasWritten volume number old (rest ++ here) block
+    written_before = last_value told.drive told.first told.count told.within rest here at.first (subst (λ (v : Map). Keeps host (Has v) at.first) same booted_so) at.steps old first_value
+
+pub writes_last : WritesLast
+writes_last drives home before script sound is_home run read write earlier first between volume number old block answered stands acknowledged tells =
+    let at = reached run answered.here answered.later read (values_reply tells.at tells.blocks) answered.is tells.told in
+    elim (parts (exchanges_by home before) answered.here first between write (sym answered.behind ∙ stands)) [
+      | in_first rest is behind ↦
+          subst (λ (l : List Exchange). IsOrWasWritten volume number old l block) (sym behind)
+          (written_before drives home before script sound is_home run answered.here read at volume number block tells first rest write old is acknowledged)
+      | in_second front is behind ↦ written_here drives home before script sound is_home run answered.here read at volume number block tells front between write old behind acknowledged
+    ]

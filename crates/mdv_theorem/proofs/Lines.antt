@@ -1,0 +1,98 @@
+-- What a line asks by its words and its reply, and what it may have begun.
+use Rattle.std.proofs.Common.{◌≡◌, ◌⊎◌, inl, inr, ℕ, ◌+◌, slice_index_or, Bool, true, false, ◌||◌, cond, List, [], ◌∷◌, ◌++◌, length, take, Contains, refl, sym, ◌∙◌, ap, subst, arith}
+use Rattle.std.specs.Char.{is_ascii_digit}
+use Rattle.std.specs.Fmt.{digits}
+use Rattle.std.specs.Str.{bytes_eq}
+use Rattle.std.proofs.lemmas.Slice.Eq.{bytes_eq-Decides}
+use Rattle.mdv_base.specs.declared.refusal.Refusal.{Refusal}
+use Rattle.mdv_base.specs.declared.refusal.Refusal.TheVariants.{IoFault, OutOfMemory}
+use Rattle.mdv_engine_law.specs.Line.{Ask, Nothing, asked_by_line, deeds}
+use Rattle.mdv_engine_law.specs.Replies.{issuable, ok_line, refusal_line}
+use Rattle.mdv_engine_law.specs.declared.host.Host.{Host}
+use Rattle.mdv_run_law.specs.Standing.{Asks as AsksWords, IsWanting}
+use Rattle.mdv_run_law.proofs.Coming.{no_ok}
+use Rattle.mdv_status.specs.Telling.{begins_with_digit}
+use Rattle.mdv_status.specs.Values.{value_line, values_reply, values_text}
+use Rattle.mdv_status.proofs.Lines.{is_value_line}
+use Rattle.mdv_table.specs.declared.change.Change.TheVariants.{MakeStripe}
+use Rattle.mdv_volumes.specs.History.{Changed, Created, Deed, Saw, Wrote}
+use Rattle.mdv_volumes.proofs.Lists.{first_or_behind}
+use Rattle.mdv_words.specs.Line.{Boot, Exec, IsLine, Line, Tab}
+use Rattle.mdv_words.specs.declared.command.Command.TheVariants as command
+use Rattle.mdv_theorem.specs.Exchanges.{Exchange, MayBeMade, MayBeWritten, MayHaveBegun}
+use Rattle.mdv_theorem.proofs.Telling.{begins_append, is_fault, ok_is_none, one_number}
+
+-- the line may have begun the deed: a change, or a block that is written
+abbrev pub MayBegin : Deed → Exchange → Type 0
+MayBegin (Created key) one = Unit {0}
+MayBegin (Changed key (MakeStripe volume slice)) one = MayBeMade volume slice one
+MayBegin (Wrote key volume at blocks) one = (block : List ℕ) × (blocks ≡ block ∷ []) × MayBeWritten volume at block one
+MayBegin (Saw key volume at blocks) one = Unit {0}
+
+pub never_in : {X : Type 0} (x : X) → Contains [] x → ⊥
+never_in x has = omega (arith, has.1)
+
+-- a deed that is the one of these
+pub the_only : {X : Type 0} (x y : X) → Contains (x ∷ []) y → x ≡ y
+the_only x y has = elim (first_or_behind x y [] has) [ inl same ↦ same | inr none ↦ absurd (never_in y none) ]
+
+module _ (host : Host) where
+  -- what a line asks it may have begun, where its reply doesn't say otherwise
+  spelled_begins : (one : Exchange) (spelled : Line) → IsLine one.text spelled → MayHaveBegun one → (deed : Deed) → Contains (deeds (asked_by_line host spelled)) deed → MayBegin deed one
+  spelled_begins one Boot is begun deed has = absurd (never_in deed has)
+  spelled_begins one (Tab lines) is begun deed has = absurd (never_in deed has)
+  spelled_begins one (Exec (command.Create slice force)) is begun deed has = subst (λ (d : Deed). MayBegin d one) (the_only _ deed has) tt
+  spelled_begins one (Exec (command.MakeStripe volume slice)) is begun deed has = subst (λ (d : Deed). MayBegin d one) (the_only _ deed has) (record { asks = is; begun = begun })
+  spelled_begins one (Exec (command.Read volume at count)) is begun deed has = absurd (never_in deed has)
+  spelled_begins one (Exec (command.Write volume at block)) is begun deed has = subst (λ (d : Deed). MayBegin d one) (the_only _ deed has) (block, refl, record { asks = is; begun = begun })
+
+  words_begin : (one : Exchange) (ask : Ask) → AsksWords host one.text ask → MayHaveBegun one → (deed : Deed) → Contains (deeds ask) deed → MayBegin deed one
+  words_begin one ask (inl none) begun deed has = absurd (never_in deed (subst (λ (a : Ask). Contains (deeds a) deed) none.1 has))
+  words_begin one ask (inr is) begun deed has = spelled_begins one is.0 is.1 begun deed (subst (λ (a : Ask). Contains (deeds a) deed) is.2 has)
+
+  -- so it is of one that asks nothing, as far as is known
+  pub begins_asked : (one : Exchange) (ask : Ask) → AsksWords host one.text ask ⊎ (ask ≡ Nothing) → MayHaveBegun one → (deed : Deed) → Contains (deeds ask) deed → MayBegin deed one
+  begins_asked one ask (inl asks) begun deed has = words_begin one ask asks begun deed has
+  begins_asked one ask (inr none) begun deed has = absurd (never_in deed (subst (λ (a : Ask). Contains (deeds a) deed) none has))
+
+-- a reply with which something was begun
+pub record Lets (ask : Ask) (reply : List ℕ) (deed : Deed) : Type 0 where
+  pub begun : (refusal : Refusal) → reply ≡ refusal_line refusal → refusal ≡ IoFault
+  pub asked : Contains (deeds ask) deed
+
+ok_lets : (reply : List ℕ) → reply ≡ ok_line → (refusal : Refusal) → reply ≡ refusal_line refusal → refusal ≡ IoFault
+ok_lets reply ok refusal is = absurd (ok_is_none refusal (sym ok ∙ is))
+
+fault_lets : (reply : List ℕ) → reply ≡ refusal_line IoFault → (refusal : Refusal) → reply ≡ refusal_line refusal → refusal ≡ IoFault
+fault_lets reply fault refusal is = is_fault refusal (one_number refusal IoFault (sym is ∙ fault))
+
+pub lets : (ask : Ask) (reply : List ℕ) (deed : Deed) → Contains (issuable ask reply) deed → Lets ask reply deed
+lets ask reply deed has = by (bytes_eq reply ok_line) (bytes_eq reply (refusal_line IoFault)) refl refl has where
+  by : (ok fault : Bool) → bytes_eq reply ok_line ≡ ok → bytes_eq reply (refusal_line IoFault) ≡ fault → Contains (cond (ok || fault) (deeds ask) []) deed → Lets ask reply deed
+  by true fault is other has = record { begun = ok_lets reply ((bytes_eq-Decides reply ok_line).0 is); asked = has }
+  by false true other is has = record { begun = fault_lets reply ((bytes_eq-Decides reply (refusal_line IoFault)).0 is); asked = has }
+  by false false other is has = absurd (never_in deed has)
+
+-- a reply that tells values is `ok`, or begins with a digit
+value_begins : (at : ℕ) (block : List ℕ) → begins_with_digit (value_line at block) ≡ true
+value_begins at block = let is = is_value_line at block in subst (λ (l : List ℕ). begins_with_digit l ≡ true) (sym is.line) (begins_append is.text (10 ∷ []) is.digit)
+
+values_begin : (at : ℕ) (blocks : List (List ℕ)) → (values_reply at blocks ≡ ok_line) ⊎ (begins_with_digit (values_reply at blocks) ≡ true)
+values_begin at [] = inl refl
+values_begin at (block ∷ blocks) =
+    inr (begins_append (value_line at block ++ values_text (at + 1) blocks) ok_line (begins_append (value_line at block) (values_text (at + 1) blocks) (value_begins at block)))
+
+digit_wants : (reply : List ℕ) → begins_with_digit reply ≡ true → IsWanting reply → ⊥
+unfolding digits
+digit_wants [] digit wanting = absurd (cc (digit))
+digit_wants (b ∷ bs) digit wanting =
+    let same = (bytes_eq-Decides (b ∷ bs) (take (length (b ∷ bs)) (refusal_line OutOfMemory))).0 wanting in
+    let first : b ≡ 114 = ap (λ (l : List ℕ). slice_index_or l 0 0) same in
+    let never = subst (λ (c : ℕ). is_ascii_digit c ≡ true) first digit in absurd (cc never)
+
+-- so it tells no want of memory
+pub values_want : (at : ℕ) (blocks : List (List ℕ)) → IsWanting (values_reply at blocks) → ⊥
+values_want at blocks wanting = elim (values_begin at blocks) [
+  | inl ok ↦ no_ok (values_reply at blocks) wanting ((bytes_eq-Decides (values_reply at blocks) ok_line).1 ok)
+  | inr digit ↦ digit_wants (values_reply at blocks) digit wanting
+]

@@ -1,0 +1,112 @@
+-- A volume of a table that is found was made by a line of the earlier runs, on the slice where it lies.
+use Rattle.std.proofs.Common.{◌≡◌, ◌⊎◌, ⊎_elim, inl, inr, List, [], ◌∷◌, reverse, Contains, sym, ◌∙◌, ap, subst}
+use Rattle.std.proofs.lemmas.List.{reverse-append}
+use Rattle.std.proofs.lemmas.List.Elements.{Contains-append_left, Contains-append_right, All-contains}
+use Rattle.mdv_base.specs.declared.drive.SliceName.{SliceName}
+use Rattle.mdv_base.specs.declared.name.Key.{Key}
+use Rattle.mdv_base.specs.declared.name.VolId.{VolId}
+use Rattle.mdv_engine_law.specs.declared.host.Host.{Host}
+use Rattle.mdv_engine_law.proofs.Sites.{own_site}
+use Rattle.mdv_home.specs.Home.{IsHome}
+use Rattle.mdv_home.specs.declared.geometry.Home.{Home}
+use Rattle.mdv_home.proofs.Viewing.{view_is_own}
+use Rattle.mdv_map.specs.Maps.{Map, run_map}
+use Rattle.mdv_name.specs.SliceIndex.{HasSlice}
+use Rattle.mdv_name.specs.declared.geometry.Geometry.{Geometry}
+use Rattle.mdv_name.specs.declared.slice_lines.SliceAt.{SliceAt}
+use Rattle.mdv_run_law.specs.Lives.{Life, Ran, changes_in}
+use Rattle.mdv_run_law.proofs.Deeds.{part_contains}
+use Rattle.mdv_shelf.specs.Everywhere.{Image}
+use Rattle.mdv_shelf.specs.Tale.{Tale}
+use Rattle.mdv_shelf.proofs.Blocks.{both_ways}
+use Rattle.mdv_store_law.specs.Log as log
+use Rattle.mdv_store_law.specs.Log.{AreMade, Log, Version, changes_of, empty_log}
+use Rattle.mdv_store_law.specs.Part.{IsPart}
+use Rattle.mdv_store_law.proofs.Orders.{all_written}
+use Rattle.mdv_table.specs.Slices.{IsSound}
+use Rattle.mdv_table.specs.declared.change.Change.{Change}
+use Rattle.mdv_table.specs.declared.change.Change.TheVariants.{MakeStripe}
+use Rattle.mdv_table.specs.declared.table.Table.{Table}
+use Rattle.mdv_volumes.specs.Databases.{same_key}
+use Rattle.mdv_volumes.specs.Happening.{issued_by}
+use Rattle.mdv_volumes.specs.History.{Changed, Created, Deed, Event, Saw, Wrote}
+use Rattle.mdv_volumes.specs.Tables.{IsMapOf}
+use Rattle.mdv_volumes.proofs.Databases.{key_is}
+use Rattle.mdv_volumes.proofs.Keys.{databases_live}
+use Rattle.mdv_volumes.proofs.Lists.{contains_behind, contains_first, first_or_behind}
+use Rattle.mdv_theorem.specs.Exchanges.{Exchange, MayBeMade, exchanges_by}
+use Rattle.mdv_theorem.proofs.Changes.{made_by}
+use Rattle.mdv_theorem.proofs.Found.{Found, found_is, database, es, events, its, its_log, key, lined, log_course}
+use Rattle.mdv_theorem.proofs.Lined.{host, lined_begins}
+use Rattle.mdv_theorem.proofs.Lines.{never_in}
+
+-- what is among changes is among them in any order
+to_reversed : (changes : List Change) (change : Change) → Contains changes change → Contains (reverse changes) change
+to_reversed [] change has = absurd (never_in change has)
+to_reversed (c ∷ changes) change has = subst (λ (l : List Change). Contains l change) (sym (reverse-append (c ∷ []) changes)) (elim (first_or_behind c change changes has) [
+  | inl here ↦ Contains-append_right (reverse changes) (c ∷ []) change (subst (λ (x : Change). Contains (c ∷ []) x) here (contains_first c []))
+  | inr behind ↦ Contains-append_left (reverse changes) (c ∷ []) change (to_reversed changes change behind)
+])
+
+-- a change of the key's database among deeds is one of these
+module _ (key : Key) (change : Change) where
+  deed_of_change : (deeds : List Deed) → Contains (changes_in key deeds) change → Contains deeds (Changed key change)
+  deed_of_change [] has = absurd (never_in change has)
+  deed_of_change (Created other ∷ deeds) has = contains_behind (Created other) (Changed key change) deeds (deed_of_change deeds (skipped has)) where
+    skipped : Contains (changes_in key (Created other ∷ deeds)) change → Contains (changes_in key deeds) change
+    skipped = elim (both_ways (same_key key other)) [ inl does ↦ rw does (λ is. is) | inr never ↦ rw never (λ is. is) ]
+  deed_of_change (Changed other its ∷ deeds) has = elim (here_or_behind has) [
+    | inl here ↦ subst (λ (d : Deed). Contains (Changed other its ∷ deeds) d) here (contains_first (Changed other its) deeds)
+    | inr behind ↦ contains_behind (Changed other its) (Changed key change) deeds (deed_of_change deeds behind)
+  ] where
+    here_or_behind : Contains (changes_in key (Changed other its ∷ deeds)) change → (Changed other its ≡ Changed key change) ⊎ Contains (changes_in key deeds) change
+    here_or_behind = elim (both_ways (same_key key other)) [
+      | inl does ↦ rw does (λ is. ⊎_elim (λ same. inl (ap (λ (k : Key). Changed k its) (sym (key_is key other does)) ∙ ap (Changed key) same)) (λ behind. inr behind) (first_or_behind its change (changes_in key deeds) is))
+      | inr never ↦ rw never (λ is. inr is)
+    ]
+  deed_of_change (Wrote other beside at blocks ∷ deeds) has = contains_behind (Wrote other beside at blocks) (Changed key change) deeds (deed_of_change deeds has)
+  deed_of_change (Saw other beside at blocks ∷ deeds) has = contains_behind (Saw other beside at blocks) (Changed key change) deeds (deed_of_change deeds has)
+
+module _ (drives : Geometry) (home : Home) (made : Image) (before : List Ran) (t : Tale) (sound : IsSound drives) (is_home : IsHome drives home) (life : Life drives made before t) where
+  abbrev own : Host
+  own = host drives home
+
+  abbrev all : List Event
+  all = es drives home made before t sound is_home life
+
+  abbrev its_key : Key
+  its_key = key drives home t
+
+  abbrev its_database : Log
+  its_database = database drives home made before t sound is_home life
+
+  abbrev its_events : List log.Event
+  its_events = events drives home made before t sound is_home life
+
+  -- the changes of each table of the history were begun by its events
+  change_begun : (v : Version) → Contains its_database.family v → (change : Change) → Contains v.changes change → Contains (issued_by all) (Changed its_key change)
+  change_begun v one_of change has =
+      let written = all_written own.drives empty_log its_events [] (λ w none. absurd (never_in w none)) (log_course drives home made before t sound is_home life) in
+      let part : IsPart (reverse v.changes) (changes_in its_key (issued_by all)) =
+      subst (λ (l : List Change). IsPart (reverse v.changes) l) (ap changes_of (databases_live.begins its_key all))
+      (written v (subst (λ (lg : Log). Contains lg.family v) (its_log drives home made before t sound is_home life) one_of)) in
+      deed_of_change its_key change (issued_by all) (part_contains (reverse v.changes) (changes_in its_key (issued_by all)) change part (to_reversed v.changes change has))
+
+  -- each of its versions is a table that its changes made
+  version_made : (v : Version) → Contains its_database.family v → AreMade own.drives v.changes v.table
+  version_made v one_of =
+      let is_log = ((its drives home made before t sound is_home life).history.stands.stands.databases its_key _ (own_site own)).is_log in
+      All-contains (λ (w : Version). AreMade own.drives w.changes w.table) its_database.family v is_log.made one_of
+
+  -- Each volume of a table that is found was made by a line of these runs, or may have been; and it lies on the blocks of the slice that the line names.
+  pub table_made : (table : Table) → Found drives home t table → (volume : VolId) (v : Map) → IsMapOf own.drives table volume v
+      → (one : Exchange) × (slice : SliceName) × Contains (exchanges_by home before) one × MayBeMade volume slice one × (at : SliceAt) × HasSlice own.drives.slices slice at × (v ≡ run_map at.drive.0 at.start at.blocks)
+  table_made table found volume v map =
+      let is = found_is drives home made before t sound is_home life table found in
+      let version = is.version in
+      let one_of = is.found.0 in
+      let there = subst (λ (b : Table). IsMapOf own.drives b volume v) (sym is.is_table) map in
+      let lies = made_by own.drives version.changes version.table volume v (view_is_own.sound drives home.host sound) (version_made version one_of) there in
+      let begun = change_begun version one_of (MakeStripe volume lies.slice) lies.change in
+      let came = lined_begins drives home (exchanges_by home before) all (lined drives home made before t sound is_home life) (Changed its_key (MakeStripe volume lies.slice)) begun in
+      (came.0, lies.slice, came.1, came.2, lies.at, lies.has, lies.map)

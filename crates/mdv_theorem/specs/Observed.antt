@@ -1,0 +1,98 @@
+-- The theorem in a user's words: of scripts, replies and drives that answer, with no word of replicas, numbers or histories.
+use Rattle.std.specs.Prelude.{◌≡◌, ◌⊎◌, ◌+◌, ◌≤◌, ℕ, List, ◌∷◌, ◌++◌, length, Option, Contains}
+use Rattle.mdv_base.specs.Causes.{Rose}
+use Rattle.mdv_base.specs.declared.drive.SliceName.{SliceName}
+use Rattle.mdv_base.specs.declared.name.VolId.{VolId}
+use Rattle.mdv_base.specs.declared.refusal.Refusal.{Refusal}
+use Rattle.mdv_base.specs.declared.refusal.Refusal.TheVariants.{NoDatabase, NoSuchVolume, OutOfMemory}
+use Rattle.mdv_engine_law.specs.Replies.{refusal_line}
+use Rattle.mdv_engine_law.specs.declared.host.Host.{Host}
+use Rattle.mdv_home.specs.Home.{IsHome}
+use Rattle.mdv_home.specs.View.{own_view}
+use Rattle.mdv_home.specs.declared.geometry.Home.{Home}
+use Rattle.mdv_name.specs.SliceIndex.{HasSlice}
+use Rattle.mdv_name.specs.declared.geometry.Geometry.{Geometry}
+use Rattle.mdv_name.specs.declared.slice_lines.SliceAt.{SliceAt}
+use Rattle.mdv_port.specs.Script.{Script}
+use Rattle.mdv_run_law.specs.Lives.{Ran}
+use Rattle.mdv_run_law.specs.Run.{Counts, IsWholeRun, Stretch, replies_failed, source_failed}
+use Rattle.mdv_run_law.specs.declared.status.RunStatus.{RunStatus}
+use Rattle.mdv_run_law.specs.declared.status.RunStatus.TheVariants.{Done, NoMemory, NoQuorum, NumbersSpent, Panic, ReadFault, ScriptTooLong, SomeRefused, TwoDatabases, Usage, WriteFault}
+use Rattle.mdv_shelf.specs.Tale.{Tale}
+use Rattle.mdv_status.specs.Values.{values_reply}
+use Rattle.mdv_table.specs.Slices.{IsSound}
+use Rattle.mdv_words.specs.declared.command.Command.{Command}
+use Rattle.mdv_words.specs.declared.command.Command.TheVariants.{Read}
+use Rattle.mdv_theorem.specs.Exchanges.{Asks, Exchange, IsAcknowledged, IsOn, IsSameBlock, IsTold, MayBeMade, MayBeWritten, ShowsThere, TellsBlock, exchanges_by}
+use Rattle.mdv_theorem.specs.Running.{HasAnswered, Running, exchanges_now}
+
+-- how a run may end whose script could be read and whose replies could be told: with Panic only where the database's drive failed
+abbrev pub MayEnd : Type 0 → RunStatus → Type 0
+MayEnd failed Done = Unit {0}
+MayEnd failed SomeRefused = Unit {0}
+MayEnd failed Usage = ⊥
+MayEnd failed (NoQuorum readable needed) = ⊥
+MayEnd failed (Panic active listed) = failed
+MayEnd failed ReadFault = ⊥
+MayEnd failed WriteFault = ⊥
+MayEnd failed NoMemory = Unit {0}
+MayEnd failed (TwoDatabases a b) = ⊥
+MayEnd failed (ScriptTooLong lines bytes) = Unit {0}
+MayEnd failed NumbersSpent = Unit {0}
+
+abbrev pub RunsEnd : Type 0
+RunsEnd =
+    (host : Host) (stretch : Stretch) (start end : Counts) (t : Tale) (tale : Option Tale) (script : Script) (status : RunStatus) → IsWholeRun host stretch start end t script tale status
+    → (source_failed start end → ⊥) → (replies_failed start end → ⊥) → MayEnd (Rose (start.drives host.home.drive.0) (end.drives host.home.drive.0)) status
+
+-- A line of a run under way that was answered, behind other lines of it and those of earlier runs.
+pub record Answered {drives : Geometry} {home : Home} {before : List Ran} {script : Script} (run : Running drives home before script) (one : Exchange) (earlier : List Exchange) : Type 0 where
+  pub here : List Exchange
+  pub later : List Exchange
+  pub is : exchanges_now run ≡ here ++ one ∷ later
+  pub behind : earlier ≡ exchanges_by home before ++ here
+
+-- once a volume was shown to be there, no line on it is told that it isn't, or that there is no database, as long as the database's drive answers
+abbrev pub VolumesStay : Type 0
+VolumesStay =
+    (drives : Geometry) (home : Home) (before : List Ran) (script : Script) → IsSound drives → IsHome drives home → (run : Running drives home before script) → HasAnswered run home.drive
+    → (one shown : Exchange) (earlier : List Exchange) (volume : VolId) (command : Command) → Answered run one earlier → Contains earlier shown → ShowsThere volume shown → Asks one command → IsOn volume command
+    → (refusal : Refusal) → IsTold one (refusal_line refusal) → (refusal ≡ NoDatabase → ⊥) × (refusal ≡ NoSuchVolume → ⊥)
+
+-- where the host has the slice, it has so many blocks, on a drive that answers
+pub record KeepsCopies {drives : Geometry} {home : Home} {before : List Ran} {script : Script} (run : Running drives home before script) (slice : SliceName) (end : ℕ) : Type 0 where
+  pub within : (at : SliceAt) → HasSlice (own_view drives home.host).slices slice at → end ≤ at.blocks
+  pub answered : (at : SliceAt) → HasSlice (own_view drives home.host).slices slice at → HasAnswered run at.drive
+
+-- values of so many blocks, from that one on
+pub record AreValuesOf (at count : ℕ) (reply : List ℕ) : Type 0 where
+  pub blocks : List (List ℕ)
+  pub counted : length blocks ≡ count
+  pub told : reply ≡ values_reply at blocks
+
+-- A read of blocks that the volume has is told, with a value of each, or refused for want of memory: it has those of each slice of the host on which a line may have made it.
+abbrev pub ReadsAreTold : Type 0
+ReadsAreTold =
+    (drives : Geometry) (home : Home) (before : List Ran) (script : Script) → IsSound drives → IsHome drives home → (run : Running drives home before script) → HasAnswered run home.drive
+    → (one shown : Exchange) (earlier : List Exchange) (volume : VolId) (at count : ℕ) → Answered run one earlier → Contains earlier shown → ShowsThere volume shown → Asks one (Read volume at count) → count ≤ 1024
+    → ((made : Exchange) (slice : SliceName) → Contains earlier made → MayBeMade volume slice made → KeepsCopies run slice (at + count))
+    → (reply : List ℕ) → IsTold one reply → (reply ≡ refusal_line OutOfMemory) ⊎ AreValuesOf at count reply
+
+-- the block has these bytes, or others that one of these lines may have written
+abbrev pub IsOrWasWritten : VolId → ℕ → List ℕ → List Exchange → List ℕ → Type 0
+IsOrWasWritten volume number old lines block =
+    IsSameBlock block old ⊎ ((one : Exchange) × (new : List ℕ) × Contains lines one × MayBeWritten volume number new one × IsSameBlock block new)
+
+-- what a read tells of a block that was written, and the write acknowledged, is that write's, or one's that was issued later
+abbrev pub WritesLast : Type 0
+WritesLast =
+    (drives : Geometry) (home : Home) (before : List Ran) (script : Script) → IsSound drives → IsHome drives home → (run : Running drives home before script)
+    → (read write : Exchange) (earlier first between : List Exchange) (volume : VolId) (number : ℕ) (old block : List ℕ) → Answered run read earlier → earlier ≡ first ++ write ∷ between
+    → IsAcknowledged volume number old write → TellsBlock volume number block read → IsOrWasWritten volume number old between block
+
+-- what a read tells of a block is what an earlier read of the run told of it, or was written in between
+abbrev pub ReadsAgree : Type 0
+ReadsAgree =
+    (drives : Geometry) (home : Home) (before : List Ran) (script : Script) → IsSound drives → IsHome drives home → (run : Running drives home before script)
+    → (read again : Exchange) (first between later : List Exchange) (volume : VolId) (number : ℕ) (old block : List ℕ) → exchanges_now run ≡ first ++ read ∷ between ++ again ∷ later
+    → TellsBlock volume number old read → TellsBlock volume number block again → IsOrWasWritten volume number old between block

@@ -1,0 +1,82 @@
+-- Runs of the hosts of one table of drives, as the contract of `run` has them, one behind the other, and one more that is under way.
+use Rattle.std.specs.Prelude.{◌≡◌, ℕ, List, [], ◌∷◌, None, Some}
+use Rattle.mdv_base.specs.Causes.{Rose}
+use Rattle.mdv_base.specs.declared.drive.DriveNo.{DriveNo}
+use Rattle.mdv_engine_law.specs.Home.{site_of}
+use Rattle.mdv_engine_law.specs.Line.{on_site}
+use Rattle.mdv_home.specs.Home.{IsHome}
+use Rattle.mdv_home.specs.declared.geometry.Home.{Home}
+use Rattle.mdv_name.specs.declared.geometry.Geometry.{Geometry}
+use Rattle.mdv_port.specs.Script.{Script}
+use Rattle.mdv_run_law.specs.Lives.{MayBeFound, Ran, host_of}
+use Rattle.mdv_run_law.specs.Run.{AreShown, At, Counts, IsShown, Stretch}
+use Rattle.mdv_run_law.specs.Standing.{RunMoment}
+use Rattle.mdv_run_law.specs.Told.{IsToldBy}
+use Rattle.mdv_shelf.specs.Calls.{OnDrive}
+use Rattle.mdv_shelf.specs.Everywhere.{Image}
+use Rattle.mdv_shelf.specs.Story.{AtEach, Moment, OfTales, Story, tale_of}
+use Rattle.mdv_shelf.specs.Tale.{Tale}
+use Rattle.mdv_store_law.specs.Laws.{restarted}
+use Rattle.mdv_store_law.specs.Site.{IsFound}
+use Rattle.mdv_theorem.specs.Exchanges.{Exchange, exchanges_of}
+
+-- m is a moment of the run that began at t: what its moments show of the places between two lines holds of it
+abbrev pub IsMomentOf : Stretch → Moment → Moment → Type 0
+IsMomentOf stretch t m = (bytes piece : ℕ) (at : At) → IsShown stretch bytes piece at → AreShown bytes piece at t m
+
+-- Runs of any hosts of the table, one behind the other, which led from one start to another: each as its contract promises it, up to one of its moments.
+pub data Runs (drives : Geometry) (first : List Ran) (from : Tale) : List Ran → Tale → Type 0 where
+  no_run : Runs drives first from first from
+  run_on : (ran : List Ran) (home : Home) (fresh : ℕ) (stretch : Stretch) (start : Counts) (t m : Moment) (next : Tale) (script : Script) → Runs drives first from ran t.tale → IsHome drives home
+      → (stands : RunMoment (host_of drives home fresh) script t.tale m.tale) → IsToldBy (host_of drives home fresh) stretch start script t m → IsMomentOf stretch t m → MayBeFound m.tale next
+      → Runs drives first from (record { home = home; fresh = fresh; script = script; bytes = stands.bytes } ∷ ran) next
+
+-- new drives that hold this, whatever it is, as long as a boot of no host finds a database there; and such runs since
+pub record Lived (drives : Geometry) (made : Image) (ran : List Ran) (t : Tale) : Type 0 where
+  pub told : List ℕ
+  pub new : (home : Home) → IsHome drives home → IsFound (site_of (host_of drives home 0)) (on_site (site_of (host_of drives home 0)) made) None
+  pub runs : Runs drives [] (restarted made told) ran t
+
+-- A run of a host from that start, which these runs led to, up to one of its moments: what was told by then is what the script asks for, and what the run's moments
+-- show holds of it.
+pub record Running (drives : Geometry) (home : Home) (before : List Ran) (script : Script) : Type 0 where
+  pub made : Image
+  pub fresh : ℕ
+  pub stretch : Stretch
+  pub start : Counts
+  pub t : Moment
+  pub m : Moment
+  pub life : Lived drives made before t.tale
+  pub tells : IsToldBy (host_of drives home fresh) stretch start script t m
+  pub moment : IsMomentOf stretch t m
+
+module _ {drives : Geometry} {home : Home} {before : List Ran} {script : Script} (run : Running drives home before script) where
+  -- the lines that it has answered, with their replies, and the one in work
+  abbrev pub exchanges_now : List Exchange
+  exchanges_now = exchanges_of script run.tells.bytes
+
+  -- no call on the drive failed in the run by then
+  abbrev pub HasAnswered : DriveNo → Type 0
+  HasAnswered drive = Rose (run.start.drives drive.0) (run.m.faults (OnDrive drive.0)) → ⊥
+
+  -- it, if it is stopped there
+  abbrev pub ran_now : Ran
+  ran_now = record { home = home; fresh = run.fresh; script = script; bytes = run.tells.bytes }
+
+-- At a moment of a run that began at t by these counts, on what these runs led to: it is one of such a run under way, by the same counts, and whatever may be found of it those runs
+-- led to, and this one.
+pub record LivesOn (drives : Geometry) (home : Home) (made : Image) (before : List Ran) (script : Script) (start : Counts) (t m : Moment) : Type 0 where
+  pub run : Running drives home before script
+  pub counted : run.start ≡ start
+  pub started : run.t ≡ t
+  pub now : run.m ≡ m
+  pub lived : (next : Tale) → MayBeFound m.tale next → Lived drives made (ran_now run ∷ before) next
+
+-- What the contract of `run` says at each of its moments (its clauses `stands` and `tells`) makes it a run under way there, and one more run of a life wherever it is stopped.
+abbrev pub RunsLiveOn : Type 0
+RunsLiveOn =
+    (drives : Geometry) (home : Home) (made : Image) (before : List Ran) (fresh : ℕ) (script : Script) (stretch : Stretch) (start : Counts) → IsHome drives home
+    → ((s : Story) → stretch.old ≡ Some s → Lived drives made before (tale_of s))
+    → AtEach (OfTales (RunMoment (host_of drives home fresh) script)) stretch.old stretch.before stretch.new stretch.after
+    → AtEach (IsToldBy (host_of drives home fresh) stretch start script) stretch.old stretch.before stretch.new stretch.after
+    → AtEach (LivesOn drives home made before script start) stretch.old stretch.before stretch.new stretch.after

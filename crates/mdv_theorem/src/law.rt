@@ -1,0 +1,19 @@
+ghost use Rattle.mdv_theorem.specs.Observed.{ReadsAgree, ReadsAreTold, RunsEnd, VolumesStay, WritesLast};
+ghost use Rattle.mdv_theorem.specs.Running.{RunsLiveOn};
+
+/// Whatever ran on the drives before, whatever failed and crashed then: a run whose script can be read and whose replies can be told ends with Panic only where its database's
+/// drive failed; a volume that was made, read or written stays; a read of it is told as long as the drives answer; and what it tells of a block is
+/// the last write that was acknowledged, or one that was issued later, and what an earlier read of the run told, or was written in between.
+pub fn runs_keep_their_word()
+    ensures ends { RunsEnd }
+    ensures there { VolumesStay }
+    ensures told { ReadsAreTold }
+    ensures last { WritesLast }
+    ensures agree { ReadsAgree }
+{}
+
+/// The law speaks of each moment of a run that the contract of `run` speaks of, by its clauses `stands` and `tells`: there a run is under way, and wherever it is stopped it is
+/// one more run of the life that it began on.
+pub fn runs_live_on()
+    ensures { RunsLiveOn }
+{}

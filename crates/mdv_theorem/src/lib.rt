@@ -1,0 +1,6 @@
+//! What scripts are told by runs of `metad`, over any runs before, crashes and lost drives: a law in a user's words.
+#![tactic(auto)]
+
+mod law;
+
+pub use law::{runs_keep_their_word, runs_live_on};
