@@ -31,11 +31,14 @@ use Rattle.mdv_theorem.specs.Exchanges.{IsOn}
 use Rattle.mdv_theorem.proofs.Telling.{ok_is_none, one_number, values_are_none}
 
 -- it is neither NoDatabase nor NoSuchVolume
+abbrev IsAsideNumber : ℕ → Type 0
+IsAsideNumber n = (n ≡ 2 → ⊥) × (n ≡ 4 → ⊥)
+
 abbrev pub IsAside : Refusal → Type 0
-IsAside r = (number_of r ≡ 2 → ⊥) × (number_of r ≡ 4 → ⊥)
+IsAside r = IsAsideNumber (number_of r)
 
 -- a refusal whose cause may hold
-where_all : (P : Refusal → Type 0) (holds : Bool) (r : Refusal) → P r → All P (where_so holds r)
+pub where_all : (P : Refusal → Type 0) (holds : Bool) (r : Refusal) → P r → All P (where_so holds r)
 where_all P true r is = All-cons P r [] is (All-nil P)
 where_all P false r is = All-nil P
 
@@ -49,7 +52,7 @@ stripe_aside gone taken db used =
     (where_all IsAside db WrongKind (omega arith)))
     (where_all IsAside used SliceInUse (omega arith))
 
-change_aside : (host : Host) (newest : Newest) (volume : VolId) (slice : SliceName) → All IsAside (held_of_change host (Some newest) (change.MakeStripe volume slice))
+pub change_aside : (host : Host) (newest : Newest) (volume : VolId) (slice : SliceName) → All IsAside (held_of_change host (Some newest) (change.MakeStripe volume slice))
 change_aside host newest volume slice =
     let size = bytes_after host newest (change.MakeStripe volume slice) in
     let full : Refusal = ReplicaFull size (record_room newest) in
@@ -80,10 +83,6 @@ module _ (case : Case) (newest : Newest) (opened : case.memory.opened ≡ Some n
   pub refused_aside : (command : Command) (r : Refusal) → IsOn volume command → refusal_of case command ≡ Some r → IsAside r
   refused_aside command r on is = first_holds IsAside order (held case command) r (held_aside command on) is
 
--- what an answer tells is one refusal's line
-pub aside_alike : (r s : Refusal) → refusal_line s ≡ refusal_line r → IsAside s → IsAside r
-aside_alike r s same is = let number = one_number s r same in (λ two. is.0 (number ∙ two), λ four. is.1 (number ∙ four))
-
 -- what is done is told by no refusal
 done_untold : (host : Host) (kept next : Kept) (command : Command) (answer : Answer) (r : Refusal) → Effect host kept command answer next → text_of answer ≡ refusal_line r → ⊥
 done_untold host kept next (Create slice force) answer r effect told = ok_is_none r (sym (ap text_of effect.0) ∙ told)
@@ -101,20 +100,25 @@ commanded calls host kept next text command answer is (inl (none, quiet, turned)
 commanded calls host kept next text command answer is (inr (inl (spelled, spells, comes))) = came (subst (λ (l : Line). ComesTo calls host kept l answer next) (one_line text spelled (Exec command) spells is) comes)
 commanded calls host kept next text command answer is (inr (inr (quiet, turned))) = unread turned.0
 
--- where this is kept the volume is in the open table
-module _ (calls : Outcomes) (host : Host) (kept next : Kept) (newest : Newest) (opened : kept.memory.opened ≡ Some newest) (volume : VolId) (of : Volume) (found : find (has_number volume) newest.table.plan.volumes ≡ Some of) (command : Command) (on : IsOn volume command)
+-- what is so of the number of each refusal of the command, and of those of a failed call and of want of memory, is so of the one that is told
+module _ (Q : ℕ → Type 0) (of_fault : Q 23) (of_want : Q 24) (calls : Outcomes) (host : Host) (kept next : Kept) (command : Command) (of_refusal : (s : Refusal) → refusal_of (case_of host kept) command ≡ Some s → Q (number_of s))
     (answer : Answer) (said : IsSaid answer) (r : Refusal) (told : text_of answer ≡ refusal_line r) where
-  by_refusal : (s : Refusal) → answer ≡ refusing s → IsAside s → IsAside r
-  by_refusal s is aside = aside_alike r s (sym (ap text_of is) ∙ told) aside
+  by_refusal : (s : Refusal) → answer ≡ refusing s → Q (number_of s) → Q (number_of r)
+  by_refusal s is so = subst Q (one_number s r (sym (ap text_of is) ∙ told)) so
 
-  came_aside : CameTo calls host kept command answer next → IsAside r
-  came_aside (refused quiet s why turned) = by_refusal s turned.0 (refused_aside (case_of host kept) newest opened volume of found command s on why)
-  came_aside (wanting quiet is left) = by_refusal OutOfMemory is (omega arith)
-  came_aside (done quiet free effect) = absurd (done_untold host kept next command answer r effect told)
-  came_aside (faulted free is left) = by_refusal IoFault is (omega arith)
-  came_aside (over end free is left) = (let never : IsSaid (Over end) = subst IsSaid is said in absurd never)
+  came_as : CameTo calls host kept command answer next → Q (number_of r)
+  came_as (refused quiet s why turned) = by_refusal s turned.0 (of_refusal s why)
+  came_as (wanting quiet is left) = by_refusal OutOfMemory is of_want
+  came_as (done quiet free effect) = absurd (done_untold host kept next command answer r effect told)
+  came_as (faulted free is left) = by_refusal IoFault is of_fault
+  came_as (over end free is left) = (let never : IsSaid (Over end) = subst IsSaid is said in absurd never)
 
-  -- so it is refused for neither of the two
-  pub told_aside : Commanded calls host kept command answer next → IsAside r
-  told_aside (came is) = came_aside is
-  told_aside (unread is) = by_refusal OutOfMemory is (omega arith)
+  pub told_as : Commanded calls host kept command answer next → Q (number_of r)
+  told_as (came is) = came_as is
+  told_as (unread is) = by_refusal OutOfMemory is of_want
+
+-- where this is kept the volume is in the open table: so a line on it is refused for neither of the two
+pub told_aside : (calls : Outcomes) (host : Host) (kept next : Kept) (newest : Newest) → kept.memory.opened ≡ Some newest → (volume : VolId) (of : Volume) → find (has_number volume) newest.table.plan.volumes ≡ Some of → (command : Command) → IsOn volume command
+    → (answer : Answer) → IsSaid answer → (r : Refusal) → text_of answer ≡ refusal_line r → Commanded calls host kept command answer next → IsAside r
+told_aside calls host kept next newest opened volume of found command on answer said r told is =
+    told_as IsAsideNumber (omega arith) (omega arith) calls host kept next command (λ s why. refused_aside (case_of host kept) newest opened volume of found command s on why) answer said r told is

@@ -1,4 +1,4 @@
--- What a boot finds at the start of a run, behind the earlier ones: a volume that was shown to be there.
+-- What a boot finds at the start of a run, behind the earlier ones: a database whose creation was told, and a volume that was shown to be there.
 use Rattle.std.proofs.Common.{◌≡◌, inl, inr, ℕ, Bool, true, List, [], ◌∷◌, ◌++◌, reverse, length, Option, Some, None, if◌then◌else◌, Contains, refl, sym, ◌∙◌, ap, subst}
 use Rattle.std.proofs.lemmas.List.Elements.{Contains-append_left, Contains-append_right}
 use Rattle.std.proofs.lemmas.Slice.Eq.{bytes_eq-Decides}
@@ -46,8 +46,8 @@ use Rattle.mdv_table.specs.declared.change.Change.{Change}
 use Rattle.mdv_table.specs.declared.change.Change.TheVariants.{MakeStripe}
 use Rattle.mdv_table.specs.declared.table.Table.{Table}
 use Rattle.mdv_volumes.specs.Databases.{log_of}
-use Rattle.mdv_volumes.specs.Happening.{HasRange, IsCourse, MayBeFound, MayHappen, tells, told_by}
-use Rattle.mdv_volumes.specs.History.{Acknowledges, Changed, Deed, Event, History, Reads, Saw, Shows, Wrote, history_after, history_after_all}
+use Rattle.mdv_volumes.specs.Happening.{HasRange, IsCourse, MayBeFound, MayHappen, deed_of, tells, told_by}
+use Rattle.mdv_volumes.specs.History.{Acknowledges, Changed, Created, Deed, Event, History, Reads, Saw, Shows, Wrote, history_after, history_after_all}
 use Rattle.mdv_volumes.specs.HistoryLaws.{database_deeds, log_events_of, new_history}
 use Rattle.mdv_volumes.specs.Tables.{IsMapOf}
 use Rattle.mdv_volumes.proofs.Found.{AreLasting}
@@ -260,33 +260,54 @@ module _ (drives : Geometry) (home : Home) (made : Image) (before : List Ran) (t
   abbrev HasChange : Change → Table → Type 0
   HasChange change table = (changes : List Change) × AreMade own.drives changes table × Contains changes change
 
+  -- a creation or a change of the database that was told is among what its log tells
+  log_told : (asked : Option Change) → Contains (told_by es) (deed_of own_key asked) → Contains (log.told_by events) asked
+  log_told asked told =
+      let deeds : log.told_by events ≡ database_deeds own_key (told_by es) = databases_live.tells own_key es in
+      subst (λ (l : List (Option Change)). Contains l asked) (sym deeds) (deed_has own_key (told_by es) asked told)
+
+  -- so the log acknowledges something
+  log_acknowledges : (asked : Option Change) → Contains (log.told_by events) asked → (later : List Change) × ((log.log_after_all empty_log events).acknowledged ≡ Some later)
+  log_acknowledges asked has = told_acknowledges own.drives empty_log events (empty_is_log own.drives) log_course (some_told (log.told_by events) asked has)
+
+  -- and a boot finds the database
+  told_found : (asked : Option Change) → Contains (log.told_by events) asked → IsFound place held None → ⊥
+  told_found asked has =
+      let later = log_acknowledges asked has in
+      firm_found (told_firm own.drives database later.0 stands.is_log (ap (λ (lg : Log). lg.acknowledged) its_log ∙ later.1))
+
   change_found : (change : Change) → Contains (told_by es) (Changed own_key change) → IsFoundWith drives home t (HasChange change)
   change_found change told =
-      let deeds : log.told_by events ≡ database_deeds own_key (told_by es) = databases_live.tells own_key es in
-      let has : Contains (log.told_by events) (Some change) = subst (λ (l : List (Option Change)). Contains l (Some change)) (sym deeds) (deed_has own_key (told_by es) (Some change) told) in
-      let later = told_acknowledges own.drives empty_log events (empty_is_log own.drives) log_course (some_told (log.told_by events) (Some change) has) in
+      let has : Contains (log.told_by events) (Some change) = log_told (Some change) told in
+      let later = log_acknowledges (Some change) has in
       let same : database.acknowledged ≡ Some later.0 = ap (λ (lg : Log). lg.acknowledged) its_log ∙ later.1 in
       let part : IsPart (changes_of (log.told_by events)) (reverse later.0) = subst (λ (o : Option (List Change)). IsToldPart own.drives o (changes_of (log.told_by events))) later.1 (all_told own.drives empty_log events [] (empty_is_log own.drives) refl log_course) in
       let among = among_reversed later.0 change (part_contains (changes_of (log.told_by events)) (reverse later.0) change part (change_has (log.told_by events) change has)) in (
-        firm_found (told_firm own.drives database later.0 stands.is_log same),
+        told_found (Some change) has,
         λ table is. (
             let found = finds_hold place database held is.head is.slot is.mark table its_sound stands.is_log holds is.its_replica is.newest is.has in
             let extends = found.told later.0 same in
             (found.version.changes, found.made, subst (λ (l : List Change). Contains l change) (sym extends.is) (Contains-append_right extends.more later.0 change among))),
       )
 
+  -- a deed that a line of these runs asked, and was told `ok` for, was told
+  deed_among : (one : Exchange) (spelled : Command) (deed : Deed) → asked_by own spelled ≡ ToDo deed → Contains (exchanges_by home before) one → Asks one spelled → IsTold one ok_line → Contains (told_by es) deed
+  deed_among one spelled deed is has asks told =
+      let answered = replied_at one ok_line has told in
+      let tells_it = deed_told one spelled deed answered.own is asks answered.replied in
+      let here : Contains (told_by answered.own) deed = subst (λ (l : List Deed). Contains l deed) (sym tells_it) (contains_first deed []) in
+      let behind : Contains (told_by (answered.own ++ answered.later)) deed = subst (λ (l : List Deed). Contains l deed) (sym (all_more tells answered.own answered.later)) (Contains-append_left (told_by answered.own) (told_by answered.later) deed here) in
+      subst (λ (l : List Deed). Contains l deed) (sym (ap told_by answered.is ∙ all_more tells answered.first (answered.own ++ answered.later)))
+      (Contains-append_right (told_by answered.first) (told_by (answered.own ++ answered.later)) deed behind)
+
+  -- A database whose creation was told is found.
+  pub created_found : (one : Exchange) (slice : SliceName) (force : Bool) → Contains (exchanges_by home before) one → Asks one (command.Create slice force) → IsTold one ok_line → IsFound place held None → ⊥
+  created_found one slice force has asks told = told_found None (log_told None (deed_among one (command.Create slice force) (Created own_key) refl has asks told))
+
   made_found : (one : Exchange) (volume : VolId) (slice : SliceName) → Contains (exchanges_by home before) one → Asks one (command.MakeStripe volume slice) → IsTold one ok_line → IsFoundWith drives home t (HasMap volume)
   made_found one volume slice has asks told =
       let change = MakeStripe volume slice in
-      let deed = Changed own_key change in
-      let answered = replied_at one ok_line has told in
-      let tells_it = deed_told one (command.MakeStripe volume slice) deed answered.own refl asks answered.replied in
-      let here : Contains (told_by answered.own) deed = subst (λ (l : List Deed). Contains l deed) (sym tells_it) (contains_first deed []) in
-      let behind : Contains (told_by (answered.own ++ answered.later)) deed = subst (λ (l : List Deed). Contains l deed) (sym (all_more tells answered.own answered.later)) (Contains-append_left (told_by answered.own) (told_by answered.later) deed here) in
-      let all : Contains (told_by es) deed =
-      subst (λ (l : List Deed). Contains l deed) (sym (ap told_by answered.is ∙ all_more tells answered.first (answered.own ++ answered.later)))
-      (Contains-append_right (told_by answered.first) (told_by (answered.own ++ answered.later)) deed behind) in
-      let found = change_found change all in
+      let found = change_found change (deed_among one (command.MakeStripe volume slice) (Changed own_key change) refl has asks told) in
       (found.0, λ table is. table_has table volume slice is (found.1 table is))
     where
       table_has : (table : Table) (other : VolId) (there : SliceName) → Found drives home t table → HasChange (MakeStripe other there) table → HasMap other table

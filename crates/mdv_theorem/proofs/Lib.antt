@@ -19,8 +19,10 @@ mod Holding
 mod Aside
 mod Readable
 mod Staying
+mod Databases
 mod Reading
 mod Agreeing
 mod Ending
+mod Answered
 mod Lasting
 mod Moments

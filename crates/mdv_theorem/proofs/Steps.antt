@@ -109,6 +109,21 @@ unreplied (line text more) [] later one reply is told =
 unreplied (line text more) (x ∷ []) later one reply is told = absurd (cc (is))
 unreplied (line text more) (x ∷ (y ∷ here)) later one reply is told = absurd (cc (is))
 
+-- what the next line comes to is told in one reply
+module _ (host : Host) (now mid : Counts) (first next : Kept) where
+  pub next_plain : (script more : Script) (answer : Answer) → NextLine host now first script answer mid next more → IsPlainAnswer answer
+  next_plain at_end more answer is = absurd is
+  next_plain (spent lines bytes) more answer is = absurd is
+  next_plain (too_long left) more answer is = refused_plain (drive_failures now mid) host first next answer LineTooLong too_long_plain is.3.0
+  next_plain (line text left) more answer is = answer_plain (drive_failures now mid) host first next answer text is.2
+
+  pub next_reply : (script more : Script) (answer : Answer) → NextLine host now first script answer mid next more → IsSaid answer → IsReply (text_of answer)
+  next_reply script more answer is said = said_reply answer (next_plain script more answer is) said
+
+  whole_or_none : (script more : Script) (answer : Answer) → NextLine host now first script answer mid next more → IsSaid answer → (count : ℕ)
+      → (said_in (take count (text_of answer)) ≡ unsaid (take count (text_of answer))) ⊎ (take count (text_of answer) ≡ text_of answer)
+  whole_or_none script more answer is said count = none_or_whole answer (next_plain script more answer is) said count
+
 module _ (host : Host) (start : Counts) (m : Moment) where
   -- a call on the drive failed in the run
   abbrev Fails : ℕ → Type 0
@@ -198,21 +213,6 @@ module _ (host : Host) (start : Counts) (m : Moment) where
   next_rises now mid first next (too_long left) more answer is = is.1.drives
   next_rises now mid first next (line text left) more answer is = is.1.drives
 
-  -- it is told in one reply
-  module _ (now mid : Counts) (first next : Kept) where
-    next_plain : (script more : Script) (answer : Answer) → NextLine host now first script answer mid next more → IsPlainAnswer answer
-    next_plain at_end more answer is = absurd is
-    next_plain (spent lines bytes) more answer is = absurd is
-    next_plain (too_long left) more answer is = refused_plain (drive_failures now mid) host first next answer LineTooLong too_long_plain is.3.0
-    next_plain (line text left) more answer is = answer_plain (drive_failures now mid) host first next answer text is.2
-
-    next_reply : (script more : Script) (answer : Answer) → NextLine host now first script answer mid next more → IsSaid answer → IsReply (text_of answer)
-    next_reply script more answer is said = said_reply answer (next_plain script more answer is) said
-
-    whole_or_none : (script more : Script) (answer : Answer) → NextLine host now first script answer mid next more → IsSaid answer → (count : ℕ)
-        → (said_in (take count (text_of answer)) ≡ unsaid (take count (text_of answer))) ⊎ (take count (text_of answer) ≡ text_of answer)
-    whole_or_none script more answer is said count = none_or_whole answer (next_plain script more answer is) said count
-
   -- where the last line was answered of which anything was told
   front_found : (now : At) (rest : List ℕ) → IsBehind now.counts → NextFront host now rest m → (here later : List Exchange) (one : Exchange) (reply : List ℕ) → exchanges_of now.script rest ≡ here ++ one ∷ later → IsTold one reply → Found now.counts now.kept here one
   front_found now rest low front here later one reply parts told = by front.answer front.comes front.front where
@@ -221,12 +221,12 @@ module _ (host : Host) (start : Counts) (m : Moment) where
 
     by : (answer : Answer) → NextLine host now.counts now.kept now.script answer front.later front.next front.more → rest ≡ take front.count (text_of answer) → Found now.counts now.kept here one
     by (Over end) comes is = quiet (is ∙ take_none front.count)
-    by (Said this) comes is = elim (whole_or_none now.counts front.later now.kept front.next now.script front.more (Said this) comes tt front.count) [
+    by (Said this) comes is = elim (whole_or_none host now.counts front.later now.kept front.next now.script front.more (Said this) comes tt front.count) [
       | inl none ↦
           let unsaid : replies_in rest ≡ [] = ap replies_in is ∙ ap (λ (s : SaidBytes). s.replies) none in
           absurd (unreplied now.script here later one reply (subst (λ (l : List (List ℕ)). exchanges now.script l ≡ here ++ one ∷ later) unsaid parts) told)
       | inr whole ↦
-          let reply_is = next_reply now.counts front.later now.kept front.next now.script front.more (Said this) comes tt in
+          let reply_is = next_reply host now.counts front.later now.kept front.next now.script front.more (Said this) comes tt in
           let alone : replies_in rest ≡ text_of (Said this) ∷ [] = ap replies_in (is ∙ whole) ∙ ap (λ (s : SaidBytes). s.replies) reply_is.alone in
           line_found now.counts front.later now.kept front.next now.script front.more (Said this) [] low (λ drive. (let same = front.by_then drive in omega arith)) comes tt
           (λ before behind other text none is_told. absurd (unreplied front.more before behind other text none is_told)) here later one reply (subst (λ (l : List (List ℕ)). exchanges now.script l ≡ here ++ one ∷ later) alone parts) told
@@ -249,7 +249,7 @@ module _ (host : Host) (start : Counts) (m : Moment) where
         let sizes : length ((piece ++ left) ++ rest) ≡ length (piece ++ (left ++ rest)) = ap length apart in
         let both = length-append piece (left ++ rest) in
         let high = shown_before bytes mid piece (left ++ rest) some is_shown (omega (arith, size, sizes)) in
-        let whole : IsReply (text_of line_told.answer) = next_reply now.counts mid.counts now.kept mid.kept now.script mid.script line_told.answer line_told.comes line_told.said in
+        let whole : IsReply (text_of line_told.answer) = next_reply host now.counts mid.counts now.kept mid.kept now.script mid.script line_told.answer line_told.comes line_told.said in
         let replies : replies_in ((piece ++ left) ++ rest) ≡ text_of line_told.answer ∷ replies_in (left ++ rest) =
         ap replies_in (apart ∙ ap (λ (l : List ℕ). l ++ (left ++ rest)) line_told.as_text) ∙ ap (λ (s : SaidBytes). s.replies) (whole.behind (left ++ rest)) in
         let rises = next_rises now.counts mid.counts now.kept mid.kept now.script mid.script line_told.answer line_told.comes in

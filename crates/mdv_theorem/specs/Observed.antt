@@ -1,11 +1,11 @@
 -- The theorem in a user's words: of scripts, replies and drives that answer, with no word of replicas, numbers or histories.
-use Rattle.std.specs.Prelude.{◌≡◌, ◌⊎◌, ◌+◌, ◌≤◌, ℕ, List, ◌∷◌, ◌++◌, length, Option, Contains}
+use Rattle.std.specs.Prelude.{◌≡◌, ◌⊎◌, ◌↔◌, ◌+◌, ◌≤◌, ℕ, Bool, None, List, ◌∷◌, ◌++◌, length, Option, Contains}
 use Rattle.mdv_base.specs.Causes.{Rose}
 use Rattle.mdv_base.specs.declared.drive.SliceName.{SliceName}
 use Rattle.mdv_base.specs.declared.name.VolId.{VolId}
 use Rattle.mdv_base.specs.declared.refusal.Refusal.{Refusal}
 use Rattle.mdv_base.specs.declared.refusal.Refusal.TheVariants.{NoDatabase, NoSuchVolume, OutOfMemory}
-use Rattle.mdv_engine_law.specs.Replies.{refusal_line}
+use Rattle.mdv_engine_law.specs.Replies.{IsRefusal, ok_line, refusal_line}
 use Rattle.mdv_engine_law.specs.declared.host.Host.{Host}
 use Rattle.mdv_home.specs.Home.{IsHome}
 use Rattle.mdv_home.specs.View.{own_view}
@@ -19,11 +19,12 @@ use Rattle.mdv_run_law.specs.Run.{Counts, IsWholeRun, Stretch, replies_failed, s
 use Rattle.mdv_run_law.specs.declared.status.RunStatus.{RunStatus}
 use Rattle.mdv_run_law.specs.declared.status.RunStatus.TheVariants.{Done, NoMemory, NoQuorum, NumbersSpent, Panic, ReadFault, ScriptTooLong, SomeRefused, TwoDatabases, Usage, WriteFault}
 use Rattle.mdv_shelf.specs.Tale.{Tale}
+use Rattle.mdv_status.specs.Telling.{replies_in}
 use Rattle.mdv_status.specs.Values.{values_reply}
 use Rattle.mdv_table.specs.Slices.{IsSound}
 use Rattle.mdv_words.specs.declared.command.Command.{Command}
-use Rattle.mdv_words.specs.declared.command.Command.TheVariants.{Read}
-use Rattle.mdv_theorem.specs.Exchanges.{Asks, Exchange, IsAcknowledged, IsOn, IsSameBlock, IsTold, MayBeMade, MayBeWritten, ShowsThere, TellsBlock, exchanges_by}
+use Rattle.mdv_words.specs.declared.command.Command.TheVariants.{Create, Read}
+use Rattle.mdv_theorem.specs.Exchanges.{Asks, Exchange, IsAcknowledged, IsOn, IsSameBlock, IsTold, MayBeMade, MayBeWritten, ShowsThere, TellsBlock, exchanges_by, exchanges_of}
 use Rattle.mdv_theorem.specs.Running.{HasAnswered, Running, exchanges_now}
 
 -- how a run may end whose script could be read and whose replies could be told: with Panic only where the database's drive failed
@@ -51,6 +52,20 @@ pub record Answered {drives : Geometry} {home : Home} {before : List Ran} {scrip
   pub later : List Exchange
   pub is : exchanges_now run ≡ here ++ one ∷ later
   pub behind : earlier ≡ exchanges_by home before ++ here
+
+-- A run that came to the end of its script has answered each line, and tells by its status whether one was refused.
+abbrev pub RunsAnswer : Type 0
+RunsAnswer =
+    (host : Host) (stretch : Stretch) (start end : Counts) (t : Tale) (tale : Option Tale) (script : Script) (status : RunStatus) → (whole : IsWholeRun host stretch start end t script tale status)
+    → (status ≡ Done) ⊎ (status ≡ SomeRefused)
+    → ((one : Exchange) → Contains (exchanges_of script whole.more) one → one.reply ≡ None → ⊥) × ((status ≡ SomeRefused) ↔ ((reply : List ℕ) × Contains (replies_in whole.more) reply × IsRefusal reply))
+
+-- Once a database's creation was told `ok`, no line is told that there is none, as long as its drive answers.
+abbrev pub DatabasesStay : Type 0
+DatabasesStay =
+    (drives : Geometry) (home : Home) (before : List Ran) (script : Script) → IsSound drives → IsHome drives home → (run : Running drives home before script) → HasAnswered run home.drive
+    → (one made : Exchange) (earlier : List Exchange) (slice : SliceName) (force : Bool) (command : Command) → Answered run one earlier → Contains earlier made → Asks made (Create slice force) → IsTold made ok_line → Asks one command
+    → (refusal : Refusal) → IsTold one (refusal_line refusal) → refusal ≡ NoDatabase → ⊥
 
 -- once a volume was shown to be there, no line on it is told that it isn't, or that there is no database, as long as the database's drive answers
 abbrev pub VolumesStay : Type 0

@@ -1,4 +1,4 @@
-ghost use Rattle.mdv_theorem.specs.Observed.{ReadsAgree, ReadsAreTold, RunsEnd, VolumesStay, WritesLast};
+ghost use Rattle.mdv_theorem.specs.Observed.{DatabasesStay, ReadsAgree, ReadsAreTold, RunsAnswer, RunsEnd, VolumesStay, WritesLast};
 ghost use Rattle.mdv_theorem.specs.Running.{RunsLiveOn};
 
 /// Whatever ran on the drives before, whatever failed and crashed then: a run whose script can be read and whose replies can be told ends with Panic only where its database's
@@ -10,6 +10,16 @@ pub fn runs_keep_their_word()
     ensures told { ReadsAreTold }
     ensures last { WritesLast }
     ensures agree { ReadsAgree }
+{}
+
+/// A database whose creation was told `ok`, by this run or an earlier one, stays: no line is told that there is none, as long as its drive answers.
+pub fn databases_stay()
+    ensures { DatabasesStay }
+{}
+
+/// A run that came to the end of its script has answered each line, and its status says whether one was refused.
+pub fn lines_are_answered()
+    ensures { RunsAnswer }
 {}
 
 /// The law speaks of each moment of a run that the contract of `run` speaks of, by its clauses `stands` and `tells`: there a run is under way, and wherever it is stopped it is

@@ -3,4 +3,4 @@
 
 mod law;
 
-pub use law::{runs_keep_their_word, runs_live_on};
+pub use law::{databases_stay, lines_are_answered, runs_keep_their_word, runs_live_on};

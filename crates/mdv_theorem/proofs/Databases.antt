@@ -1,0 +1,127 @@
+-- A database whose creation was told `ok` stays: it is open behind any further lines of the host, and none of them is told that there is none.
+use Rattle.std.proofs.Common.{◌≡◌, inl, inr, ℕ, Bool, not, ◌&&◌, ◌+◌, List, [], ◌++◌, Option, Some, None, All, Contains, sym, ap, subst, arith}
+use Rattle.std.proofs.lemmas.List.Elements.{All-append, All-cons, All-nil, Contains-append_cases}
+use Rattle.std.specs.List.{find}
+use Rattle.std.specs.Option.{is_some}
+use Rattle.std.specs.Prelude.{nat_lt}
+use Rattle.mdv_base.specs.Order.{order, where_so}
+use Rattle.mdv_base.specs.Refusal.{number_of}
+use Rattle.mdv_base.specs.declared.refusal.Refusal.TheVariants.{NeedForce, TooMany, TooSmall, WrongState}
+use Rattle.mdv_base.specs.declared.state_word.StateWord.TheVariants.{Down}
+use Rattle.mdv_base.proofs.Order.{first_holds}
+use Rattle.mdv_engine_law.specs.Commands.{case_of}
+use Rattle.mdv_engine_law.specs.Line.{Kept, Memory}
+use Rattle.mdv_engine_law.specs.Refusals.{Case, has_number, held_of_blocks, held_of_change, held_of_creation, held_of_read, held_past, is_plain, refusal_of, size_of}
+use Rattle.mdv_engine_law.specs.Replies.{ok_line, refusal_line, text_of}
+use Rattle.mdv_home.specs.Home.{IsHome}
+use Rattle.mdv_home.specs.declared.geometry.Home.{Home}
+use Rattle.mdv_name.specs.SliceIndex.{slice_at}
+use Rattle.mdv_name.specs.declared.geometry.Geometry.{Geometry}
+use Rattle.mdv_port.specs.Script.{Script}
+use Rattle.mdv_run_law.specs.Below.{Command, Create, Host, IsSound, MakeStripe, Newest, NoSuchSlice, NoSuchVolume, OutOfRange, Read, Refusal, SliceInUse, SliceName, VolId, Volume, Write, WrongKind}
+use Rattle.mdv_run_law.specs.Lives.{Ran, host_of}
+use Rattle.mdv_table.specs.declared.change.Change.TheVariants as change
+use Rattle.mdv_theorem.specs.Exchanges.{Asks, Exchange, IsTold, exchanges_by}
+use Rattle.mdv_theorem.specs.Observed.{DatabasesStay}
+use Rattle.mdv_theorem.specs.Running.{HasAnswered, Running}
+use Rattle.mdv_theorem.proofs.Aside.{IsAside, change_aside, commanded, told_as, where_all}
+use Rattle.mdv_theorem.proofs.Found.{created_found}
+use Rattle.mdv_theorem.proofs.Living.{lived_life}
+use Rattle.mdv_theorem.proofs.Parting.{cut}
+use Rattle.mdv_theorem.proofs.Staying.{Passed, found_open, its_home, its_sound, passed}
+use Rattle.mdv_theorem.proofs.Steps.{Failed, Reached, reached, told_once}
+use Rattle.mdv_theorem.proofs.Tables.{granted_done, open_on, opened_steps}
+
+-- that number isn't NoDatabase's
+abbrev IsElseNumber : ℕ → Type 0
+IsElseNumber n = n ≡ 2 → ⊥
+
+abbrev IsElse : Refusal → Type 0
+IsElse r = IsElseNumber (number_of r)
+
+-- a creation is refused for other causes
+creation_else : (gone plain down unforced used small : Bool)
+    → All IsElse (where_so gone NoSuchSlice ++ (where_so plain WrongKind ++ (where_so down (WrongState Down) ++ (where_so unforced NeedForce ++ (where_so used SliceInUse ++ where_so small TooSmall)))))
+creation_else gone plain down unforced used small =
+    let last = where_so used SliceInUse ++ where_so small TooSmall in
+    let forced = where_so unforced NeedForce ++ last in
+    let up = where_so down (WrongState Down) ++ forced in
+    All-append IsElse (where_so gone NoSuchSlice) (where_so plain WrongKind ++ up) (where_all IsElse gone NoSuchSlice (omega arith))
+    (All-append IsElse (where_so plain WrongKind) up (where_all IsElse plain WrongKind (omega arith))
+    (All-append IsElse (where_so down (WrongState Down)) forced (where_all IsElse down (WrongState Down) (omega arith))
+    (All-append IsElse (where_so unforced NeedForce) last (where_all IsElse unforced NeedForce (omega arith))
+    (All-append IsElse (where_so used SliceInUse) (where_so small TooSmall) (where_all IsElse used SliceInUse (omega arith)) (where_all IsElse small TooSmall (omega arith))))))
+
+past_else : (found : Option Volume) (end : ℕ) → All IsElse (held_past found end)
+past_else None end = All-cons IsElse NoSuchVolume [] (omega arith) (All-nil IsElse)
+past_else (Some volume) end = where_all IsElse (nat_lt (size_of volume.kind) end) OutOfRange (omega arith)
+
+-- and so is each command where a database is open
+module _ (case : Case) (newest : Newest) (opened : case.memory.opened ≡ Some newest) where
+  blocks_else : (volume : VolId) (end : ℕ) → All IsElse (held_of_blocks (Some newest) volume end)
+  blocks_else volume end = past_else (find (has_number volume) newest.table.plan.volumes) end
+
+  read_else : (volume : VolId) (at count : ℕ) → All IsElse (held_of_read (Some newest) volume at count)
+  read_else volume at count =
+      All-append IsElse (held_of_blocks (Some newest) volume (at + count)) (where_so (nat_lt 1024 count) TooMany) (blocks_else volume (at + count)) (where_all IsElse (nat_lt 1024 count) TooMany (omega arith))
+
+  refused_else : (command : Command) (r : Refusal) → refusal_of case command ≡ Some r → IsElse r
+  refused_else (Create slice force) r is =
+      let found = slice_at case.host.drives.slices slice in
+      let there = is_some case.memory.opened in
+      first_holds IsElse order (held_of_creation case slice force) r
+      (creation_else (not (is_some found)) (is_plain found) (not case.memory.clean) (not there && not force) there (nat_lt case.host.home.blocks 8208)) is
+  refused_else (MakeStripe volume slice) r is =
+      let make = change.MakeStripe volume slice in
+      (first_holds IsAside order (held_of_change case.host case.memory.opened make) r
+      (subst (λ (o : Option Newest). All IsAside (held_of_change case.host o make)) (sym opened) (change_aside case.host newest volume slice)) is).0
+  refused_else (Read volume at count) r is =
+      first_holds IsElse order (held_of_read case.memory.opened volume at count) r (subst (λ (o : Option Newest). All IsElse (held_of_read o volume at count)) (sym opened) (read_else volume at count)) is
+  refused_else (Write volume at block) r is =
+      first_holds IsElse order (held_of_blocks case.memory.opened volume (at + 1)) r (subst (λ (o : Option Newest). All IsElse (held_of_blocks o volume (at + 1))) (sym opened) (blocks_else volume (at + 1))) is
+
+-- a database is open
+abbrev IsOpen : Kept → Type 0
+IsOpen kept = (newest : Newest) × (kept.memory.opened ≡ Some newest)
+
+module _ (drives : Geometry) (home : Home) (before : List Ran) (script : Script) (sound : IsSound drives) (is_home : IsHome drives home) (run : Running drives home before script) (calm : HasAnswered run home.drive)
+    (made : Exchange) (slice : SliceName) (force : Bool) (asks : Asks made (Create slice force)) (told : IsTold made ok_line) where
+  abbrev host : Host
+  host = host_of drives home run.fresh
+
+  module _ (here : List Exchange) (one : Exchange) (at : Reached run here one) where
+    -- created by an earlier run, the database is found by the boot and stays open
+    created_before : Contains (exchanges_by home before) made → IsOpen at.kept
+    created_before has =
+        let found = created_found drives home run.made before run.t.tale sound is_home (lived_life drives run.made before run.t.tale run.life) made slice force has asks told in
+        let its = found_open drives home before script sound is_home run here one at (λ table. Unit {0}) (λ old new volume named after is. tt) calm
+        (record { found = found; each = λ head slot mark table replica newest is. tt }) in
+        (its.newest, its.opened)
+
+    -- created by an earlier line of this run, it is open from there on
+    created_here : (front rest : List Exchange) → Passed drives home before script sound is_home run here one at front rest made → IsOpen at.kept
+    created_here front rest way =
+        let step = way.step in
+        let done = granted_done host step.calls step.kept step.mid made step.answer step.comes step.said step.told (Create slice force) asks told in
+        let new = done.1.1 in
+        let opened : step.mid.memory.opened ≡ Some new.newest = ap (λ (m : Memory). m.opened) new.memory in
+        opened_steps host (its_sound drives home before script sound is_home run) (its_home drives home before script sound is_home run) (Failed run) calm step.mid at.kept rest new.newest
+        (open_on new.newest opened new.head new.content) opened step.after
+
+    -- so it is open where the line came
+    stays_open : Contains (exchanges_by home before ++ here) made → IsOpen at.kept
+    stays_open has = elim (Contains-append_cases (exchanges_by home before) here made has) [
+      | inl old ↦ created_before old
+      | inr new ↦
+          let c = cut here made new in
+          created_here c.front c.rest (passed drives home before script sound is_home run here one at c.front c.rest made c.is)
+    ]
+
+pub databases_stay : DatabasesStay
+databases_stay drives home before script sound is_home run calm one made earlier slice force command answered has asks_made told_made asks refusal told is =
+    let at = reached run answered.here answered.later one (refusal_line refusal) answered.is told in
+    let there = stays_open drives home before script sound is_home run calm made slice force asks_made told_made answered.here one at (subst (λ (l : List Exchange). Contains l made) answered.behind has) in
+    let its_host = host_of drives home run.fresh in
+    let other : IsElse refusal = told_as IsElseNumber (omega arith) (omega arith) at.calls its_host at.kept at.next command (refused_else (case_of its_host at.kept) there.0 there.1 command) at.answer at.said refusal
+    (told_once one (text_of at.answer) (refusal_line refusal) at.told told) (commanded at.calls its_host at.kept at.next one.text command at.answer asks at.comes) in
+    other (ap number_of is)
