@@ -6,7 +6,7 @@ use Rattle.mdv_shelf.proofs.Counts.{took_at_most, took_wider}
 use Rattle.mdv_engine.specs.Below.{SliceName, Table, record_text, Outcomes, Refusal, IoFault, OutOfMemory, VolId, Tale, Newest, Answer, Host, Memory}
 use Rattle.mdv_words.specs.declared.command.Command.{Command}
 use Rattle.mdv_words.specs.declared.command.Command.TheVariants.{Create, MakeStripe, Read, Write}
-use Rattle.mdv_engine_law.specs.Answers.{refusing}
+use Rattle.mdv_engine_law.specs.Answers.{IsQuiet, refusing}
 use Rattle.mdv_engine_law.specs.Refusals.{blocks_refusal}
 use Rattle.mdv_engine_law.specs.declared.answer.Answer.TheVariants.{Said, Over}
 use Rattle.mdv_engine_law.specs.declared.answer.Ended.{Ended}
@@ -236,6 +236,15 @@ module _ {S : Type 0} (tale : S → Option Tale) (calls written : S → Option �
     quiet IoFault is counted = absurd is
     quiet OutOfMemory is counted = counted.1
     quiet other is counted = ap tale counted
+
+    -- by the answer, told whole or not
+    pub quiet_answer : (answer : Answer) → IsQuiet answer → IsCommandCounted tale calls written old new command answer opened → tale new ≡ tale old
+    quiet_answer (Said outcome.Ok) is counted = absurd is
+    quiet_answer (Said (outcome.Values text)) is counted = absurd is
+    quiet_answer (Said (outcome.Refused IoFault)) is counted = absurd is
+    quiet_answer (Said (outcome.Refused OutOfMemory)) is counted = counted.1
+    quiet_answer (Said (outcome.Refused other)) is counted = ap tale counted
+    quiet_answer (Over end) is counted = absurd is
 
     -- a refusal that was told, of a command that makes no call for it, or writes nothing
     pub unlooked_told : (failed : Type 0) (answer : Answer) (given : Reply) (piece : List ℕ) → IsTold failed answer given piece → IsUnlooked given → IsCommandCounted tale calls written old new command answer opened → new ≡ old

@@ -1,6 +1,7 @@
 -- Which front of a reply was told by each moment of a line.
 use Rattle.std.proofs.Common.{◌≡◌, ◌≤◌, inl, inr, ℕ, List, ◌++◌, take, Option, refl, ◌∙◌, ap, subst, arith}
 use Rattle.std.specs.Option.{option_map}
+use Rattle.mdv_shelf.specs.Area.{KeptOutside, nowhere}
 use Rattle.mdv_shelf.specs.Calls.{OnDrive}
 use Rattle.mdv_shelf.specs.Shelves.{AtEachMoment, AtEachTale, AtEnd, DriveFailures, GoesOn, RestsOnceTold}
 use Rattle.mdv_shelf.specs.Story.{OfTales, Story, tale_of}
@@ -8,6 +9,7 @@ use Rattle.mdv_shelf.specs.declared.shelf.Shelf.{Ghosts}
 use Rattle.mdv_shelf.proofs.Noted.{moments_of_tales}
 use Rattle.mdv_shelf.proofs.Moments.{moments_weaker, some_is}
 use Rattle.mdv_shelf.proofs.Telling.{each_joined, each_within, rests_alone}
+use Rattle.mdv_engine_law.specs.Answers.{IsQuiet}
 use Rattle.mdv_engine_law.specs.Below.{Image, Tale, last, told}
 use Rattle.mdv_engine_law.specs.Line.{IsSame, Kept, Memory, contents, kept_at}
 use Rattle.mdv_engine_law.specs.Replies.{text_of}
@@ -27,8 +29,9 @@ module _ {S : Type 0} (shelf : Ghosts S) (telling : (s : S) → shelf.tale s ≡
   pub fronts_then : (a b c : S) (Comes : Outcomes → Kept → Answer → Kept → Type 0) (host : Host) (old : Memory) (answer : Answer) (new : Memory)
       → ((failed more : Outcomes) → AreWithin failed more → (kept next : Kept) → Comes failed kept answer next → Comes more kept answer next)
       → GoesOn shelf a b → AtEachTale shelf (λ t m. told m ≡ told t) a b → AtEnd shelf (λ t u. Knows host old t → Comes (DriveFailures shelf a b) (kept_at old t) answer (kept_at new u)) a b
+      → (IsQuiet answer → shelf.tale b ≡ shelf.tale a)
       → GoesOn shelf b c → ((drive : ℕ) → shelf.faults c (OnDrive drive) ≡ shelf.faults b (OnDrive drive)) → AtEachTale shelf (TellMoment (text_of answer)) b c → AtEachMoment shelf (λ t m. Knows host old t.tale → TellsFront Comes old t m) a c
-  fronts_then a b c Comes host old answer new widen on quiet ends more still tells =
+  fronts_then a b c Comes host old answer new widen on quiet ends same more still tells =
       each_joined (OfTales (λ t m. told m ≡ told t)) (OfTales (TellMoment (text_of answer))) (λ t m. Knows host old t.tale → TellsFront Comes old t m) _ _ _ _ _ _
       (λ s u v first mid last turn there ahead m here within knows. inl here)
       (λ s u v first mid last turn m here within ahead knows.
@@ -39,6 +42,8 @@ module _ {S : Type 0} (shelf : Ghosts S) (telling : (s : S) → shelf.tale s ≡
         count = here.count;
         is_told = here.is_told ∙ ap (λ (l : List ℕ). l ++ take here.count (text_of answer)) turn;
         shows = subst (λ (x : Tale). IsSame (contents x) (contents m.tale)) (some_is (shelf.tale b) (tale_of u) end.0 (telling b ∙ ap (λ (o : Option Story). option_map tale_of o) mid) end.1) (λ drive block. (here.kept drive block refl).last);
+        unwritten = λ is. subst (λ (x : Tale). KeptOutside nowhere x m.tale)
+            (some_is (shelf.tale b) (tale_of u) (tale_of s) (telling b ∙ ap (λ (o : Option Story). option_map tale_of o) mid) (same is ∙ telling a ∙ ap (λ (o : Option Story). option_map tale_of o) first)) here.kept;
       })) (moments_of_tales shelf telling a b (λ t m. told m ≡ told t) on quiet) (moments_of_tales shelf telling b c (TellMoment (text_of answer)) more tells)
 
   -- the telling alone of an answer to which a line came without a call
@@ -54,6 +59,7 @@ module _ {S : Type 0} (shelf : Ghosts S) (telling : (s : S) → shelf.tale s ≡
         count = here.count;
         is_told = here.is_told;
         shows = λ drive block. (here.kept drive block refl).last;
+        unwritten = λ is. here.kept;
       }))
       (moments_of_tales shelf telling a b (TellMoment (text_of answer)) on tells)
 

@@ -1,6 +1,6 @@
 -- What a line came to, in a word.
 use Rattle.std.specs.Prelude.{ℕ, List}
-use Rattle.mdv_engine_law.specs.Below.{Refusal}
+use Rattle.mdv_engine_law.specs.Below.{Refusal, IoFault}
 use Rattle.mdv_engine_law.specs.declared.answer.Answer.{Answer}
 use Rattle.mdv_engine_law.specs.declared.answer.Answer.TheVariants.{Said}
 use Rattle.mdv_engine_law.specs.declared.answer.Outcome.TheVariants as outcome
@@ -16,3 +16,9 @@ telling text = Said (outcome.Values text)
 -- it is refused
 abbrev pub refusing : Refusal → Answer
 refusing refusal = Said (outcome.Refused refusal)
+
+-- a refusal for another cause than a failed call
+abbrev pub IsQuiet : Answer → Type 0
+IsQuiet (Said (outcome.Refused IoFault)) = ⊥
+IsQuiet (Said (outcome.Refused refusal)) = Unit {0}
+IsQuiet other = ⊥

@@ -12,6 +12,7 @@ use Rattle.mdv_engine_law.specs.declared.answer.Answer.TheVariants.{Said, Over}
 use Rattle.mdv_engine_law.specs.declared.answer.Outcome.TheVariants as outcome
 use Rattle.mdv_engine_law.specs.declared.answer.Reply.{Reply}
 use Rattle.mdv_engine_law.specs.declared.host.Host.{Host}
+use Rattle.mdv_engine_law.specs.Answers.{IsQuiet}
 use Rattle.mdv_engine_law.specs.Awake.{Happening, HasBooted, is_in}
 use Rattle.mdv_engine_law.specs.Failing.{Outcomes}
 use Rattle.mdv_engine_law.specs.Home.{StaysHome, key_of, plain_area, site_of, sites_of}
@@ -168,7 +169,7 @@ pub record TellMoment (text : List ℕ) (t m : Tale) : Type 0 where
   pub is_told : told m ≡ told t ++ take count text
 
 -- By this moment of a line a front of the reply was told to what it came to, as the calls on the drive had come out by then, and the drive's blocks
--- read as the line left them.
+-- read as the line left them; where it is a refusal for another cause than a failed call, the line wrote none of them.
 pub record FrontTold (Comes : Outcomes → Kept → Answer → Kept → Type 0) (old : Memory) (t m : Moment) : Type 0 where
   pub answer : Answer
   pub next : Kept
@@ -176,6 +177,7 @@ pub record FrontTold (Comes : Outcomes → Kept → Answer → Kept → Type 0) 
   pub count : ℕ
   pub is_told : told m.tale ≡ told t.tale ++ take count (text_of answer)
   pub shows : IsSame next.content (contents m.tale)
+  pub unwritten : IsQuiet answer → KeptOutside nowhere t.tale m.tale
 
 -- nothing of a reply, or a front of the one to what the line came to
 abbrev pub TellsFront : (Outcomes → Kept → Answer → Kept → Type 0) → Memory → Moment → Moment → Type 0

@@ -3,16 +3,17 @@ use Rattle.mdv_base.specs.Causes.{failures_of}
 use Rattle.mdv_engine_law.specs.Failing.{Outcomes}
 use Rattle.mdv_base.proofs.Causes.{within_calm}
 use Rattle.mdv_run_law.specs.Run.{RoseCalmly}
-use Rattle.std.proofs.Common.{◌≡◌, inl, inr, ℕ, Bool, List, [], ◌++◌, take, Option, refl, sym, ◌∙◌, ap, subst, arith}
+use Rattle.std.proofs.Common.{◌≡◌, inl, inr, ℕ, Bool, List, [], ◌++◌, take, Option, Some, refl, sym, ◌∙◌, ap, subst, arith}
 use Rattle.std.proofs.lemmas.List.{append-nil}
-use Rattle.mdv_run.specs.Below.{Answer, Boot, Counts, Host, IsAnswered, IsLine, IsRebooted, IsSame, IsTurnedDown, Kept, Knows, LineTooLong, Memory, OnDrive, Script, TellsFront, counts, contents, kept_at, line, told, too_long}
+use Rattle.mdv_run.specs.Below.{Answer, Boot, Counts, Host, IsAnswered, IsLine, IsRebooted, IsSame, IsTurnedDown, Kept, Knows, LineTooLong, Memory, OnDrive, Script, Tale, TellsFront, counts, contents, kept_at, line, told, too_long}
 use Rattle.mdv_run.specs.Promise.{point_of}
 use Rattle.mdv_run.specs.Turns.{Point, TurnFront, at}
+use Rattle.mdv_shelf.specs.Area.{KeptOutside, nowhere}
 use Rattle.mdv_shelf.specs.Made.{effort_of}
 use Rattle.mdv_shelf.specs.Story.{Effort}
 use Rattle.mdv_shelf.specs.Calls.{Part}
 use Rattle.mdv_shelf.specs.Shelves.{AtEachMoment}
-use Rattle.mdv_shelf.specs.Story.{FailuresBy, Moment, NoFewer, Story}
+use Rattle.mdv_shelf.specs.Story.{FailuresBy, Moment, NoFewer, Story, tale_of}
 use Rattle.mdv_shelf.specs.declared.shelf.Shelf.{Ghosts}
 use Rattle.mdv_shelf.proofs.Stories.{each_none, moment}
 use Rattle.mdv_base.specs.declared.refusal.Refusal.{Refusal}
@@ -35,7 +36,7 @@ ScriptFront host now old refused script t m = Knows host old t.tale → TurnFron
 pub front_of : (Comes More : Outcomes → Kept → Answer → Kept → Type 0) (old : Memory) (t m : Moment) → ((outcomes : Outcomes) (kept : Kept) (answer : Answer) (next : Kept) → Comes outcomes kept answer next → More outcomes kept answer next)
     → TellsFront Comes old t m → TellsFront More old t m
 front_of Comes More old t m more (inl same) = inl same
-front_of Comes More old t m more (inr front) = inr (record { answer = front.answer; next = front.next; came = more _ _ _ _ front.came; count = front.count; is_told = front.is_told; shows = front.shows })
+front_of Comes More old t m more (inr front) = inr (record { answer = front.answer; next = front.next; came = more _ _ _ _ front.came; count = front.count; is_told = front.is_told; shows = front.shows; unwritten = front.unwritten })
 
 pub only_refused : (refusal : Refusal) (outcomes : Outcomes) (kept : Kept) (answer : Answer) (next : Kept) → OnlyAnswers (refusing refusal) outcomes kept answer next → IsTurnedDown refusal kept answer next
 only_refused refusal outcomes kept answer next is = (is.1, subst (λ (k : Kept). Stays kept k) (sym is.2) (record { memory = refl; content = λ drive block. refl }))
@@ -52,6 +53,7 @@ boot_front host old new text boots t u m quiet rebooted (inr front) = inr (recor
   count = front.count;
   is_told = front.is_told ∙ ap (λ (a : Answer). told u.tale ++ take front.count (text_of a)) front.came.1 ∙ ap (λ (l : List ℕ). l ++ take front.count (text_of accepted)) quiet;
   shows = subst (λ (k : Kept). IsSame k.content (contents m.tale)) front.came.2 front.shows;
+  unwritten = λ quiet. absurd quiet;
 })
 
 -- the counts by a moment in the middle of a turn
@@ -67,9 +69,9 @@ module _ (host : Host) (old : Memory) (now : Point) (refused : Bool) (t m : Mome
   no_front script same = record { bytes = []; is_told = same ∙ sym (append-nil (told t.tale)); front = inl refl }
 
   -- a front of a line's reply
-  pub line_front : (script more : Script) (text : List ℕ) → script ≡ line text more → TellsFront (λ outcomes kept answer next. IsAnswered outcomes host kept text answer next) old t m → TurnFront host (at now (kept_at old t.tale) refused script) t m
-  line_front script more text is (inl same) = no_front script same
-  line_front script more text is (inr front) = subst (λ (s : Script). TurnFront host (at now (kept_at old t.tale) refused s) t m) (sym is) (record {
+  pub line_front : ((s : Story) → now.story ≡ Some s → tale_of s ≡ t.tale) → (script more : Script) (text : List ℕ) → script ≡ line text more → TellsFront (λ outcomes kept answer next. IsAnswered outcomes host kept text answer next) old t m → TurnFront host (at now (kept_at old t.tale) refused script) t m
+  line_front there script more text is (inl same) = no_front script same
+  line_front there script more text is (inr front) = subst (λ (s : Script). TurnFront host (at now (kept_at old t.tale) refused s) t m) (sym is) (record {
     bytes = take front.count (text_of front.answer);
     is_told = front.is_told;
     front = inr (record {
@@ -82,13 +84,14 @@ module _ (host : Host) (old : Memory) (now : Point) (refused : Bool) (t m : Mome
       shows = front.shows;
       count = front.count;
       front = refl;
+      unwritten = λ whole quiet s at. subst (λ (x : Tale). KeptOutside nowhere x m.tale) (sym (there s at)) (front.unwritten quiet);
     });
   })
 
   -- of the refusal of a line that was too long
-  pub long_front : (script more : Script) → script ≡ too_long more → TellsFront (OnlyAnswers (refusing LineTooLong)) old t m → TurnFront host (at now (kept_at old t.tale) refused script) t m
-  long_front script more is (inl same) = no_front script same
-  long_front script more is (inr front) = subst (λ (s : Script). TurnFront host (at now (kept_at old t.tale) refused s) t m) (sym is) (record {
+  pub long_front : ((s : Story) → now.story ≡ Some s → tale_of s ≡ t.tale) → (script more : Script) → script ≡ too_long more → TellsFront (OnlyAnswers (refusing LineTooLong)) old t m → TurnFront host (at now (kept_at old t.tale) refused script) t m
+  long_front there script more is (inl same) = no_front script same
+  long_front there script more is (inr front) = subst (λ (s : Script). TurnFront host (at now (kept_at old t.tale) refused s) t m) (sym is) (record {
     bytes = take front.count (text_of front.answer);
     is_told = front.is_told;
     front = inr (record {
@@ -101,6 +104,7 @@ module _ (host : Host) (old : Memory) (now : Point) (refused : Bool) (t m : Mome
       shows = front.shows;
       count = front.count;
       front = refl;
+      unwritten = λ whole quiet s at. subst (λ (x : Tale). KeptOutside nowhere x m.tale) (sym (there s at)) (front.unwritten quiet);
     });
   })
 

@@ -3,7 +3,7 @@ use Rattle.std.proofs.Common.{◌≡◌, inl, inr, ◌+◌, ℕ, Bool, true, fal
 use Rattle.std.proofs.lemmas.Bool.Decides.{nat_tests}
 use Rattle.std.proofs.lemmas.List.Folds.{Any-from_list_any}
 use Rattle.mdv_base.specs.declared.drive.DriveNo.{DriveNo}
-use Rattle.mdv_run_law.specs.Below.{Base, Component, Geometry, HasSlice, Home, Host, History, IsHome, IsNamed, Key, Map, Site, Slice, SliceAt, SliceLine, SliceName, StandsAt, Stripe, Tale, VolId, VolumeKind, covers, site_of, sites_of}
+use Rattle.mdv_run_law.specs.Below.{Base, Component, Geometry, HasSlice, Home, Host, History, IsHome, IsNamed, Key, Map, Site, Slice, SliceAt, SliceLine, SliceName, StandsAt, Stripe, Table, Tale, VolId, VolumeKind, covers, site_of, sites_of}
 use Rattle.mdv_name.specs.declared.drive_line.DriveKind.TheVariants.{Own}
 use Rattle.mdv_name.specs.declared.drive_line.DriveLine.{DriveLine}
 use Rattle.mdv_home.specs.Drives.{own_drives}
@@ -117,3 +117,7 @@ module _ (table : Geometry) (home other : Home) (fresh again : ℕ) (is : IsHome
     stands = restarts_go.elsewhere (sites_of (host_of table home fresh)) h (host_area (host_of table other again)) t m (elsewhere h.databases) stays stands.stands;
     room = stands.room;
   }
+
+  -- a block of a volume of a table of the one is none that a run of the other may touch
+  pub table_elsewhere : (t : Table) (volume : VolId) (v : Map) → IsMapOf (host_of table home fresh).drives t volume v → AreApart (host_area (host_of table other again)) (area_of_map v)
+  table_elsewhere t volume v map = apart_on table other.host home.host (host_area (host_of table other again)) (area_of_map v) differ (host_on table other again beside) (kind_on table home fresh map.of.kind v map.kind)

@@ -15,10 +15,13 @@ use Rattle.mdv_engine_law.specs.declared.answer.Answer.TheVariants.{Said, Over a
 use Rattle.mdv_engine_law.specs.declared.answer.Ended.{Ended}
 use Rattle.mdv_engine_law.specs.declared.answer.Ended.TheVariants as stop
 use Rattle.mdv_engine_law.specs.declared.answer.Outcome.TheVariants as outcome
+pub use Rattle.mdv_engine_law.specs.Answers.{IsQuiet}
 use Rattle.mdv_engine_law.specs.Answers.{accepted, refusing}
 use Rattle.mdv_engine_law.specs.Line.{Memory}
-use Rattle.mdv_base.specs.declared.refusal.Refusal.TheVariants.{IoFault}
-use Rattle.mdv_engine_law.specs.Standing.{LeavesDone, LineWrites}
+use Rattle.mdv_engine_law.specs.Awake.{Happening}
+use Rattle.mdv_engine_law.specs.Standing.{IsKnown, LeavesDone, LineWrites, StandsAt}
+use Rattle.mdv_store_law.specs.Machine as machine
+use Rattle.mdv_volumes.specs.History.{History, history_after}
 use Rattle.mdv_words.specs.Line.{Exec}
 use Rattle.mdv_words.specs.declared.command.Command.{Command}
 use Rattle.mdv_shelf.specs.Area.{KeptOutside, nowhere}
@@ -181,16 +184,14 @@ pub record IsPassage (now : At) (piece : List ℕ) (later : At) : Type 0 where
   pub told : (s u : Story) → now.story ≡ Some s → later.story ≡ Some u → told (tale_of u) ≡ told (tale_of s) ++ piece
   pub reads : (u : Story) → later.story ≡ Some u → IsSame later.kept.content (contents (tale_of u))
 
--- a refusal for another cause than a failed call
-abbrev pub IsQuiet : Answer → Type 0
-IsQuiet (Said (outcome.Refused IoFault)) = ⊥
-IsQuiet (Said (outcome.Refused refusal)) = Unit {0}
-IsQuiet other = ⊥
-
 -- What the next line of a script leaves that was told `ok`, where this was in memory: a write its blocks on the disk, with all that the drive was given before.
 abbrev pub NextLeaves : Host → Memory → Script → Tale → Type 0
 NextLeaves host memory (line text rest) u = (command : Command) → IsLine text (Exec command) → LeavesDone host memory command u
 NextLeaves host memory other u = Unit {0}
+
+-- each history that is known before is led to one that is known behind
+abbrev pub Leads : Host → Memory → Memory → Tale → Tale → Type 0
+Leads host old new t u = (h : History) → IsKnown host old h t → machine.Goes history_after (Happening host) (λ es. Unit {0}) (λ g. StandsAt host g u) (λ es after. IsKnown host new after u) h
 
 -- A line that was answered, and whose reply was told whole: by as many calls as it takes, and one, by which no block was written but those that it may write, none where it was
 -- refused for another cause than a failed call; and a write that was told `ok` is on the disk.
@@ -201,6 +202,7 @@ pub record LineTold (host : Host) (now : At) (piece : List ℕ) (later : At) : T
   pub writes : FromTo (NextWrites host now.kept.memory now.script) now.story later.story
   pub unwritten : IsQuiet answer → FromTo (KeptOutside nowhere) now.story later.story
   pub leaves : answer ≡ accepted → FromTo (λ t u. NextLeaves host now.kept.memory now.script u) now.story later.story
+  pub leads : FromTo (Leads host now.kept.memory later.kept.memory) now.story later.story
   pub said : IsSaid answer
   pub as_text : piece ≡ text_of answer
   pub as_refused : later.refused ≡ refused_by answer now.refused
@@ -346,7 +348,7 @@ pub record IsRun (host : Host) (stretch : Stretch) (start end : Counts) (content
   pub runs : RunsFrom host stretch end answer booted by kept script told status last
 
 -- Of the next line's reply nothing was told by that moment, or a front: of the reply to what it came to, where each drive had failed so often, and its blocks read as
--- the line left them.
+-- the line left them; none was written, where the whole reply was told, and is a refusal for another cause than a failed call.
 pub record NextFront (host : Host) (now : At) (told : List ℕ) (m : Moment) : Type 0 where
   pub answer : Answer
   pub later : Counts
@@ -357,6 +359,7 @@ pub record NextFront (host : Host) (now : At) (told : List ℕ) (m : Moment) : T
   pub shows : IsSame next.content (contents m.tale)
   pub count : ℕ
   pub front : told ≡ take count (text_of answer)
+  pub unwritten : told ≡ text_of answer → IsQuiet answer → (s : Story) → now.story ≡ Some s → KeptOutside nowhere (tale_of s) m.tale
 
 abbrev pub IsNextFront : Host → At → List ℕ → Moment → Type 0
 IsNextFront host now told m = (told ≡ []) ⊎ NextFront host now told m

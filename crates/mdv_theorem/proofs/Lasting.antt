@@ -27,7 +27,7 @@ use Rattle.mdv_theorem.proofs.Steps.{Failed, Reached, Steps, reached}
 use Rattle.mdv_theorem.proofs.Tables.{Keeps, Offers, keeps_boot, keeps_open, keeps_steps, map_carried, open_keeps, stands_line}
 
 -- a block that has a value, or one that a line may have written, is told so
-was_told : (volume : VolId) (number : ℕ) (old block x : List ℕ) (lines : List Exchange) → IsSameBlock block x → IsOrWasWritten volume number old lines x → IsOrWasWritten volume number old lines block
+pub was_told : (volume : VolId) (number : ℕ) (old block x : List ℕ) (lines : List Exchange) → IsSameBlock block x → IsOrWasWritten volume number old lines x → IsOrWasWritten volume number old lines block
 was_told volume number old block x lines same (inl is) = inl (same ∙ is)
 was_told volume number old block x lines same (inr (one, new, has, may, is)) = inr (one, new, has, may, same ∙ is)
 
@@ -50,7 +50,7 @@ module _ (drives : Geometry) (home : Home) (before : List Ran) (script : Script)
   abbrev sees : SeesHome host
   sees = its_home drives home before script sound is_home run
 
-  told : IsToldOf host volume number block at.kept at.next
+  abbrev pub told : IsToldOf host volume number block at.kept at.next
   told = told_block host at.calls at.kept at.next read at.answer at.comes at.said at.told volume number block tells
 
   -- the volume lies there
@@ -80,45 +80,38 @@ module _ (drives : Geometry) (home : Home) (before : List Ran) (script : Script)
       let keeps = keeps_open host (Lies to.drive to.first to.count) step.mid to.newest stands (ap (λ (m : Memory). m.opened) to.memory ∙ to.opened) to.lies in
       last_value to.drive to.first to.count to.within [] between step.mid keeps step.after old (inl (ap significant to.reads))
 
-  -- it is one of an earlier run: what that left is what this one began with, and its boot wrote no block of a volume
-  module _ (first rest : List Exchange) (write : Exchange) (old : List ℕ) (stood : exchanges_by home before ≡ first ++ write ∷ rest) (acknowledged : IsAcknowledged volume number old write) where
-    -- where the volume lay as the run began
-    record Left : Type 0 where
-      v : Map
-      offers : Offers host (λ table. IsMapOf host.drives table volume v) (contents run.t.tale)
-      reads : (x : List ℕ) → Among (readings v (contents run.t.tale) number) x → IsOrWasWritten volume number old rest x
-
-    left : Left
-    left =
-        let is = write_left drives home run.made before run.t.tale sound is_home (lived_life drives run.made before run.t.tale run.life) first rest write volume number old stood acknowledged in
-        record {
-          v = is.1;
-          offers = record { found = is.0; each = λ head slot mark table replica newest has. is.2 table (record { head = head; slot = slot; mark = mark; its_replica = replica; newest = newest; has = has }) };
-          reads = is.4;
-        }
-
+  -- where the volume lay as the run began: its boot wrote no block of a volume
+  module _ (v : Map) (offers : Offers host (λ table. IsMapOf host.drives table volume v) (contents run.t.tale)) where
     abbrev Has : Map → Table → Type 0
-    Has v table = IsMapOf host.drives table volume v
+    Has map table = IsMapOf host.drives table volume map
 
-    booted_so : Keeps host (Has left.v) at.first
-    booted_so = keeps_boot host own sees (Has left.v) at.booted (started (contents run.t.tale)) at.first accepted left.offers at.boots tt
+    booted_so : Keeps host (Has v) at.first
+    booted_so = keeps_boot host own sees (Has v) at.booted (started (contents run.t.tale)) at.first accepted offers at.boots tt
 
     -- there it is read
-    same : left.v ≡ run_map told.drive told.first told.count
+    same : v ≡ run_map told.drive told.first told.count
     same =
-        let there = open_keeps host (Has left.v) at.kept told.newest (keeps_steps host own sees (Has left.v) (map_carried host.drives volume left.v) (Failed run) at.first at.kept here booted_so at.steps) told.opened in
-        one_map host.drives told.newest.table own there.1 volume left.v (run_map told.drive told.first told.count) there.0 told.lies
+        let there = open_keeps host (Has v) at.kept told.newest (keeps_steps host own sees (Has v) (map_carried host.drives volume v) (Failed run) at.first at.kept here booted_so at.steps) told.opened in
+        one_map host.drives told.newest.table own there.1 volume v (run_map told.drive told.first told.count) there.0 told.lies
 
-    first_value : IsOrWasWritten volume number old rest (at.first.content told.drive (told.first + number))
-    first_value =
-        let x = contents run.t.tale told.drive (told.first + number) in
-        let offers = subst (λ (v : Map). Offers host (Has v) (contents run.t.tale)) same left.offers in
-        let kept_on = first_left host own sees volume told.drive told.first told.count number told.within at.booted accepted (started (contents run.t.tale)) at.first offers at.boots tt in
-        let was = left.reads x (subst (λ (v : Map). Among (readings v (contents run.t.tale) number) x) (sym same) (inl refl)) in
-        subst (λ (y : List ℕ). IsOrWasWritten volume number old rest y) (sym kept_on) was
+    module _ (rest : List Exchange) (old : List ℕ) (was : v ≡ run_map told.drive told.first told.count → IsOrWasWritten volume number old rest (contents run.t.tale told.drive (told.first + number))) where
+      first_value : IsOrWasWritten volume number old rest (at.first.content told.drive (told.first + number))
+      first_value =
+          let there = subst (λ (map : Map). Offers host (Has map) (contents run.t.tale)) same offers in
+          let kept_on = first_left host own sees volume told.drive told.first told.count number told.within at.booted accepted (started (contents run.t.tale)) at.first there at.boots tt in
+          subst (λ (y : List ℕ). IsOrWasWritten volume number old rest y) (sym kept_on) (was same)
 
-    written_before : IsOrWasWritten volume number old (rest ++ here) block
-    written_before = last_value told.drive told.first told.count told.within rest here at.first (subst (λ (v : Map). Keeps host (Has v) at.first) same booted_so) at.steps old first_value
+      -- what earlier runs left in the block, or a line before the read may have written
+      pub since_began : IsOrWasWritten volume number old (rest ++ here) block
+      since_began = last_value told.drive told.first told.count told.within rest here at.first (subst (λ (map : Map). Keeps host (Has map) at.first) same booted_so) at.steps old first_value
+
+  -- the write is one of an earlier run: what that left is what this one began with
+  written_before : (first rest : List Exchange) (write : Exchange) (old : List ℕ) → exchanges_by home before ≡ first ++ write ∷ rest → IsAcknowledged volume number old write → IsOrWasWritten volume number old (rest ++ here) block
+  written_before first rest write old stood acknowledged =
+      let is = write_left drives home run.made before run.t.tale sound is_home (lived_life drives run.made before run.t.tale run.life) first rest write volume number old stood acknowledged in
+      let x = contents run.t.tale told.drive (told.first + number) in
+      since_began is.1 (record { found = is.0; each = λ head slot mark table replica newest has. is.2 table (record { head = head; slot = slot; mark = mark; its_replica = replica; newest = newest; has = has }) }) rest old
+      (λ same. is.4 x (subst (λ (v : Map). Among (readings v (contents run.t.tale) number) x) (sym same) (inl refl)))
 
 pub writes_last : WritesLast
 writes_last drives home before script sound is_home run read write earlier first between volume number old block answered stands acknowledged tells =

@@ -7,7 +7,7 @@ use Rattle.mdv_base.specs.declared.name.Key.{Key}
 use Rattle.mdv_engine_law.specs.Awake.{Happening}
 use Rattle.mdv_engine_law.specs.Home.{key_of, site_of, sites_of}
 use Rattle.mdv_engine_law.specs.Line.{Memory, contents, on_site}
-use Rattle.mdv_engine_law.specs.Standing.{IsKnown, StandsAt}
+use Rattle.mdv_engine_law.specs.Standing.{BootedTo, IsKnown, StandsAt}
 use Rattle.mdv_engine_law.specs.declared.host.Host.{Host}
 use Rattle.mdv_engine_law.proofs.Going.{may_course}
 use Rattle.mdv_engine_law.proofs.Sites.{own_site}
@@ -21,12 +21,13 @@ use Rattle.mdv_replica.specs.Form.{IsNewest}
 use Rattle.mdv_replica.specs.declared.replica.Head.{Head}
 use Rattle.mdv_replica.specs.declared.replica.Slot.{Slot}
 use Rattle.mdv_run_law.specs.Lives.{MayBeFound, Ran, as_it_was, crashed, host_of}
+use Rattle.mdv_run_law.specs.Run.{Leads}
 use Rattle.mdv_run_law.specs.Standing.{LinesMoment, RunMoment}
 use Rattle.mdv_run_law.proofs.Elsewhere.{stands_elsewhere}
 use Rattle.mdv_shelf.specs.Tale.{Tale, last}
 use Rattle.mdv_shelf.proofs.Blocks.{both_ways}
 use Rattle.mdv_shelf.proofs.Everywhere.{last_image}
-use Rattle.mdv_store_law.specs.Log.{IsMade, IsNotOlder, Log, is_firm}
+use Rattle.mdv_store_law.specs.Log.{IsMade, IsNotOlder, IsRising, Log, Version, is_firm}
 use Rattle.mdv_store_law.specs.Machine as machine
 use Rattle.mdv_store_law.specs.Site.{HasTable, IsFound, IsReplica, Newest}
 use Rattle.mdv_store_law.specs.Standing.{Holds, IsNewestIn, Stands, nothing, replica}
@@ -36,14 +37,14 @@ use Rattle.mdv_table.specs.Slices.{IsSound}
 use Rattle.mdv_table.specs.declared.change.Change.{Change}
 use Rattle.mdv_table.specs.declared.table.Table.{Table}
 use Rattle.mdv_volumes.specs.Databases.{log_of}
+use Rattle.mdv_volumes.specs.Happening as happening
 use Rattle.mdv_volumes.specs.History.{Crashes, Event, History, Stops, history_after, history_after_all}
 use Rattle.mdv_volumes.specs.HistoryLaws.{log_events_of}
 use Rattle.mdv_volumes.specs.Tables.{IsMapOf}
-use Rattle.mdv_volumes.proofs.Found.{AreLasting, lasting_all, lasting_at}
+use Rattle.mdv_volumes.proofs.Found.{AreLasting, lasting_all, lasting_at, newest_found}
 use Rattle.mdv_volumes.proofs.Keys.{databases_live}
 use Rattle.mdv_volumes.proofs.Restarts.{restarts_go}
 use Rattle.mdv_theorem.specs.Running.{Runs, no_run, run_on}
-use Rattle.mdv_theorem.proofs.Given.{Leads}
 use Rattle.mdv_theorem.proofs.Ranges.{map_stays}
 use Rattle.mdv_theorem.proofs.Tables.{Grows, Offers}
 
@@ -99,6 +100,20 @@ module _ (drives : Geometry) (home : Home) (table : Table) where
         lasting = lasting_at own.drives Has (log_of h.databases key) is.version is.older (known.stands.stands.databases key (site_of own) (own_site own)).is_log is.family is.written
             (λ volume v lies. subst (λ (b : Table). IsMapOf own.drives b volume v) (sym (is.table ∙ same)) lies);
       }
+
+  -- so what is open then has the volumes
+  pub open_has : (fresh : ℕ) (memory : Memory) (t : Tale) (newest : Newest) (is : LastsKnown fresh memory t) → memory.opened ≡ Some newest → Has newest.table
+  open_has fresh memory t newest is opened =
+      let lg = log_of is.history.databases key in
+      let there : IsNewestIn newest lg = subst (λ (o : Option Newest). IfSome o (λ n. IsNewestIn n lg)) opened is.known.newest in
+      let found = newest_found there.version there.older (subst IsRising there.family is.lasting.is_log.rising) in
+      subst Has there.table (is.lasting.all there.version (subst (λ (f : List Version). happening.MayBeFound f there.version) (sym there.family) found))
+
+  -- the boot at a run's start leads on
+  pub lasts_boot : (fresh : ℕ) (memory : Memory) (t u : Tale) → BootedTo (host_of drives home fresh) memory t u → Lasts t → LastsKnown fresh memory u
+  lasts_boot fresh memory t u booted is =
+      let more = booted.goes is.history (stands_as fresh is.history t is.stands) in
+      record { history = history_after_all is.history more.es; known = more.after.0; lasting = lasting_on is.history more.es more.course is.lasting }
 
   -- a line leads on
   pub lasts_line : (fresh : ℕ) (old new : Memory) (t u : Tale) → Leads (host_of drives home fresh) old new t u → LastsKnown fresh old t → LastsKnown fresh new u

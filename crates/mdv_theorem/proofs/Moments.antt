@@ -61,7 +61,7 @@ with_places R stretch each s old =
       is.0,
       is.1,
       passed_weaker (λ m. R t m × ((place : Place stretch) → AreShown place.bytes place.piece place.at t m)) (λ m. R t m × IsMomentOf stretch t m) s stretch.before is.0 stretch.after
-          (λ m here. (here.0, λ bytes piece at shown. here.1 (record { bytes = bytes; piece = piece; at = at; shown = shown }))) all,
+          (λ m here. (here.0, record { begins = (s, old, refl); shows = λ bytes piece at shown. here.1 (record { bytes = bytes; piece = piece; at = at; shown = shown }) })) all,
     )
 
 module _ (drives : Geometry) (home : Home) (made : Image) (before : List Ran) (fresh : ℕ) (script : Script) (stretch : Stretch) (start : Counts) (is_home : IsHome drives home) where

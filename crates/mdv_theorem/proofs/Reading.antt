@@ -38,15 +38,15 @@ use Rattle.mdv_theorem.proofs.Steps.{Failed, Reached, Steps, reached, told_once}
 use Rattle.mdv_theorem.proofs.Tables.{IsCarried, map_carried}
 
 -- what holds of each member holds of all
-all_of : (P : Volume → Type 0) (vs : List Volume) → ((w : Volume) → Contains vs w → P w) → All P vs
+pub all_of : (P : Volume → Type 0) (vs : List Volume) → ((w : Volume) → Contains vs w → P w) → All P vs
 all_of P [] each = All-nil P
 all_of P (w ∷ vs) each = All-cons P w vs (each w (zero, omega arith, refl)) (all_of P vs (λ x has. each x (suc has.0, omega (arith, has.1), has.2)))
 
 -- a slice that lies there has so many blocks
-blocks_there : (g : Geometry) (slice : SliceName) (at : SliceAt) → IsSound g → HasSlice g.slices slice at → blocks_at (slice_at g.slices slice) ≡ at.blocks
+pub blocks_there : (g : Geometry) (slice : SliceName) (at : SliceAt) → IsSound g → HasSlice g.slices slice at → blocks_at (slice_at g.slices slice) ≡ at.blocks
 blocks_there g slice at sound has = ap blocks_at ((slice_at-some g slice at sound).1 has)
 
-same_run : (drive first from count blocks : ℕ) → from ≡ first → count ≡ blocks → run_map drive from count ≡ run_map drive first blocks
+pub same_run : (drive first from count blocks : ℕ) → from ≡ first → count ≡ blocks → run_map drive from count ≡ run_map drive first blocks
 same_run drive first from count blocks at many = λ i. run_map drive (at i) (many i)
 
 module _ (drives : Geometry) (home : Home) (before : List Ran) (script : Script) (sound : IsSound drives) (is_home : IsHome drives home) (run : Running drives home before script) (volume : VolId) (end : ℕ) where

@@ -90,12 +90,12 @@ module _ (host : Host) (Failed : ℕ → Type 0) where
       let rest = steps_cut a b first.mid last first.after in
       (rest.0, steps_more from first.kept rest.0 [] (one ∷ a) first.before (one_step first.calls first.kept first.mid rest.0 one first.answer a first.unfailed first.comes first.said first.told rest.1), rest.2)
 
-take_none : (count : ℕ) → take {A = ℕ} count [] ≡ []
+pub take_none : (count : ℕ) → take {A = ℕ} count [] ≡ []
 take_none zero = refl
 take_none (suc count) = refl
 
 -- what is asked of a script of which nothing is told has no reply
-unreplied : (script : Script) (here later : List Exchange) (one : Exchange) (reply : List ℕ) → exchanges script [] ≡ here ++ one ∷ later → IsTold one reply → ⊥
+pub unreplied : (script : Script) (here later : List Exchange) (one : Exchange) (reply : List ℕ) → exchanges script [] ≡ here ++ one ∷ later → IsTold one reply → ⊥
 unreplied at_end [] later one reply is told = absurd (cc (is))
 unreplied at_end (x ∷ here) later one reply is told = absurd (cc (is))
 unreplied (spent lines bytes) [] later one reply is told = absurd (cc (is))
@@ -120,7 +120,7 @@ module _ (host : Host) (now mid : Counts) (first next : Kept) where
   pub next_reply : (script more : Script) (answer : Answer) → NextLine host now first script answer mid next more → IsSaid answer → IsReply (text_of answer)
   next_reply script more answer is said = said_reply answer (next_plain script more answer is) said
 
-  whole_or_none : (script more : Script) (answer : Answer) → NextLine host now first script answer mid next more → IsSaid answer → (count : ℕ)
+  pub whole_or_none : (script more : Script) (answer : Answer) → NextLine host now first script answer mid next more → IsSaid answer → (count : ℕ)
       → (said_in (take count (text_of answer)) ≡ unsaid (take count (text_of answer))) ⊎ (take count (text_of answer) ≡ text_of answer)
   whole_or_none script more answer is said count = none_or_whole answer (next_plain script more answer is) said count
 
@@ -136,7 +136,7 @@ module _ (host : Host) (start : Counts) (m : Moment) where
   abbrev IsBehind : Counts → Type 0
   IsBehind now = (drive : ℕ) → start.drives drive ≤ now.drives drive
 
-  unfailing : (now then : Counts) → IsBehind now → IsBefore then → (drive : ℕ) → (Fails drive → ⊥) → (drive_failures now then drive).some → ⊥
+  pub unfailing : (now then : Counts) → IsBehind now → IsBefore then → (drive : ℕ) → (Fails drive → ⊥) → (drive_failures now then drive).some → ⊥
   unfailing now then low high drive never once = never (rose_within (start.drives drive) (now.drives drive) (then.drives drive) (m.faults (OnDrive drive)) (low drive) (high drive) (rose_of_once (now.drives drive) (then.drives drive) once))
 
   -- where the run came to the line, from there on
@@ -152,7 +152,7 @@ module _ (host : Host) (start : Counts) (m : Moment) where
     said : IsSaid answer
     told : IsTold one (text_of answer)
 
-  no_less : (now mid : Counts) → ((drive : ℕ) → now.drives drive ≤ mid.drives drive) → IsBefore mid → IsBefore now
+  pub no_less : (now mid : Counts) → ((drive : ℕ) → now.drives drive ≤ mid.drives drive) → IsBefore mid → IsBefore now
   no_less now mid rose high drive = let x = rose drive in let y = high drive in omega arith
 
   -- the next line, whose reply was told whole, or one behind it
@@ -207,7 +207,7 @@ module _ (host : Host) (start : Counts) (m : Moment) where
         told = found.told;
       }
 
-  next_rises : (now mid : Counts) (first next : Kept) (script more : Script) (answer : Answer) → NextLine host now first script answer mid next more → (drive : ℕ) → now.drives drive ≤ mid.drives drive
+  pub next_rises : (now mid : Counts) (first next : Kept) (script more : Script) (answer : Answer) → NextLine host now first script answer mid next more → (drive : ℕ) → now.drives drive ≤ mid.drives drive
   next_rises now mid first next at_end more answer is = absurd is
   next_rises now mid first next (spent lines bytes) more answer is = absurd is
   next_rises now mid first next (too_long left) more answer is = is.1.drives
@@ -287,7 +287,7 @@ module _ {drives : Geometry} {home : Home} {before : List Ran} {script : Script}
       let lines = by.lines in
       let size : length (told run.m.tale) ≡ length (told run.t.tale) + (0 + length (lines.so_far ++ lines.rest)) =
       ap length run.tells.is_told ∙ length-append (told run.t.tale) run.tells.bytes ∙ ap (λ (l : List ℕ). length (told run.t.tale) + length l) lines.parts ∙ (let n = length (lines.so_far ++ lines.rest) in omega arith) in
-      let found = lines_found host run.start run.m run.stretch run.t run.moment 0 (behind_boot by.booted by.by by.kept script) lines.at lines.so_far lines.rest by.rose.drives size lines.lines lines.front here later one reply
+      let found = lines_found host run.start run.m run.stretch run.t run.moment.shows 0 (behind_boot by.booted by.by by.kept script) lines.at lines.so_far lines.rest by.rose.drives size lines.lines lines.front here later one reply
       (subst (λ (l : List ℕ). exchanges_of script l ≡ here ++ one ∷ later) lines.parts parts) is_told in
       record {
         booted = drive_failures run.start by.booted;

@@ -25,7 +25,7 @@ use Rattle.mdv_table.specs.Slices.{IsSound}
 use Rattle.mdv_words.specs.declared.command.Command.{Command}
 use Rattle.mdv_words.specs.declared.command.Command.TheVariants.{Create, Read}
 use Rattle.mdv_theorem.specs.Exchanges.{Asks, Exchange, IsAcknowledged, IsOn, IsSameBlock, IsTold, MayBeMade, MayBeWritten, ShowsThere, TellsBlock, exchanges_by, exchanges_of}
-use Rattle.mdv_theorem.specs.Running.{HasAnswered, Running, exchanges_now}
+use Rattle.mdv_theorem.specs.Running.{HasAnswered, Running, Runs, WentOn, exchanges_now, ran_on}
 
 -- how a run may end whose script could be read and whose replies could be told: with Panic only where the database's drive failed
 abbrev pub MayEnd : Type 0 → RunStatus → Type 0
@@ -111,3 +111,29 @@ ReadsAgree =
     (drives : Geometry) (home : Home) (before : List Ran) (script : Script) → IsSound drives → IsHome drives home → (run : Running drives home before script)
     → (read again : Exchange) (first between later : List Exchange) (volume : VolId) (number : ℕ) (old block : List ℕ) → exchanges_now run ≡ first ++ read ∷ between ++ again ∷ later
     → TellsBlock volume number old read → TellsBlock volume number block again → IsOrWasWritten volume number old between block
+
+-- a slice on which one of these lines may have made the volume, with its blocks
+pub record MayLieOn (drives : Geometry) (lines : List Exchange) (volume : VolId) : Type 0 where
+  pub made : Exchange
+  pub slice : SliceName
+  pub asked : Contains lines made
+  pub may : MayBeMade volume slice made
+  pub at : SliceAt
+  pub has : HasSlice drives.slices slice at
+
+-- What a read tells of a block is what the new drives held there, on a slice on which the volume may have been made, or was written since.
+abbrev pub BlocksBegin : Type 0
+BlocksBegin =
+    (drives : Geometry) (home : Home) (before : List Ran) (script : Script) → IsSound drives → IsHome drives home → (run : Running drives home before script)
+    → (read : Exchange) (earlier : List Exchange) (volume : VolId) (number : ℕ) (block : List ℕ) → Answered run read earlier → TellsBlock volume number block read
+    → (lies : MayLieOn drives earlier volume) × IsOrWasWritten volume number (run.made lies.at.drive.0 (lies.at.start + number)) earlier block
+
+-- What a read tells of a block is what a read of an earlier run told of it, in which no call on the drives had failed by then on which the volume may lie, or was written in between.
+abbrev pub RunsAgree : Type 0
+RunsAgree =
+    (drives : Geometry) (home : Home) (before more : List Ran) (script other : Script) (next t : Tale) → IsSound drives → IsHome drives home
+    → (run : Running drives home before script) (went : WentOn run next) → Runs drives (ran_on run next went ∷ before) next more t → (later : Running drives home more other) → later.t.tale ≡ t
+    → (read again : Exchange) (here rest behind first earlier : List Exchange) (volume : VolId) (number : ℕ) (old block : List ℕ)
+    → exchanges_now run ≡ here ++ read ∷ rest → exchanges_of script went.stands.bytes ≡ here ++ read ∷ behind → first ≡ exchanges_by home before ++ here → Answered later again earlier
+    → ((made : Exchange) (slice : SliceName) → Contains earlier made → MayBeMade volume slice made → KeepsCopies run slice (number + 1))
+    → TellsBlock volume number old read → TellsBlock volume number block again → (since : List Exchange) → earlier ≡ first ++ read ∷ since → IsOrWasWritten volume number old since block

@@ -20,9 +20,10 @@ use Rattle.mdv_store_law.specs.Laws.{restarted}
 use Rattle.mdv_store_law.specs.Site.{IsFound}
 use Rattle.mdv_theorem.specs.Exchanges.{Exchange, exchanges_of}
 
--- m is a moment of the run that began at t: what its moments show of the places between two lines holds of it
-abbrev pub IsMomentOf : Stretch → Moment → Moment → Type 0
-IsMomentOf stretch t m = (bytes piece : ℕ) (at : At) → IsShown stretch bytes piece at → AreShown bytes piece at t m
+-- m is a moment of the run that began at t: the run's story began there, and what its moments show of the places between two lines holds of it
+pub record IsMomentOf (stretch : Stretch) (t m : Moment) : Type 0 where
+  pub begins : (s : Story) × (stretch.old ≡ Some s) × (tale_of s ≡ t.tale)
+  pub shows : (bytes piece : ℕ) (at : At) → IsShown stretch bytes piece at → AreShown bytes piece at t m
 
 -- Runs of any hosts of the table, one behind the other, which led from one start to another: each as its contract promises it, up to one of its moments.
 pub data Runs (drives : Geometry) (first : List Ran) (from : Tale) : List Ran → Tale → Type 0 where
@@ -80,3 +81,15 @@ RunsLiveOn =
     → AtEach (OfTales (RunMoment (host_of drives home fresh) script)) stretch.old stretch.before stretch.new stretch.after
     → AtEach (IsToldBy (host_of drives home fresh) stretch start script) stretch.old stretch.before stretch.new stretch.after
     → AtEach (LivesOn drives home made before script start) stretch.old stretch.before stretch.new stretch.after
+
+-- A run that was under way went on, up to a later moment, and the next run starts from what may be found of that.
+pub record WentOn {drives : Geometry} {home : Home} {before : List Ran} {script : Script} (run : Running drives home before script) (next : Tale) : Type 0 where
+  pub m : Moment
+  pub stands : RunMoment (host_of drives home run.fresh) script run.t.tale m.tale
+  pub tells : IsToldBy (host_of drives home run.fresh) run.stretch run.start script run.t m
+  pub moment : IsMomentOf run.stretch run.t m
+  pub found : MayBeFound m.tale next
+
+-- as one of the runs of a life
+abbrev pub ran_on : {drives : Geometry} {home : Home} {before : List Ran} {script : Script} (run : Running drives home before script) (next : Tale) → WentOn run next → Ran
+ran_on {home = home} {script = script} run next went = record { home = home; fresh = run.fresh; script = script; bytes = went.stands.bytes }

@@ -1,4 +1,4 @@
-ghost use Rattle.mdv_theorem.specs.Observed.{DatabasesStay, ReadsAgree, ReadsAreTold, RunsAnswer, RunsEnd, VolumesStay, WritesLast};
+ghost use Rattle.mdv_theorem.specs.Observed.{BlocksBegin, DatabasesStay, ReadsAgree, ReadsAreTold, RunsAgree, RunsAnswer, RunsEnd, VolumesStay, WritesLast};
 ghost use Rattle.mdv_theorem.specs.Running.{RunsLiveOn};
 
 /// Whatever ran on the drives before, whatever failed and crashed then: a run whose script can be read and whose replies can be told ends with Panic only where its database's
@@ -10,6 +10,13 @@ pub fn runs_keep_their_word()
     ensures told { ReadsAreTold }
     ensures last { WritesLast }
     ensures agree { ReadsAgree }
+{}
+
+/// And over runs: what a read tells of a block is what the new drives held there, or was written since; and what a read of an earlier run told of it,
+/// in which no call on the drives had failed by then on which the volume may lie, or was written in between.
+pub fn blocks_keep_their_values()
+    ensures begin { BlocksBegin }
+    ensures agree { RunsAgree }
 {}
 
 /// A database whose creation was told `ok`, by this run or an earlier one, stays: no line is told that there is none, as long as its drive answers.

@@ -3,4 +3,7 @@
 
 mod law;
 
-pub use law::{databases_stay, lines_are_answered, runs_keep_their_word, runs_live_on};
+pub use law::{
+    blocks_keep_their_values, databases_stay, lines_are_answered, runs_keep_their_word,
+    runs_live_on,
+};

@@ -16,7 +16,7 @@ use Rattle.mdv_engine.specs.Ends.{CarriesOut, LeavesMade}
 use Rattle.mdv_engine_law.specs.Efforts.{LossCalls, blocks_of, calls_of, wanting_calls}
 use Rattle.mdv_shelf.specs.Made.{made_of}
 use Rattle.mdv_engine_law.specs.Replies.{IsLost}
-use Rattle.mdv_engine.proofs.Counting.{calm_given, command_calls, command_most, done_told, replied_calls, telling_most, done_then, fault_then, fault_told, lost_told, none_at_most, not_lost, quiet_told, spent_told, told_lost, told_ok, unlooked_told, unwritten_told, wanting_told, whole_or_lost}
+use Rattle.mdv_engine.proofs.Counting.{calm_given, command_calls, command_most, done_told, replied_calls, telling_most, done_then, fault_then, fault_told, lost_told, none_at_most, not_lost, quiet_answer, quiet_told, spent_told, told_lost, told_ok, unlooked_told, unwritten_told, wanting_told, whole_or_lost}
 use Rattle.mdv_engine.proofs.engine.Engine.exec.Goals as goal
 
 pub returns-clause-moments : goal.returns-clause-moments
@@ -37,7 +37,9 @@ returns-clause-moments g c =
           (λ failed more cause kept next is. came_more failed more cause host kept next answer c.args.command.now is)
           c.carry_out-answer.ensures.kept.1.goes
           (moments_weaker (CarryMoment host asked old) (λ t m. told m ≡ told t) _ _ (λ t m moment. moment.quiet) c.carry_out-answer.ensures.moments)
-          (λ t is. (let end = c.carry_out-answer.ensures.end t is in (end.0, end.1, end.2.carry.answered))) c.tell.ensures.kept.goes c.tell.ensures.counted.drives c.tell.ensures.fronts;
+          (λ t is. (let end = c.carry_out-answer.ensures.end t is in (end.0, end.1, end.2.carry.answered)))
+          (λ is. quiet_answer g.B.Shelf.tale g.B.Shelf.calls g.B.Shelf.written _ _ c.args.command.now new.opened answer is c.carry_out-answer.ensures.counted)
+          c.tell.ensures.kept.goes c.tell.ensures.counted.drives c.tell.ensures.fronts;
       rests = rests_behind g.B.Shelf g.met.B.Shelf.telling _ _ _ c.carry_out-answer.ensures.kept.1.goes
           (moments_weaker (CarryMoment host asked old) (λ t m. told m ≡ told t) _ _ (λ t m moment. moment.quiet) c.carry_out-answer.ensures.moments)
           (telling_rests g.B.Shelf g.met.B.Shelf.telling _ _ (text_of answer) c.tell.ensures.kept.goes c.tell.ensures.fronts c.tell.ensures.counted.drives);

@@ -1,0 +1,178 @@
+-- What a line leaves in a block of a volume, behind a crash too: what was left there before, or what the line may have written.
+use Rattle.std.proofs.Common.{◌≡◌, ◌⊎◌, ⊎_elim, inl, inr, ℕ, ◌+◌, ◌-◌, ◌<◌, false, true, List, [], ◌∷◌, ◌++◌, slice_index_or, Contains, Some, None, refl, sym, ◌∙◌, ap, subst, arith}
+use Rattle.std.proofs.lemmas.Bool.{cases_eq}
+use Rattle.std.proofs.lemmas.List.Elements.{Contains-append_left, Contains-append_right}
+use Rattle.mdv_base.specs.declared.name.VolId.{VolId}
+use Rattle.mdv_base.specs.declared.refusal.Refusal.{Refusal}
+use Rattle.mdv_base.specs.declared.refusal.Refusal.TheVariants.{IoFault}
+use Rattle.mdv_engine_law.specs.Home.{site_of}
+use Rattle.mdv_engine_law.specs.Line.{AreBlocksAt, Memory, asked_by}
+use Rattle.mdv_engine_law.specs.Replies.{IsPlainAnswer, ok_line, refusal_line, text_of}
+use Rattle.mdv_engine_law.specs.Standing.{ArePutBy, LineWrites, WritesOnly}
+use Rattle.mdv_engine_law.specs.declared.answer.Answer.{Answer}
+use Rattle.mdv_engine_law.specs.declared.answer.Answer.TheVariants.{Said, Over}
+use Rattle.mdv_engine_law.specs.declared.answer.Outcome.TheVariants as outcome
+use Rattle.mdv_engine_law.specs.declared.host.Host.{Host}
+use Rattle.mdv_engine_law.proofs.Beside.{lies_plain}
+use Rattle.mdv_home.specs.Home.{IsHome}
+use Rattle.mdv_home.specs.declared.geometry.Home.{Home}
+use Rattle.mdv_map.specs.Maps.{DriveBlock, run_map}
+use Rattle.mdv_name.specs.declared.geometry.Geometry.{Geometry}
+use Rattle.mdv_run_law.specs.Lives.{host_of}
+use Rattle.mdv_run_law.specs.Run.{IsQuiet, IsSaid, TextWrites}
+use Rattle.mdv_run_law.proofs.Extents.{lies_beside, one_place}
+use Rattle.mdv_shelf.specs.Area.{IsKept, KeptOutside, nowhere}
+use Rattle.mdv_shelf.specs.Tale.{MayLeave, Tale, covers}
+use Rattle.mdv_shelf.proofs.Blocks.{both_ways}
+use Rattle.mdv_store_law.specs.Site.{Newest, area_of}
+use Rattle.mdv_table.specs.Slices.{IsSound}
+use Rattle.mdv_table.specs.Table.{IsPlanOf}
+use Rattle.mdv_table.specs.declared.table.Table.{Table}
+use Rattle.mdv_volumes.specs.Tables.{IsMapOf}
+use Rattle.mdv_volumes.proofs.Lists.{contains_first}
+use Rattle.mdv_volumes.proofs.Tables.{tables_lie}
+use Rattle.mdv_words.specs.Line as words
+use Rattle.mdv_words.specs.Line.{IsLine, Line}
+use Rattle.mdv_words.specs.declared.command.Command.{Command}
+use Rattle.mdv_words.specs.declared.command.Command.TheVariants.{Create, Read, Write}
+use Rattle.mdv_words.specs.declared.command.Command.TheVariants as command
+use Rattle.mdv_theorem.specs.Exchanges.{Asks, Exchange, IsTold, MayBeWritten, MayHaveBegun}
+use Rattle.mdv_theorem.proofs.Agreeing.{own_sound, sees_home}
+use Rattle.mdv_theorem.proofs.Steps.{told_once}
+use Rattle.mdv_theorem.proofs.Tables.{Grows, put_at}
+use Rattle.mdv_theorem.proofs.Telling.{entries_are_none, is_fault, ok_is_none, one_number, values_are_none}
+
+-- a refusal for another cause than a failed call, or that one
+quiet_or_fault : (r : Refusal) → IsQuiet (Said (outcome.Refused r)) ⊎ (r ≡ IoFault)
+quiet_or_fault IoFault = inr refl
+quiet_or_fault _ = inl tt
+
+-- a line that was told so may have begun what it asks, or is refused for such a cause
+pub begun_or_quiet : (one : Exchange) (answer : Answer) → IsPlainAnswer answer → IsSaid answer → IsTold one (text_of answer) → MayHaveBegun one ⊎ IsQuiet answer
+begun_or_quiet one (Said outcome.Ok) plain said told = inl (λ refusal refused. absurd (ok_is_none refusal (told_once one ok_line (refusal_line refusal) told refused)))
+begun_or_quiet one (Said (outcome.Values text)) (inl are) said told = inl (λ refusal refused. absurd (values_are_none are.at are.blocks refusal (sym are.is ∙ told_once one text (refusal_line refusal) told refused)))
+begun_or_quiet one (Said (outcome.Values text)) (inr are) said told = inl (λ refusal refused. absurd (entries_are_none are.count refusal (sym are.is ∙ told_once one text (refusal_line refusal) told refused)))
+begun_or_quiet one (Said (outcome.Refused r)) plain said told = ⊎_elim (λ quiet. inr quiet) (λ fault. inl (λ refusal refused. (
+    let same = told_once one (refusal_line IoFault) (refusal_line refusal) (subst (λ (q : Refusal). IsTold one (refusal_line q)) fault told) refused in
+    is_fault refusal (sym (one_number IoFault refusal same))
+    ))) (quiet_or_fault r)
+begun_or_quiet one (Over end) plain said told = absurd said
+
+module _ (volume : VolId) (number : ℕ) where
+  -- one of these lines may have written this there
+  abbrev pub Written : List Exchange → List ℕ → Type 0
+  Written es x = (one : Exchange) × (new : List ℕ) × Contains es one × MayBeWritten volume number new one × (x ≡ new)
+
+  -- a crash leaves in the block what it might have left before, or what one of these lines may have written
+  abbrev pub Leaves : ℕ → ℕ → List Exchange → Tale → Tale → Type 0
+  Leaves drive block es t u = (x : List ℕ) → MayLeave u drive block x → MayLeave t drive block x ⊎ Written es x
+
+  module _ (drive block : ℕ) where
+    pub leaves_more : (a b : List Exchange) (t u v : Tale) → Leaves drive block a t u → Leaves drive block b u v → Leaves drive block (a ++ b) t v
+    leaves_more a b t u v first second x may = ⊎_elim
+        (λ before. ⊎_elim (λ was. inl was) (λ (w : Written a x). inr (w.0, w.1, Contains-append_left a b w.0 w.2, w.3, w.4)) (first x before))
+        (λ (w : Written b x). inr (w.0, w.1, Contains-append_right a b w.0 w.2, w.3, w.4)) (second x may)
+
+    pub kept_leaves : (es : List Exchange) (t u : Tale) → IsKept t u drive block → Leaves drive block es t u
+    kept_leaves es t u kept x may = inl (kept.left x may)
+
+module _ (drives : Geometry) (home : Home) where
+  abbrev pub own : Host
+  own = host_of drives home 0
+
+  -- where a block of a volume of a table lies
+  pub record Spot (table : Table) (volume : VolId) (number : ℕ) : Type 0 where
+    pub drive : ℕ
+    pub first : ℕ
+    pub count : ℕ
+    pub within : number < count
+    pub plan : IsPlanOf own.drives table.plan
+    pub lies : IsMapOf own.drives table volume (run_map drive first count)
+
+  module _ (sound : IsSound drives) (is_home : IsHome drives home) (final : Table) (volume : VolId) (number : ℕ) (spot : Spot final volume number) where
+    abbrev block : ℕ
+    block = spot.first + number
+
+    abbrev AreLeft : List Exchange → Tale → Tale → Type 0
+    AreLeft es t u = Leaves volume number spot.drive block es t u
+
+    its_sound : IsSound own.drives
+    its_sound = own_sound drives home 0 sound
+
+    -- it is none of the replica's
+    pub spot_out : area_of (site_of own) spot.drive block ≡ false
+    spot_out =
+        let within = spot.within in
+        lies_beside own (sees_home drives home 0 is_home) spot.drive spot.first spot.count (lies_plain own its_sound final spot.plan volume spot.drive spot.first spot.count spot.lies) block (omega arith) (omega (arith, within))
+
+    pub home_leaves : (es : List Exchange) (t u : Tale) → KeptOutside (area_of (site_of own)) t u → AreLeft es t u
+    home_leaves es t u kept = kept_leaves volume number spot.drive block es t u (kept spot.drive block spot_out)
+
+    pub none_leaves : (es : List Exchange) (t u : Tale) → KeptOutside nowhere t u → AreLeft es t u
+    none_leaves es t u kept = kept_leaves volume number spot.drive block es t u (kept spot.drive block refl)
+
+    -- a block of a volume of the table that lies there is this one
+    module _ (other : VolId) (at on start blocks : ℕ) (its : IsMapOf own.drives final other (run_map on start blocks)) (in_it : at < blocks) (on_drive : spot.drive ≡ on) (is_there : block ≡ start + at) where
+      same_number : other ≡ volume → at ≡ number
+      same_number same =
+          let run = one_place own.drives its_sound final spot.plan volume spot.drive spot.first spot.count on start blocks spot.lies (subst (λ (w : VolId). IsMapOf own.drives final w (run_map on start blocks)) same its) in
+          let from = run.at_first in omega (arith, from, is_there)
+
+      never_other : (volume ≡ other → ⊥) → ⊥
+      never_other differ =
+          let laid = tables_lie.laid (λ key. None) own.drives final its_sound (λ key site name at never. absurd (cc (never))) spot.plan in
+          let within = spot.within in
+          laid.apart volume other (run_map spot.drive spot.first spot.count) (run_map on start blocks) differ spot.lies its number at spot.drive block within in_it (inl (refl, refl)) (inl (on_drive, is_there))
+
+      same_volume : other ≡ volume
+      same_volume = elim (cases_eq other.0 volume.0) [
+        | inl same ↦ λ i. record { 0 = same i }
+        | inr differ ↦ absurd (never_other (λ same. differ (sym (ap (λ (w : VolId). w.0) same))))
+      ]
+
+    -- the table that is open has no volume but those of that one
+    module _ (fresh : ℕ) (memory : Memory) (into : (newest : Newest) → memory.opened ≡ Some newest → Grows own.drives newest.table final) (one : Exchange) (t u : Tale) where
+      abbrev its_host : Host
+      its_host = host_of drives home fresh
+
+      put_leaves : (other : VolId) (at : ℕ) (new : List ℕ) → Asks one (Write other at new) → MayHaveBegun one → (place : DriveBlock) → AreBlocksAt its_host memory other at 1 place → ArePutBy place (new ∷ []) t u → AreLeft (one ∷ []) t u
+      put_leaves other at new asks begun place there put = elim (both_ways (covers place.drive place.block 1 spot.drive block)) [
+        | inl here ↦
+            let to = put_at place.drive place.block spot.drive block here in
+            let from = to.1 in
+            let starts = there.block_is in
+            let bound = there.within in
+            let is_there : block ≡ there.first + at = omega (arith, from, starts) in
+            let its = into there.lies.0 there.lies.1 other (run_map place.drive there.first there.blocks) there.lies.2 in
+            let same = same_volume other at place.drive there.first there.blocks its (omega (arith, bound)) to.0 is_there in
+            let number_is = same_number other at place.drive there.first there.blocks its (omega (arith, bound)) to.0 is_there same in
+            let is = put.inside block (subst (λ (d : ℕ). covers place.drive place.block 1 d block ≡ true) to.0 here) in
+            let none : block - place.block ≡ 0 = omega (arith, from) in
+            let may : MayBeWritten volume number new one = record {
+              asks = subst (λ (n : ℕ). Asks one (Write volume n new)) number_is (subst (λ (w : VolId). Asks one (Write w at new)) same asks);
+              begun = begun;
+            } in
+            λ x left. ⊎_elim
+            (λ before. inl (subst (λ (d : ℕ). MayLeave t d block x) (sym to.0) before))
+            (λ wrote. inr (one, new, contains_one one, may, wrote ∙ ap (λ (k : ℕ). slice_index_or (new ∷ []) k []) none))
+            (is.left x (subst (λ (d : ℕ). MayLeave u d block x) to.0 left))
+        | inr out ↦ kept_leaves volume number spot.drive block (one ∷ []) t u (put.outside spot.drive block out)
+      ] where
+        contains_one : (e : Exchange) → Contains (e ∷ []) e
+        contains_one e = contains_first e []
+
+      pub command_leaves : (spelled : Command) → Asks one spelled → MayHaveBegun one → WritesOnly its_host (asked_by its_host spelled) memory t u → AreLeft (one ∷ []) t u
+      command_leaves (Create slice force) asks begun wrote = home_leaves (one ∷ []) t u wrote
+      command_leaves (command.MakeStripe other slice) asks begun wrote = home_leaves (one ∷ []) t u wrote
+      command_leaves (Read other at count) asks begun wrote = none_leaves (one ∷ []) t u wrote
+      command_leaves (Write other at new) asks begun (inl kept) = none_leaves (one ∷ []) t u kept
+      command_leaves (Write other at new) asks begun (inr (place, there, put)) = put_leaves other at new asks begun place there put
+
+      spelled_leaves : (spelled : Line) → IsLine one.text spelled → MayHaveBegun one → LineWrites its_host spelled memory t u → AreLeft (one ∷ []) t u
+      spelled_leaves words.Boot is begun wrote = home_leaves (one ∷ []) t u wrote
+      spelled_leaves (words.Tab lines) is begun wrote = none_leaves (one ∷ []) t u wrote
+      spelled_leaves (words.Exec asked) is begun wrote = command_leaves asked is begun wrote
+
+      pub text_leaves : MayHaveBegun one → TextWrites its_host memory one.text t u → AreLeft (one ∷ []) t u
+      text_leaves begun (inl kept) = none_leaves (one ∷ []) t u kept
+      text_leaves begun (inr (spelled, is, wrote)) = spelled_leaves spelled is begun wrote

@@ -1,0 +1,108 @@
+-- Where a run that went on was before a read that it had answered: what the read told of a block is what is there, and a crash would leave just that, where no call had failed on its drive.
+use Rattle.std.proofs.Common.{◌≡◌, inl, inr, ℕ, ◌+◌, ◌≤◌, ◌<◌, false, List, ◌∷◌, ◌++◌, length, length-append, Some, Contains, sym, ◌∙◌, ap, subst, append_assoc, arith}
+use Rattle.mdv_base.proofs.Causes.{rose_of_once, rose_within}
+use Rattle.mdv_base.specs.declared.drive.DriveNo.{DriveNo}
+use Rattle.mdv_engine_law.specs.Answers.{accepted}
+use Rattle.mdv_engine_law.specs.Home.{site_of}
+use Rattle.mdv_engine_law.specs.Line.{contents}
+use Rattle.mdv_engine_law.specs.declared.host.Host.{Host}
+use Rattle.mdv_engine_law.proofs.Plain.{nothing_answers}
+use Rattle.mdv_home.specs.Home.{IsHome}
+use Rattle.mdv_home.specs.declared.geometry.Home.{Home}
+use Rattle.mdv_name.specs.declared.geometry.Geometry.{Geometry}
+use Rattle.mdv_port.specs.Script.{Script}
+use Rattle.mdv_run_law.specs.Lives.{Ran, host_of}
+use Rattle.mdv_run_law.specs.Run.{At, behind_boot, drive_failures, started}
+use Rattle.mdv_run_law.specs.Told.{IsToldBy, RunToldBy}
+use Rattle.mdv_run_law.proofs.Extents.{SeesHome}
+use Rattle.mdv_shelf.specs.Calls.{OnDrive}
+use Rattle.mdv_shelf.specs.Story.{Moment, Story, tale_of}
+use Rattle.mdv_shelf.specs.Tale.{last, told}
+use Rattle.mdv_status.specs.Telling.{replies_in}
+use Rattle.mdv_store_law.specs.Site.{area_of}
+use Rattle.mdv_table.specs.Slices.{IsSound}
+use Rattle.mdv_theorem.specs.Exchanges.{Exchange, IsTold, exchanges, exchanges_of}
+use Rattle.mdv_theorem.specs.Running.{HasAnswered, Running, exchanges_now}
+use Rattle.mdv_theorem.proofs.Begun.{boot_shown}
+use Rattle.mdv_theorem.proofs.Placed.{Any, Place, lines_place, told_before}
+use Rattle.mdv_theorem.proofs.Settled.{IsSettledAt}
+use Rattle.mdv_theorem.proofs.Staying.{its_home, its_sound}
+use Rattle.mdv_theorem.proofs.Steps.{unreplied}
+use Rattle.mdv_theorem.proofs.Synced.{IsThere, lines_read, lines_rise, lines_settled, lines_shown, lines_story}
+use Rattle.mdv_theorem.proofs.Tables.{Stands, stands_boot, stands_steps}
+
+module _ (drives : Geometry) (home : Home) (before : List Ran) (script : Script) (sound : IsSound drives) (is_home : IsHome drives home) (run : Running drives home before script) where
+  abbrev host : Host
+  host = host_of drives home run.fresh
+
+  abbrev own : IsSound host.drives
+  own = its_sound drives home before script sound is_home run
+
+  abbrev sees : SeesHome host
+  sees = its_home drives home before script sound is_home run
+
+  module _ (here behind : List Exchange) (read : Exchange) (reply : List ℕ) (told_it : IsTold read reply) where
+    -- the run was told of by a moment, and was before the line
+    pub record Came (m : Moment) (bytes : List ℕ) : Type 1 where
+      pub by : RunToldBy host run.stretch run.start run.t.tale script bytes m
+      pub place : Place host run.start m run.stretch 0 (behind_boot by.booted by.by by.kept script) by.lines.at by.lines.so_far by.lines.rest here read behind
+
+    pub came : (m : Moment) (tells : IsToldBy host run.stretch run.start script run.t m) → exchanges_of script tells.bytes ≡ here ++ read ∷ behind → Came m tells.bytes
+    came m tells parts = elim tells.tells [
+      | inl none ↦ absurd (unreplied script here behind read reply (subst (λ (l : List (List ℕ)). exchanges script l ≡ here ++ read ∷ behind) (ap replies_in none.0 ∙ nothing_answers) parts) told_it)
+      | inr by ↦ record {
+        by = by;
+        place = lines_place host run.start m run.stretch 0 (behind_boot by.booted by.by by.kept script) by.lines.at by.lines.so_far by.lines.rest by.lines.lines by.lines.front here behind read reply (subst (λ (l : List ℕ). exchanges_of script l ≡ here ++ read ∷ behind) by.lines.parts parts) told_it;
+      }
+    ]
+
+    -- more was told than to the lines before it
+    pub came_told : (m : Moment) (bytes : List ℕ) → Came m bytes → told_before script here < length bytes
+    came_told m bytes c =
+        let size = c.place.size in
+        let some = c.place.some in
+        let all : length bytes ≡ length (c.place.front ++ (c.place.left ++ c.by.lines.rest)) =
+        ap length c.by.lines.parts ∙ ap (λ (l : List ℕ). length (l ++ c.by.lines.rest)) c.place.parts ∙ ap length (append_assoc c.place.front c.place.left c.by.lines.rest) in
+        let both = length-append c.place.front (c.place.left ++ c.by.lines.rest) in
+        omega (arith, size, some, all, both)
+
+  -- no call had failed on the drive by a moment by which the line was answered, so none had before it
+  module _ (here rest behind : List Exchange) (read : Exchange) (reply : List ℕ) (told_it : IsTold read reply) (m : Moment) (bytes : List ℕ) (at : Came here behind read reply told_it m bytes) (now : exchanges_now run ≡ here ++ read ∷ rest) where
+    abbrev first : At
+    first = behind_boot at.by.booted at.by.by at.by.kept script
+
+    upto : (drive : ℕ) → at.place.at.counts.drives drive ≤ run.m.faults (OnDrive drive)
+    upto drive =
+        let less = came_told here rest read reply told_it run.m run.tells.bytes (came here rest read reply told_it run.m run.tells now) in
+        let size = at.place.size in
+        let shown = lines_shown host run.stretch 0 first at.place.at at.place.front at.place.lines (0, 0, boot_shown run.stretch run.start.source at.by.booted at.by.by at.by.kept script at.by.point, omega arith) in
+        let within = shown.3 in
+        let all : length (told run.m.tale) ≡ length (told run.t.tale) + length run.tells.bytes = ap length run.tells.is_told ∙ length-append (told run.t.tale) run.tells.bytes in
+        ((run.moment.shows shown.0 shown.1 at.place.at shown.2).behind (omega (arith, less, size, within, all))).drives drive
+
+    pub stands : Stands host at.place.at.kept
+    stands = stands_steps host own sees Any at.by.kept at.place.at.kept here (stands_boot host own sees (drive_failures run.start at.by.booted) (started (contents run.t.tale)) at.by.kept accepted at.by.boots tt) at.place.upto
+
+    module _ (s : Story) (begins : run.stretch.old ≡ Some s) where
+      booted : (u : Story) × (at.by.by.story ≡ Some u)
+      booted = let is = at.by.point.before s begins in (is.0, is.1)
+
+      pub there : (u : Story) × (at.place.at.story ≡ Some u)
+      there = lines_story host run.stretch 0 first at.place.at at.place.front at.place.lines booted.0 booted.1
+
+      pub reads_there : (drive b : ℕ) → last (tale_of there.0) drive b ≡ at.place.at.kept.content drive b
+      reads_there = lines_read host run.stretch 0 first at.place.at at.place.front at.place.lines at.by.point.reads there.0 there.1
+
+      pub settled_there : (drive : DriveNo) → Contains host.own drive → HasAnswered run drive → (b : ℕ) (out : area_of (site_of host) drive.0 b ≡ false) → IsSettledAt host own drive.0 b out (tale_of there.0)
+      settled_there drive its answered b out =
+          let high = upto drive.0 in
+          let rise = lines_rise host run.start m run.stretch drive.0 0 first at.place.at at.place.front at.place.lines in
+          let low = at.by.rose.drives drive.0 in
+          let calm : (drive_failures run.start at.by.booted drive.0).some → ⊥ = λ once.
+          answered (rose_within (run.start.drives drive.0) (run.start.drives drive.0) (at.by.booted.drives drive.0) (run.m.faults (OnDrive drive.0)) (omega arith) (omega (arith, rise, high)) (rose_of_once (run.start.drives drive.0) (at.by.booted.drives drive.0) once)) in
+          let begun : IsThere host run.start m run.stretch own sees drive.0 b out first = record { story = booted.0; is = booted.1; settled = (at.by.leads booted.0 booted.1).synced drive its calm b } in
+          let is = lines_settled host run.start m run.stretch own sees drive.0 b out 0 first at.place.at at.place.front at.place.lines
+          (stands_boot host own sees (drive_failures run.start at.by.booted) (started (contents run.t.tale)) at.by.kept accepted at.by.boots tt) low
+          (λ rose. answered (rose_within (run.start.drives drive.0) (run.start.drives drive.0) (at.place.at.counts.drives drive.0) (run.m.faults (OnDrive drive.0)) (omega arith) high rose)) begun in
+          let same : is.story ≡ there.0 = (let both : Some is.story ≡ Some there.0 = sym is.is ∙ there.1 in cc (both)) in
+          subst (λ (u : Story). IsSettledAt host own drive.0 b out (tale_of u)) same is.settled

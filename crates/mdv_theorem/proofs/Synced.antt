@@ -1,0 +1,93 @@
+-- Over the lines of a run by which no call failed on its drive a block stays such that a crash leaves what a read gives.
+use Rattle.std.proofs.Common.{◌≡◌, ℕ, ◌+◌, ◌≤◌, false, List, [], length, length-append, Some, refl, arith}
+use Rattle.mdv_base.specs.Causes.{Rose}
+use Rattle.mdv_base.proofs.Causes.{rose_of_once, rose_within}
+use Rattle.mdv_engine_law.specs.Answers.{accepted}
+use Rattle.mdv_engine_law.specs.Home.{site_of}
+use Rattle.mdv_engine_law.specs.Line.{IsSame, contents}
+use Rattle.mdv_engine_law.specs.declared.answer.Answer.{Answer}
+use Rattle.mdv_engine_law.specs.declared.host.Host.{Host}
+use Rattle.mdv_port.specs.Script.{Script, at_end, line, spent, too_long}
+use Rattle.mdv_run_law.specs.Run.{At, Counts, FromTo, IsQuiet, IsSaid, IsShown, LineTold, LinesTold, NextLeaves, NextLine, NextWrites, Stretch, drive_failures, no_line, one_more}
+use Rattle.mdv_run_law.proofs.Extents.{SeesHome}
+use Rattle.mdv_shelf.specs.Area.{KeptOutside, nowhere}
+use Rattle.mdv_shelf.specs.Story.{Moment, Story, marked, tale_of}
+use Rattle.mdv_store_law.specs.Site.{area_of}
+use Rattle.mdv_table.specs.Slices.{IsSound}
+use Rattle.mdv_theorem.proofs.Placed.{Any}
+use Rattle.mdv_theorem.proofs.Settled.{IsSettledAt, still_settled, text_settled}
+use Rattle.mdv_theorem.proofs.Steps.{next_rises, no_step, skipped}
+use Rattle.mdv_theorem.proofs.Tables.{Stands, stands_line, stands_steps}
+
+-- the drives' blocks read there as they are kept
+abbrev pub IsRead : At → Type 0
+IsRead at = (u : Story) → at.story ≡ Some u → IsSame at.kept.content (contents (tale_of u))
+
+pub lines_read : (host : Host) (stretch : Stretch) (bytes : ℕ) (now at : At) (front : List ℕ) → LinesTold host stretch bytes now front at → IsRead now → IsRead at
+lines_read host stretch bytes now at front (no_line n there) reads = reads
+lines_read host stretch bytes now at front (one_more n there mid end piece left some told shown lines) reads = lines_read host stretch (bytes + length piece) mid at left lines told.passage.reads
+
+-- the moments show the place, by a point behind which no more than so much was told
+abbrev pub IsShownBy : Stretch → ℕ → At → Type 0
+IsShownBy stretch total at = (bytes : ℕ) × (piece : ℕ) × IsShown stretch bytes piece at × (bytes + piece ≤ total)
+
+pub lines_shown : (host : Host) (stretch : Stretch) (bytes : ℕ) (now at : At) (front : List ℕ) → LinesTold host stretch bytes now front at → IsShownBy stretch bytes now → IsShownBy stretch (bytes + length front) at
+lines_shown host stretch bytes now at front (no_line n there) (b, p, shown, within) = (b, p, shown, omega (arith, within))
+lines_shown host stretch bytes now at front (one_more n there mid end piece left some told is_shown lines) shown =
+    let on = lines_shown host stretch (bytes + length piece) mid at left lines (bytes, length piece, is_shown, omega arith) in
+    (on.0, on.1, on.2, (let within = on.3 in let both = length-append piece left in omega (arith, within, both)))
+
+module _ (host : Host) (start : Counts) (m : Moment) (stretch : Stretch) (drive : ℕ) where
+  line_rises : (now mid : At) (piece : List ℕ) → LineTold host now piece mid → now.counts.drives drive ≤ mid.counts.drives drive
+  line_rises now mid piece told = next_rises host start m now.counts mid.counts now.kept mid.kept now.script mid.script told.answer told.comes drive
+
+  -- on no drive fewer calls have failed behind lines
+  pub lines_rise : (bytes : ℕ) (now at : At) (front : List ℕ) → LinesTold host stretch bytes now front at → now.counts.drives drive ≤ at.counts.drives drive
+  lines_rise bytes now at front (no_line n there) = omega arith
+  lines_rise bytes now at front (one_more n there mid end piece left some told shown lines) =
+      let first = line_rises now mid piece told in
+      let more = lines_rise (bytes + length piece) mid at left lines in
+      omega (arith, first, more)
+
+module _ (host : Host) (start : Counts) (m : Moment) (stretch : Stretch) (sound : IsSound host.drives) (sees : SeesHome host) where
+  -- the database that is open is on the drive behind a line
+  next_stands : (now mid : At) (answer : Answer) (script more : Script) → NextLine host now.counts now.kept script answer mid.counts mid.kept more → IsSaid answer → Stands host now.kept → Stands host mid.kept
+  next_stands now mid answer at_end more comes said stands = absurd comes
+  next_stands now mid answer (spent n b) more comes said stands = absurd comes
+  next_stands now mid answer (too_long rest) more comes said stands = stands_steps host sound sees Any now.kept mid.kept [] stands (skipped now.kept mid.kept mid.kept [] comes.3.1 (no_step mid.kept))
+  next_stands now mid answer (line text rest) more comes said stands = stands_line host sound sees (drive_failures now.counts mid.counts) text answer now.kept mid.kept stands comes.2 said
+
+  module _ (drive b : ℕ) (out : area_of (site_of host) drive b ≡ false) where
+    -- the story has come there, and a crash would leave in the block what a read gives
+    pub record IsThere (at : At) : Type 0 where
+      pub story : Story
+      pub is : at.story ≡ Some story
+      pub settled : IsSettledAt host sound drive b out (tale_of story)
+
+    next_settled : (now mid : At) (answer : Answer) (script more : Script) → NextLine host now.counts now.kept script answer mid.counts mid.kept more → IsSaid answer → ((drive_failures now.counts mid.counts drive).some → ⊥) → Stands host now.kept
+        → (s u : Story) → now.story ≡ Some s → mid.story ≡ Some u → FromTo (NextWrites host now.kept.memory script) now.story mid.story → (IsQuiet answer → FromTo (KeptOutside nowhere) now.story mid.story)
+        → (answer ≡ accepted → FromTo (λ t u. NextLeaves host now.kept.memory script u) now.story mid.story) → IsSettledAt host sound drive b out (tale_of s) → IsSettledAt host sound drive b out (tale_of u)
+    next_settled now mid answer at_end more comes said calm stands s u old new writes unwritten leaves settled = absurd comes
+    next_settled now mid answer (spent n c) more comes said calm stands s u old new writes unwritten leaves settled = absurd comes
+    next_settled now mid answer (too_long rest) more comes said calm stands s u old new writes unwritten leaves settled = still_settled host sound drive b out (tale_of s) (tale_of u) (writes s u old new drive b refl) settled
+    next_settled now mid answer (line text rest) more comes said calm stands s u old new writes unwritten leaves settled =
+        text_settled host sound drive b out (drive_failures now.counts mid.counts) calm text answer now.kept mid.kept stands comes.2 said (tale_of s) (tale_of u) (λ quiet. unwritten quiet s u old new) (λ ok. leaves ok s u old new) settled (writes s u old new)
+
+    -- lines by which no call failed on its drive
+    pub lines_settled : (bytes : ℕ) (now at : At) (front : List ℕ) → LinesTold host stretch bytes now front at → Stands host now.kept → start.drives drive ≤ now.counts.drives drive → (Rose (start.drives drive) (at.counts.drives drive) → ⊥) → IsThere now → IsThere at
+    lines_settled bytes now at front (no_line n same) stands low calm there = there
+    lines_settled bytes now at front (one_more n same mid end piece left some told shown lines) stands low calm there =
+        let rises = line_rises host start m stretch drive now mid piece told in
+        let on = lines_rise host start m stretch drive (bytes + length piece) mid at left lines in
+        let goes = told.passage.in_time.drives drive there.story there.is in
+        let unfailed : (drive_failures now.counts mid.counts drive).some → ⊥ = λ once. calm (rose_within (start.drives drive) (now.counts.drives drive) (mid.counts.drives drive) (at.counts.drives drive) low on (rose_of_once (now.counts.drives drive) (mid.counts.drives drive) once)) in
+        let settled = next_settled now mid told.answer now.script mid.script told.comes told.said unfailed stands there.story (marked there.story goes.0) there.is goes.1 told.writes told.unwritten told.leaves there.settled in
+        lines_settled (bytes + length piece) mid at left lines (next_stands now mid told.answer now.script mid.script told.comes told.said stands) (omega (arith, low, rises)) calm
+        (record { story = marked there.story goes.0; is = goes.1; settled = settled })
+
+-- the story goes on over lines
+pub lines_story : (host : Host) (stretch : Stretch) (bytes : ℕ) (now at : At) (front : List ℕ) → LinesTold host stretch bytes now front at → (s : Story) → now.story ≡ Some s → (u : Story) × (at.story ≡ Some u)
+lines_story host stretch bytes now at front (no_line n there) s is = (s, is)
+lines_story host stretch bytes now at front (one_more n there mid end piece left some told shown lines) s is =
+    let goes = told.passage.in_time.drives 0 s is in
+    lines_story host stretch (bytes + length piece) mid at left lines (marked s goes.0) goes.1
