@@ -16,7 +16,7 @@ use Rattle.mdv_engine_law.specs.declared.answer.Reply.TheVariants as reply
 use Rattle.mdv_engine_law.specs.declared.host.Host.{Host}
 use Rattle.mdv_engine_law.specs.Commands as came
 use Rattle.mdv_engine_law.specs.Commands.{CameTo, ComesTo, Fault, GivesUp, KeepsTab}
-use Rattle.mdv_engine_law.specs.Failing.{Outcomes}
+use Rattle.mdv_shelf.specs.Failing.{Outcomes}
 use Rattle.mdv_engine_law.specs.Line.{Memory, Kept, home_calls, kept_at, contents, IsRebooted, adopted, empty, down, lost, spent, wanting}
 use Rattle.mdv_engine_law.specs.Replies.{IsTold, HasAnswerCause, HasCommandCause, IsReplyTo, reply_at, reply_to}
 use Rattle.mdv_engine_law.specs.Efforts.{LineCalls, replied_to}

@@ -17,7 +17,7 @@ use Rattle.mdv_engine_law.specs.Standing.{Knows, TellMoment, TellsFront}
 use Rattle.mdv_engine_law.specs.declared.answer.Answer.{Answer}
 use Rattle.mdv_engine_law.specs.declared.host.Host.{Host}
 use Rattle.mdv_base.proofs.Causes.{within_calm}
-use Rattle.mdv_engine_law.specs.Failing.{AreCalm, Outcomes}
+use Rattle.mdv_shelf.specs.Failing.{AreCalm, Outcomes}
 use Rattle.mdv_engine_law.proofs.Widening.{AreWithin}
 
 -- a count between two that are the same

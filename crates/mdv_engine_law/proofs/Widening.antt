@@ -3,7 +3,7 @@ use Rattle.std.proofs.Common.{ℕ, Bool, true, false}
 use Rattle.std.specs.Bool.{MatchBool}
 use Rattle.mdv_base.proofs.Causes.{IsWithin}
 use Rattle.mdv_engine_law.specs.Below.{Drives, has_drive}
-use Rattle.mdv_engine_law.specs.Failing.{AreCalm, FailedOn, Outcomes, any_of}
+use Rattle.mdv_shelf.specs.Failing.{AreCalm, FailedOn, Outcomes, any_of}
 use Rattle.mdv_engine_law.specs.Line.{AreOwnCalls, IsUpBy}
 use Rattle.mdv_engine_law.specs.declared.host.Host.{Host}
 

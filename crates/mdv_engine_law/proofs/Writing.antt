@@ -1,8 +1,7 @@
 -- The blocks that a line may write, and those that it leaves, where more calls write none.
 use Rattle.std.proofs.Common.{inl, inr, ℕ, ◌+◌, ◌-◌, List, [], ◌∷◌, length, slice_index_or, refl, sym, ◌∙◌}
 use Rattle.mdv_map.proofs.Joining.{kept_is_old, old_or_new_more}
-use Rattle.mdv_shelf.proofs.Frame.{kept_outside_more}
-use Rattle.mdv_shelf.proofs.Settled.{synced_still}
+use Rattle.mdv_shelf.proofs.Frame.{kept_outside_more, settled_still}
 use Rattle.mdv_engine_law.specs.Below.{Command, Create, DriveBlock, IsSettled, KeptOutside, Read, Settling, Write, nowhere, area_of, range, Changed, Created, Saw, Tale, Wrote}
 use Rattle.mdv_words.specs.declared.command.Command.TheVariants.{MakeStripe}
 use Rattle.mdv_engine_law.specs.declared.host.Host.{Host}
@@ -21,13 +20,6 @@ module _ (place : DriveBlock) (blocks : List (List ℕ)) (t m : Tale) where
         old_or_new_more t u m place.drive block new (put.inside block here) (kept_is_old u m place.drive block new (kept place.drive block refl));
     outside = kept_outside_more (range place.drive place.block (length blocks)) t u m put.outside (λ drive block out. kept drive block refl);
   }
-
--- blocks that are on the disk stay there
-settled_still : (drive at : ℕ) (blocks : List (List ℕ)) (t m : Tale) → KeptOutside nowhere t m → IsSettled drive at blocks t → IsSettled drive at blocks m
-settled_still drive at blocks t m kept settled = record {
-  shows = λ k lt. settled.shows k lt ∙ sym (kept drive (at + k) refl).last;
-  synced = synced_still drive t m (λ block. kept drive block refl) settled.synced;
-}
 
 module _ (host : Host) (memory : Memory) where
   pub writes_none : (ask : Ask) (t m : Tale) → KeptOutside nowhere t m → WritesOnly host ask memory t m

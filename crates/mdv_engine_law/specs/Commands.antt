@@ -13,7 +13,7 @@ use Rattle.mdv_engine_law.specs.declared.answer.Ended.{Ended}
 use Rattle.mdv_engine_law.specs.declared.answer.Ended.TheVariants as ended
 use Rattle.mdv_engine_law.specs.declared.host.Host.{Host}
 use Rattle.mdv_engine_law.specs.Answers.{accepted, refusing, telling}
-use Rattle.mdv_engine_law.specs.Failing.{AreCalm, FailedOn, Outcomes}
+use Rattle.mdv_shelf.specs.Failing.{AreCalm, FailedOn, Outcomes}
 use Rattle.mdv_engine_law.specs.Home.{site_of, identity_of}
 use Rattle.mdv_engine_law.specs.Line.{Kept, IsSameBeside, Stays, IsCreated, IsUncreated, IsUnbegun, IsCommitted, IsSame, AreBlocksAt, ArePut, MayBePut, IsRebooted, IsTurnedDown, blocks_of, on_site}
 use Rattle.mdv_engine_law.specs.Refusals.{Case, IsUnopposed, refusal_of}

@@ -2,7 +2,6 @@ pub mod Below
 pub use Rattle.mdv_base.specs.Causes
 pub mod Answers
 pub mod Home
-pub mod Failing
 pub mod Awake
 pub mod Line
 pub mod Refusals

@@ -12,7 +12,7 @@ use Rattle.mdv_engine_law.specs.declared.answer.Answer.TheVariants.{Over}
 use Rattle.mdv_engine_law.specs.declared.answer.Ended.TheVariants as ended
 use Rattle.mdv_engine_law.specs.declared.host.Host.{Host}
 use Rattle.mdv_engine_law.specs.Answers.{accepted, refusing}
-use Rattle.mdv_engine_law.specs.Failing.{AreCalm, Outcomes}
+use Rattle.mdv_shelf.specs.Failing.{AreCalm, Outcomes}
 use Rattle.mdv_engine_law.specs.Home.{key_of, site_of, identity_of}
 
 -- what an engine keeps in memory: the open database, which drives the last boot brought up and whether no call failed in it, how many

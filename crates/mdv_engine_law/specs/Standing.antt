@@ -14,7 +14,7 @@ use Rattle.mdv_engine_law.specs.declared.answer.Reply.{Reply}
 use Rattle.mdv_engine_law.specs.declared.host.Host.{Host}
 use Rattle.mdv_engine_law.specs.Answers.{IsQuiet}
 use Rattle.mdv_engine_law.specs.Awake.{Happening, HasBooted, is_in}
-use Rattle.mdv_engine_law.specs.Failing.{Outcomes}
+use Rattle.mdv_shelf.specs.Failing.{Outcomes}
 use Rattle.mdv_engine_law.specs.Home.{StaysHome, key_of, plain_area, site_of, sites_of}
 use Rattle.mdv_engine_law.specs.Commands.{ComesTo}
 use Rattle.mdv_engine_law.specs.Efforts.{LineCalls, replied_to}

@@ -16,6 +16,7 @@ use Rattle.mdv_name.specs.Geometry.{IsGeometry as IsTable}
 use Rattle.mdv_shelf.specs.Calls.{InDrive}
 use Rattle.mdv_shelf.specs.Drives.{AreDrives}
 use Rattle.mdv_home.specs.Drives.{IsOwnDrive, OwnDrives, is_own, own_drives, own_from, sizes_of}
+use Rattle.mdv_home.proofs.Homes.{one_at}
 use Rattle.mdv_home.proofs.Read.{IsRead, drive_at, least_some, read_table}
 
 -- the kind says so
@@ -138,6 +139,15 @@ own_lie text table host is =
       each = λ drive one_of. (let own = own_is table host drive one_of in drive_there table read drive.0 own.line own.place);
       once = own_once 0 host table.drives;
     }
+
+-- a drive is one host's own
+pub one_owner : (table : Geometry) (host other : List ℕ) (drive : DriveNo) → Contains (own_drives table host) drive → Contains (own_drives table other) drive → host ≡ other
+one_owner table host other drive first second =
+    let one = own_is table host drive first in
+    let two = own_is table other drive second in
+    let lines = one_at table.drives drive.0 one.line two.line one.place two.place in
+    let kinds : Own one.name host ≡ Own two.name other = sym one.own ∙ ap (λ (l : DriveLine). l.kind) lines ∙ two.own in
+    cc (kinds)
 
 pub drives_are_own : OwnDrives
 drives_are_own = record {

@@ -58,7 +58,8 @@ impl OwnDrives {
     }
 }
 
-fn is_own(kind: DriveKind, host: &[u8]) -> bool
+/// Whether the drive is that host's own.
+pub fn is_own(kind: DriveKind, host: &[u8]) -> bool
     ensures { result ≡ spec_is_own host.now kind }
 {
     match kind {

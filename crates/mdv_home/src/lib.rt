@@ -6,7 +6,7 @@ mod drives;
 mod geometry;
 mod law;
 
-pub use drives::{OwnDrives, has_drives};
+pub use drives::{OwnDrives, has_drives, is_own};
 pub use geometry::{FIRST_BLOCK, Home, home_in, place_at};
 pub use law::{
     drives_are_own, homes_are_apart, homes_are_one, homes_are_small, plain_slices_apart,

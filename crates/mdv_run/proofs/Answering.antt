@@ -1,5 +1,5 @@
 -- One line, answered.
-use Rattle.mdv_engine_law.specs.Failing.{AreCalm, Outcomes, any_of}
+use Rattle.mdv_shelf.specs.Failing.{AreCalm, Outcomes, any_of}
 use Rattle.mdv_engine_law.specs.Replies.{HasCommandCause, HasEndCause, HasReplyCause, IsReplyTo, reply_at, reply_to}
 use Rattle.mdv_engine_law.specs.declared.answer.Ended.{Ended}
 use Rattle.mdv_engine_law.specs.declared.answer.Ended.TheVariants as ended

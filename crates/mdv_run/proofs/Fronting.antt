@@ -13,7 +13,7 @@ use Rattle.mdv_run.specs.Below.{counts}
 use Rattle.mdv_run.proofs.Whole.{point_between}
 use Rattle.mdv_run_law.specs.Told.{AtWork, HasBroughtUp, WorkWrites}
 use Rattle.mdv_run_law.proofs.Lining.{lines_start, ran_start}
-use Rattle.mdv_engine_law.specs.Failing.{Outcomes}
+use Rattle.mdv_shelf.specs.Failing.{Outcomes}
 use Rattle.mdv_shelf.specs.Made.{Made, effort_of, made_of, tally_of}
 use Rattle.mdv_shelf.proofs.Frame.{kept_outside_same}
 use Rattle.mdv_shelf.proofs.Made.{by_efforts}

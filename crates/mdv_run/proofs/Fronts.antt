@@ -1,6 +1,6 @@
 -- Which front of a reply was told by each moment of a turn.
 use Rattle.mdv_base.specs.Causes.{failures_of}
-use Rattle.mdv_engine_law.specs.Failing.{Outcomes}
+use Rattle.mdv_shelf.specs.Failing.{Outcomes}
 use Rattle.mdv_base.proofs.Causes.{within_calm}
 use Rattle.mdv_run_law.specs.Run.{RoseCalmly}
 use Rattle.std.proofs.Common.{◌≡◌, inl, inr, ℕ, Bool, List, [], ◌++◌, take, Option, Some, refl, sym, ◌∙◌, ap, subst, arith}

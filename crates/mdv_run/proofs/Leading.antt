@@ -1,6 +1,6 @@
 -- How one turn of a run goes on from the script that is before it.
 use Rattle.mdv_base.specs.Causes.{failures_of}
-use Rattle.mdv_engine_law.specs.Failing.{AreCalm}
+use Rattle.mdv_shelf.specs.Failing.{AreCalm}
 use Rattle.mdv_base.proofs.Causes.{rose_of_once}
 use Rattle.mdv_shelf.specs.Made.{made_between}
 use Rattle.mdv_shelf.specs.Story.{Effort}

@@ -10,7 +10,7 @@ use Rattle.mdv_port.specs.declared.source.Source.{Ghosts as Source}
 use Rattle.mdv_run_law.specs.Told.{WorkWrites}
 use Rattle.mdv_run_law.specs.Usage.{IsUsed}
 use Rattle.mdv_base.specs.declared.drive.DriveNo.{DriveNo}
-use Rattle.mdv_engine_law.specs.Failing.{Outcomes}
+use Rattle.mdv_shelf.specs.Failing.{Outcomes}
 use Rattle.mdv_home.specs.Drives.{own_drives}
 use Rattle.mdv_home.specs.View.{own_view}
 use Rattle.mdv_home.specs.declared.geometry.Home.{Home}

@@ -1,5 +1,5 @@
 -- How the lines of a run follow one another.
-use Rattle.mdv_engine_law.specs.Failing.{Outcomes}
+use Rattle.mdv_shelf.specs.Failing.{Outcomes}
 use Rattle.std.specs.Prelude.{◌≡◌, ℕ, Bool, true, List, ◌++◌, Option, Some}
 use Rattle.mdv_run.specs.Below.{Script, Tale, told, Answer, Reply, Host, Kept, Memory, kept_at, Replied, RunStatus, Panic, WriteFault, NoMemory, NumbersSpent, At, Counts, IsNextFront, LinesToldBy, LineTold, Runs, Stretch, IsAnswered, IsLeft, HasStatusCause}
 use Rattle.mdv_engine_law.specs.Answers.{accepted}

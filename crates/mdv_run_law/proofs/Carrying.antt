@@ -13,7 +13,7 @@ use Rattle.mdv_engine_law.specs.declared.answer.Ended.TheVariants as ended
 use Rattle.mdv_engine_law.specs.Answers.{refusing, telling}
 use Rattle.mdv_engine_law.specs.Commands as came
 use Rattle.mdv_engine_law.specs.Commands.{Effect, Fault, GivesUp, IsAllowed, IsTabRefusal, KeepsTab, case_of}
-use Rattle.mdv_engine_law.specs.Failing.{Outcomes}
+use Rattle.mdv_shelf.specs.Failing.{Outcomes}
 use Rattle.mdv_engine_law.specs.Refusals.{refusal_of}
 use Rattle.mdv_engine_law.proofs.Allowed.{allowed_room}
 use Rattle.mdv_table.specs.Change.{table_after}

@@ -12,7 +12,7 @@ use Rattle.mdv_engine_law.specs.declared.answer.Outcome.TheVariants as outcome
 use Rattle.mdv_engine_law.specs.Answers.{accepted, refusing}
 use Rattle.mdv_engine_law.specs.Commands as came
 use Rattle.mdv_engine_law.specs.Commands.{Effect, IsTabRefusal, KeepsTab, case_of}
-use Rattle.mdv_engine_law.specs.Failing.{Outcomes}
+use Rattle.mdv_shelf.specs.Failing.{Outcomes}
 use Rattle.mdv_engine_law.specs.Line as boot
 use Rattle.mdv_status.specs.Telling.{Said as SaidBytes}
 use Rattle.mdv_engine_law.specs.Replies.{text_of}

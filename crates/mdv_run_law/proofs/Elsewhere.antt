@@ -9,8 +9,7 @@ use Rattle.mdv_name.specs.declared.drive_line.DriveLine.{DriveLine}
 use Rattle.mdv_home.specs.Drives.{own_drives}
 use Rattle.mdv_home.specs.Home.{place_of}
 use Rattle.mdv_home.specs.View.{own_view}
-use Rattle.mdv_home.proofs.Homes.{one_at}
-use Rattle.mdv_home.proofs.Owning.{drives_are_own}
+use Rattle.mdv_home.proofs.Owning.{drives_are_own, one_owner}
 use Rattle.mdv_home.proofs.Viewing.{view_is_own}
 use Rattle.mdv_map.specs.Maps.{area_of_map}
 use Rattle.mdv_map.proofs.Covering.{runs_lie}
@@ -35,15 +34,6 @@ on_drive at first count drive block is = grind (arith, nat_tests)
 -- so it is of blocks of one of them
 range_on : (own : List DriveNo) (at : DriveNo) (first count : ℕ) → Contains own at → LiesOn own (range at.0 first count)
 range_on own at first count has drive block is = subst (λ (n : ℕ). Contains own (record { 0 = n })) (on_drive at.0 first count drive block is) has
-
--- a drive is one host's own
-one_owner : (table : Geometry) (host other : List ℕ) (drive : DriveNo) → Contains (own_drives table host) drive → Contains (own_drives table other) drive → host ≡ other
-one_owner table host other drive first second =
-    let one = (drives_are_own.own table host drive).0 first in
-    let two = (drives_are_own.own table other drive).0 second in
-    let lines = one_at table.drives drive.0 one.line two.line one.place two.place in
-    let kinds : Own one.name host ≡ Own two.name other = sym one.own ∙ ap (λ (l : DriveLine). l.kind) lines ∙ two.own in
-    cc (kinds)
 
 -- so areas on the drives of two hosts are apart
 apart_on : (table : Geometry) (host other : List ℕ) (a b : Area) → (host ≡ other → ⊥) → LiesOn (own_drives table host) a → LiesOn (own_drives table other) b → AreApart a b

@@ -4,7 +4,7 @@ use Rattle.std.proofs.lemmas.List.{append_cancel_left}
 use Rattle.mdv_run_law.specs.Below.{Refusal, OutOfMemory, IsLine, entries_reply, refusal_line, told, Command, Create, MakeStripe, Read, Write, Tale, Answer, Reply, Host, Memory, Kept, kept_at, CameTo, IsTold, IsReplied, Executed}
 use Rattle.mdv_words.specs.Line as words
 use Rattle.mdv_engine_law.specs.declared.answer.Answer.TheVariants.{Said, Over}
-use Rattle.mdv_engine_law.specs.Failing.{Outcomes}
+use Rattle.mdv_shelf.specs.Failing.{Outcomes}
 use Rattle.mdv_engine_law.specs.Commands as came
 use Rattle.mdv_engine_law.specs.Commands.{Effect, Fault, KeepsTab, Wanting}
 use Rattle.mdv_engine_law.proofs.Longer.{never_ended}

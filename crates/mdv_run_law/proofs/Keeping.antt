@@ -15,7 +15,7 @@ use Rattle.mdv_store_law.proofs.Frame.{newest_there, none_there, same_within}
 use Rattle.mdv_engine_law.specs.declared.answer.Answer.TheVariants.{Over}
 use Rattle.mdv_engine_law.specs.declared.answer.Ended.TheVariants as ended
 use Rattle.mdv_engine_law.specs.Answers.{refusing}
-use Rattle.mdv_engine_law.specs.Failing.{Outcomes}
+use Rattle.mdv_shelf.specs.Failing.{Outcomes}
 use Rattle.mdv_engine_law.specs.Line.{IsUpBy, booted_with, spent}
 use Rattle.mdv_run_law.specs.Run.{IsSaid, IsSameMemory}
 use Rattle.mdv_run_law.proofs.Again.{Alike, neither, alike_opened, never_found, never_lost, same_number, same_adopted}

@@ -3,7 +3,7 @@ use Rattle.std.specs.Prelude.{◌≡◌, ◌≢◌, ◌⊎◌, ◌≤◌, ◌<�
 use Rattle.mdv_base.specs.Causes.{RoseOnce, failures_of}
 use Rattle.mdv_base.specs.DriveSet.{has_drive}
 use Rattle.mdv_base.specs.declared.drive.DriveNo.{DriveNo}
-use Rattle.mdv_engine_law.specs.Failing.{AreCalm, Outcomes}
+use Rattle.mdv_shelf.specs.Failing.{AreCalm, Outcomes}
 use Rattle.mdv_home.specs.Drives.{own_drives}
 use Rattle.mdv_home.specs.View.{own_view}
 use Rattle.mdv_name.specs.declared.geometry.Geometry.{Geometry}

@@ -3,7 +3,7 @@ use Rattle.std.specs.Prelude.{◌≡◌, ◌⊎◌, ℕ, List, [], ◌++◌, Som
 use Rattle.mdv_base.specs.declared.drive.DriveNo.{DriveNo}
 use Rattle.mdv_engine_law.specs.Answers.{accepted}
 use Rattle.mdv_engine_law.specs.Efforts.{BootCalls}
-use Rattle.mdv_engine_law.specs.Failing.{Outcomes}
+use Rattle.mdv_shelf.specs.Failing.{Outcomes}
 use Rattle.mdv_engine_law.specs.Line.{Memory, asked_by}
 use Rattle.mdv_engine_law.specs.Standing.{BootedTo, WritesOnly}
 use Rattle.mdv_run_law.specs.Below.{Host, IsLine, IsRebooted, Kept, Script, Tale, contents, line, site_of, told}

@@ -2,10 +2,10 @@
 use Rattle.std.proofs.Common.{◌≡◌, ◌⊎◌, inl, inr, ⊎_elim, ℕ, zero, suc, ◌+◌, ◌-◌, ◌<◌, ◌≤◌, Bool, true, false, ◌||◌, List, [], ◌∷◌, length, refl, sym, ◌∙◌, ap, slice_index_or, arith}
 use Rattle.std.proofs.lemmas.Bool.Decides.{nat_tests}
 use Rattle.mdv_shelf.specs.Tale.{Tale, last, MayLeave, covers}
-use Rattle.mdv_shelf.specs.Area.{Area, IsKept, KeptOutside, joined}
+use Rattle.mdv_shelf.specs.Area.{Area, IsKept, KeptOutside, joined, nowhere}
 use Rattle.mdv_shelf.specs.Calls.{Shows}
 use Rattle.mdv_shelf.specs.Settle.{Settling, IsSettled, IsFixed}
-use Rattle.mdv_shelf.proofs.Settled.{same_kept}
+use Rattle.mdv_shelf.proofs.Settled.{same_kept, synced_still}
 
 pub kept_more : (t u v : Tale) (drive block : ℕ) → IsKept t u drive block → IsKept u v drive block → IsKept t v drive block
 kept_more t u v drive block first second = record {
@@ -78,3 +78,10 @@ fixed_kept drive at blocks t m kept fixed = record {
 pub shows_more : (t : Tale) (drive at : ℕ) (x : List ℕ) (blocks : List (List ℕ)) → last t drive at ≡ x → Shows t drive (at + 1) blocks → Shows t drive at (x ∷ blocks)
 shows_more t drive at x blocks here behind zero lt = sym here ∙ ap (λ (b : ℕ). last t drive b) (omega arith)
 shows_more t drive at x blocks here behind (suc k) lt = behind k (omega arith) ∙ ap (λ (b : ℕ). last t drive b) (omega arith)
+
+-- blocks that are on the disk stay there
+pub settled_still : (drive at : ℕ) (blocks : List (List ℕ)) (t m : Tale) → KeptOutside nowhere t m → IsSettled drive at blocks t → IsSettled drive at blocks m
+settled_still drive at blocks t m kept settled = record {
+  shows = λ k lt. settled.shows k lt ∙ sym (kept drive (at + k) refl).last;
+  synced = synced_still drive t m (λ block. kept drive block refl) settled.synced;
+}

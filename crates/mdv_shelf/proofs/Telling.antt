@@ -51,7 +51,7 @@ pub record IsWithin (s : Story) (before : Tally) (u : Story) (after : Tally) (m 
   pub counts : Between before.faults after.faults m
   pub bytes : IsToldBetween (tale_of s) (tale_of u) m
 
-passed_within : (P : Moment → Type 0) (s : Story) (before : Tally) (u : Story) (after : Tally) → Passed P s before u after → Passed (λ m. P m × IsWithin s before u after m) s before u after
+pub passed_within : (P : Moment → Type 0) (s : Story) (before : Tally) (u : Story) (after : Tally) → Passed P s before u after → Passed (λ m. P m × IsWithin s before u after m) s before u after
 passed_within P s before u after passed =
     let between = passed_between P s before u after passed in
     let told : Passed (IsToldBetween (tale_of s) (tale_of u)) s before u after = record {

@@ -8,6 +8,7 @@ pub mod Settle
 pub mod Everywhere
 pub mod Story
 pub mod Shelves
+pub mod Failing
 pub mod Made
 pub mod Drives
 pub mod MemHistory

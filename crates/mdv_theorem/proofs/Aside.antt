@@ -10,7 +10,7 @@ use Rattle.mdv_base.specs.declared.refusal.Refusal.TheVariants.{IoFault, NameTak
 use Rattle.mdv_base.proofs.Order.{first_holds}
 use Rattle.mdv_engine_law.specs.Answers.{refusing}
 use Rattle.mdv_engine_law.specs.Commands.{CameTo, ComesTo, Effect, case_of, refused, wanting, done, faulted, over}
-use Rattle.mdv_engine_law.specs.Failing.{Outcomes}
+use Rattle.mdv_shelf.specs.Failing.{Outcomes}
 use Rattle.mdv_engine_law.specs.Line.{Kept, record_room}
 use Rattle.mdv_engine_law.specs.Refusals.{Case, bytes_after, has_number, held, held_of_blocks, held_of_change, held_of_read, held_past, refusal_of, size_of}
 use Rattle.mdv_engine_law.specs.Replies.{refusal_line, text_of}

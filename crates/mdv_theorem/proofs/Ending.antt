@@ -6,7 +6,7 @@ use Rattle.mdv_engine_law.specs.Answers.{accepted, refusing}
 use Rattle.mdv_engine_law.specs.Below.{Refusal}
 use Rattle.mdv_engine_law.specs.Commands as came
 use Rattle.mdv_engine_law.specs.Commands.{CameTo, ComesTo, Effect, GivesUp, KeepsTab}
-use Rattle.mdv_engine_law.specs.Failing.{Outcomes}
+use Rattle.mdv_shelf.specs.Failing.{Outcomes}
 use Rattle.mdv_engine_law.specs.Line as boot
 use Rattle.mdv_engine_law.specs.Line.{IsRebooted, Kept, contents, home_calls}
 use Rattle.mdv_engine_law.specs.declared.answer.Answer.{Answer}

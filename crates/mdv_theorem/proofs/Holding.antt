@@ -1,7 +1,7 @@
 -- What is so of each table that a host has open, or that a boot may find: of those that were there as the run began, of new ones, and of what the run's lines made of them.
 use Rattle.std.proofs.Common.{◌≡◌, inl, inr, ℕ, false, List, [], Some, None, Contains, sym, ◌∙◌, ap, subst}
 use Rattle.mdv_engine_law.specs.Answers.{accepted}
-use Rattle.mdv_engine_law.specs.Failing.{Outcomes}
+use Rattle.mdv_shelf.specs.Failing.{Outcomes}
 use Rattle.mdv_engine_law.specs.Line as boot
 use Rattle.mdv_engine_law.specs.Line.{IsRebooted, IsSame, Kept, Memory, Stays, on_site}
 use Rattle.mdv_engine_law.specs.Replies.{ok_line, text_of}

@@ -8,7 +8,7 @@ use Rattle.mdv_base.specs.Order.{first_refusal, where_so}
 use Rattle.mdv_base.specs.declared.refusal.Refusal.TheVariants.{TooMany}
 use Rattle.mdv_engine_law.specs.Answers.{refusing}
 use Rattle.mdv_engine_law.specs.Commands.{CameTo, Effect, case_of, refused, wanting, done, faulted, over}
-use Rattle.mdv_engine_law.specs.Failing.{Outcomes}
+use Rattle.mdv_shelf.specs.Failing.{Outcomes}
 use Rattle.mdv_engine_law.specs.Line.{Kept, blocks_of}
 use Rattle.mdv_engine_law.specs.Refusals.{has_number, held_of_read, held_past, refusal_of, size_of}
 use Rattle.mdv_engine_law.specs.Replies.{refusal_line, text_of}

@@ -3,7 +3,7 @@ use Rattle.std.proofs.Common.{◌≡◌, ◌⊎◌, inl, inr, ℕ, zero, suc, �
 use Rattle.mdv_base.specs.Causes.{Rose}
 use Rattle.mdv_base.proofs.Causes.{rose_of_once, rose_within}
 use Rattle.mdv_engine_law.specs.Answers.{accepted}
-use Rattle.mdv_engine_law.specs.Failing.{Outcomes}
+use Rattle.mdv_shelf.specs.Failing.{Outcomes}
 use Rattle.mdv_engine_law.specs.Line.{IsRebooted, Kept, Stays, contents}
 use Rattle.mdv_engine_law.specs.Replies.{IsPlainAnswer, IsReply, text_of}
 use Rattle.mdv_engine_law.specs.declared.answer.Answer.{Answer}

@@ -13,7 +13,7 @@ use Rattle.mdv_base.specs.declared.refusal.Refusal.TheVariants.{IoFault, OutOfMe
 use Rattle.mdv_engine_law.specs.Answers.{accepted, refusing}
 use Rattle.mdv_engine_law.specs.Commands as came
 use Rattle.mdv_engine_law.specs.Commands.{CameTo, ComesTo, Effect, Fault, IsAllowed, KeepsTab, Wanting, case_of}
-use Rattle.mdv_engine_law.specs.Failing.{Outcomes}
+use Rattle.mdv_shelf.specs.Failing.{Outcomes}
 use Rattle.mdv_engine_law.specs.Home.{site_of}
 use Rattle.mdv_engine_law.specs.Line as boot
 use Rattle.mdv_engine_law.specs.Line.{AreBlocksAt, ArePut, HasVolumeOn, IsCommitted, IsRebooted, IsSame, IsSameBeside, Kept, MayBePut, Memory, Stays, home_calls, on_site, record_room}

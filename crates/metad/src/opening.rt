@@ -11,6 +11,7 @@ use crate::journal::SystemStart;
 use crate::lines::line_at;
 use crate::misfit::misfit_of;
 use crate::reason::{Call, LostDrive, Reason};
+use mdv_home::is_own;
 use mdv_name::{DriveKind, DriveLine, Geometry, GeometryFault};
 use std::alloc::AllocError;
 use std::io::{self, ErrorKind};
@@ -123,7 +124,7 @@ fn image_of(
     ensures lost { IfOk result (λ image. vec_len lost.new ≡ vec_len lost.old + lost_one image.state) }
     ensures foreign { IfOk result (λ image. is_foreign image.state ≡ not (is_own_by (map string_bytes words.now) line.now.kind)) }
 {
-    if is_own(words, line.kind) {
+    if is_hosts_own(words, line.kind) {
         open_line(rt, start, line, others, lines, lost)
     } else {
         Ok(Image::foreign(line.blocks))
@@ -131,19 +132,13 @@ fn image_of(
 }
 
 // Whether the words name one host, and the drive is its own.
-fn is_own(words: &[String], kind: DriveKind) -> bool
+fn is_hosts_own(words: &[String], kind: DriveKind) -> bool
     ensures { result ≡ is_own_by (map string_bytes words.now) kind }
 {
     let [host] = words else {
         return false;
     };
-    match kind {
-        DriveKind::Own {
-            drive: _,
-            host: owner,
-        } => owner.as_bytes() == host.as_bytes(),
-        DriveKind::Shared { .. } | DriveKind::Mediator { .. } => false,
-    }
+    is_own(kind, host.as_bytes())
 }
 
 // The drive of the line; where it is lost, that is told.

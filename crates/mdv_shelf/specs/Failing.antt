@@ -1,6 +1,6 @@
 -- How the calls on the drives came out: on each just one failed, or none did.
 use Rattle.std.specs.Prelude.{◌≡◌, ℕ}
-use Rattle.mdv_engine_law.specs.Below.{Failures}
+use Rattle.mdv_base.specs.Causes.{Failures}
 
 -- by the number of the drive
 abbrev pub Outcomes : Type 1
