@@ -143,7 +143,8 @@ pub record Answers (text : List ℕ) : Type 0 where
   pub behind : (rest : List ℕ) → said_in (text ++ rest) ≡ with_reply text (said_in rest)
   pub before : (count : ℕ) → count < length text → said_in (take count text) ≡ unsaid (take count text)
 
-values_answer : (text : List ℕ) → AreValues text ⊎ AreEntries text → Answers text
+-- the text of values or of entries is one reply
+pub values_answer : (text : List ℕ) → AreValues text ⊎ AreEntries text → Answers text
 values_answer text (inl are) = subst Answers (sym are.is) (record { behind = values_are_one_reply.more are.at are.blocks; before = values_are_one_reply.front are.at are.blocks })
 values_answer text (inr are) = subst Answers (sym are.is) (record { behind = entries_are_one_reply.more are.count; before = entries_are_one_reply.front are.count })
 
@@ -180,7 +181,8 @@ none_ways count = subst (λ (l : List ℕ). said_in l ≡ unsaid l) (sym (take_n
 ok_answers : Answers ok_line
 ok_answers = values_answer ok_line (inl (record { at = 0; blocks = []; is = refl }))
 
-refusal_answers : (r : Refusal) → IsPlain r → Answers (refusal_line r)
+-- and so is that of a plain refusal
+pub refusal_answers : (r : Refusal) → IsPlain r → Answers (refusal_line r)
 refusal_answers r plain = record {
   behind = λ rest. ap said_in (append_assoc (refusal_text r) (10 ∷ []) rest) ∙ refusals_are_one_reply.more (refusal_text r) rest plain.one_line plain.begins;
   before = λ count short.

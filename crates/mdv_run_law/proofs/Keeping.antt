@@ -26,6 +26,10 @@ pub record IsSatisfied (answer : Answer) : Type 0 where
   pub not_refused : answer ≡ refusing OutOfMemory → ⊥
   pub not_wanting : answer ≡ Over ended.Memory → ⊥
 
+-- one block from some on is that one
+pub put_at : (on first drive b : ℕ) → covers on first 1 drive b ≡ true → (drive ≡ on) × (b ≡ first + 0)
+put_at on first drive b is = (grind (arith, nat_tests), grind (arith, nat_tests))
+
 -- no call failed, on whichever drive
 abbrev pub NeverFailed : Outcomes → Type 0
 NeverFailed calls = (drive : ℕ) → (calls drive).some → ⊥
@@ -184,9 +188,6 @@ module _ (host : Host) where
 
   -- a write puts the same blocks
   module _ (place : DriveBlock) (block : List ℕ) (beside_home : area_of (site_of host) place.drive (place.block + 0) ≡ false) where
-    put_at : (on first drive b : ℕ) → covers on first 1 drive b ≡ true → (drive ≡ on) × (b ≡ first + 0)
-    put_at on first drive b is = (grind (arith, nat_tests), grind (arith, nat_tests))
-
     put_settled : (kept next : Kept) → next.memory.opened ≡ kept.memory.opened → Settled kept → ArePut place (block ∷ []) kept.content next.content → Settled next
     put_settled kept next opened settled put = there_settled kept next settled opened (λ b from to. there b (in_place host.home.drive.0 (site_of host).at.first (site_of host).at.place.blocks b from to)) where
       in_place : (drive first blocks b : ℕ) → first ≤ b → b < first + blocks → range drive first blocks drive b ≡ true
