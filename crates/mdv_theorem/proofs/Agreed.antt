@@ -1,5 +1,5 @@
 -- What a read tells of a block is what a read of an earlier run told of it, by which no call had failed on the block's drive, or was written in between.
-use Rattle.std.proofs.Common.{◌≡◌, inl, inr, ℕ, ◌+◌, true, false, List, [], ◌∷◌, ◌++◌, Some, Contains, refl, sym, ◌∙◌, ap, subst, append_assoc, if◌then◌else◌}
+use Rattle.std.proofs.Common.{◌≡◌, inl, inr, ℕ, ◌+◌, true, false, List, [], ◌∷◌, ◌++◌, Some, Contains, refl, sym, ◌∙◌, ap, subst, append_assoc, if◌then◌else◌, arith}
 use Rattle.std.proofs.lemmas.List.{append_cancel_left}
 use Rattle.std.proofs.lemmas.List.Elements.{Contains-append_cases}
 use Rattle.std.proofs.lemmas.Slice.Eq.{bytes_eq-Decides}
@@ -16,7 +16,6 @@ use Rattle.mdv_home.specs.declared.geometry.Home.{Home}
 use Rattle.mdv_home.proofs.Viewing.{view_is_own}
 use Rattle.mdv_map.specs.Maps.{run_map}
 use Rattle.mdv_name.specs.declared.geometry.Geometry.{Geometry}
-use Rattle.mdv_base.specs.declared.drive.SliceName.{SliceName}
 use Rattle.mdv_port.specs.Script.{Script}
 use Rattle.mdv_run_law.specs.Lives as life
 use Rattle.mdv_run_law.specs.Lives.{Life, Ran, host_of}
@@ -33,8 +32,8 @@ use Rattle.mdv_table.specs.declared.table.Table.{Table}
 use Rattle.mdv_words.proofs.Lines.{one_line}
 use Rattle.mdv_words.specs.Line.{Exec}
 use Rattle.mdv_words.specs.declared.command.Command.TheVariants.{Read, Write}
-use Rattle.mdv_theorem.specs.Exchanges.{Exchange, IsSameBlock, MayBeMade, MayBeWritten, TellsBlock, exchanges_by, exchanges_of}
-use Rattle.mdv_theorem.specs.Observed.{IsOrWasWritten, KeepsCopies, RunsAgree}
+use Rattle.mdv_theorem.specs.Exchanges.{Exchange, IsSameBlock, MayBeWritten, TellsBlock, exchanges_by, exchanges_of}
+use Rattle.mdv_theorem.specs.Observed.{Bears, IsOrWasWritten, RunsAgree}
 use Rattle.mdv_theorem.specs.Running.{Running, Runs, WentOn, exchanges_now, ran_on}
 use Rattle.mdv_theorem.proofs.Contents.{IsToldOf, told_block}
 use Rattle.mdv_theorem.proofs.Given.{Given}
@@ -194,7 +193,7 @@ module _ (given : Given) (drives : Geometry) (home : Home) (before more : List R
   abbrev pub since_then_are : RunsLeave drives home sound is_home given final volume number spot (ran_on run next went ∷ before) next more t
   since_then_are = since_then given drives home before script sound is_home run next went here rest behind read volume number old tells now so_went more t runs final spot (λ table is. (grown table is).0)
 
-  module _ (copies : (made : Exchange) (slice : SliceName) → Contains (exchanges_by home more ++ its_here) made → MayBeMade volume slice made → KeepsCopies run slice (number + 1)) where
+  module _ (bears : Bears run volume (exchanges_by home more ++ its_here) (number + 1)) where
     abbrev then_at : Tale
     then_at = tale_of (point given drives home before script sound is_home run next went here rest behind read volume number old tells now so_went).0
 
@@ -202,14 +201,17 @@ module _ (given : Given) (drives : Geometry) (home : Home) (before more : List R
     settled : (x : List ℕ) → MayLeave then_at told_again.drive (told_again.first + number) x → x ≡ last then_at told_again.drive (told_again.first + number)
     settled =
         let lies = lies_made drives home more other sound is_home later volume its_here again to told_again.newest told_again.opened (run_map told_again.drive told_again.first told_again.count) told_again.lies in
-        let kept = copies lies.made lies.slice lies.asked lies.may in
-        let on = (run_is told_again.drive told_again.first told_again.count lies.at.drive.0 lies.at.start lies.at.blocks lies.is).on_drive in
+        let place = run_is told_again.drive told_again.first told_again.count lies.at.drive.0 lies.at.start lies.at.blocks lies.is in
+        let on = place.on_drive in
+        let within = told_again.within in
+        let many = place.as_many in
+        let calm = bears.answered lies.slice lies.at lies.may lies.has (omega (arith, within, many)) in
         let is_own = ((view_is_own.seen drives home.host lies.slice lies.at).0 lies.has).1 in
         let out = subst (λ (d : ℕ). area_of (site_of (host_of drives home run.fresh)) d (told_again.first + number) ≡ false) on (spot_out drives home sound is_home final volume number spot) in
         let begun = run.moment.begins in
         subst (λ (d : ℕ). (x : List ℕ) → MayLeave then_at d (told_again.first + number) x → x ≡ last then_at d (told_again.first + number)) (sym on)
         (settled_there drives home before script sound is_home run here rest behind read (values_reply tells.at tells.blocks) tells.told went.m went.tells.bytes
-        from now begun.0 begun.1 lies.at.drive is_own (kept.answered lies.at lies.has) (told_again.first + number) out)
+        from now begun.0 begun.1 lies.at.drive is_own calm (told_again.first + number) out)
 
     -- so it has what the first read told as the run begins, or what a line since may have written
     was : IsOrWasWritten volume number old (behind ++ since_then_are.since) (contents later.t.tale told_again.drive (told_again.first + number))
@@ -234,11 +236,11 @@ same_since before here behind since its_here lines read is =
     cc (both)
 
 pub runs_agree : Given → RunsAgree
-runs_agree given drives home before more script other next t sound is_home run went runs later start read again here rest behind first earlier volume number old block now so_went is_first answered copies tells tells_again since parts =
+runs_agree given drives home before more script other next t is_home run went runs later start read again here rest behind first earlier volume number old block now so_went is_first answered bears tells tells_again since parts =
+    let sound = run.life.fair in
     let to = reached later answered.here answered.later again (values_reply tells_again.at tells_again.blocks) answered.is tells_again.told in
-    let copies_of : (made : Exchange) (slice : SliceName) → Contains (exchanges_by home more ++ answered.here) made → MayBeMade volume slice made → KeepsCopies run slice (number + 1) =
-    λ made slice has may. copies made slice (subst (λ (l : List Exchange). Contains l made) (sym answered.behind) has) may in
-    let done = agreed given drives home before more script other next t sound is_home run went runs later start here rest behind answered.here read again volume number old block tells tells_again now so_went to copies_of in
+    let bears_all : Bears run volume (exchanges_by home more ++ answered.here) (number + 1) = subst (λ (l : List Exchange). Bears run volume l (number + 1)) answered.behind bears in
+    let done = agreed given drives home before more script other next t sound is_home run went runs later start here rest behind answered.here read again volume number old block tells tells_again now so_went to bears_all in
     let after = since_then_are given drives home before more script other next t sound is_home run went runs later start here rest behind answered.here read again volume number old block tells tells_again now so_went to in
     let its_own : (bytes_eq home.host home.host) ≡ true = (bytes_eq-Decides home.host home.host).1 refl in
     let ran : exchanges_by home (ran_on run next went ∷ before) ≡ exchanges_by home before ++ (here ++ read ∷ behind) =

@@ -54,9 +54,9 @@ module _ (host : Host) (sound : IsSound host.drives) (sees : SeesHome host) (vol
     by (inr (one, new, has, may, reads)) = inr (one, new, has, may, is ∙ ap significant reads)
 
 pub reads_agree : ReadsAgree
-reads_agree = λ drives home before script sound is_home run read again first between later volume number old block parts tells tells_again.
+reads_agree = λ drives home before script is_home run read again first between later volume number old block parts tells tells_again.
     let host = host_of drives home run.fresh in
-    let own = own_sound drives home run.fresh sound in
+    let own = own_sound drives home run.fresh run.life.fair in
     let sees = sees_home drives home run.fresh is_home in
     let there = reached run (first ++ read ∷ between) later again (values_reply tells_again.at tells_again.blocks) parts tells_again.told in
     let cut = steps_cut host (Failed run) first (read ∷ between) there.first there.kept there.steps in

@@ -153,7 +153,7 @@ module _ (drives : Geometry) (home : Home) (before : List Ran) (script : Script)
     lie = lies_there drives home before script sound is_home run volume here (drive_failures run.start by.booted) by.kept place.at.kept by.boots Any place.upto its.newest its.opened (run_map its.drive its.first its.count) its.lies
 
     abbrev lies_on : MayLieOn drives (exchanges_by home before ++ here) volume
-    lies_on = record { made = lie.made; slice = lie.slice; asked = lie.asked; may = lie.may; at = lie.at; has = ((view_is_own.seen drives home.host lie.slice lie.at).0 lie.has).0 }
+    lies_on = record { slice = lie.slice; may = lie.may; at = lie.at; has = ((view_is_own.seen drives home.host lie.slice lie.at).0 lie.has).0 }
 
     held : run.made its.drive (its.first + number) ≡ run.made lie.at.drive.0 (lie.at.start + number)
     held =
@@ -175,10 +175,10 @@ module _ (drives : Geometry) (home : Home) (before : List Ran) (script : Script)
     block_begins = (lies_on, value)
 
 pub blocks_begin : Given → BlocksBegin
-blocks_begin given drives home before script sound is_home run read earlier volume number block answered tells =
+blocks_begin given drives home before script is_home run read earlier volume number block answered tells =
     subst (λ (l : List Exchange). (lies : MayLieOn drives l volume) × IsOrWasWritten volume number (run.made lies.at.drive.0 (lies.at.start + number)) l block) (sym answered.behind) (elim run.tells.tells [
       | inl none ↦
           absurd (unreplied script answered.here answered.later read (values_reply tells.at tells.blocks)
           (subst (λ (l : List (List ℕ)). exchanges script l ≡ answered.here ++ read ∷ answered.later) (ap replies_in none.0 ∙ nothing_answers) answered.is) tells.told)
-      | inr by ↦ block_begins drives home before script sound is_home run given read answered.here answered.later volume number block answered.is tells by
+      | inr by ↦ block_begins drives home before script run.life.fair is_home run given read answered.here answered.later volume number block answered.is tells by
     ])

@@ -20,6 +20,7 @@ use Rattle.mdv_replica.proofs.Newest.{newest_stays}
 use Rattle.mdv_run_law.specs.Run.{IsAnswered, IsSaid}
 use Rattle.mdv_run_law.proofs.Extents.{SeesHome, lies_beside, one_place}
 use Rattle.mdv_run_law.proofs.Placing.{opened_twice}
+use Rattle.mdv_run_law.proofs.Keeping.{put_at}
 use Rattle.mdv_shelf.specs.Tale.{covers}
 use Rattle.mdv_shelf.proofs.Blocks.{both_ways}
 use Rattle.mdv_store_law.specs.Site.{Newest, area_of}
@@ -36,7 +37,7 @@ use Rattle.mdv_words.specs.Line.{IsLine}
 use Rattle.mdv_words.specs.declared.command.Command.TheVariants.{Read, Write}
 use Rattle.mdv_theorem.specs.Exchanges.{Exchange, IsAcknowledged, IsSameBlock, IsTold, MayBeWritten, MayHaveBegun, TellsBlock}
 use Rattle.mdv_theorem.proofs.Steps.{Steps, no_step, one_step, skipped, told_once}
-use Rattle.mdv_theorem.proofs.Tables.{never_clean, put_at, IsCarried, Keeps, Offers, OpenLine, ShutLine, booted, created, falls, fell, granted_done, idle, keeps_line, keeps_steps, map_carried, off, open_line, rests, shut_line, up, writes}
+use Rattle.mdv_theorem.proofs.Tables.{never_clean, IsCarried, Keeps, Offers, OpenLine, ShutLine, booted, created, falls, fell, granted_done, idle, keeps_line, keeps_steps, map_carried, off, open_line, rests, shut_line, up, writes}
 use Rattle.mdv_theorem.proofs.Telling.{is_fault, ok_is_none, one_number}
 
 -- a write that was told ok, or that a call failed, may have begun

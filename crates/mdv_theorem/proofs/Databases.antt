@@ -1,5 +1,5 @@
 -- A database whose creation was told `ok` stays: it is open behind any further lines of the host, and none of them is told that there is none.
-use Rattle.std.proofs.Common.{◌≡◌, inl, inr, ℕ, Bool, not, ◌&&◌, ◌+◌, List, [], ◌++◌, Option, Some, None, All, Contains, sym, ap, subst, arith}
+use Rattle.std.proofs.Common.{◌≡◌, inl, inr, ℕ, Bool, not, ◌&&◌, ◌+◌, List, [], ◌++◌, Option, Some, None, All, Contains, sym, ◌∙◌, ap, subst, arith}
 use Rattle.std.proofs.lemmas.List.Elements.{All-append, All-cons, All-nil, Contains-append_cases}
 use Rattle.std.specs.List.{find}
 use Rattle.std.specs.Option.{is_some}
@@ -27,7 +27,7 @@ use Rattle.mdv_theorem.specs.Running.{HasAnswered, Running}
 use Rattle.mdv_theorem.proofs.Aside.{IsAside, change_aside, commanded, told_as, where_all}
 use Rattle.mdv_theorem.proofs.Found.{created_found}
 use Rattle.mdv_theorem.proofs.Living.{lived_life}
-use Rattle.mdv_theorem.proofs.Parting.{cut}
+use Rattle.mdv_theorem.proofs.Parting.{cut, cut_has}
 use Rattle.mdv_theorem.proofs.Staying.{Passed, found_open, its_home, its_sound, passed}
 use Rattle.mdv_theorem.proofs.Steps.{Failed, Reached, reached, told_once}
 use Rattle.mdv_theorem.proofs.Tables.{granted_done, open_on, opened_steps}
@@ -118,9 +118,11 @@ module _ (drives : Geometry) (home : Home) (before : List Ran) (script : Script)
     ]
 
 pub databases_stay : DatabasesStay
-databases_stay drives home before script sound is_home run calm one made earlier slice force command answered has asks_made told_made asks refusal told is =
+databases_stay drives home before script is_home run calm one earlier command answered has asks refusal told is =
+    let sound = run.life.fair in
     let at = reached run answered.here answered.later one (refusal_line refusal) answered.is told in
-    let there = stays_open drives home before script sound is_home run calm made slice force asks_made told_made answered.here one at (subst (λ (l : List Exchange). Contains l made) answered.behind has) in
+    let among = subst (λ (l : List Exchange). Contains l has.made) (sym has.parts ∙ answered.behind) (cut_has has.before has.behind has.made) in
+    let there = stays_open drives home before script sound is_home run calm has.made has.slice has.force has.asks has.told answered.here one at among in
     let its_host = host_of drives home run.fresh in
     let other : IsElse refusal = told_as IsElseNumber (omega arith) (omega arith) at.calls its_host at.kept at.next command (refused_else (case_of its_host at.kept) there.0 there.1 command) at.answer at.said refusal
     (told_once one (text_of at.answer) (refusal_line refusal) at.told told) (commanded at.calls its_host at.kept at.next one.text command at.answer asks at.comes) in

@@ -59,7 +59,7 @@ use Rattle.mdv_words.specs.Line.{Exec}
 use Rattle.mdv_words.specs.declared.command.Command.{Command}
 use Rattle.mdv_words.specs.declared.command.Command.TheVariants as command
 use Rattle.mdv_theorem.specs.Exchanges.{Asks, Exchange, IsGranted, IsOn, IsTold, exchanges_by}
-use Rattle.mdv_theorem.proofs.Changes.{made_has}
+use Rattle.mdv_theorem.proofs.Changes.{HasStripe, made_has, stripe}
 use Rattle.mdv_theorem.proofs.Lined.{AreLined, AreOfReply, AreReplied, host, lined_at, runs_lined}
 use Rattle.mdv_theorem.proofs.Lines.{never_in, values_want}
 use Rattle.mdv_theorem.proofs.Parting.{cut}
@@ -304,17 +304,17 @@ module _ (drives : Geometry) (home : Home) (made : Image) (before : List Ran) (t
   pub created_found : (one : Exchange) (slice : SliceName) (force : Bool) → Contains (exchanges_by home before) one → Asks one (command.Create slice force) → IsTold one ok_line → IsFound place held None → ⊥
   created_found one slice force has asks told = told_found None (log_told None (deed_among one (command.Create slice force) (Created own_key) refl has asks told))
 
-  made_found : (one : Exchange) (volume : VolId) (slice : SliceName) → Contains (exchanges_by home before) one → Asks one (command.MakeStripe volume slice) → IsTold one ok_line → IsFoundWith drives home t (HasMap volume)
-  made_found one volume slice has asks told =
+  -- So is a volume whose making was told, on the slice that was named.
+  pub stripe_found : (one : Exchange) (volume : VolId) (slice : SliceName) → Contains (exchanges_by home before) one → Asks one (command.MakeStripe volume slice) → IsTold one ok_line → IsFoundWith drives home t (HasStripe own.drives volume slice)
+  stripe_found one volume slice has asks told =
       let change = MakeStripe volume slice in
       let found = change_found change (deed_among one (command.MakeStripe volume slice) (Changed own_key change) refl has asks told) in
-      (found.0, λ table is. table_has table volume slice is (found.1 table is))
-    where
-      table_has : (table : Table) (other : VolId) (there : SliceName) → Found drives home t table → HasChange (MakeStripe other there) table → HasMap other table
-      table_has table other there is made =
-          let has = made_has own.drives made.0 table other there made.1 made.2 in
-          let lies = tables_lie.some own.drives table has.0 is.has.is.of_geometry has.1.0 in
-          (lies.0, subst (λ (n : VolId). IsMapOf own.drives table n lies.0) has.1.1 lies.1)
+      (found.0, λ table is. (let made = found.1 table is in made_has own.drives made.0 table volume slice made.1 made.2))
+
+  made_found : (one : Exchange) (volume : VolId) (slice : SliceName) → Contains (exchanges_by home before) one → Asks one (command.MakeStripe volume slice) → IsTold one ok_line → IsFoundWith drives home t (HasMap volume)
+  made_found one volume slice has asks told =
+      let found = stripe_found one volume slice has asks told in
+      (found.0, λ table is. tables_lie.some own.drives table (stripe own.drives volume slice) is.has.is.of_geometry (found.1 table is))
 
   -- A volume that was shown to be there is found: there is a database, and each table that may be found of it has the volume.
   pub shown_found : (one : Exchange) (volume : VolId) (spelled : Command) → Contains (exchanges_by home before) one → Asks one spelled → IsOn volume spelled → IsGranted one spelled → IsFoundWith drives home t (HasMap volume)

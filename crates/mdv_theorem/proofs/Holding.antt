@@ -3,7 +3,7 @@ use Rattle.std.proofs.Common.{◌≡◌, inl, inr, ℕ, false, List, [], Some, N
 use Rattle.mdv_engine_law.specs.Answers.{accepted}
 use Rattle.mdv_shelf.specs.Failing.{Outcomes}
 use Rattle.mdv_engine_law.specs.Line as boot
-use Rattle.mdv_engine_law.specs.Line.{IsRebooted, IsSame, Kept, Memory, Stays, on_site}
+use Rattle.mdv_engine_law.specs.Line.{IsRebooted, Kept, Memory, Stays, on_site}
 use Rattle.mdv_engine_law.specs.Replies.{ok_line, text_of}
 use Rattle.mdv_engine_law.specs.declared.answer.Answer.{Answer}
 use Rattle.mdv_replica.proofs.Newest.{newest_stays}

@@ -114,7 +114,8 @@ module _ (drives : Geometry) (home : Home) (before : List Ran) (script : Script)
       (λ same. is.4 x (subst (λ (v : Map). Among (readings v (contents run.t.tale) number) x) (sym same) (inl refl)))
 
 pub writes_last : WritesLast
-writes_last drives home before script sound is_home run read write earlier first between volume number old block answered stands acknowledged tells =
+writes_last drives home before script is_home run read write earlier first between volume number old block answered stands acknowledged tells =
+    let sound = run.life.fair in
     let at = reached run answered.here answered.later read (values_reply tells.at tells.blocks) answered.is tells.told in
     elim (parts (exchanges_by home before) answered.here first between write (sym answered.behind ∙ stands)) [
       | in_first rest is behind ↦

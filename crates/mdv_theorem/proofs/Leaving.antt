@@ -21,6 +21,7 @@ use Rattle.mdv_name.specs.declared.geometry.Geometry.{Geometry}
 use Rattle.mdv_run_law.specs.Lives.{host_of}
 use Rattle.mdv_run_law.specs.Run.{IsQuiet, IsSaid, TextWrites}
 use Rattle.mdv_run_law.proofs.Extents.{lies_beside, one_place}
+use Rattle.mdv_run_law.proofs.Keeping.{put_at}
 use Rattle.mdv_shelf.specs.Area.{IsKept, KeptOutside, nowhere}
 use Rattle.mdv_shelf.specs.Tale.{MayLeave, Tale, covers}
 use Rattle.mdv_shelf.proofs.Blocks.{both_ways}
@@ -39,7 +40,7 @@ use Rattle.mdv_words.specs.declared.command.Command.TheVariants as command
 use Rattle.mdv_theorem.specs.Exchanges.{Asks, Exchange, IsTold, MayBeWritten, MayHaveBegun}
 use Rattle.mdv_theorem.proofs.Agreeing.{own_sound, sees_home}
 use Rattle.mdv_theorem.proofs.Steps.{told_once}
-use Rattle.mdv_theorem.proofs.Tables.{Grows, put_at}
+use Rattle.mdv_theorem.proofs.Tables.{Grows}
 use Rattle.mdv_theorem.proofs.Telling.{entries_are_none, is_fault, ok_is_none, one_number, values_are_none}
 
 -- a refusal for another cause than a failed call, or that one

@@ -1,32 +1,43 @@
--- Where a volume lies that a line of a run finds in the open table: on the slice on which a line before it may have made it.
-use Rattle.std.proofs.Common.{◌≡◌, ℕ, ◌+◌, List, [], ◌++◌, Some, All, Contains, ◌∙◌, ap, subst, arith}
-use Rattle.std.proofs.lemmas.List.Elements.{All-contains, Contains-append_left, Contains-append_right}
+-- Where a volume lies that a line of a run finds in the open table: on the slice on which a line before it may have made it, and on which each line made it that was told `ok`.
+use Rattle.std.proofs.Common.{◌≡◌, inl, inr, ℕ, List, [], ◌∷◌, ◌++◌, Some, Contains, refl, sym, ◌∙◌, ap, subst}
+use Rattle.std.proofs.lemmas.List.Elements.{Contains-append_cases, Contains-append_left, Contains-append_right}
 use Rattle.mdv_engine_law.specs.Answers.{accepted}
-use Rattle.mdv_shelf.specs.Failing.{Outcomes}
-use Rattle.mdv_engine_law.specs.Line.{IsRebooted, Kept, contents}
+use Rattle.mdv_engine_law.specs.Commands.{Effect, IsAllowed, case_of}
+use Rattle.mdv_engine_law.specs.Line.{IsRebooted, Kept, Memory, contents}
+use Rattle.mdv_engine_law.specs.Replies.{ok_line}
+use Rattle.mdv_engine_law.specs.declared.answer.Answer.{Answer}
+use Rattle.mdv_engine_law.proofs.Volumes.{one_volume}
 use Rattle.mdv_home.specs.Home.{IsHome}
 use Rattle.mdv_home.specs.declared.geometry.Home.{Home}
-use Rattle.mdv_name.specs.SliceIndex.{HasSlice, slice_at}
+use Rattle.mdv_name.specs.SliceIndex.{HasSlice}
 use Rattle.mdv_name.specs.declared.geometry.Geometry.{Geometry}
 use Rattle.mdv_name.specs.declared.slice_lines.SliceAt.{SliceAt}
 use Rattle.mdv_port.specs.Script.{Script}
-use Rattle.mdv_run_law.specs.Below.{Host, IsSound, Map, Newest, SliceName, Table, VolId, Volume, run_map, stripe_on, with_volume}
+use Rattle.mdv_run_law.specs.Below.{Host, IsSound, Map, Newest, SliceName, Table, VolId, Volume, run_map}
 use Rattle.mdv_run_law.specs.Lives.{Ran, host_of}
 use Rattle.mdv_run_law.specs.Run.{started}
-use Rattle.mdv_table.specs.Change.{IsAfter, blocks_at}
+use Rattle.mdv_run_law.proofs.Extents.{SeesHome}
+use Rattle.mdv_shelf.specs.Failing.{Outcomes}
+use Rattle.mdv_store_law.specs.Steps.{next_newest}
+use Rattle.mdv_table.specs.Change.{IsAfter, table_after}
+use Rattle.mdv_table.specs.Volumes.{HasVolume}
 use Rattle.mdv_table.specs.declared.change.Change.TheVariants.{MakeStripe}
 use Rattle.mdv_table.specs.declared.plan.Plan.{Plan}
-use Rattle.mdv_table.proofs.Ascending.{All-with}
 use Rattle.mdv_volumes.specs.Tables.{IsKindMap, IsMapOf}
-use Rattle.mdv_theorem.specs.Exchanges.{Exchange, MayBeMade, exchanges_by}
+use Rattle.mdv_words.specs.declared.command.Command.TheVariants as command
+use Rattle.mdv_theorem.specs.Exchanges.{Asks, Exchange, IsTold, MayBeMade, exchanges_by}
 use Rattle.mdv_theorem.specs.Running.{Running}
-use Rattle.mdv_theorem.proofs.Found.{Found}
+use Rattle.mdv_theorem.specs.Words.{MayLie}
+use Rattle.mdv_theorem.proofs.Changes.{HasStripe, has_new, one_slice, stripe, stripe_map, stripe_stays, was_there}
+use Rattle.mdv_theorem.proofs.Found.{Found, stripe_found}
 use Rattle.mdv_theorem.proofs.Holding.{holds_boot, holds_steps, open_holds}
+use Rattle.mdv_theorem.proofs.Lines.{never_in}
 use Rattle.mdv_theorem.proofs.Living.{lived_life}
 use Rattle.mdv_theorem.proofs.Makings.{table_made}
-use Rattle.mdv_theorem.proofs.Reading.{all_of, blocks_there, same_run}
+use Rattle.mdv_theorem.proofs.Parting.{cut}
 use Rattle.mdv_theorem.proofs.Staying.{its_home, its_sound}
-use Rattle.mdv_theorem.proofs.Steps.{Failed, Reached, Steps}
+use Rattle.mdv_theorem.proofs.Steps.{Failed, Reached, Steps, stepped, steps_cut}
+use Rattle.mdv_theorem.proofs.Tables.{IsCarried, Keeps, Offers, granted_done, keeps_boot, keeps_steps, open_keeps, up}
 
 module _ (drives : Geometry) (home : Home) (before : List Ran) (script : Script) (sound : IsSound drives) (is_home : IsHome drives home) (run : Running drives home before script) (volume : VolId) where
   abbrev host : Host
@@ -36,62 +47,107 @@ module _ (drives : Geometry) (home : Home) (before : List Ran) (script : Script)
   host_sound = its_sound drives home before script sound is_home run
 
   module _ (all : List Exchange) where
-    -- a slice on which one of these lines may have made the volume, of which the map has each block
+    -- it is on a slice on which one of these lines may have made it
+    record IsMadeOn (of : Volume) : Type 0 where
+      made : Exchange
+      slice : SliceName
+      asked : Contains all made
+      may : MayBeMade volume slice made
+      is : of ≡ stripe host.drives volume slice
+
+    abbrev AllMade : Table → Type 0
+    AllMade table = (of : Volume) → HasVolume table.plan.volumes volume of → IsMadeOn of
+
+    fresh_made : (table : Table) → table.plan.volumes ≡ [] → AllMade table
+    fresh_made table none of has = absurd (never_in of (subst (λ (l : List Volume). Contains l of) none has.0))
+
+    changed_made : (old next : Table) (other : VolId) (slice : SliceName) (one : Exchange) → Contains all one → MayBeMade other slice one → IsAfter host.drives (MakeStripe other slice) old.plan next.plan → AllMade old → AllMade next
+    changed_made old next other slice one asked may after good of has =
+        elim (was_there (stripe host.drives other slice) old.plan.volumes of (subst (λ (p : Plan). Contains p.volumes of) after.1 has.0)) [
+          | inl new ↦
+              let same : other ≡ volume = sym (ap (λ (w : Volume). w.number) new) ∙ has.1 in
+              record { made = one; slice = slice; asked = asked; may = subst (λ (n : VolId). MayBeMade n slice one) same may; is = new ∙ ap (λ (n : VolId). stripe host.drives n slice) same }
+          | inr there ↦ good of (there, has.1)
+        ]
+
+    -- so it is in each table that is found as the run begins
+    found_made : ((one : Exchange) → Contains (exchanges_by home before) one → Contains all one) → (table : Table) → Found drives home run.t.tale table → AllMade table
+    found_made among table found of has =
+        let made = table_made drives home run.made before run.t.tale sound is_home (lived_life drives run.made before run.t.tale run.life) table found volume of has in
+        record { made = made.0; slice = made.1; asked = among made.0 made.2; may = made.3; is = made.4 }
+
+    -- a slice on which it may lie, and of which the map has each block
     pub record LiesOn (v : Map) : Type 0 where
-      pub made : Exchange
       pub slice : SliceName
-      pub asked : Contains all made
-      pub may : MayBeMade volume slice made
+      pub may : MayLie volume slice all
       pub at : SliceAt
       pub has : HasSlice host.drives.slices slice at
       pub is : v ≡ run_map at.drive.0 at.start at.blocks
 
-    -- the volume lies on one, if the table has it
-    abbrev AllLie : Table → Type 0
-    AllLie table = (v : Map) → IsMapOf host.drives table volume v → LiesOn v
+  -- a making that was done
+  made_kept : (slice : SliceName) (mid next : Kept) (answer : Answer) → IsAllowed (case_of host mid) (command.MakeStripe volume slice) × Effect host mid (command.MakeStripe volume slice) answer next → Keeps host (HasStripe host.drives volume slice) next
+  made_kept slice mid next answer (free, (ok, its, opened, less, made)) =
+      up (next_newest its (table_after host.drives (MakeStripe volume slice) its.table)) (ap (λ (m : Memory). m.opened) made.memory) made.head made.content (has_new (stripe host.drives volume slice) its.table.plan.volumes)
 
-    fresh_lie : (table : Table) → table.plan.volumes ≡ [] → AllLie table
-    fresh_lie table none v lies = (let never = (subst (λ (l : List Volume). Contains l lies.of) none lies.has.0).1 in absurd (omega (arith, never)))
+  -- behind these lines
+  module _ (here : List Exchange) (booted : Outcomes) (first kept : Kept) (boots : IsRebooted booted host (started (contents run.t.tale)) accepted first) (Fails : ℕ → Type 0) (steps : Steps host Fails first here kept) where
+    abbrev lines : List Exchange
+    lines = exchanges_by home before ++ here
 
-    made_lies : (other : VolId) (slice : SliceName) (one : Exchange) → Contains all one → MayBeMade other slice one → other ≡ volume → (v : Map) → IsKindMap host.drives (stripe_on other slice (blocks_at (slice_at host.drives.slices slice))).kind v → LiesOn v
-    made_lies other slice one has made same v lies =
-        let blocks = blocks_there host.drives slice lies.0 host_sound lies.1 in
-        let start : lies.0.start + 0 ≡ lies.0.start = omega arith in
-        record {
-          made = one;
-          slice = slice;
-          asked = has;
-          may = subst (λ (n : VolId). MayBeMade n slice one) same made;
-          at = lies.0;
-          has = lies.1;
-          is = lies.2 ∙ same_run lies.0.drive.0 lies.0.start (lies.0.start + 0) _ lies.0.blocks start blocks;
-        }
+    abbrev sees : SeesHome host
+    sees = its_home drives home before script sound is_home run
 
-    changed_lie : (old new : Table) (other : VolId) (slice : SliceName) (one : Exchange) → Contains all one → MayBeMade other slice one → IsAfter host.drives (MakeStripe other slice) old.plan new.plan → AllLie old → AllLie new
-    changed_lie old new other slice one has made after good v lies =
-        let P : Volume → Type 0 = λ w. w.number ≡ volume → IsKindMap host.drives w.kind v → LiesOn v in
-        let stripe : Volume = stripe_on other slice (blocks_at (slice_at host.drives.slices slice)) in
-        let others : All P old.plan.volumes = all_of P old.plan.volumes (λ w there number kind. good v (record { of = w; has = (there, number); kind = kind })) in
-        let every : All P (with_volume stripe old.plan.volumes) = All-with P stripe old.plan.volumes (λ number kind. made_lies other slice one has made number v kind) others in
-        let volumes : new.plan.volumes ≡ with_volume stripe old.plan.volumes = ap (λ (p : Plan). p.volumes) after.1 in
-        All-contains P (with_volume stripe old.plan.volumes) lies.of every (subst (λ (l : List Volume). Contains l lies.of) volumes lies.has.0) lies.has.1 lies.kind
+    module _ (slice : SliceName) where
+      abbrev Made_there : Table → Type 0
+      Made_there = HasStripe host.drives volume slice
 
-    -- so it does in each table that is found as the run begins
-    found_lie : ((one : Exchange) → Contains (exchanges_by home before) one → Contains all one) → (table : Table) → Found drives home run.t.tale table → AllLie table
-    found_lie among table found v lies =
-        let made = table_made drives home run.made before run.t.tale sound is_home (lived_life drives run.made before run.t.tale run.life) table found volume v lies in
-        record { made = made.0; slice = made.1; asked = among made.0 made.2; may = made.3; at = made.4; has = made.5; is = made.6 }
+      carried : IsCarried host.drives Made_there
+      carried = stripe_stays host.drives volume slice
 
-  -- and in the open one, behind these lines
-  pub lies_there : (here : List Exchange) (booted : Outcomes) (first kept : Kept) → IsRebooted booted host (started (contents run.t.tale)) accepted first → (Fails : ℕ → Type 0) → Steps host Fails first here kept → (newest : Newest) → kept.memory.opened ≡ Some newest
-      → (v : Map) → IsMapOf host.drives newest.table volume v → LiesOn (exchanges_by home before ++ here) v
-  lies_there here booted first kept boots Fails steps newest opened v lies =
-      let all : List Exchange = exchanges_by home before ++ here in
-      let sees = its_home drives home before script sound is_home run in
-      let up = holds_boot host host_sound sees (AllLie all) booted (started (contents run.t.tale)) first accepted
-      (λ head slot mark table replica newer is. found_lie all (λ e has. Contains-append_left (exchanges_by home before) here e has) table (record { head = head; slot = slot; mark = mark; its_replica = replica; newest = newer; has = is })) boots tt in
-      let now = holds_steps host host_sound sees (AllLie all) (fresh_lie all) (Contains all) (changed_lie all) Fails first kept here (λ e has. Contains-append_right (exchanges_by home before) here e has) up steps in
-      open_holds host (AllLie all) kept newest opened now v lies
+      -- a making that an earlier run told of
+      by_earlier : (other : Exchange) → Contains (exchanges_by home before) other → Asks other (command.MakeStripe volume slice) → IsTold other ok_line → Keeps host Made_there kept
+      by_earlier other old asks told =
+          let found = stripe_found drives home run.made before run.t.tale sound is_home (lived_life drives run.made before run.t.tale run.life) other volume slice old asks told in
+          let offers : Offers host Made_there (contents run.t.tale) = record {
+            found = found.0;
+            each = λ head slot mark table replica newest is. found.1 table (record { head = head; slot = slot; mark = mark; its_replica = replica; newest = newest; has = is });
+          } in
+          keeps_steps host host_sound sees Made_there carried Fails first kept here (keeps_boot host host_sound sees Made_there booted (started (contents run.t.tale)) first accepted offers boots tt) steps
+
+      -- or this one
+      by_here : (other : Exchange) → Contains here other → Asks other (command.MakeStripe volume slice) → IsTold other ok_line → Keeps host Made_there kept
+      by_here other new asks told =
+          let c = cut here other new in
+          let parts = steps_cut host Fails c.front (other ∷ c.rest) first kept (subst (λ (l : List Exchange). Steps host Fails first l kept) c.is steps) in
+          let step = stepped host Fails parts.0 kept other c.rest parts.2 in
+          let done = granted_done host step.calls step.kept step.mid other step.answer step.comes step.said step.told (command.MakeStripe volume slice) asks told in
+          keeps_steps host host_sound sees Made_there carried Fails step.mid kept c.rest (made_kept slice step.kept step.mid step.answer done) step.after
+
+      -- the table that is open has the volume there
+      made_stays : (other : Exchange) → Contains lines other → Asks other (command.MakeStripe volume slice) → IsTold other ok_line → Keeps host Made_there kept
+      made_stays other has asks told = elim (Contains-append_cases (exchanges_by home before) here other has) [ inl old ↦ by_earlier other old asks told | inr new ↦ by_here other new asks told ]
+
+    -- each volume of the open table
+    now_made : (newest : Newest) → kept.memory.opened ≡ Some newest → AllMade lines newest.table
+    now_made newest opened =
+        let from_boot = holds_boot host host_sound sees (AllMade lines) booted (started (contents run.t.tale)) first accepted
+        (λ head slot mark table replica newer is. found_made lines (λ e has. Contains-append_left (exchanges_by home before) here e has) table (record { head = head; slot = slot; mark = mark; its_replica = replica; newest = newer; has = is })) boots tt in
+        let now = holds_steps host host_sound sees (AllMade lines) (fresh_made lines) (Contains lines) (changed_made lines) Fails first kept here (λ e has. Contains-append_right (exchanges_by home before) here e has) from_boot steps in
+        open_holds host (AllMade lines) kept newest opened now
+
+    -- it is on one slice, on which each line made it that was told `ok`
+    only_there : (newest : Newest) → kept.memory.opened ≡ Some newest → (of : Volume) (slice : SliceName) → HasVolume newest.table.plan.volumes volume of → of ≡ stripe host.drives volume slice → (other : Exchange) (elsewhere : SliceName) → Contains lines other
+        → Asks other (command.MakeStripe volume elsewhere) → IsTold other ok_line → elsewhere ≡ slice
+    only_there newest opened of slice has is other elsewhere among asks told =
+        let there = open_keeps host (HasStripe host.drives volume elsewhere) kept newest (made_stays elsewhere other among asks told) opened in
+        let same = one_volume newest.table.plan.volumes volume (stripe host.drives volume elsewhere) of there.1.numbers.ascending (there.0, refl) has in
+        one_slice host.drives volume elsewhere slice (same ∙ is)
+
+    pub lies_there : (newest : Newest) → kept.memory.opened ≡ Some newest → (v : Map) → IsMapOf host.drives newest.table volume v → LiesOn lines v
+    lies_there newest opened v lies =
+        let made = now_made newest opened lies.of lies.has in
+        let at = stripe_map host.drives volume made.slice v host_sound (subst (λ (w : Volume). IsKindMap host.drives w.kind v) made.is lies.kind) in
+        record { slice = made.slice; may = record { made = made.made; asked = made.asked; may = made.may; only = only_there newest opened lies.of made.slice lies.has made.is }; at = at.0; has = at.1; is = at.2 }
 
   -- where the run has come to a line
   pub lies_made : (here : List Exchange) (one : Exchange) (at : Reached run here one) (newest : Newest) → at.kept.memory.opened ≡ Some newest → (v : Map) → IsMapOf host.drives newest.table volume v → LiesOn (exchanges_by home before ++ here) v

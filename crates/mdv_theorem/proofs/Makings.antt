@@ -9,11 +9,7 @@ use Rattle.mdv_engine_law.specs.declared.host.Host.{Host}
 use Rattle.mdv_engine_law.proofs.Sites.{own_site}
 use Rattle.mdv_home.specs.Home.{IsHome}
 use Rattle.mdv_home.specs.declared.geometry.Home.{Home}
-use Rattle.mdv_home.proofs.Viewing.{view_is_own}
-use Rattle.mdv_map.specs.Maps.{Map, run_map}
-use Rattle.mdv_name.specs.SliceIndex.{HasSlice}
 use Rattle.mdv_name.specs.declared.geometry.Geometry.{Geometry}
-use Rattle.mdv_name.specs.declared.slice_lines.SliceAt.{SliceAt}
 use Rattle.mdv_run_law.specs.Lives.{Life, Ran, changes_in}
 use Rattle.mdv_run_law.proofs.Deeds.{part_contains}
 use Rattle.mdv_shelf.specs.Everywhere.{Image}
@@ -26,16 +22,17 @@ use Rattle.mdv_store_law.proofs.Orders.{all_written}
 use Rattle.mdv_table.specs.Slices.{IsSound}
 use Rattle.mdv_table.specs.declared.change.Change.{Change}
 use Rattle.mdv_table.specs.declared.change.Change.TheVariants.{MakeStripe}
+use Rattle.mdv_table.specs.Volumes.{HasVolume}
 use Rattle.mdv_table.specs.declared.table.Table.{Table}
+use Rattle.mdv_table.specs.declared.volume.Volume.{Volume}
 use Rattle.mdv_volumes.specs.Databases.{same_key}
 use Rattle.mdv_volumes.specs.Happening.{issued_by}
 use Rattle.mdv_volumes.specs.History.{Changed, Created, Deed, Event, Saw, Wrote}
-use Rattle.mdv_volumes.specs.Tables.{IsMapOf}
 use Rattle.mdv_volumes.proofs.Databases.{key_is}
 use Rattle.mdv_volumes.proofs.Keys.{databases_live}
 use Rattle.mdv_volumes.proofs.Lists.{contains_behind, contains_first, first_or_behind}
 use Rattle.mdv_theorem.specs.Exchanges.{Exchange, MayBeMade, exchanges_by}
-use Rattle.mdv_theorem.proofs.Changes.{made_by}
+use Rattle.mdv_theorem.proofs.Changes.{made_by, stripe}
 use Rattle.mdv_theorem.proofs.Found.{Found, found_is, database, es, events, its, its_log, key, lined, log_course}
 use Rattle.mdv_theorem.proofs.Lined.{host, lined_begins}
 use Rattle.mdv_theorem.proofs.Lines.{never_in}
@@ -98,15 +95,15 @@ module _ (drives : Geometry) (home : Home) (made : Image) (before : List Ran) (t
       let is_log = ((its drives home made before t sound is_home life).history.stands.stands.databases its_key _ (own_site own)).is_log in
       All-contains (λ (w : Version). AreMade own.drives w.changes w.table) its_database.family v is_log.made one_of
 
-  -- Each volume of a table that is found was made by a line of these runs, or may have been; and it lies on the blocks of the slice that the line names.
-  pub table_made : (table : Table) → Found drives home t table → (volume : VolId) (v : Map) → IsMapOf own.drives table volume v
-      → (one : Exchange) × (slice : SliceName) × Contains (exchanges_by home before) one × MayBeMade volume slice one × (at : SliceAt) × HasSlice own.drives.slices slice at × (v ≡ run_map at.drive.0 at.start at.blocks)
-  table_made table found volume v map =
+  -- Each volume of a table that is found was made by a line of these runs, or may have been; and it is on the slice that the line names.
+  pub table_made : (table : Table) → Found drives home t table → (volume : VolId) (of : Volume) → HasVolume table.plan.volumes volume of
+      → (one : Exchange) × (slice : SliceName) × Contains (exchanges_by home before) one × MayBeMade volume slice one × (of ≡ stripe own.drives volume slice)
+  table_made table found volume of has =
       let is = found_is drives home made before t sound is_home life table found in
       let version = is.version in
       let one_of = is.found.0 in
-      let there = subst (λ (b : Table). IsMapOf own.drives b volume v) (sym is.is_table) map in
-      let lies = made_by own.drives version.changes version.table volume v (view_is_own.sound drives home.host sound) (version_made version one_of) there in
-      let begun = change_begun version one_of (MakeStripe volume lies.slice) lies.change in
-      let came = lined_begins drives home (exchanges_by home before) all (lined drives home made before t sound is_home life) (Changed its_key (MakeStripe volume lies.slice)) begun in
-      (came.0, lies.slice, came.1, came.2, lies.at, lies.has, lies.map)
+      let there = subst (λ (b : Table). HasVolume b.plan.volumes volume of) (sym is.is_table) has in
+      let by = made_by own.drives version.changes version.table volume of (version_made version one_of) there in
+      let begun = change_begun version one_of (MakeStripe volume by.slice) by.change in
+      let came = lined_begins drives home (exchanges_by home before) all (lined drives home made before t sound is_home life) (Changed its_key (MakeStripe volume by.slice)) begun in
+      (came.0, by.slice, came.1, came.2, by.is)

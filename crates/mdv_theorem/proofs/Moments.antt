@@ -1,11 +1,12 @@
--- Each moment at which the contract of a run says what was told is one that the run's other moments are shown by, and wherever it is stopped it is one more run of its life.
+-- Each moment at which the contract of a run says what was told is one that the run's other moments are shown by, and wherever it is stopped it is one more run of its life. From one such
+-- moment it went on to another.
 use Rattle.std.proofs.Common.{◌≡◌, refl, ℕ, List, [], ◌∷◌, Some, sym, ◌∙◌, subst}
 use Rattle.std.proofs.lemmas.List.{append_cancel_left}
 use Rattle.mdv_home.specs.Home.{IsHome}
 use Rattle.mdv_home.specs.declared.geometry.Home.{Home}
 use Rattle.mdv_name.specs.declared.geometry.Geometry.{Geometry}
 use Rattle.mdv_port.specs.Script.{Script}
-use Rattle.mdv_run_law.specs.Lives.{Ran, host_of}
+use Rattle.mdv_run_law.specs.Lives.{MayBeFound, Ran, host_of}
 use Rattle.mdv_run_law.specs.Run.{AreShown, At, Counts, IsShown, Stretch}
 use Rattle.mdv_run_law.specs.Standing.{RunMoment}
 use Rattle.mdv_run_law.specs.Told.{IsToldBy}
@@ -15,7 +16,7 @@ use Rattle.mdv_shelf.specs.Moments.{During}
 use Rattle.mdv_shelf.specs.Story.{AtEach, AtMarks, Mark, Moment, OfTales, Passed, Story, Tally, marked, moment_at, tale_of}
 use Rattle.mdv_shelf.proofs.Stories.{at_marks_both, each_both, passed_weaker, same_marks}
 use Rattle.mdv_store_law.specs.Laws.{restarted}
-use Rattle.mdv_theorem.specs.Running.{IsMomentOf, Lived, LivesOn, Runs, RunsLiveOn, run_on}
+use Rattle.mdv_theorem.specs.Running.{IsMomentOf, Lived, LivesOn, Running, Runs, RunsGoOn, RunsLiveOn, WentOn, ran_now, ran_on, run_on}
 
 -- what each of these says of a moment, all of them say
 during_all : {I : Type 0} (Q : I → Tale → Type 0) (t : Tale) (call : Call) → ((i : I) → During (Q i) t call) → During (λ m. (i : I) → Q i m) t call
@@ -69,15 +70,20 @@ module _ (drives : Geometry) (home : Home) (made : Image) (before : List Ran) (f
   abbrev Says : Moment → Moment → Type 0
   Says t m = (OfTales (RunMoment (host_of drives home fresh) script) t m × IsToldBy (host_of drives home fresh) stretch start script t m) × IsMomentOf stretch t m
 
-  lives_on : (t m : Moment) → Lived drives made before t.tale → Says t m → LivesOn drives home made before script start t m
+  lives_on : (t m : Moment) → Lived drives made before t.tale → Says t m → LivesOn drives home made before fresh script stretch start t m
   lives_on t m lived here =
       let same : here.0.0.bytes ≡ here.0.1.bytes = append_cancel_left (told t.tale) here.0.0.bytes here.0.1.bytes (sym here.0.0.is_told ∙ here.0.1.is_told) in
       record {
         run = record { made = made; fresh = fresh; stretch = stretch; start = start; t = t; m = m; life = lived; tells = here.0.1; moment = here.1 };
+        numbered = refl;
+        stretched = refl;
         counted = refl;
         started = refl;
         now = refl;
+        stands = here.0.0;
+        said = same;
         lived = λ next found. record {
+          fair = lived.fair;
           told = lived.told;
           new = lived.new;
           runs = subst (λ (bytes : List ℕ). Runs drives [] (restarted made lived.told) (record { home = home; fresh = fresh; script = script; bytes = bytes } ∷ before) next) same
@@ -92,4 +98,33 @@ runs_live_on drives home made before fresh script stretch start is_home lived st
     let says = Says drives home made before fresh script stretch start is_home in
     let is = with_places (λ t m. OfTales (RunMoment host script) t m × IsToldBy host stretch start script t m) stretch both s old in
     let t = moment_at (tale_of s) stretch.before in
-    (is.0, is.1, passed_weaker (says t) (LivesOn drives home made before script start t) s stretch.before is.0 stretch.after (λ m. lives_on drives home made before fresh script stretch start is_home t m (lived s old)) is.2)
+    (is.0, is.1, passed_weaker (says t) (LivesOn drives home made before fresh script stretch start t) s stretch.before is.0 stretch.after (λ m. lives_on drives home made before fresh script stretch start is_home t m (lived s old)) is.2)
+
+-- how a run starts: the word of its identities, its stretch, its counts of failures and its first moment
+abbrev Start : Type 0
+Start = ℕ × Stretch × Counts × Moment
+
+module _ (drives : Geometry) (home : Home) (made : Image) (before : List Ran) (script : Script) (m : Moment) (next : Tale) (run : Running drives home before script) where
+  -- from that start the run went on to the moment
+  abbrev GoesOn : Start → Type 0
+  GoesOn at = (later : LivesOn drives home made before at.0 script at.1 at.2 at.3 m) → MayBeFound m.tale next → (went : WentOn run next) × (went.m ≡ m) × (ran_on run next went ≡ ran_now later.run)
+
+  goes_on : GoesOn (run.fresh, run.stretch, run.start, run.t)
+  goes_on later found =
+      let same : ◌≡◌ {A = Start × Moment} ((later.run.fresh, later.run.stretch, later.run.start, later.run.t), later.run.m) ((run.fresh, run.stretch, run.start, run.t), m) =
+      λ i. ((later.numbered i, later.stretched i, later.counted i, later.started i), later.now i) in (
+        record {
+          m = m;
+          stands = later.stands;
+          tells = subst (λ (at : Start × Moment). IsToldBy (host_of drives home at.0.0) at.0.1 at.0.2 script at.0.3 at.1) same later.run.tells;
+          moment = subst (λ (at : Start × Moment). IsMomentOf at.0.1 at.0.3 at.1) same later.run.moment;
+          found = found;
+        },
+        refl,
+        λ i. record { home = home; fresh = sym later.numbered i; script = script; bytes = later.said i },
+      )
+
+pub runs_go_on : RunsGoOn
+runs_go_on drives home made before fresh script stretch start t m next run numbered stretched counted started =
+    let same : ◌≡◌ {A = Start} (run.fresh, run.stretch, run.start, run.t) (fresh, stretch, start, t) = λ i. (numbered i, stretched i, counted i, started i) in
+    subst (GoesOn drives home made before script m next run) same (goes_on drives home made before script m next run)

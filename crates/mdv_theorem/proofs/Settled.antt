@@ -10,7 +10,7 @@ use Rattle.mdv_base.specs.declared.refusal.Refusal.TheVariants.{OutOfMemory, Out
 use Rattle.mdv_base.proofs.Order.{first_holds}
 use Rattle.mdv_engine_law.specs.Answers.{accepted, refusing}
 use Rattle.mdv_engine_law.specs.Commands as came
-use Rattle.mdv_engine_law.specs.Commands.{CameTo, case_of}
+use Rattle.mdv_engine_law.specs.Commands.{CameTo}
 use Rattle.mdv_shelf.specs.Failing.{Outcomes}
 use Rattle.mdv_engine_law.specs.Home.{site_of}
 use Rattle.mdv_engine_law.specs.Line.{AreBlocksAt, Kept, asked_by}
@@ -22,6 +22,7 @@ use Rattle.mdv_map.specs.Maps.{DriveBlock, run_map}
 use Rattle.mdv_run_law.specs.Run.{IsAnswered, IsQuiet, IsSaid, TextWrites}
 use Rattle.mdv_run_law.proofs.Extents.{one_place}
 use Rattle.mdv_run_law.proofs.Placing.{never_shut, opened_twice}
+use Rattle.mdv_run_law.proofs.Keeping.{put_at}
 use Rattle.mdv_shelf.specs.Area.{IsKept, KeptOutside, nowhere}
 use Rattle.mdv_shelf.specs.Tale.{MayLeave, Tale, covers, last}
 use Rattle.mdv_shelf.proofs.Blocks.{both_ways}
@@ -34,7 +35,7 @@ use Rattle.mdv_words.specs.Line.{IsLine, Line}
 use Rattle.mdv_words.specs.declared.command.Command.{Command}
 use Rattle.mdv_words.specs.declared.command.Command.TheVariants.{Create, MakeStripe, Read, Write}
 use Rattle.mdv_theorem.proofs.Aside.{Commanded, came as came_so, commanded, unread}
-use Rattle.mdv_theorem.proofs.Tables.{Stands, open_on, put_at, shut}
+use Rattle.mdv_theorem.proofs.Tables.{Stands, open_on, shut}
 
 -- a write that is refused before anything is done is refused for another cause than a failed call
 where_quiet : (holds : Bool) (r : Refusal) → IsQuiet (refusing r) → All (λ s. IsQuiet (refusing s)) (where_so holds r)

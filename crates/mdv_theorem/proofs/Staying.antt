@@ -1,5 +1,5 @@
 -- A volume that was shown to be there stays: it is in the table that is open behind any further lines of the host.
-use Rattle.std.proofs.Common.{◌≡◌, inl, inr, List, [], ◌∷◌, ◌++◌, Some, Contains, ap, subst}
+use Rattle.std.proofs.Common.{◌≡◌, inl, inr, List, [], ◌∷◌, ◌++◌, Some, Contains, sym, ◌∙◌, ap, subst}
 use Rattle.std.specs.List.{find}
 use Rattle.std.proofs.lemmas.List.Elements.{Contains-append_cases}
 use Rattle.mdv_base.specs.Refusal.{number_of}
@@ -24,7 +24,7 @@ use Rattle.mdv_theorem.proofs.Agreeing.{own_sound, sees_home}
 use Rattle.mdv_theorem.proofs.Aside.{IsAside, commanded, told_aside}
 use Rattle.mdv_theorem.proofs.Found.{shown_found}
 use Rattle.mdv_theorem.proofs.Living.{lived_life}
-use Rattle.mdv_theorem.proofs.Parting.{cut}
+use Rattle.mdv_theorem.proofs.Parting.{cut, cut_has}
 use Rattle.mdv_theorem.proofs.Steps.{Failed, Reached, Stepped, Steps, reached, stepped, steps_cut, told_once}
 use Rattle.mdv_theorem.proofs.Tables.{HasThere, IsCarried, Keeps, Offers, Stands, boot_opens, fell, keeps_boot, keeps_steps, keeps_there, map_carried, off, open_on, opened_steps, shown_there, stands_boot, stands_steps, up}
 
@@ -122,9 +122,11 @@ pub number_finds : (at : Host) (volume : VolId) (kept : Kept) (is : IsOpenWith a
 number_finds at volume kept is = find_is is.newest.table.plan.volumes volume is.so.1.of is.is.has.is.of_geometry.numbers.ascending is.so.1.has
 
 pub volumes_stay : VolumesStay
-volumes_stay drives home before script sound is_home run calm one shown earlier volume command answered has shows asks on refusal told =
+volumes_stay drives home before script is_home run calm one earlier volume command answered is_there asks on refusal told =
+    let sound = run.life.fair in
     let at = reached run answered.here answered.later one (refusal_line refusal) answered.is told in
-    let there = it_stays drives home before script sound is_home run answered.here one at calm shown volume (subst (λ (l : List Exchange). Contains l shown) answered.behind has) shows in
+    let among = subst (λ (l : List Exchange). Contains l is_there.shown) (sym is_there.parts ∙ answered.behind) (cut_has is_there.before is_there.behind is_there.shown) in
+    let there = it_stays drives home before script sound is_home run answered.here one at calm is_there.shown volume among is_there.shows in
     let its_host = host_of drives home run.fresh in
     let aside : IsAside refusal = told_aside at.calls its_host at.kept at.next there.newest there.opened volume there.so.1.of (number_finds its_host volume at.kept there) command on at.answer at.said refusal
     (told_once one (text_of at.answer) (refusal_line refusal) at.told told) (commanded at.calls its_host at.kept at.next one.text command at.answer asks at.comes) in

@@ -31,6 +31,7 @@ use Rattle.mdv_replica.proofs.Newest.{newest_stays}
 use Rattle.mdv_run_law.specs.Run.{IsAnswered, IsSaid}
 use Rattle.mdv_run_law.proofs.Again.{again_rewritten, its_shown}
 use Rattle.mdv_run_law.proofs.Extents.{SeesHome}
+use Rattle.mdv_run_law.proofs.Keeping.{put_at}
 use Rattle.mdv_run_law.proofs.Placing.{at_beside, never_shut, opened_twice}
 use Rattle.mdv_shelf.specs.Area.{range}
 use Rattle.mdv_shelf.specs.Everywhere.{Image}
@@ -140,10 +141,6 @@ pub data ShutLine (host : Host) (calls : Outcomes) (answer : Answer) (kept next 
 
 pub may_be_put : (from : DriveBlock) (blocks : List (List ℕ)) (old new : Image) → ArePut from blocks old new → MayBePut from blocks old new
 may_be_put from blocks old new put = record { here = λ k less. inr (put.here k less); elsewhere = put.elsewhere }
-
--- one block of a drive
-pub put_at : (on first drive b : ℕ) → covers on first 1 drive b ≡ true → (drive ≡ on) × (b ≡ first + 0)
-put_at on first drive b is = (grind (arith, nat_tests), grind (arith, nat_tests))
 
 -- a boot in which a call failed isn't one in which none did
 pub never_clean : (clean : Bool) → clean ≡ false → clean ≡ true → ⊥

@@ -1,3 +1,4 @@
 pub mod Exchanges
+pub mod Words
 pub mod Running
 pub mod Observed

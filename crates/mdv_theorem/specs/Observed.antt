@@ -1,11 +1,11 @@
 -- The theorem in a user's words: of scripts, replies and drives that answer, with no word of replicas, numbers or histories.
-use Rattle.std.specs.Prelude.{◌≡◌, ◌⊎◌, ◌↔◌, ◌+◌, ◌≤◌, ℕ, Bool, None, List, ◌∷◌, ◌++◌, length, Option, Contains}
+use Rattle.std.specs.Prelude.{◌≡◌, ◌⊎◌, ◌↔◌, ◌+◌, ◌≤◌, ℕ, None, List, ◌∷◌, ◌++◌, length, Option, Contains}
 use Rattle.mdv_base.specs.Causes.{Rose}
 use Rattle.mdv_base.specs.declared.drive.SliceName.{SliceName}
 use Rattle.mdv_base.specs.declared.name.VolId.{VolId}
 use Rattle.mdv_base.specs.declared.refusal.Refusal.{Refusal}
 use Rattle.mdv_base.specs.declared.refusal.Refusal.TheVariants.{NoDatabase, NoSuchVolume, OutOfMemory}
-use Rattle.mdv_engine_law.specs.Replies.{IsRefusal, ok_line, refusal_line}
+use Rattle.mdv_engine_law.specs.Replies.{IsRefusal, refusal_line}
 use Rattle.mdv_engine_law.specs.declared.host.Host.{Host}
 use Rattle.mdv_home.specs.Home.{IsHome}
 use Rattle.mdv_home.specs.View.{own_view}
@@ -21,11 +21,11 @@ use Rattle.mdv_run_law.specs.declared.status.RunStatus.TheVariants.{Done, NoMemo
 use Rattle.mdv_shelf.specs.Tale.{Tale}
 use Rattle.mdv_status.specs.Telling.{replies_in}
 use Rattle.mdv_status.specs.Values.{values_reply}
-use Rattle.mdv_table.specs.Slices.{IsSound}
 use Rattle.mdv_words.specs.declared.command.Command.{Command}
-use Rattle.mdv_words.specs.declared.command.Command.TheVariants.{Create, Read}
-use Rattle.mdv_theorem.specs.Exchanges.{Asks, Exchange, IsAcknowledged, IsOn, IsSameBlock, IsTold, MayBeMade, MayBeWritten, ShowsThere, TellsBlock, exchanges_by, exchanges_of}
+use Rattle.mdv_words.specs.declared.command.Command.TheVariants.{Read}
+use Rattle.mdv_theorem.specs.Exchanges.{Asks, Exchange, IsAcknowledged, IsOn, IsSameBlock, IsTold, MayBeWritten, TellsBlock, exchanges_by, exchanges_of}
 use Rattle.mdv_theorem.specs.Running.{HasAnswered, Running, Runs, WentOn, exchanges_now, ran_on}
+use Rattle.mdv_theorem.specs.Words.{HasBegun, HasDatabase, IsThere, MayLie}
 
 -- how a run may end whose script could be read and whose replies could be told: with Panic only where the database's drive failed
 abbrev pub MayEnd : Type 0 → RunStatus → Type 0
@@ -60,24 +60,31 @@ RunsAnswer =
     → (status ≡ Done) ⊎ (status ≡ SomeRefused)
     → ((one : Exchange) → Contains (exchanges_of script whole.more) one → one.reply ≡ None → ⊥) × ((status ≡ SomeRefused) ↔ ((reply : List ℕ) × Contains (replies_in whole.more) reply × IsRefusal reply))
 
--- Once a database's creation was told `ok`, no line is told that there is none, as long as its drive answers.
+-- Where lines show that there is a database, none behind them is told that there is none, as long as its drive answers.
 abbrev pub DatabasesStay : Type 0
 DatabasesStay =
-    (drives : Geometry) (home : Home) (before : List Ran) (script : Script) → IsSound drives → IsHome drives home → (run : Running drives home before script) → HasAnswered run home.drive
-    → (one made : Exchange) (earlier : List Exchange) (slice : SliceName) (force : Bool) (command : Command) → Answered run one earlier → Contains earlier made → Asks made (Create slice force) → IsTold made ok_line → Asks one command
+    (drives : Geometry) (home : Home) (before : List Ran) (script : Script) → IsHome drives home → (run : Running drives home before script) → HasAnswered run home.drive
+    → (one : Exchange) (earlier : List Exchange) (command : Command) → Answered run one earlier → HasDatabase earlier → Asks one command
     → (refusal : Refusal) → IsTold one (refusal_line refusal) → refusal ≡ NoDatabase → ⊥
 
--- once a volume was shown to be there, no line on it is told that it isn't, or that there is no database, as long as the database's drive answers
+-- where lines show a volume to be there, none behind them on it is told that it isn't, or that there is no database, as long as the database's drive answers
 abbrev pub VolumesStay : Type 0
 VolumesStay =
-    (drives : Geometry) (home : Home) (before : List Ran) (script : Script) → IsSound drives → IsHome drives home → (run : Running drives home before script) → HasAnswered run home.drive
-    → (one shown : Exchange) (earlier : List Exchange) (volume : VolId) (command : Command) → Answered run one earlier → Contains earlier shown → ShowsThere volume shown → Asks one command → IsOn volume command
+    (drives : Geometry) (home : Home) (before : List Ran) (script : Script) → IsHome drives home → (run : Running drives home before script) → HasAnswered run home.drive
+    → (one : Exchange) (earlier : List Exchange) (volume : VolId) (command : Command)
+    → Answered run one earlier → IsThere volume earlier → Asks one command → IsOn volume command
     → (refusal : Refusal) → IsTold one (refusal_line refusal) → (refusal ≡ NoDatabase → ⊥) × (refusal ≡ NoSuchVolume → ⊥)
 
--- where the host has the slice, it has so many blocks, on a drive that answers
-pub record KeepsCopies {drives : Geometry} {home : Home} {before : List Ran} {script : Script} (run : Running drives home before script) (slice : SliceName) (end : ℕ) : Type 0 where
-  pub within : (at : SliceAt) → HasSlice (own_view drives home.host).slices slice at → end ≤ at.blocks
-  pub answered : (at : SliceAt) → HasSlice (own_view drives home.host).slices slice at → HasAnswered run at.drive
+-- The volume keeps its copies of its first so many blocks in this run: each slice of the host on which it may lie by these lines has so many, on a drive that answers. Of a slice that
+-- the host hasn't it asks nothing.
+pub record KeepsCopies {drives : Geometry} {home : Home} {before : List Ran} {script : Script} (run : Running drives home before script) (volume : VolId) (lines : List Exchange) (end : ℕ) : Type 0 where
+  pub within : (slice : SliceName) (at : SliceAt) → MayLie volume slice lines → HasSlice (own_view drives home.host).slices slice at → end ≤ at.blocks
+  pub answered : (slice : SliceName) (at : SliceAt) → MayLie volume slice lines → HasSlice (own_view drives home.host).slices slice at → HasAnswered run at.drive
+
+-- The volume bears the losses of drives in this run, so that none takes the value of one of its first so many blocks back: each slice of the host on which it may lie by these lines, and
+-- that has so many, is on a drive that answered.
+pub record Bears {drives : Geometry} {home : Home} {before : List Ran} {script : Script} (run : Running drives home before script) (volume : VolId) (lines : List Exchange) (end : ℕ) : Type 0 where
+  pub answered : (slice : SliceName) (at : SliceAt) → MayLie volume slice lines → HasSlice (own_view drives home.host).slices slice at → end ≤ at.blocks → HasAnswered run at.drive
 
 -- values of so many blocks, from that one on
 pub record AreValuesOf (at count : ℕ) (reply : List ℕ) : Type 0 where
@@ -85,12 +92,12 @@ pub record AreValuesOf (at count : ℕ) (reply : List ℕ) : Type 0 where
   pub counted : length blocks ≡ count
   pub told : reply ≡ values_reply at blocks
 
--- A read of blocks that the volume has is told, with a value of each, or refused for want of memory: it has those of each slice of the host on which a line may have made it.
+-- A read of blocks of which the volume keeps its copies is told, with a value of each, or refused for want of memory.
 abbrev pub ReadsAreTold : Type 0
 ReadsAreTold =
-    (drives : Geometry) (home : Home) (before : List Ran) (script : Script) → IsSound drives → IsHome drives home → (run : Running drives home before script) → HasAnswered run home.drive
-    → (one shown : Exchange) (earlier : List Exchange) (volume : VolId) (at count : ℕ) → Answered run one earlier → Contains earlier shown → ShowsThere volume shown → Asks one (Read volume at count) → count ≤ 1024
-    → ((made : Exchange) (slice : SliceName) → Contains earlier made → MayBeMade volume slice made → KeepsCopies run slice (at + count))
+    (drives : Geometry) (home : Home) (before : List Ran) (script : Script) → IsHome drives home → (run : Running drives home before script) → HasAnswered run home.drive
+    → (one : Exchange) (earlier : List Exchange) (volume : VolId) (at count : ℕ)
+    → Answered run one earlier → HasBegun volume earlier → Asks one (Read volume at count) → count ≤ 1024 → KeepsCopies run volume earlier (at + count)
     → (reply : List ℕ) → IsTold one reply → (reply ≡ refusal_line OutOfMemory) ⊎ AreValuesOf at count reply
 
 -- the block has these bytes, or others that one of these lines may have written
@@ -101,39 +108,37 @@ IsOrWasWritten volume number old lines block =
 -- what a read tells of a block that was written, and the write acknowledged, is that write's, or one's that was issued later
 abbrev pub WritesLast : Type 0
 WritesLast =
-    (drives : Geometry) (home : Home) (before : List Ran) (script : Script) → IsSound drives → IsHome drives home → (run : Running drives home before script)
+    (drives : Geometry) (home : Home) (before : List Ran) (script : Script) → IsHome drives home → (run : Running drives home before script)
     → (read write : Exchange) (earlier first between : List Exchange) (volume : VolId) (number : ℕ) (old block : List ℕ) → Answered run read earlier → earlier ≡ first ++ write ∷ between
     → IsAcknowledged volume number old write → TellsBlock volume number block read → IsOrWasWritten volume number old between block
 
 -- what a read tells of a block is what an earlier read of the run told of it, or was written in between
 abbrev pub ReadsAgree : Type 0
 ReadsAgree =
-    (drives : Geometry) (home : Home) (before : List Ran) (script : Script) → IsSound drives → IsHome drives home → (run : Running drives home before script)
+    (drives : Geometry) (home : Home) (before : List Ran) (script : Script) → IsHome drives home → (run : Running drives home before script)
     → (read again : Exchange) (first between later : List Exchange) (volume : VolId) (number : ℕ) (old block : List ℕ) → exchanges_now run ≡ first ++ read ∷ between ++ again ∷ later
     → TellsBlock volume number old read → TellsBlock volume number block again → IsOrWasWritten volume number old between block
 
--- a slice on which one of these lines may have made the volume, with its blocks
+-- a slice on which the volume may lie by these lines, with its blocks
 pub record MayLieOn (drives : Geometry) (lines : List Exchange) (volume : VolId) : Type 0 where
-  pub made : Exchange
   pub slice : SliceName
-  pub asked : Contains lines made
-  pub may : MayBeMade volume slice made
+  pub may : MayLie volume slice lines
   pub at : SliceAt
   pub has : HasSlice drives.slices slice at
 
--- What a read tells of a block is what the new drives held there, on a slice on which the volume may have been made, or was written since.
+-- What a read tells of a block is what the new drives held there, on a slice on which the volume may lie, or was written since.
 abbrev pub BlocksBegin : Type 0
 BlocksBegin =
-    (drives : Geometry) (home : Home) (before : List Ran) (script : Script) → IsSound drives → IsHome drives home → (run : Running drives home before script)
+    (drives : Geometry) (home : Home) (before : List Ran) (script : Script) → IsHome drives home → (run : Running drives home before script)
     → (read : Exchange) (earlier : List Exchange) (volume : VolId) (number : ℕ) (block : List ℕ) → Answered run read earlier → TellsBlock volume number block read
     → (lies : MayLieOn drives earlier volume) × IsOrWasWritten volume number (run.made lies.at.drive.0 (lies.at.start + number)) earlier block
 
--- What a read tells of a block is what a read of an earlier run told of it, in which no call on the drives had failed by then on which the volume may lie, or was written in between.
+-- What a read tells of a block is what a read of an earlier run told of it, or was written in between, where the volume bore the losses of drives in that run, up to a moment at which that was told.
 abbrev pub RunsAgree : Type 0
 RunsAgree =
-    (drives : Geometry) (home : Home) (before more : List Ran) (script other : Script) (next t : Tale) → IsSound drives → IsHome drives home
+    (drives : Geometry) (home : Home) (before more : List Ran) (script other : Script) (next t : Tale) → IsHome drives home
     → (run : Running drives home before script) (went : WentOn run next) → Runs drives (ran_on run next went ∷ before) next more t → (later : Running drives home more other) → later.t.tale ≡ t
     → (read again : Exchange) (here rest behind first earlier : List Exchange) (volume : VolId) (number : ℕ) (old block : List ℕ)
     → exchanges_now run ≡ here ++ read ∷ rest → exchanges_of script went.stands.bytes ≡ here ++ read ∷ behind → first ≡ exchanges_by home before ++ here → Answered later again earlier
-    → ((made : Exchange) (slice : SliceName) → Contains earlier made → MayBeMade volume slice made → KeepsCopies run slice (number + 1))
+    → Bears run volume earlier (number + 1)
     → TellsBlock volume number old read → TellsBlock volume number block again → (since : List Exchange) → earlier ≡ first ++ read ∷ since → IsOrWasWritten volume number old since block

@@ -18,6 +18,7 @@ use Rattle.mdv_shelf.specs.Story.{AtEach, Moment, OfTales, Story, tale_of}
 use Rattle.mdv_shelf.specs.Tale.{Tale}
 use Rattle.mdv_store_law.specs.Laws.{restarted}
 use Rattle.mdv_store_law.specs.Site.{IsFound}
+use Rattle.mdv_table.specs.Slices.{IsSound}
 use Rattle.mdv_theorem.specs.Exchanges.{Exchange, exchanges_of}
 
 -- m is a moment of the run that began at t: the run's story began there, and what its moments show of the places between two lines holds of it
@@ -34,6 +35,8 @@ pub data Runs (drives : Geometry) (first : List Ran) (from : Tale) : List Ran �
 
 -- new drives that hold this, whatever it is, as long as a boot of no host finds a database there; and such runs since
 pub record Lived (drives : Geometry) (made : Image) (ran : List Ran) (t : Tale) : Type 0 where
+  -- the premises that a life has to meet: today that the table of drives is sound
+  pub fair : IsSound drives
   pub told : List ℕ
   pub new : (home : Home) → IsHome drives home → IsFound (site_of (host_of drives home 0)) (on_site (site_of (host_of drives home 0)) made) None
   pub runs : Runs drives [] (restarted made told) ran t
@@ -64,13 +67,17 @@ module _ {drives : Geometry} {home : Home} {before : List Ran} {script : Script}
   abbrev pub ran_now : Ran
   ran_now = record { home = home; fresh = run.fresh; script = script; bytes = run.tells.bytes }
 
--- At a moment of a run that began at t by these counts, on what these runs led to: it is one of such a run under way, by the same counts, and whatever may be found of it those runs
--- led to, and this one.
-pub record LivesOn (drives : Geometry) (home : Home) (made : Image) (before : List Ran) (script : Script) (start : Counts) (t m : Moment) : Type 0 where
+-- At a moment of a run that began at t, by this stretch, these counts and this word of its identities, on what these runs led to: it is one of such a run under way, by the same; what the
+-- contract of `run` says there holds; and whatever may be found of it those runs led to, and this one.
+pub record LivesOn (drives : Geometry) (home : Home) (made : Image) (before : List Ran) (fresh : ℕ) (script : Script) (stretch : Stretch) (start : Counts) (t m : Moment) : Type 0 where
   pub run : Running drives home before script
+  pub numbered : run.fresh ≡ fresh
+  pub stretched : run.stretch ≡ stretch
   pub counted : run.start ≡ start
   pub started : run.t ≡ t
   pub now : run.m ≡ m
+  pub stands : RunMoment (host_of drives home fresh) script t.tale m.tale
+  pub said : stands.bytes ≡ run.tells.bytes
   pub lived : (next : Tale) → MayBeFound m.tale next → Lived drives made (ran_now run ∷ before) next
 
 -- What the contract of `run` says at each of its moments (its clauses `stands` and `tells`) makes it a run under way there, and one more run of a life wherever it is stopped.
@@ -80,7 +87,7 @@ RunsLiveOn =
     → ((s : Story) → stretch.old ≡ Some s → Lived drives made before (tale_of s))
     → AtEach (OfTales (RunMoment (host_of drives home fresh) script)) stretch.old stretch.before stretch.new stretch.after
     → AtEach (IsToldBy (host_of drives home fresh) stretch start script) stretch.old stretch.before stretch.new stretch.after
-    → AtEach (LivesOn drives home made before script start) stretch.old stretch.before stretch.new stretch.after
+    → AtEach (LivesOn drives home made before fresh script stretch start) stretch.old stretch.before stretch.new stretch.after
 
 -- A run that was under way went on, up to a later moment, and the next run starts from what may be found of that.
 pub record WentOn {drives : Geometry} {home : Home} {before : List Ran} {script : Script} (run : Running drives home before script) (next : Tale) : Type 0 where
@@ -93,3 +100,10 @@ pub record WentOn {drives : Geometry} {home : Home} {before : List Ran} {script 
 -- as one of the runs of a life
 abbrev pub ran_on : {drives : Geometry} {home : Home} {before : List Ran} {script : Script} (run : Running drives home before script) (next : Tale) → WentOn run next → Ran
 ran_on {home = home} {script = script} run next went = record { home = home; fresh = run.fresh; script = script; bytes = went.stands.bytes }
+
+-- A run under way went on up to each moment that lives on from the same start, and then into whatever may be found of it: as a run of a life it is the one that is stopped there.
+abbrev pub RunsGoOn : Type 0
+RunsGoOn =
+    (drives : Geometry) (home : Home) (made : Image) (before : List Ran) (fresh : ℕ) (script : Script) (stretch : Stretch) (start : Counts) (t m : Moment) (next : Tale)
+    → (run : Running drives home before script) → run.fresh ≡ fresh → run.stretch ≡ stretch → run.start ≡ start → run.t ≡ t → (later : LivesOn drives home made before fresh script stretch start t m) → MayBeFound m.tale next
+    → (went : WentOn run next) × (went.m ≡ m) × (ran_on run next went ≡ ran_now later.run)

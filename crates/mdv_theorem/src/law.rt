@@ -1,5 +1,5 @@
 ghost use Rattle.mdv_theorem.specs.Observed.{BlocksBegin, DatabasesStay, ReadsAgree, ReadsAreTold, RunsAgree, RunsAnswer, RunsEnd, VolumesStay, WritesLast};
-ghost use Rattle.mdv_theorem.specs.Running.{RunsLiveOn};
+ghost use Rattle.mdv_theorem.specs.Running.{RunsGoOn, RunsLiveOn};
 
 /// Whatever ran on the drives before, whatever failed and crashed then: a run whose script can be read and whose replies can be told ends with Panic only where its database's
 /// drive failed; a volume that was made, read or written stays; a read of it is told as long as the drives answer; and what it tells of a block is
@@ -30,7 +30,8 @@ pub fn lines_are_answered()
 {}
 
 /// The law speaks of each moment of a run that the contract of `run` speaks of, by its clauses `stands` and `tells`: there a run is under way, and wherever it is stopped it is
-/// one more run of the life that it began on.
+/// one more run of the life that it began on. Of two such moments of one run, it went on from the one to the other, as the law over runs asks.
 pub fn runs_live_on()
-    ensures { RunsLiveOn }
+    ensures lives { RunsLiveOn }
+    ensures goes { RunsGoOn }
 {}

@@ -1,0 +1,69 @@
+-- What lines show of a database and of a volume: that they are there, that the volume's blocks may be read, and where it lies. Further commands and kinds of volumes widen these words.
+use Rattle.std.specs.Prelude.{◌≡◌, Bool, List, ◌∷◌, ◌++◌, Contains}
+use Rattle.mdv_base.specs.declared.drive.SliceName.{SliceName}
+use Rattle.mdv_base.specs.declared.name.VolId.{VolId}
+use Rattle.mdv_engine_law.specs.Replies.{ok_line}
+use Rattle.mdv_words.specs.declared.command.Command.{Command}
+use Rattle.mdv_words.specs.declared.command.Command.TheVariants.{Create, MakeStripe, Read, Write}
+use Rattle.mdv_theorem.specs.Exchanges.{Asks, Exchange, IsTold, MayBeMade, MayHaveBegun, ShowsThere}
+
+-- the command takes the volume away: none does so far
+abbrev pub TakesAway : VolId → Command → Type 0
+TakesAway volume (Create slice force) = ⊥
+TakesAway volume (MakeStripe other slice) = ⊥
+TakesAway volume (Read other at count) = ⊥
+TakesAway volume (Write other at block) = ⊥
+
+-- the line may have taken the volume away
+pub record MayTakeAway (volume : VolId) (one : Exchange) : Type 0 where
+  pub command : Command
+  pub asks : Asks one command
+  pub takes : TakesAway volume command
+  pub begun : MayHaveBegun one
+
+-- one of these lines shows the volume to be there, and none behind it may have taken it away
+pub record IsThere (volume : VolId) (lines : List Exchange) : Type 0 where
+  pub shown : Exchange
+  pub before : List Exchange
+  pub behind : List Exchange
+  pub parts : lines ≡ before ++ shown ∷ behind
+  pub shows : ShowsThere volume shown
+  pub stays : (one : Exchange) → Contains behind one → MayTakeAway volume one → ⊥
+
+-- the volume's blocks have begun to have values: they have as soon as it is there
+abbrev pub HasBegun : VolId → List Exchange → Type 0
+HasBegun volume lines = IsThere volume lines
+
+-- the command takes the database away: none does so far
+abbrev pub TakesDatabase : Command → Type 0
+TakesDatabase (Create slice force) = ⊥
+TakesDatabase (MakeStripe volume slice) = ⊥
+TakesDatabase (Read volume at count) = ⊥
+TakesDatabase (Write volume at block) = ⊥
+
+-- the line may have taken the database away
+pub record MayTakeDatabase (one : Exchange) : Type 0 where
+  pub command : Command
+  pub asks : Asks one command
+  pub takes : TakesDatabase command
+  pub begun : MayHaveBegun one
+
+-- one of these lines made a database, and was told `ok`, and none behind it may have taken it away
+pub record HasDatabase (lines : List Exchange) : Type 0 where
+  pub made : Exchange
+  pub slice : SliceName
+  pub force : Bool
+  pub before : List Exchange
+  pub behind : List Exchange
+  pub parts : lines ≡ before ++ made ∷ behind
+  pub asks : Asks made (Create slice force)
+  pub told : IsTold made ok_line
+  pub stays : (one : Exchange) → Contains behind one → MayTakeDatabase one → ⊥
+
+-- The volume may lie on the slice: one of these lines may have made it there, and those of them that were told `ok` to making it named that slice. A line in work on another slice is
+-- nothing to a volume whose making was told `ok`.
+pub record MayLie (volume : VolId) (slice : SliceName) (lines : List Exchange) : Type 0 where
+  pub made : Exchange
+  pub asked : Contains lines made
+  pub may : MayBeMade volume slice made
+  pub only : (other : Exchange) (elsewhere : SliceName) → Contains lines other → Asks other (MakeStripe volume elsewhere) → IsTold other ok_line → elsewhere ≡ slice
