@@ -105,5 +105,6 @@ ran_on {home = home} {script = script} run next went = record { home = home; fre
 abbrev pub RunsGoOn : Type 0
 RunsGoOn =
     (drives : Geometry) (home : Home) (made : Image) (before : List Ran) (fresh : ℕ) (script : Script) (stretch : Stretch) (start : Counts) (t m : Moment) (next : Tale)
-    → (run : Running drives home before script) → run.fresh ≡ fresh → run.stretch ≡ stretch → run.start ≡ start → run.t ≡ t → (later : LivesOn drives home made before fresh script stretch start t m) → MayBeFound m.tale next
+    → (run : Running drives home before script) → run.fresh ≡ fresh → run.stretch ≡ stretch → run.start ≡ start → run.t ≡ t
+    → (later : LivesOn drives home made before fresh script stretch start t m) → MayBeFound m.tale next
     → (went : WentOn run next) × (went.m ≡ m) × (ran_on run next went ≡ ran_now later.run)

@@ -2,7 +2,7 @@ ghost use Rattle.mdv_theorem.specs.Observed.{BlocksBegin, DatabasesStay, ReadsAg
 ghost use Rattle.mdv_theorem.specs.Running.{RunsGoOn, RunsLiveOn};
 
 /// Whatever ran on the drives before, whatever failed and crashed then: a run whose script can be read and whose replies can be told ends with Panic only where its database's
-/// drive failed; a volume that was made, read or written stays; a read of it is told as long as the drives answer; and what it tells of a block is
+/// drive failed; a volume that was made, read or written stays; a read of it is told as long as it keeps its copies; and what it tells of a block is
 /// the last write that was acknowledged, or one that was issued later, and what an earlier read of the run told, or was written in between.
 pub fn runs_keep_their_word()
     ensures ends { RunsEnd }
@@ -13,7 +13,7 @@ pub fn runs_keep_their_word()
 {}
 
 /// And over runs: what a read tells of a block is what the new drives held there, or was written since; and what a read of an earlier run told of it,
-/// in which no call on the drives had failed by then on which the volume may lie, or was written in between.
+/// in which the volume bore the losses of drives up to then, or was written in between.
 pub fn blocks_keep_their_values()
     ensures begin { BlocksBegin }
     ensures agree { RunsAgree }
