@@ -7,7 +7,7 @@ use Rattle.mdv_map.proofs.Copies.{le_of_test, lt_of_test}
 use Rattle.mdv_dev.specs.Below.{Map}
 use Rattle.mdv_dev.specs.Pieces.{count_to, drive_of, has_drive, is_new}
 
-same_number : (a b : ℕ) → a == b ≡ true → a ≡ b
+pub same_number : (a b : ℕ) → a == b ≡ true → a ≡ b
 same_number a b is = grind (arith, nat_tests)
 
 number_test : (a b : ℕ) → a ≡ b → a == b ≡ true

@@ -1,29 +1,31 @@
 -- A request, turn after turn.
-use Rattle.std.proofs.Common.{◌≡◌, ◌⊎◌, inl, inr, ℕ, ◌+◌, ◌-◌, ◌^◌, ◌<◌, ◌≤◌, true, List, length, Result, Ok, Err, OnOk, min, refl, sym, ◌∙◌, ap, subst, arith}
-use Rattle.mdv_shelf.specs.Calls.{OnDrive, Took}
-use Rattle.mdv_shelf.specs.Shelves.{AtEachTale, AtEnd, DriveFailed, Kept}
+use Rattle.std.proofs.Common.{◌≡◌, ◌⊎◌, inl, inr, ℕ, ◌+◌, ◌-◌, ◌<◌, ◌≤◌, true, List, length, Result, Ok, Err, OnOk, refl, sym, ◌∙◌, ap, subst, arith}
+use Rattle.mdv_shelf.specs.Calls.{Took}
+use Rattle.mdv_shelf.specs.Shelves.{AtEachTale, AtEnd, DriveFailures}
 use Rattle.mdv_shelf.specs.declared.shelf.Shelf.{Ghosts}
 use Rattle.mdv_shelf.proofs.Between.{between_of, between_then}
 use Rattle.mdv_shelf.proofs.Counts.{took_more}
 use Rattle.mdv_shelf.proofs.Moments.{ends_more, moments_more}
-use Rattle.mdv_shelf.proofs.Noted.{kept_more}
 use Rattle.mdv_map.specs.Maps.{Map}
 use Rattle.mdv_map.specs.Requests.{Rewriting}
 use Rattle.mdv_map.proofs.Joining.{rewritings_join}
-use Rattle.mdv_dev.specs.Pieces.{drive_of}
-use Rattle.mdv_dev.specs.Works.{Carries, FailedAt, HasRoom, IsFinished, IsOpen, IsTurned, IsTurnCounted, LeavesBuffer, MakesTurns, TookExactly, is_turn, news, turns, turns_left, written_of}
+use Rattle.mdv_dev.specs.Below.{AreCalm}
+use Rattle.mdv_dev.specs.Drives.{KeptOnDrives}
+use Rattle.mdv_dev.specs.Works.{Carries, FailedAt, HasRoom, IsFinished, IsOpen, IsRewriting, IsTurned, IsTurnCounted, LeavesBuffer, MakesTurns, TookExactly, is_turn, news, turns, turns_left, written_of}
 use Rattle.mdv_dev.specs.declared.work.Work.{Work}
 use Rattle.mdv_dev.specs.declared.work.WorkKind.{WorkKind}
 use Rattle.mdv_dev.specs.declared.work.WorkKind.TheVariants.{Read, Write, Flush}
+use Rattle.mdv_dev.proofs.Drives.{drives_more}
+use Rattle.mdv_dev.proofs.Failing.{calm_more, failed_more}
 use Rattle.mdv_dev.proofs.Turning.{no_ok, on_err}
 
 -- one turn, from one state to the next
 pub record OneTurn {S T E : Type 0} (shelf : Ghosts S) (v : Map) (now next : S) (work more : Work) (after later : List (List ℕ)) (result : Result T E) : Type 0 where
-  pub moments : AtEachTale shelf (Rewriting v work.at (news work.kind after)) now next
+  pub moments : IsRewriting shelf now next v work after
   pub done : AtEnd shelf (Carries v work after more later) now next
-  pub turned : IsTurned v (DriveFailed shelf now next) work after more later result
+  pub turned : IsTurned v (DriveFailures shelf now next) work after more later result
   pub counted : IsTurnCounted shelf now next work more result
-  pub kept : Kept shelf now next
+  pub kept : KeptOnDrives shelf now next v work.at work.count
 
 -- nothing was done yet
 pub record IsStill {S : Type 0} (before now : S) (start work : Work) (buffer after : List (List ℕ)) : Type 0 where
@@ -38,22 +40,23 @@ pub record HasGone {S : Type 0} (shelf : Ghosts S) (v : Map) (before now : S) (s
   pub within : work.done ≤ start.count
   pub begins : work.done < start.count → is_turn v start.kind start.at work.done ≡ true
   pub leaves : LeavesBuffer start.kind buffer after
-  pub moments : AtEachTale shelf (Rewriting v start.at (news start.kind buffer)) before now
+  pub moments : IsRewriting shelf before now v start buffer
   pub done : AtEnd shelf (Carries v start buffer work after) before now
+  pub calm : AreCalm (DriveFailures shelf before now)
   pub fewer : turns v start.kind start.at start.done ≤ turns v start.kind start.at work.done
   pub counted : Took shelf.calls shelf.written before now (turns v start.kind start.at work.done - turns v start.kind start.at start.done) (written_of start.kind (work.done - start.done))
-  pub kept : Kept shelf before now
+  pub kept : KeptOnDrives shelf before now v start.at start.count
 
 abbrev pub SoFar : {S : Type 0} → Ghosts S → Map → S → S → Work → Work → List (List ℕ) → List (List ℕ) → Type 0
 SoFar shelf v before now start work buffer after = IsStill before now start work buffer after ⊎ HasGone shelf v before now start work buffer after
 
 -- all that a request says at its end
 pub record HasFinished {S T E : Type 0} (shelf : Ghosts S) (v : Map) (before now : S) (start work : Work) (buffer after : List (List ℕ)) (result : Result T E) : Type 0 where
-  pub moments : AtEachTale shelf (Rewriting v start.at (news start.kind buffer)) before now
+  pub moments : IsRewriting shelf before now v start buffer
   pub done : AtEnd shelf (Carries v start buffer work after) before now
-  pub finished : IsFinished v (DriveFailed shelf before now) start buffer work after result
+  pub finished : IsFinished v (DriveFailures shelf before now) start buffer work after result
   pub counted : MakesTurns shelf before now v start work result
-  pub kept : Kept shelf before now
+  pub kept : KeptOnDrives shelf before now v start.at start.count
 
 leaves_more : (k : WorkKind) (a b c : List (List ℕ)) → LeavesBuffer k a b → LeavesBuffer k b c → LeavesBuffer k a c
 leaves_more Read a b c one two = two ∙ one
@@ -80,9 +83,6 @@ written_grows Read a b le = omega arith
 written_grows Write a b le = le
 written_grows Flush a b le = omega arith
 
-pub rose_since : (a b c top : ℕ) → a ≤ b → min (b + 1) top ≤ c → min (a + 1) top ≤ c
-rose_since a b c top le rose = omega arith
-
 module _ {S : Type 0} (shelf : Ghosts S) (v : Map) (before : S) (start : Work) (buffer : List (List ℕ)) where
   pub gone_first : {T E : Type 0} (x : T) (next : S) (more : Work) (later : List (List ℕ)) → OneTurn {T = T} {E = E} shelf v before next start more buffer later (Ok x) → HasGone shelf v before next start more buffer later
   gone_first x next more later turn =
@@ -95,27 +95,33 @@ module _ {S : Type 0} (shelf : Ghosts S) (v : Map) (before : S) (start : Work) (
         leaves = turn.turned.buffer;
         moments = turn.moments;
         done = turn.done;
+        calm = turn.turned.calm;
         fewer = omega (arith, turn.turned.rose.1);
         counted = subst (λ (n : ℕ). Took shelf.calls shelf.written before next n (written_of start.kind (more.done - start.done))) one turn.counted.done;
         kept = turn.kept;
       }
 
   module _ (now next : S) (work more : Work) (after later : List (List ℕ)) (gone : HasGone shelf v before now start work buffer after) where
-    moments_on : AtEachTale shelf (Rewriting v work.at (news work.kind after)) now next → AtEachTale shelf (Rewriting v start.at (news start.kind buffer)) before next
+    moments_on : IsRewriting shelf now next v work after → IsRewriting shelf before next v start buffer
     moments_on moments =
-        let there = subst (λ (u : Work). AtEachTale shelf (Rewriting v u.at (news u.kind after)) now next) gone.same moments in
-        let here = subst (λ (xs : List (List ℕ)). AtEachTale shelf (Rewriting v start.at xs) now next) (same_news start.kind buffer after gone.leaves) there in
-        moments_more (Rewriting v start.at (news start.kind buffer)) (Rewriting v start.at (news start.kind buffer)) (Rewriting v start.at (news start.kind buffer)) (shelf.tale before) (shelf.tale now) (shelf.tale next)
-        (λ t m one. one) (λ t u m one two. rewritings_join.more v start.at (news start.kind buffer) t u m one two) gone.moments here
+        let there = subst (λ (u : Work). IsRewriting shelf now next v u after) gone.same moments in
+        let here = subst (λ (xs : List (List ℕ)). AtEachTale shelf (Rewriting v start.at xs) now next) (same_news start.kind buffer after gone.leaves) there.each in record {
+          each = moments_more (Rewriting v start.at (news start.kind buffer)) (Rewriting v start.at (news start.kind buffer)) (Rewriting v start.at (news start.kind buffer)) (shelf.tale before) (shelf.tale now) (shelf.tale next)
+              (λ t m one. one) (λ t u m one two. rewritings_join.more v start.at (news start.kind buffer) t u m one two) gone.moments.each here;
+          still = λ is. there.still is ∙ gone.moments.still is;
+        }
 
     done_on : AtEnd shelf (Carries v work after more later) now next → AtEnd shelf (Carries v start buffer more later) before next
     done_on done =
         ends_more (Carries v start buffer work after) (Carries v work after more later) (Carries v start buffer more later) (shelf.tale before) (shelf.tale now) (shelf.tale next)
-        (λ t u m first second had. second (first had)) gone.done done
+        (λ t u m first second. record { done = λ had. second.done (first.done had); synced = λ drive had. second.synced drive (first.synced drive had) }) gone.done done
+
+    kept_on : KeptOnDrives shelf now next v work.at work.count → KeptOnDrives shelf before next v start.at start.count
+    kept_on kept = drives_more shelf before now v start.at start.count gone.calm gone.kept next (subst (λ (u : Work). KeptOnDrives shelf now next v u.at u.count) gone.same kept)
 
     pub gone_more : {T E : Type 0} (x : T) → OneTurn {T = T} {E = E} shelf v now next work more after later (Ok x) → HasGone shelf v before next start more buffer later
     gone_more {T} {E} x turn =
-        let turned = subst (λ (u : Work). IsTurned {T = T} {E = E} v (DriveFailed shelf now next) u after more later (Ok x)) gone.same turn.turned in
+        let turned = subst (λ (u : Work). IsTurned {T = T} {E = E} v (DriveFailures shelf now next) u after more later (Ok x)) gone.same turn.turned in
         let counted = subst (λ (u : Work). IsTurnCounted {T = T} {E = E} shelf now next u more (Ok x)) gone.same turn.counted in
         let up = gone.rose in
         let fewer = gone.fewer in
@@ -127,12 +133,13 @@ module _ {S : Type 0} (shelf : Ghosts S) (v : Map) (before : S) (start : Work) (
           leaves = leaves_more start.kind buffer after later gone.leaves turned.buffer;
           moments = moments_on turn.moments;
           done = done_on turn.done;
+          calm = calm_more shelf before now next gone.calm turned.calm;
           fewer = omega (arith, turned.rose.1);
           counted = took_more shelf.calls shelf.written before now next
               (turns v start.kind start.at work.done - turns v start.kind start.at start.done) 1 (written_of start.kind (work.done - start.done)) (written_of start.kind (more.done - work.done))
               (turns v start.kind start.at more.done - turns v start.kind start.at start.done) (written_of start.kind (more.done - start.done))
               (omega (arith, turned.rose.1)) (written_more start.kind start.done work.done more.done (omega arith) (omega (arith, turned.rose.0))) gone.counted counted.done;
-          kept = kept_more gone.kept turn.kept;
+          kept = kept_on turn.kept;
         }
 
   -- the request is open as long as blocks are left
@@ -174,7 +181,7 @@ module _ {S : Type 0} (shelf : Ghosts S) (v : Map) (before : S) (start : Work) (
       record {
         moments = gone.moments;
         done = gone.done;
-        finished = record { same = gone.same; buffer = gone.leaves; whole = whole; stayed = tt };
+        finished = record { same = gone.same; buffer = gone.leaves; whole = (whole, gone.calm); stayed = tt };
         counted = record { done = took; failed = tt };
         kept = gone.kept;
       }
@@ -187,12 +194,12 @@ module _ {S : Type 0} (shelf : Ghosts S) (v : Map) (before : S) (start : Work) (
       finished = record {
         same = turn.turned.same;
         buffer = turn.turned.buffer;
-        whole = no_ok result (more.done ≡ start.count) none;
+        whole = no_ok result ((more.done ≡ start.count) × AreCalm (DriveFailures shelf before next)) none;
         stayed =
             let still : more.done ≡ start.done = turn.turned.stayed.0 in
             let same : start.done ≡ more.done = sym still in
-            on_err result ((start.done ≤ more.done) × FailedAt (DriveFailed shelf before next) v start.kind start.at start.count more.done)
-            (omega arith, subst (λ (k : ℕ). FailedAt (DriveFailed shelf before next) v start.kind start.at start.count k) same (record { below = left; begins = begins; failed = turn.turned.stayed.1 }));
+            on_err result ((start.done ≤ more.done) × FailedAt (DriveFailures shelf before next) v start.kind start.at start.count more.done)
+            (omega arith, subst (λ (k : ℕ). FailedAt (DriveFailures shelf before next) v start.kind start.at start.count k) same (record { below = left; begins = begins; failed = turn.turned.stayed.1 }));
       };
       counted = record {
         done = no_ok result (Took shelf.calls shelf.written before next (turns_left v start) (written_of start.kind (start.count - start.done))) none;
@@ -208,7 +215,7 @@ module _ {S : Type 0} (shelf : Ghosts S) (v : Map) (before : S) (start : Work) (
 
     fails_later : (now : S) (work : Work) (after : List (List ℕ)) → HasGone shelf v before now start work buffer after → OneTurn {T = U} {E = F} shelf v now next work more after later (Err e) → work.done < work.count → HasFinished shelf v before next start more buffer later result
     fails_later now work after gone turn left =
-        let turned = subst (λ (u : Work). IsTurned {T = U} {E = F} v (DriveFailed shelf now next) u after more later (Err e)) gone.same turn.turned in
+        let turned = subst (λ (u : Work). IsTurned {T = U} {E = F} v (DriveFailures shelf now next) u after more later (Err e)) gone.same turn.turned in
         let counted = subst (λ (u : Work). IsTurnCounted {T = U} {E = F} shelf now next u more (Err e)) gone.same turn.counted in
         let below : work.done < start.count = subst (λ (u : Work). work.done < u.count) gone.same left in
         let up = gone.rose in
@@ -222,14 +229,13 @@ module _ {S : Type 0} (shelf : Ghosts S) (v : Map) (before : S) (start : Work) (
           finished = record {
             same = turned.same;
             buffer = leaves_more start.kind buffer after later gone.leaves turned.buffer;
-            whole = no_ok result (more.done ≡ start.count) none;
+            whole = no_ok result ((more.done ≡ start.count) × AreCalm (DriveFailures shelf before next)) none;
             stayed =
-                let part = OnDrive (drive_of (v.copies (start.at + work.done))) in
                 let still : more.done ≡ work.done = turned.stayed.0 in
                 let same : work.done ≡ more.done = sym still in
-                let since = rose_since (shelf.faults before part) (shelf.faults now part) (shelf.faults next part) (2 ^ 64 - 1) (gone.kept.keeps.no_fewer_faults part) turned.stayed.1 in
-                on_err result ((start.done ≤ more.done) × FailedAt (DriveFailed shelf before next) v start.kind start.at start.count more.done)
-                (omega arith, subst (λ (k : ℕ). FailedAt (DriveFailed shelf before next) v start.kind start.at start.count k) same (record { below = below; begins = gone.begins below; failed = since }));
+                let since = failed_more shelf before now next gone.calm _ turned.stayed.1 in
+                on_err result ((start.done ≤ more.done) × FailedAt (DriveFailures shelf before next) v start.kind start.at start.count more.done)
+                (omega arith, subst (λ (k : ℕ). FailedAt (DriveFailures shelf before next) v start.kind start.at start.count k) same (record { below = below; begins = gone.begins below; failed = since }));
           };
           counted = record {
             done = no_ok result (Took shelf.calls shelf.written before next (turns_left v start) (written_of start.kind (start.count - start.done))) none;
@@ -242,7 +248,7 @@ module _ {S : Type 0} (shelf : Ghosts S) (v : Map) (before : S) (start : Work) (
                 (turns v start.kind start.at work.done - turns v start.kind start.at start.done) (turns v start.kind start.at work.done - turns v start.kind start.at start.done) (written_of start.kind (work.done - start.done)) 1 1 (written_of start.kind (start.count - work.done))
                 calls calls (written_of start.kind (start.count - start.done)) (omega arith) (omega arith) (omega (arith, blocks)) took counted.any);
           };
-          kept = kept_more gone.kept turn.kept;
+          kept = kept_on now next work more after later gone turn.kept;
         }
 
     pub ends_badly : (now : S) (work : Work) (after : List (List ℕ)) → SoFar shelf v before now start work buffer after → OneTurn {T = U} {E = F} shelf v now next work more after later (Err e) → work.done < work.count → is_turn v start.kind start.at start.done ≡ true

@@ -1,4 +1,6 @@
 pub mod Counting
+pub mod Failing
+pub mod Drives
 pub mod Lying
 pub mod Together
 pub mod Chaining
@@ -6,3 +8,4 @@ pub mod Turning
 pub mod Slicing
 pub mod Finishing
 pub mod Requesting
+pub mod Runs

@@ -9,7 +9,7 @@ use Rattle.mdv_dev.specs.Pieces.{IsOn, IsPiece, LiesAt, drive_of, goes_on, has_d
 use Rattle.mdv_dev.specs.declared.piece.Piece.{Piece}
 use Rattle.mdv_dev.proofs.Counting.{has_at, not_true, true_not}
 
-next_one : (drive block k : ℕ) → drive == drive && block + (k + 1) == (block + k) + 1 ≡ true
+pub next_one : (drive block k : ℕ) → drive == drive && block + (k + 1) == (block + k) + 1 ≡ true
 next_one drive block k = grind (arith, nat_tests)
 
 -- two blocks that lie one behind another

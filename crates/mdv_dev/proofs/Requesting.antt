@@ -1,8 +1,8 @@
 -- Whole requests: a read, and a write with its flush.
-use Rattle.std.proofs.Common.{◌≡◌, ◌⊎◌, inl, inr, ℕ, ◌+◌, ◌-◌, ◌^◌, ◌<◌, ◌≤◌, Bool, true, false, List, [], length, Option, Result, Ok, Err, OnOk, refl, sym, ◌∙◌, ap, subst, arith}
+use Rattle.std.proofs.Common.{◌≡◌, ◌⊎◌, inl, inr, ℕ, ◌+◌, ◌-◌, ◌<◌, ◌≤◌, Bool, true, false, List, [], length, Option, Result, Ok, Err, OnOk, refl, sym, ◌∙◌, ap, subst, arith}
 use Rattle.mdv_shelf.specs.Tale.{Tale}
-use Rattle.mdv_shelf.specs.Calls.{OnDrive, Took}
-use Rattle.mdv_shelf.specs.Shelves.{DriveFailed, Kept}
+use Rattle.mdv_shelf.specs.Calls.{Took}
+use Rattle.mdv_shelf.specs.Shelves.{DriveFailures}
 use Rattle.mdv_shelf.specs.Moments.{Ends, Moments}
 use Rattle.mdv_shelf.specs.declared.shelf.Shelf.{Ghosts}
 use Rattle.mdv_shelf.proofs.Between.{between_of, between_then}
@@ -14,12 +14,13 @@ use Rattle.mdv_map.proofs.Covering.{true_false}
 use Rattle.mdv_map.proofs.Joining.{kept_is_old, rewritings_join}
 use Rattle.mdv_map.proofs.Standing.{requests_stand}
 use Rattle.mdv_dev.specs.Pieces.{IsOneCopy, count_to, drive_of, drives, has_drive, is_new, is_start, pieces}
-use Rattle.mdv_dev.specs.Works.{Carries, IsFinished, MakesTurns, StopsAt, TakesReads, TakesWrites, TookExactly, is_turn, turns, turns_left, written_of}
+use Rattle.mdv_dev.specs.Below.{AreCalm, IsSynced, Outcomes}
+use Rattle.mdv_dev.specs.Works.{AreOnDisk, Carries, IsFinished, MakesTurns, StopsAt, TakesReads, TakesWrites, TookExactly, is_turn, turns, turns_left, written_of}
 use Rattle.mdv_dev.specs.declared.work.Work.{Work}
 use Rattle.mdv_dev.specs.declared.work.WorkKind.{WorkKind}
 use Rattle.mdv_dev.specs.declared.work.WorkKind.TheVariants.{Read, Write, Flush}
 use Rattle.mdv_dev.proofs.Counting.{has_at}
-use Rattle.mdv_dev.proofs.Finishing.{rose_since}
+use Rattle.mdv_dev.proofs.Failing.{calm_more, failed_more}
 use Rattle.mdv_dev.proofs.Turning.{no_ok, on_err}
 
 -- a request of which nothing is done
@@ -65,29 +66,40 @@ module _ (v : Map) (at : ℕ) (blocks : List (List ℕ)) (one : IsOneCopy v) (wi
   stays_read : (t m : Tale) → Rewriting v at [] t m → AllRead v at blocks t → AllRead v at blocks m
   stays_read t m calm = requests_stand.reads v at (length blocks) blocks t m (λ k drive block lt has. calm.outside drive block (λ j none owned. absurd (omega arith)))
 
-  pub write_ends : (Failed Later : ℕ → Type 0) {T E U F : Type 0} (x : T) (y : U) (a b c : Option Tale) (written flushed : Work) (after last : List (List ℕ))
-      → Ends (Carries v (fresh Write at (length blocks)) blocks written after) a b → IsFinished {T = T} {E = E} v Failed (fresh Write at (length blocks)) blocks written after (Ok x)
-      → Ends (Carries v (fresh Flush at (length blocks)) after flushed last) b c → IsFinished {T = U} {E = F} v Later (fresh Flush at (length blocks)) after flushed last (Ok y)
-      → Moments (Rewriting v at []) b c → Ends (λ _ u. AllRead v at blocks u × AllOnDisk v at (length blocks) u) a c
-  write_ends Failed Later x y a b c written flushed after last first whole second synced calm =
-      let is_written : written ≡ record (fresh Write at (length blocks)) { done = length blocks } = whole.same ∙ ap (λ (n : ℕ). let w : Work = record (fresh Write at (length blocks)) { done = n } in w) whole.whole in
-      let is_flushed : flushed ≡ record (fresh Flush at (length blocks)) { done = length blocks } = synced.same ∙ ap (λ (n : ℕ). let w : Work = record (fresh Flush at (length blocks)) { done = n } in w) synced.whole in
+  -- what a flush of all of them leaves, whatever was synced before
+  record IsFlushed (u : Tale) : Type 0 where
+    drives : OnDrives v (has_drive v at (length blocks)) at (length blocks) u
+    synced : (drive : ℕ) → has_drive v at (length blocks) drive ≡ true → IsSynced drive u
+
+  flushed_all : (after last : List (List ℕ)) (u m : Tale) → Carries v (fresh Flush at (length blocks)) after (record (fresh Flush at (length blocks)) { done = length blocks }) last u m → IsFlushed m
+  flushed_all after last u m carried = record {
+    drives = carried.done (λ k drive block x lt has on left. absurd (true_false (has_drive v at 0 drive) on (no_drive v at drive)));
+    synced = λ drive. carried.synced drive (λ on. absurd (true_false (has_drive v at 0 drive) on (no_drive v at drive)));
+  }
+
+  pub write_ends : (calls later : Outcomes) {T E U F : Type 0} (x : T) (y : U) (a b c : Option Tale) (written flushed : Work) (after last : List (List ℕ))
+      → Ends (Carries v (fresh Write at (length blocks)) blocks written after) a b → IsFinished {T = T} {E = E} v calls (fresh Write at (length blocks)) blocks written after (Ok x)
+      → Ends (Carries v (fresh Flush at (length blocks)) after flushed last) b c → IsFinished {T = U} {E = F} v later (fresh Flush at (length blocks)) after flushed last (Ok y)
+      → Moments (Rewriting v at []) b c → Ends (λ _ u. AreOnDisk v at blocks u) a c
+  write_ends calls later x y a b c written flushed after last first whole second synced calm =
+      let is_written : written ≡ record (fresh Write at (length blocks)) { done = length blocks } = whole.same ∙ ap (λ (n : ℕ). let w : Work = record (fresh Write at (length blocks)) { done = n } in w) whole.whole.0 in
+      let is_flushed : flushed ≡ record (fresh Flush at (length blocks)) { done = length blocks } = synced.same ∙ ap (λ (n : ℕ). let w : Work = record (fresh Flush at (length blocks)) { done = n } in w) synced.whole.0 in
       let one_end = subst (λ (u : Work). Ends (Carries v (fresh Write at (length blocks)) blocks u after) a b) is_written first in
       let other_end = subst (λ (u : Work). Ends (Carries v (fresh Flush at (length blocks)) after u last) b c) is_flushed second in
       let both = ends_both (Carries v (fresh Flush at (length blocks)) after (record (fresh Flush at (length blocks)) { done = length blocks }) last) (Rewriting v at [])
-      (λ u m. OnDrives v (has_drive v at (length blocks)) at (length blocks) m × Rewriting v at [] u m) b c
-      (λ u m carried still. (carried (λ k drive block x lt has on left. absurd (true_false (has_drive v at 0 drive) on (no_drive v at drive))), still)) other_end (moments_end (Rewriting v at []) b c calm) in
-      ends_more (Carries v (fresh Write at (length blocks)) blocks (record (fresh Write at (length blocks)) { done = length blocks }) after) (λ u m. OnDrives v (has_drive v at (length blocks)) at (length blocks) m × Rewriting v at [] u m)
-      (λ _ u. AllRead v at blocks u × AllOnDisk v at (length blocks) u) a b c
+      (λ u m. IsFlushed m × Rewriting v at [] u m) b c
+      (λ u m carried still. (flushed_all after last u m carried, still)) other_end (moments_end (Rewriting v at []) b c calm) in
+      ends_more (Carries v (fresh Write at (length blocks)) blocks (record (fresh Write at (length blocks)) { done = length blocks }) after) (λ u m. IsFlushed m × Rewriting v at [] u m)
+      (λ _ u. AreOnDisk v at blocks u) a b c
       (λ t u m carried done.
-      let read = subst (λ (xs : List (List ℕ)). AreRead v at (length blocks) xs u) whole.buffer (carried (λ k x lt reading. absurd (omega arith))) in
-      (stays_read u m done.1 read, synced_all m done.0))
+      let read = subst (λ (xs : List (List ℕ)). AreRead v at (length blocks) xs u) whole.buffer (carried.done (λ k x lt reading. absurd (omega arith))) in
+      record { read = stays_read u m done.1 read; on_disk = synced_all m done.0.drives; synced = done.0.synced })
       one_end both
 
 -- how often it calls
 module _ {S : Type 0} (shelf : Ghosts S) (v : Map) (at count : ℕ) where
   -- where a turn of a request failed
-  stops : {U F : Type 0} (e : F) (kind : WorkKind) (a b : S) (new : Work) (before after : List (List ℕ)) → IsFinished {T = U} {E = F} v (DriveFailed shelf a b) (fresh kind at count) before new after (Err e)
+  stops : {U F : Type 0} (e : F) (kind : WorkKind) (a b : S) (new : Work) (before after : List (List ℕ)) → IsFinished {T = U} {E = F} v (DriveFailures shelf a b) (fresh kind at count) before new after (Err e)
       → MakesTurns {T = U} {E = F} shelf a b v (fresh kind at count) new (Err e) → StopsAt shelf a b v kind at count 0 (written_of kind count)
   stops e kind a b new before after finished makes =
       let none = none_counted (is_turn v kind at) new.done in
@@ -97,44 +109,47 @@ module _ {S : Type 0} (shelf : Ghosts S) (v : Map) (at count : ℕ) where
       (new.done, finished.stayed.1, subst (λ (n : ℕ). TookExactly shelf a b (0 + turns v kind at new.done + 1) (written_of kind n)) blocks exact)
 
   module _ (a b : S) (work : Work) (before after : List (List ℕ)) where
-    pub reads_took : {T E : Type 0} (x : T) → MakesTurns {T = T} {E = E} shelf a b v (fresh Read at count) work (Ok x) → TakesReads {T = T} {E = E} shelf a b v at count (Ok x)
-    reads_took x makes = record { done = subst (λ (n : ℕ). Took shelf.calls shelf.written a b n 0) (none_counted (is_start v at) count) makes.done; failed = tt }
+    pub reads_took : {T E : Type 0} (x : T) → IsFinished {T = T} {E = E} v (DriveFailures shelf a b) (fresh Read at count) before work after (Ok x) → MakesTurns {T = T} {E = E} shelf a b v (fresh Read at count) work (Ok x) → TakesReads {T = T} {E = E} shelf a b v at count (Ok x)
+    reads_took x finished makes = record { calm = finished.whole.1; done = subst (λ (n : ℕ). Took shelf.calls shelf.written a b n 0) (none_counted (is_start v at) count) makes.done; failed = tt }
 
     module _ {T E U F : Type 0} (e : F) (result : Result T E) (none : OnOk result ⊥) where
-      pub reads_stop : IsFinished {T = U} {E = F} v (DriveFailed shelf a b) (fresh Read at count) before work after (Err e) → MakesTurns {T = U} {E = F} shelf a b v (fresh Read at count) work (Err e) → TakesReads shelf a b v at count result
+      pub reads_stop : IsFinished {T = U} {E = F} v (DriveFailures shelf a b) (fresh Read at count) before work after (Err e) → MakesTurns {T = U} {E = F} shelf a b v (fresh Read at count) work (Err e) → TakesReads shelf a b v at count result
       reads_stop finished makes = record {
+        calm = no_ok result (AreCalm (DriveFailures shelf a b)) none;
         done = no_ok result (Took shelf.calls shelf.written a b (pieces v at count) 0) none;
         failed = on_err result (StopsAt shelf a b v Read at count 0 0) (stops {U = U} {F = F} e Read a b work before after finished makes);
       }
 
-      pub writes_stop : IsFinished {T = U} {E = F} v (DriveFailed shelf a b) (fresh Write at count) before work after (Err e) → MakesTurns {T = U} {E = F} shelf a b v (fresh Write at count) work (Err e) → TakesWrites shelf a b v at count result
+      pub writes_stop : IsFinished {T = U} {E = F} v (DriveFailures shelf a b) (fresh Write at count) before work after (Err e) → MakesTurns {T = U} {E = F} shelf a b v (fresh Write at count) work (Err e) → TakesWrites shelf a b v at count result
       writes_stop finished makes = record {
+        calm = no_ok result (AreCalm (DriveFailures shelf a b)) none;
         done = no_ok result (Took shelf.calls shelf.written a b (pieces v at count + drives v at count) count) none;
         failed = on_err result (StopsAt shelf a b v Write at count 0 count ⊎ StopsAt shelf a b v Flush at count (pieces v at count) count) (inl (stops {U = U} {F = F} e Write a b work before after finished makes));
       }
 
-  module _ (a b c : S) (written flushed : Work) (before after : List (List ℕ)) {V G : Type 0} (x : V) (first : MakesTurns {T = V} {E = G} shelf a b v (fresh Write at count) written (Ok x)) where
-    pub writes_took : {U F : Type 0} (y : U) → MakesTurns {T = U} {E = F} shelf b c v (fresh Flush at count) flushed (Ok y) → TakesWrites {T = U} {E = F} shelf a c v at count (Ok y)
-    writes_took y second =
+  module _ (a b c : S) (written flushed : Work) (before after : List (List ℕ)) (calm : AreCalm (DriveFailures shelf a b)) {V G : Type 0} (x : V) (first : MakesTurns {T = V} {E = G} shelf a b v (fresh Write at count) written (Ok x)) where
+    pub writes_took : {U F : Type 0} (y : U) → AreCalm (DriveFailures shelf b c) → MakesTurns {T = U} {E = F} shelf b c v (fresh Flush at count) flushed (Ok y) → TakesWrites {T = U} {E = F} shelf a c v at count (Ok y)
+    writes_took y still second =
         let one = none_counted (is_start v at) count in
         let two = none_counted (is_new v at) count in
         record {
+          calm = calm_more shelf a b c calm still;
           done = took_more shelf.calls shelf.written a b c (turns_left v (fresh Write at count)) (turns_left v (fresh Flush at count)) (count - 0) 0 (pieces v at count + drives v at count) count (omega arith) (omega arith) first.done second.done;
           failed = tt;
         }
 
-    pub syncs_stop : {T E U F : Type 0} (e : F) (result : Result T E) → OnOk result ⊥ → Kept shelf a b → IsFinished {T = U} {E = F} v (DriveFailed shelf b c) (fresh Flush at count) before flushed after (Err e)
+    pub syncs_stop : {T E U F : Type 0} (e : F) (result : Result T E) → OnOk result ⊥ → IsFinished {T = U} {E = F} v (DriveFailures shelf b c) (fresh Flush at count) before flushed after (Err e)
         → MakesTurns {T = U} {E = F} shelf b c v (fresh Flush at count) flushed (Err e) → TakesWrites shelf a c v at count result
-    syncs_stop {T} {E} {U} {F} e result none kept finished makes =
+    syncs_stop {T} {E} {U} {F} e result none finished makes =
         let stop = stops {U = U} {F = F} e Flush b c flushed before after finished makes in
         let one = none_counted (is_start v at) count in
-        let part = OnDrive (drive_of (v.copies (at + stop.0))) in
-        let since = rose_since (shelf.faults a part) (shelf.faults b part) (shelf.faults c part) (2 ^ 64 - 1) (kept.keeps.no_fewer_faults part) stop.1.failed in
+        let since = failed_more shelf a b c calm _ stop.1.failed in
         let took = between_of shelf.calls shelf.written a b (turns_left v (fresh Write at count)) (count - 0) (pieces v at count) (pieces v at count) count (omega arith) (omega arith) (omega arith) first.done in
         let calls = pieces v at count + turns v Flush at stop.0 + 1 in
         let both = between_then shelf.calls shelf.written a b c (pieces v at count) (pieces v at count) count (0 + turns v Flush at stop.0 + 1) (0 + turns v Flush at stop.0 + 1) 0 calls calls count (omega arith) (omega arith) (omega arith) took stop.2 in
         let stopped : StopsAt shelf a c v Flush at count (pieces v at count) count = (stop.0, record { below = stop.1.below; begins = stop.1.begins; failed = since }, both) in
         record {
+          calm = no_ok result (AreCalm (DriveFailures shelf a c)) none;
           done = no_ok result (Took shelf.calls shelf.written a c (pieces v at count + drives v at count) count) none;
           failed = on_err result (StopsAt shelf a c v Write at count 0 count ⊎ StopsAt shelf a c v Flush at count (pieces v at count) count) (inr stopped);
         }

@@ -1,25 +1,26 @@
 -- The moments and the end of a turn.
-use Rattle.std.proofs.Common.{◌≡◌, inl, inr, ℕ, ◌+◌, ◌-◌, ◌<◌, ◌≤◌, true, false, nat_lt, List, [], length, take, drop, slice_index_or, Option, Some, Result, Ok, Err, OnErr, OnOk, refl, sym, ◌∙◌, ap, subst, arith}
-use Rattle.mdv_shelf.specs.Tale.{Tale, Then, Wrote, Tore, Synced, MayLeave, covers, last}
+use Rattle.std.proofs.Common.{◌≡◌, ◌⊎◌, inl, inr, ℕ, ◌+◌, ◌-◌, ◌<◌, ◌≤◌, true, false, nat_lt, List, [], length, take, drop, slice_index_or, Option, Some, Result, Ok, Err, OnErr, OnOk, refl, sym, ◌∙◌, ap, subst, arith}
+use Rattle.mdv_shelf.specs.Tale.{Tale, Then, Wrote, Tore, Synced, covers, last}
 use Rattle.mdv_shelf.specs.Calls.{Writes, Syncs, IsCounted, Took, and_then}
 use Rattle.mdv_shelf.specs.Moments.{Moments, Ends}
-use Rattle.mdv_shelf.specs.Settle.{IsOldOrNew, Settling}
+use Rattle.mdv_shelf.specs.Settle.{IsOldOrNew, IsSynced, Settling}
 use Rattle.mdv_shelf.specs.declared.shelf.Shelf.{Ghosts}
 use Rattle.mdv_shelf.proofs.Between.{between_one, between_wider}
 use Rattle.mdv_shelf.proofs.Blocks.{both_ways, kept_unwritten, last_written}
 use Rattle.mdv_shelf.proofs.Counts.{took_one}
-use Rattle.mdv_shelf.proofs.Moments.{moments_end, moments_weaker}
+use Rattle.mdv_shelf.proofs.Moments.{moments_end, moments_none, moments_weaker}
 use Rattle.mdv_shelf.proofs.Noted.{AfterSyncing, AfterWriting, moments_sync, moments_write}
-use Rattle.mdv_shelf.proofs.Settled.{covered, settling_starts, settling_tore, settling_wrote, synced_drive, told_synced}
+use Rattle.mdv_shelf.proofs.Settled.{covered, settling_starts, settling_tore, settling_wrote, synced_drive, synced_still, told_synced}
 use Rattle.mdv_map.specs.Maps.{HasDriveBlock, IsDisjoint, Map}
 use Rattle.mdv_map.specs.Requests.{AreCopiesKept, AreRead, OnDrives, Rewriting}
 use Rattle.mdv_map.proofs.Copies.{copy_of, le_of_test, lt_of_test}
 use Rattle.mdv_map.proofs.Covering.{drive_of, from_of, to_of}
 use Rattle.mdv_map.proofs.Joining.{rewritings_join}
 use Rattle.mdv_map.proofs.Standing.{requests_stand}
+use Rattle.mdv_dev.specs.Below.{AreCalm, FailedOn, Outcomes}
 use Rattle.mdv_dev.specs.Pieces.{IsPiece, has_drive, is_new, is_start}
 use Rattle.mdv_dev.specs.Pieces as pieces
-use Rattle.mdv_dev.specs.Works.{IsTurned, IsTurnCounted, LeavesBuffer, is_turn, turns, written_of}
+use Rattle.mdv_dev.specs.Works.{Carries, HasDone, HasSynced, IsRewriting, IsTurned, IsTurnCounted, LeavesBuffer, is_turn, news, turns, written_of}
 use Rattle.mdv_dev.specs.declared.piece.Piece.{Piece}
 use Rattle.mdv_dev.specs.declared.work.Work.{Work}
 use Rattle.mdv_dev.proofs.Counting.{count_turn, has_back}
@@ -116,26 +117,38 @@ module _ (v : Map) (at drive : ℕ) where
   sync_moments old new result syncs = moments_weaker (AfterSyncing drive) (Rewriting v at []) old new after_sync (moments_sync old new drive result syncs)
 
 module _ (v : Map) (at done count : ℕ) (piece : Piece) (is : IsPiece v (at + done) (count - done) piece) (more : done < count) (end : ℕ) (behind : done + piece.count ≤ end) (seen : (j : ℕ) → done < j → j < end → is_new v at j ≡ false) where
-  pub sync_ends : (old new : Option Tale) → new ≡ and_then old (Synced piece.drive.0) → Ends (λ t u. OnDrives v (has_drive v at done) at count t → OnDrives v (has_drive v at end) at count u) old new
+  -- a drive of its blocks up to there is the one that is synced, or one of those before
+  synced_or_before : (t : Tale) (drive : ℕ) → has_drive v at end drive ≡ true → IsSynced drive (Then t (Synced piece.drive.0)) ⊎ (has_drive v at done drive ≡ true)
+  synced_or_before t drive on =
+      let some = is.some in
+      elim (has_back v at done end drive (omega arith) seen on) [
+        | inl first ↦
+            let here : piece.drive.0 ≡ drive = sym (drive_here v at done count piece is done (omega arith) (omega arith)) ∙ first in inl (subst (λ (d : ℕ). IsSynced d (Then t (Synced piece.drive.0))) here (synced_drive t piece.drive.0))
+        | inr earlier ↦ inr earlier
+      ]
+
+  pub sync_ends : (old new : Option Tale) → new ≡ and_then old (Synced piece.drive.0)
+      → Ends (λ t u. (OnDrives v (has_drive v at done) at count t → OnDrives v (has_drive v at end) at count u) × ((drive : ℕ) → (has_drive v at done drive ≡ true → IsSynced drive t) → has_drive v at end drive ≡ true → IsSynced drive u)) old new
   sync_ends old new synced t told = (
     Then t (Synced piece.drive.0),
     synced ∙ ap (λ (o : Option Tale). and_then o (Synced piece.drive.0)) told,
-    λ had k drive block x lt has on left.
-        let some = is.some in
-        let kept = kept_unwritten t (Synced piece.drive.0) drive block refl in
-        elim (has_back v at done end drive (omega arith) seen on) [
-          | inl first ↦
-              let here : piece.drive.0 ≡ drive = sym (drive_here v at done count piece is done (omega arith) (omega arith)) ∙ first in
-              let now = subst (λ (d : ℕ). (block : ℕ) (x : List ℕ) → MayLeave (Then t (Synced piece.drive.0)) d block x → x ≡ last (Then t (Synced piece.drive.0)) d block) here (synced_drive t piece.drive.0) in now block x left
-          | inr earlier ↦ had k drive block x lt has earlier (kept.left x left) ∙ sym kept.last
-        ],
+    (
+      λ had k drive block x lt has on left. elim (synced_or_before t drive on) [
+        | inl now ↦ now block x left
+        | inr earlier ↦ let kept = kept_unwritten t (Synced piece.drive.0) drive block refl in had k drive block x lt has earlier (kept.left x left) ∙ sym kept.last
+      ],
+      λ drive had on. elim (synced_or_before t drive on) [
+        | inl now ↦ now
+        | inr earlier ↦ synced_still drive t (Then t (Synced piece.drive.0)) (λ block. kept_unwritten t (Synced piece.drive.0) drive block refl) (had earlier)
+      ],
+    ),
   )
 
 -- what a turn is, at its end
-module _ (v : Map) (Failed : ℕ → Type 0) (work : Work) (before after : List (List ℕ)) (buffer : LeavesBuffer work.kind before after) (front : take work.done after ≡ take work.done before) where
+module _ (v : Map) (calls : Outcomes) (work : Work) (before after : List (List ℕ)) (buffer : LeavesBuffer work.kind before after) (front : take work.done after ≡ take work.done before) where
   pub turned : {T E : Type 0} (x : T) (end : ℕ) → drop end after ≡ drop end before → work.done < end → end ≤ work.count → is_turn v work.kind work.at work.done ≡ true → ((j : ℕ) → work.done < j → j < end → is_turn v work.kind work.at j ≡ false)
-      → (end < work.count → is_turn v work.kind work.at end ≡ true) → IsTurned {T = T} {E = E} v Failed work before (record work { done = end }) after (Ok x)
-  turned x end behind lt le first none next = record {
+      → (end < work.count → is_turn v work.kind work.at end ≡ true) → AreCalm calls → IsTurned {T = T} {E = E} v calls work before (record work { done = end }) after (Ok x)
+  turned x end behind lt le first none next calm = record {
     same = refl;
     buffer = buffer;
     front = front;
@@ -143,6 +156,7 @@ module _ (v : Map) (Failed : ℕ → Type 0) (work : Work) (before after : List 
     within = le;
     begins = next;
     rose = (lt, count_turn (is_turn v work.kind work.at) work.done end lt first none);
+    calm = calm;
     stayed = tt;
   }
 
@@ -151,9 +165,9 @@ pub no_ok : {T E : Type 0} (result : Result T E) (P : Type 0) → OnOk result �
 no_ok (Ok x) P none = absurd none
 no_ok (Err e) P none = tt
 
-pub missed : {T E : Type 0} (v : Map) (Failed : ℕ → Type 0) (work : Work) (before after : List (List ℕ)) (result : Result T E) → LeavesBuffer work.kind before after → take work.done after ≡ take work.done before → OnOk result ⊥ → work.done < work.count → is_turn v work.kind work.at work.done ≡ true
-    → Failed (pieces.drive_of (v.copies (work.at + work.done))) → IsTurned v Failed work before work after result
-missed v Failed work before after result buffer front none lt first cause = record {
+pub missed : {T E : Type 0} (v : Map) (calls : Outcomes) (work : Work) (before after : List (List ℕ)) (result : Result T E) → LeavesBuffer work.kind before after → take work.done after ≡ take work.done before → OnOk result ⊥ → work.done < work.count → is_turn v work.kind work.at work.done ≡ true
+    → FailedOn (pieces.drive_of (v.copies (work.at + work.done))) calls → IsTurned v calls work before work after result
+missed v calls work before after result buffer front none lt first cause = record {
   same = refl;
   buffer = buffer;
   front = front;
@@ -161,7 +175,8 @@ missed v Failed work before after result buffer front none lt first cause = reco
   within = omega arith;
   begins = λ _. first;
   rose = no_ok result ((work.done < work.done) × (turns v work.kind work.at work.done ≡ turns v work.kind work.at work.done + 1)) none;
-  stayed = on_err result ((work.done ≡ work.done) × Failed (pieces.drive_of (v.copies (work.at + work.done)))) (refl, cause);
+  calm = no_ok result (AreCalm calls) none;
+  stayed = on_err result ((work.done ≡ work.done) × FailedOn (pieces.drive_of (v.copies (work.at + work.done))) calls) (refl, cause);
 }
 
 -- what it takes
@@ -178,6 +193,17 @@ module _ {S : Type 0} (shelf : Ghosts S) (before now : S) (old new : Work) (bloc
     any = between_wider shelf.calls shelf.written before now 1 1 blocks 1 1 (written_of old.kind (old.count - old.done)) (omega arith) (omega arith) few (between_one shelf.calls shelf.written before now blocks counted);
   }
 
--- where the tale stays
+-- what it carries on, told as a pair
+pub carry_ends : (v : Map) (work new : Work) (before after : List (List ℕ)) (a b : Option Tale) → Ends (λ t u. (HasDone v work before t → HasDone v new after u) × ((drive : ℕ) → HasSynced v work drive t → HasSynced v new drive u)) a b → Ends (Carries v work before new after) a b
+carry_ends v work new before after a b ends t told = let end = ends t told in (end.0, end.1, record { done = end.2.0; synced = end.2.1 })
+
+-- where the tale stays, no block is rewritten
+pub rewriting_still : {S : Type 0} (shelf : Ghosts S) (old new : S) (v : Map) (work : Work) (buffer : List (List ℕ)) → shelf.tale new ≡ shelf.tale old → IsRewriting shelf old new v work buffer
+rewriting_still shelf old new v work buffer same = record {
+  each = moments_none (Rewriting v work.at (news work.kind buffer)) (shelf.tale old) (shelf.tale new) same (rewritings_join.still v work.at (news work.kind buffer));
+  still = λ is. same;
+}
+
+-- nothing else ends otherwise
 pub ends_still : (Q : Tale → Tale → Type 0) (old new : Option Tale) → new ≡ old → ((t : Tale) → old ≡ Some t → Q t t) → Ends Q old new
 ends_still Q old new same here t told = (t, same ∙ told, here t told)

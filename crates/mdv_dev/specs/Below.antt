@@ -3,4 +3,6 @@ pub use Rattle.mdv_map.specs.Maps.{DriveBlock, HasDriveBlock, IsDisjoint, Map, c
 pub use Rattle.mdv_map.specs.Requests.{AllOnDisk, AllRead, AreRead, OnDrives, Rewriting}
 pub use Rattle.mdv_shelf.specs.Between.{TookBetween}
 pub use Rattle.mdv_shelf.specs.Calls.{Took}
+pub use Rattle.mdv_shelf.specs.Failing.{AreCalm, FailedOn, Outcomes}
+pub use Rattle.mdv_shelf.specs.Settle.{IsSynced}
 pub use Rattle.mdv_shelf.specs.Tale.{Tale}

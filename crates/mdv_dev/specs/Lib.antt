@@ -2,4 +2,5 @@ pub mod Below
 pub mod Pieces
 pub mod Together
 pub mod OneCopy
+pub mod Drives
 pub mod Works

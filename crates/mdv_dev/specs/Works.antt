@@ -1,8 +1,8 @@
 -- Requests for blocks of a device: what one has done by now, and what a turn of it does.
 use Rattle.std.specs.Prelude.{◌≡◌, ◌⊎◌, ℕ, ◌+◌, ◌-◌, ◌<◌, ◌≤◌, Bool, true, List, [], length, take, drop, Result, OnOk, OnErr}
-use Rattle.mdv_shelf.specs.Shelves.{DriveFailed}
+use Rattle.mdv_shelf.specs.Shelves.{AtEachTale, DriveFailures}
 use Rattle.mdv_shelf.specs.declared.shelf.Shelf.{Ghosts}
-use Rattle.mdv_dev.specs.Below.{AreRead, Map, OnDrives, Tale, Took, TookBetween}
+use Rattle.mdv_dev.specs.Below.{AllOnDisk, AllRead, AreCalm, AreRead, FailedOn, IsSynced, Map, OnDrives, Outcomes, Rewriting, Tale, Took, TookBetween}
 use Rattle.mdv_dev.specs.Pieces.{count_to, drive_of, drives, has_drive, is_new, is_start, pieces}
 use Rattle.mdv_dev.specs.declared.work.Work.{Work}
 use Rattle.mdv_dev.specs.declared.work.WorkKind.{WorkKind}
@@ -47,6 +47,15 @@ HasDoneOf Flush v at count done buffer t = OnDrives v (has_drive v at done) at c
 abbrev pub HasDone : Map → Work → List (List ℕ) → Tale → Type 0
 HasDone v work buffer t = HasDoneOf work.kind v work.at work.count work.done buffer t
 
+-- A flush that has come to this drive put all of it on the disk. This stays true as long as no request writes there, to whatever blocks.
+abbrev pub HasSyncedOf : WorkKind → Map → ℕ → ℕ → ℕ → Tale → Type 0
+HasSyncedOf Read v at done drive t = Unit {0}
+HasSyncedOf Write v at done drive t = Unit {0}
+HasSyncedOf Flush v at done drive t = has_drive v at done drive ≡ true → IsSynced drive t
+
+abbrev pub HasSynced : Map → Work → ℕ → Tale → Type 0
+HasSynced v work drive t = HasSyncedOf work.kind v work.at work.done drive t
+
 -- a request with blocks left to do, at one where a turn begins
 pub record IsOpen (v : Map) (work : Work) (room : ℕ) : Type 0 where
   pub some_left : work.done < work.count
@@ -60,15 +69,20 @@ LeavesBuffer Read old new = length new ≡ length old
 LeavesBuffer Write old new = new ≡ old
 LeavesBuffer Flush old new = new ≡ old
 
--- A call failed at the request's block of that number: a turn begins there, and the drive is the one that this block lies on.
-pub record FailedAt (Failed : ℕ → Type 0) (v : Map) (kind : WorkKind) (at count k : ℕ) : Type 0 where
+-- A call failed at the request's block of that number: a turn begins there, the drive is the one that this block lies on, and no call failed on another.
+pub record FailedAt (calls : Outcomes) (v : Map) (kind : WorkKind) (at count k : ℕ) : Type 0 where
   pub below : k < count
   pub begins : is_turn v kind at k ≡ true
-  pub failed : Failed (drive_of (v.copies (at + k)))
+  pub failed : FailedOn (drive_of (v.copies (at + k))) calls
+
+-- At each moment a request rewrites its own blocks alone; a read leaves the tale as it was.
+pub record IsRewriting {S : Type 0} (shelf : Ghosts S) (old new : S) (v : Map) (work : Work) (buffer : List (List ℕ)) : Type 0 where
+  pub each : AtEachTale shelf (Rewriting v work.at (news work.kind buffer)) old new
+  pub still : work.kind ≡ Read → shelf.tale new ≡ shelf.tale old
 
 -- One turn: more is done, up to where the next one begins, or to the end. Where its call failed, no more is done. The buffer stays
 -- but for the blocks that it did, or tried to.
-pub record IsTurned {T E : Type 0} (v : Map) (Failed : ℕ → Type 0) (old : Work) (before : List (List ℕ)) (new : Work) (after : List (List ℕ)) (result : Result T E) : Type 0 where
+pub record IsTurned {T E : Type 0} (v : Map) (calls : Outcomes) (old : Work) (before : List (List ℕ)) (new : Work) (after : List (List ℕ)) (result : Result T E) : Type 0 where
   pub same : new ≡ record old { done = new.done }
   pub buffer : LeavesBuffer old.kind before after
   pub front : take old.done after ≡ take old.done before
@@ -76,22 +90,30 @@ pub record IsTurned {T E : Type 0} (v : Map) (Failed : ℕ → Type 0) (old : Wo
   pub within : new.done ≤ old.count
   pub begins : new.done < old.count → is_turn v old.kind old.at new.done ≡ true
   pub rose : OnOk result ((old.done < new.done) × (turns v old.kind old.at new.done ≡ turns v old.kind old.at old.done + 1))
-  pub stayed : OnErr result ((new.done ≡ old.done) × Failed (drive_of (v.copies (old.at + old.done))))
+  pub calm : OnOk result (AreCalm calls)
+  pub stayed : OnErr result ((new.done ≡ old.done) × FailedOn (drive_of (v.copies (old.at + old.done))) calls)
 
 -- All turns of it. Where a call failed, all before it stays done: it failed at the first block that isn't.
-pub record IsFinished {T E : Type 0} (v : Map) (Failed : ℕ → Type 0) (old : Work) (before : List (List ℕ)) (new : Work) (after : List (List ℕ)) (result : Result T E) : Type 0 where
+pub record IsFinished {T E : Type 0} (v : Map) (calls : Outcomes) (old : Work) (before : List (List ℕ)) (new : Work) (after : List (List ℕ)) (result : Result T E) : Type 0 where
   pub same : new ≡ record old { done = new.done }
   pub buffer : LeavesBuffer old.kind before after
-  pub whole : OnOk result (new.done ≡ old.count)
-  pub stayed : OnErr result ((old.done ≤ new.done) × FailedAt Failed v old.kind old.at old.count new.done)
+  pub whole : OnOk result ((new.done ≡ old.count) × AreCalm calls)
+  pub stayed : OnErr result ((old.done ≤ new.done) × FailedAt calls v old.kind old.at old.count new.done)
 
 -- how many turns are left of it
 abbrev pub turns_left : Map → Work → ℕ
 turns_left v work = turns v work.kind work.at work.count - turns v work.kind work.at work.done
 
--- what was done stays done, and more is where more is told
-abbrev pub Carries : Map → Work → List (List ℕ) → Work → List (List ℕ) → Tale → Tale → Type 0
-Carries v old before new after t u = HasDone v old before t → HasDone v new after u
+-- What was done stays done, and more is where more is told; and each drive that a flush has come to is synced as a whole, if those that it came to earlier were.
+pub record Carries (v : Map) (old : Work) (before : List (List ℕ)) (new : Work) (after : List (List ℕ)) (t u : Tale) : Type 0 where
+  pub done : HasDone v old before t → HasDone v new after u
+  pub synced : (drive : ℕ) → HasSynced v old drive t → HasSynced v new drive u
+
+-- Blocks that were written: each copy reads so, a crash leaves them, and each drive that they lie on is synced, with all that it was given before.
+pub record AreOnDisk (v : Map) (at : ℕ) (blocks : List (List ℕ)) (u : Tale) : Type 0 where
+  pub read : AllRead v at blocks u
+  pub on_disk : AllOnDisk v at (length blocks) u
+  pub synced : (drive : ℕ) → has_drive v at (length blocks) drive ≡ true → IsSynced drive u
 
 -- it took so many calls, told from both sides, and wrote no more than so many blocks
 abbrev pub TookExactly : {S : Type 0} → Ghosts S → S → S → ℕ → ℕ → Type 0
@@ -115,14 +137,16 @@ pub record IsRange (v : Map) (at count : ℕ) : Type 0 where
 -- It stopped at the failure of a turn of that kind: it made so many calls earlier, one for each turn before it, that one, and no other.
 abbrev pub StopsAt : {S : Type 0} → Ghosts S → S → S → Map → WorkKind → ℕ → ℕ → ℕ → ℕ → Type 0
 StopsAt shelf before now v kind at count earlier blocks =
-    (k : ℕ) × FailedAt (DriveFailed shelf before now) v kind at count k × TookExactly shelf before now (earlier + turns v kind at k + 1) blocks
+    (k : ℕ) × FailedAt (DriveFailures shelf before now) v kind at count k × TookExactly shelf before now (earlier + turns v kind at k + 1) blocks
 
 -- a whole read: a call for each piece, up to the first that fails
 pub record TakesReads {S T E : Type 0} (shelf : Ghosts S) (before now : S) (v : Map) (at count : ℕ) (result : Result T E) : Type 0 where
+  pub calm : OnOk result (AreCalm (DriveFailures shelf before now))
   pub done : OnOk result (Took shelf.calls shelf.written before now (pieces v at count) 0)
   pub failed : OnErr result (StopsAt shelf before now v Read at count 0 0)
 
 -- a whole write: a call for each piece, and then one for each drive, up to the first that fails
 pub record TakesWrites {S T E : Type 0} (shelf : Ghosts S) (before now : S) (v : Map) (at count : ℕ) (result : Result T E) : Type 0 where
+  pub calm : OnOk result (AreCalm (DriveFailures shelf before now))
   pub done : OnOk result (Took shelf.calls shelf.written before now (pieces v at count + drives v at count) count)
   pub failed : OnErr result (StopsAt shelf before now v Write at count 0 count ⊎ StopsAt shelf before now v Flush at count (pieces v at count) count)

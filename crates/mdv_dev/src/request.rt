@@ -1,9 +1,10 @@
 ghost use Rattle.std.specs.Prelude.{◌≡◌, ◌+◌, ◌<◌, ◌≤◌, [], length, OnOk};
 ghost use Rattle.mdv_map.specs.Maps.{IsDisjoint};
-ghost use Rattle.mdv_map.specs.Requests.{AllOnDisk, AllRead, Rewriting};
-ghost use Rattle.mdv_shelf.specs.Shelves.{AtEachTale, AtEnd, Kept};
+ghost use Rattle.mdv_map.specs.Requests.{AllRead, Rewriting};
+ghost use Rattle.mdv_shelf.specs.Shelves.{AtEachTale, AtEnd};
+ghost use Rattle.mdv_dev.specs.Drives.{KeptOnDrives};
 ghost use Rattle.mdv_dev.specs.Pieces.{IsOn};
-ghost use Rattle.mdv_dev.specs.Works.{IsRange, TakesReads, TakesWrites};
+ghost use Rattle.mdv_dev.specs.Works.{AreOnDisk, IsRange, TakesReads, TakesWrites};
 
 use crate::{Placed, Work, WorkKind, finish};
 use mdv_base::{Block, Failed};
@@ -22,9 +23,10 @@ pub fn read_blocks<D: Placed, S: Shelf>(
     requires disjoint { IsDisjoint (D.map device.now) }
     requires range { IsRange (D.map device.now) at (length out.old) }
     ensures moments { AtEachTale S.Shelf (Rewriting (D.map device.now) at []) shelf.old shelf.new }
+    ensures same { S.tale shelf.new ≡ S.tale shelf.old }
     ensures read { OnOk result (AtEnd S.Shelf (λ _ u. AllRead (D.map device.now) at out.new u) shelf.old shelf.new) }
     ensures counted { TakesReads S.Shelf shelf.old shelf.new (D.map device.now) at (length out.old) result }
-    ensures kept { Kept S.Shelf shelf.old shelf.new }
+    ensures kept { KeptOnDrives S.Shelf shelf.old shelf.new (D.map device.now) at (length out.old) }
 {
     let mut work = Work {
         kind: WorkKind::Read,
@@ -49,10 +51,10 @@ pub fn write_blocks<D: Placed, S: Shelf>(
     requires disjoint { IsDisjoint (D.map device.now) }
     requires range { IsRange (D.map device.now) at (length from.old) }
     ensures moments { AtEachTale S.Shelf (Rewriting (D.map device.now) at from.old) shelf.old shelf.new }
-    ensures written { OnOk result (AtEnd S.Shelf (λ _ u. AllRead (D.map device.now) at from.old u × AllOnDisk (D.map device.now) at (length from.old) u) shelf.old shelf.new) }
+    ensures written { OnOk result (AtEnd S.Shelf (λ _ u. AreOnDisk (D.map device.now) at from.old u) shelf.old shelf.new) }
     ensures left { from.new ≡ from.old }
     ensures counted { TakesWrites S.Shelf shelf.old shelf.new (D.map device.now) at (length from.old) result }
-    ensures kept { Kept S.Shelf shelf.old shelf.new }
+    ensures kept { KeptOnDrives S.Shelf shelf.old shelf.new (D.map device.now) at (length from.old) }
 {
     let count = from.len() as u64;
     let mut work = Work {

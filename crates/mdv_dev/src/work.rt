@@ -1,9 +1,9 @@
 ghost use Rattle.std.specs.Prelude.{◌≡◌, ℕ, ◌+◌, ◌-◌, ◌<◌, ◌≤◌, true, false, [], length};
 ghost use Rattle.mdv_map.specs.Maps.{IsDisjoint};
-ghost use Rattle.mdv_map.specs.Requests.{Rewriting};
-ghost use Rattle.mdv_shelf.specs.Shelves.{AtEachTale, AtEnd, DriveFailed, Kept};
+ghost use Rattle.mdv_shelf.specs.Shelves.{AtEnd, DriveFailures};
+ghost use Rattle.mdv_dev.specs.Drives.{KeptOnDrives};
 ghost use Rattle.mdv_dev.specs.Pieces.{IsOn, has_drive, is_new};
-ghost use Rattle.mdv_dev.specs.Works.{Carries, IsFinished, IsOpen, IsTurned, IsTurnCounted, MakesTurns, news};
+ghost use Rattle.mdv_dev.specs.Works.{Carries, IsFinished, IsOpen, IsRewriting, IsTurned, IsTurnCounted, MakesTurns};
 
 use crate::Placed;
 use mdv_base::{Block, DriveNo, Failed};
@@ -38,11 +38,11 @@ pub fn turn<D: Placed, S: Shelf>(
     requires on { IsOn (S.sizes shelf.old) (D.map device.now) }
     requires disjoint { IsDisjoint (D.map device.now) }
     requires open { IsOpen (D.map device.now) work.old (length buffer.old) }
-    ensures moments { AtEachTale S.Shelf (Rewriting (D.map device.now) work.old.at (news work.old.kind buffer.old)) shelf.old shelf.new }
+    ensures moments { IsRewriting S.Shelf shelf.old shelf.new (D.map device.now) work.old buffer.old }
     ensures done { AtEnd S.Shelf (Carries (D.map device.now) work.old buffer.old work.new buffer.new) shelf.old shelf.new }
-    ensures turned { IsTurned (D.map device.now) (DriveFailed S.Shelf shelf.old shelf.new) work.old buffer.old work.new buffer.new result }
+    ensures turned { IsTurned (D.map device.now) (DriveFailures S.Shelf shelf.old shelf.new) work.old buffer.old work.new buffer.new result }
     ensures counted { IsTurnCounted S.Shelf shelf.old shelf.new work.old work.new result }
-    ensures kept { Kept S.Shelf shelf.old shelf.new }
+    ensures kept { KeptOnDrives S.Shelf shelf.old shelf.new (D.map device.now) work.old.at work.old.count }
 {
     match work.kind {
         WorkKind::Read => read_piece(device, shelf, work, buffer)?,
@@ -63,11 +63,11 @@ pub fn finish<D: Placed, S: Shelf>(
     requires on { IsOn (S.sizes shelf.old) (D.map device.now) }
     requires disjoint { IsDisjoint (D.map device.now) }
     requires open { IsOpen (D.map device.now) work.old (length buffer.old) }
-    ensures moments { AtEachTale S.Shelf (Rewriting (D.map device.now) work.old.at (news work.old.kind buffer.old)) shelf.old shelf.new }
+    ensures moments { IsRewriting S.Shelf shelf.old shelf.new (D.map device.now) work.old buffer.old }
     ensures done { AtEnd S.Shelf (Carries (D.map device.now) work.old buffer.old work.new buffer.new) shelf.old shelf.new }
-    ensures finished { IsFinished (D.map device.now) (DriveFailed S.Shelf shelf.old shelf.new) work.old buffer.old work.new buffer.new result }
+    ensures finished { IsFinished (D.map device.now) (DriveFailures S.Shelf shelf.old shelf.new) work.old buffer.old work.new buffer.new result }
     ensures counted { MakesTurns S.Shelf shelf.old shelf.new (D.map device.now) work.old work.new result }
-    ensures kept { Kept S.Shelf shelf.old shelf.new }
+    ensures kept { KeptOnDrives S.Shelf shelf.old shelf.new (D.map device.now) work.old.at work.old.count }
 {
     while work.done < work.count {
         turn(device, shelf, work, buffer)?;
@@ -86,11 +86,11 @@ fn read_piece<D: Placed, S: Shelf>(
     requires on { IsOn (S.sizes shelf.old) (D.map device.now) }
     requires disjoint { IsDisjoint (D.map device.now) }
     requires open { IsOpen (D.map device.now) work.old (length out.old) }
-    ensures moments { AtEachTale S.Shelf (Rewriting (D.map device.now) work.old.at (news work.old.kind out.old)) shelf.old shelf.new }
+    ensures moments { IsRewriting S.Shelf shelf.old shelf.new (D.map device.now) work.old out.old }
     ensures done { AtEnd S.Shelf (Carries (D.map device.now) work.old out.old work.new out.new) shelf.old shelf.new }
-    ensures turned { IsTurned (D.map device.now) (DriveFailed S.Shelf shelf.old shelf.new) work.old out.old work.new out.new result }
+    ensures turned { IsTurned (D.map device.now) (DriveFailures S.Shelf shelf.old shelf.new) work.old out.old work.new out.new result }
     ensures counted { IsTurnCounted S.Shelf shelf.old shelf.new work.old work.new result }
-    ensures kept { Kept S.Shelf shelf.old shelf.new }
+    ensures kept { KeptOnDrives S.Shelf shelf.old shelf.new (D.map device.now) work.old.at work.old.count }
 {
     let piece = device.piece(work.at + work.done, work.count - work.done);
     let end = work.done + piece.count;
@@ -111,11 +111,11 @@ fn write_piece<D: Placed, S: Shelf>(
     requires on { IsOn (S.sizes shelf.old) (D.map device.now) }
     requires disjoint { IsDisjoint (D.map device.now) }
     requires open { IsOpen (D.map device.now) work.old (length from.now) }
-    ensures moments { AtEachTale S.Shelf (Rewriting (D.map device.now) work.old.at (news work.old.kind from.now)) shelf.old shelf.new }
+    ensures moments { IsRewriting S.Shelf shelf.old shelf.new (D.map device.now) work.old from.now }
     ensures done { AtEnd S.Shelf (Carries (D.map device.now) work.old from.now work.new from.now) shelf.old shelf.new }
-    ensures turned { IsTurned (D.map device.now) (DriveFailed S.Shelf shelf.old shelf.new) work.old from.now work.new from.now result }
+    ensures turned { IsTurned (D.map device.now) (DriveFailures S.Shelf shelf.old shelf.new) work.old from.now work.new from.now result }
     ensures counted { IsTurnCounted S.Shelf shelf.old shelf.new work.old work.new result }
-    ensures kept { Kept S.Shelf shelf.old shelf.new }
+    ensures kept { KeptOnDrives S.Shelf shelf.old shelf.new (D.map device.now) work.old.at work.old.count }
 {
     let piece = device.piece(work.at + work.done, work.count - work.done);
     let end = work.done + piece.count;
@@ -130,11 +130,11 @@ fn sync_drive<D: Placed, S: Shelf>(device: &D, shelf: &mut S, work: &mut Work) -
     requires well { D.IsWell device.now }
     requires on { IsOn (S.sizes shelf.old) (D.map device.now) }
     requires open { IsOpen (D.map device.now) work.old 0 }
-    ensures moments { AtEachTale S.Shelf (Rewriting (D.map device.now) work.old.at []) shelf.old shelf.new }
+    ensures moments { IsRewriting S.Shelf shelf.old shelf.new (D.map device.now) work.old [] }
     ensures done { AtEnd S.Shelf (Carries (D.map device.now) work.old [] work.new []) shelf.old shelf.new }
-    ensures turned { IsTurned (D.map device.now) (DriveFailed S.Shelf shelf.old shelf.new) work.old [] work.new [] result }
+    ensures turned { IsTurned (D.map device.now) (DriveFailures S.Shelf shelf.old shelf.new) work.old [] work.new [] result }
     ensures counted { IsTurnCounted S.Shelf shelf.old shelf.new work.old work.new result }
-    ensures kept { Kept S.Shelf shelf.old shelf.new }
+    ensures kept { KeptOnDrives S.Shelf shelf.old shelf.new (D.map device.now) work.old.at work.old.count }
 {
     let piece = device.piece(work.at + work.done, work.count - work.done);
     shelf.sync(piece.drive)?;

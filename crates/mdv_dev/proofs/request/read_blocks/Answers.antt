@@ -10,4 +10,4 @@ returns-in_err-finish-clause-counted g c =
 
 pub returns-clause-counted : goal.returns-clause-counted
 returns-clause-counted g c =
-    reads_took g.S.Shelf (g.D.Placed.map c.args.device.now) c.args.at (length c.args.out.now) c.args.shelf.now c.finish.new.shelf c.finish.new.work c.args.out.now c.finish.new.buffer _ c.in_ok-finish.ensures.counted
+    reads_took g.S.Shelf (g.D.Placed.map c.args.device.now) c.args.at (length c.args.out.now) c.args.shelf.now c.finish.new.shelf c.finish.new.work c.args.out.now c.finish.new.buffer _ c.in_ok-finish.ensures.finished c.in_ok-finish.ensures.counted

@@ -1,19 +1,22 @@
-use Rattle.mdv_base.proofs.Causes.{rose_of_once}
 use Rattle.std.proofs.Common.{◌+◌, ◌-◌, ◌<◌, ◌≤◌, ◌≡◌, ℕ, List, length, Option, refl, sym, ◌∙◌, subst, arith, rules}
 use Rattle.mdv_shelf.specs.Tale.{Tale}
-use Rattle.mdv_shelf.specs.Calls.{InDrive}
+use Rattle.mdv_shelf.specs.Calls.{InDrive, OnDrive}
 use Rattle.mdv_shelf.specs.Moments.{Ends}
-use Rattle.mdv_shelf.specs.Shelves.{DriveFailed}
-use Rattle.mdv_shelf.proofs.Noted.{kept_call}
+use Rattle.mdv_shelf.specs.Shelves.{DriveFailures}
+use Rattle.mdv_shelf.proofs.InTime.{kept_on_call}
 use Rattle.mdv_map.specs.Maps.{Map}
 use Rattle.mdv_map.specs.Requests.{AreRead}
-use Rattle.mdv_dev.specs.Works.{LeavesBuffer, HasRoom, HasDoneOf, written_of, is_turn}
+use Rattle.mdv_dev.specs.Below.{FailedOn}
+use Rattle.mdv_dev.specs.Works.{LeavesBuffer, HasRoom, HasDoneOf, HasSyncedOf, written_of, is_turn}
 use Rattle.mdv_dev.specs.Pieces.{is_start}
 use Rattle.mdv_dev.specs.declared.work.WorkKind.{WorkKind}
 use Rattle.mdv_dev.specs.declared.work.WorkKind.TheVariants.{Read}
+use Rattle.mdv_dev.proofs.Counting.{has_at}
+use Rattle.mdv_dev.proofs.Drives.{drives_of_on}
+use Rattle.mdv_dev.proofs.Failing.{calm_on, failed_on}
 use Rattle.mdv_dev.proofs.Lying.{drive_here, in_drive, starts_in, starts_next}
 use Rattle.mdv_dev.proofs.Slicing.{filled_before, filled_behind, filled_front, filled_long, filled_part, part_long}
-use Rattle.mdv_dev.proofs.Turning.{ends_still, missed, more_read, turn_counted, turn_missed, turned}
+use Rattle.mdv_dev.proofs.Turning.{carry_ends, ends_still, rewriting_still, missed, more_read, turn_counted, turn_missed, turned}
 use Rattle.mdv_dev.proofs.work.read_piece.Goals as goal
 
 -- the buffer has room for the piece
@@ -30,8 +33,8 @@ turn_is : (w : WorkKind) (v : Map) (at k : ℕ) → w ≡ Read → is_turn v w a
 turn_is w v at k is = rw is refl
 
 done_of : (w : WorkKind) → w ≡ Read → (v : Map) (at count done end : ℕ) (before after : List (List ℕ)) (old new : Option Tale) → Ends (λ t u. AreRead v at done before t → AreRead v at end after u) old new
-    → Ends (λ t u. HasDoneOf w v at count done before t → HasDoneOf w v at count end after u) old new
-done_of w is v at count done end before after old new ends = rw is ends
+    → Ends (λ t u. (HasDoneOf w v at count done before t → HasDoneOf w v at count end after u) × ((drive : ℕ) → HasSyncedOf w v at done drive t → HasSyncedOf w v at end drive u)) old new
+done_of w is v at count done end before after old new ends = rw is (λ t told. let there = ends t told in (there.0, there.1, (there.2, λ drive had. tt)))
 
 pub read-requires : goal.read-requires
 read-requires g c =
@@ -41,6 +44,22 @@ read-requires g c =
     let room : w.done + count ≤ length c.args.out.now = room_for w.kind w.count (length c.args.out.now) w.done count c.requires.kind c.requires.open.buffer c.requires.open.some_left c.piece-piece.ensures.within in
     let there = in_drive v (w.at + w.done) (w.count - w.done) c.piece-piece.result c.piece-piece.ensures (g.S.Shelf.sizes c.args.shelf.now) c.requires.on (let within = c.requires.open.within in let some = c.requires.open.some_left in omega arith) in
     subst (λ (n : ℕ). InDrive (g.S.Shelf.sizes c.args.shelf.now) c.piece-piece.result.drive.0 c.piece-piece.result.block n) (sym (part_long w.done count c.args.out.now room)) there
+
+pub returns-in_err-read-clause-moments : goal.returns-in_err-read-clause-moments
+returns-in_err-read-clause-moments g c = rewriting_still g.S.Shelf c.args.shelf.now c.read.new.self (g.D.Placed.map c.args.device.now) c.args.work.now c.args.out.now c.read.ensures.reads.same
+
+pub returns-in_err-read-clause-done : goal.returns-in_err-read-clause-done
+returns-in_err-read-clause-done g c =
+    let v = g.D.Placed.map c.args.device.now in
+    let w = c.args.work.now in
+    let count = c.piece-piece.result.count in
+    let out = c.args.out.now in
+    let news = c.read.new.out in
+    let room : w.done + count ≤ length out = room_for w.kind w.count (length out) w.done count c.requires.kind c.requires.open.buffer c.requires.open.some_left c.piece-piece.ensures.within in
+    let long : length news ≡ count = c.read.auto.out ∙ part_long w.done count out room in
+    carry_ends v w w out _ (g.S.Shelf.tale c.args.shelf.now) (g.S.Shelf.tale c.read.new.self)
+    (done_of w.kind c.requires.kind v w.at w.count w.done w.done out _ (g.S.Shelf.tale c.args.shelf.now) (g.S.Shelf.tale c.read.new.self)
+    (ends_still _ (g.S.Shelf.tale c.args.shelf.now) (g.S.Shelf.tale c.read.new.self) c.read.ensures.reads.same (λ t told had k x lt reading. had k x lt reading ∙ sym (filled_front w.done count out room news long k lt))))
 
 pub returns-in_err-read-clause-turned : goal.returns-in_err-read-clause-turned
 returns-in_err-read-clause-turned g c =
@@ -54,15 +73,25 @@ returns-in_err-read-clause-turned g c =
     let long : length news ≡ count = c.read.auto.out ∙ part_long w.done count out room in
     let filled = same_length w.kind _ _ c.requires.kind (filled_long w.done count out room news long) in
     let here = drive_here v w.at w.done w.count c.piece-piece.result c.piece-piece.ensures w.done (omega arith) (omega arith) in
-    missed v (DriveFailed g.S.Shelf c.args.shelf.now c.read.new.self) w out _ c.from_residual.result filled (filled_before w.done count out room news long) (search rules) c.requires.open.some_left c.requires.open.begins
-    (subst (λ (d : ℕ). DriveFailed g.S.Shelf c.args.shelf.now c.read.new.self d) (sym here) (rose_of_once _ _ c.in_err-read.ensures.cause.own.failed))
+    let on = kept_on_call g.S.Shelf (OnDrive c.piece-piece.result.drive.0) _ _ c.read.ensures.noted c.read.ensures.keeps c.read.ensures.cause.others in
+    missed v (DriveFailures g.S.Shelf c.args.shelf.now c.read.new.self) w out _ c.from_residual.result filled (filled_before w.done count out room news long) (search rules) c.requires.open.some_left c.requires.open.begins
+    (subst (λ (d : ℕ). FailedOn d (DriveFailures g.S.Shelf c.args.shelf.now c.read.new.self)) (sym here) (failed_on g.S.Shelf _ _ c.piece-piece.result.drive.0 on c.in_err-read.ensures.cause.own.failed))
 
 pub returns-in_err-read-clause-counted : goal.returns-in_err-read-clause-counted
 returns-in_err-read-clause-counted g c =
     turn_missed g.S.Shelf c.args.shelf.now c.read.new.self c.args.work.now c.args.work.now 0 c.read.ensures.counted (omega arith) c.from_residual.result (search rules)
 
 pub returns-in_err-read-clause-kept : goal.returns-in_err-read-clause-kept
-returns-in_err-read-clause-kept g c = kept_call g.S.Shelf _ _ _ c.read.ensures.noted c.read.ensures.keeps
+returns-in_err-read-clause-kept g c =
+    let v = g.D.Placed.map c.args.device.now in
+    let w = c.args.work.now in
+    let some = c.piece-piece.ensures.some in
+    let here = drive_here v w.at w.done w.count c.piece-piece.result c.piece-piece.ensures w.done (omega arith) (omega arith) in
+    drives_of_on g.S.Shelf _ _ v w.at w.count c.piece-piece.result.drive.0 (has_at v w.at w.count w.done c.piece-piece.result.drive.0 c.requires.open.some_left here)
+    (kept_on_call g.S.Shelf (OnDrive c.piece-piece.result.drive.0) _ _ c.read.ensures.noted c.read.ensures.keeps c.read.ensures.cause.others)
+
+pub returns-clause-moments : goal.returns-clause-moments
+returns-clause-moments g c = rewriting_still g.S.Shelf c.args.shelf.now c.read.new.self (g.D.Placed.map c.args.device.now) c.args.work.now c.args.out.now c.read.ensures.reads.same
 
 pub returns-clause-done : goal.returns-clause-done
 returns-clause-done g c =
@@ -73,11 +102,12 @@ returns-clause-done g c =
     let news = c.read.new.out in
     let room : w.done + count ≤ length out = room_for w.kind w.count (length out) w.done count c.requires.kind c.requires.open.buffer c.requires.open.some_left c.piece-piece.ensures.within in
     let long : length news ≡ count = c.read.auto.out ∙ part_long w.done count out room in
-    done_of w.kind c.requires.kind v w.at w.count w.done (w.done + count) out _ (g.S.Shelf.tale c.args.shelf.now) (g.S.Shelf.tale c.read.new.self)
+    carry_ends v w (record w { done = w.done + count }) out _ (g.S.Shelf.tale c.args.shelf.now) (g.S.Shelf.tale c.read.new.self)
+    (done_of w.kind c.requires.kind v w.at w.count w.done (w.done + count) out _ (g.S.Shelf.tale c.args.shelf.now) (g.S.Shelf.tale c.read.new.self)
     (ends_still _ (g.S.Shelf.tale c.args.shelf.now) (g.S.Shelf.tale c.read.new.self) c.in_ok-read.ensures.reads.same (λ t told had.
     more_read v w.at w.done w.count c.piece-piece.result c.piece-piece.ensures c.requires.disjoint c.requires.open.within c.requires.open.some_left _ t
     (λ k x lt reading. had k x lt reading ∙ sym (filled_front w.done count out room news long k lt))
-    (λ j lt. sym (c.in_ok-read.ensures.reads.gave t told j (omega arith)) ∙ sym (filled_part w.done count out room news long j lt))))
+    (λ j lt. sym (c.in_ok-read.ensures.reads.gave t told j (omega arith)) ∙ sym (filled_part w.done count out room news long j lt)))))
 
 pub returns-clause-turned : goal.returns-clause-turned
 returns-clause-turned g c =
@@ -90,14 +120,22 @@ returns-clause-turned g c =
     let room : w.done + count ≤ length out = room_for w.kind w.count (length out) w.done count c.requires.kind c.requires.open.buffer c.requires.open.some_left c.piece-piece.ensures.within in
     let long : length news ≡ count = c.read.auto.out ∙ part_long w.done count out room in
     let filled = same_length w.kind _ _ c.requires.kind (filled_long w.done count out room news long) in
-    turned v (DriveFailed g.S.Shelf c.args.shelf.now c.read.new.self) w out _ filled (filled_before w.done count out room news long) tt (w.done + count) (filled_behind w.done count out room news long)
+    let on = kept_on_call g.S.Shelf (OnDrive c.piece-piece.result.drive.0) _ _ c.read.ensures.noted c.read.ensures.keeps c.read.ensures.cause.others in
+    turned v (DriveFailures g.S.Shelf c.args.shelf.now c.read.new.self) w out _ filled (filled_before w.done count out room news long) tt (w.done + count) (filled_behind w.done count out room news long)
     (omega arith) (let few = c.piece-piece.ensures.within in let left = c.requires.open.some_left in omega arith) c.requires.open.begins
     (λ j above below. turn_is w.kind v w.at j c.requires.kind ∙ starts_in v w.at w.done w.count c.piece-piece.result c.piece-piece.ensures j above below)
     (λ below. turn_is w.kind v w.at (w.done + count) c.requires.kind ∙ starts_next v w.at w.done w.count c.piece-piece.result c.piece-piece.ensures below)
+    (calm_on g.S.Shelf _ _ c.piece-piece.result.drive.0 on c.in_ok-read.ensures.cause.own.calm)
 
 pub returns-clause-counted : goal.returns-clause-counted
 returns-clause-counted g c =
     turn_counted g.S.Shelf c.args.shelf.now c.read.new.self c.args.work.now (record c.args.work.now { done = c.args.work.now.done + c.piece-piece.result.count }) 0 c.read.ensures.counted (omega arith) tt (written_none c.args.work.now.kind _ c.requires.kind)
 
 pub returns-clause-kept : goal.returns-clause-kept
-returns-clause-kept g c = kept_call g.S.Shelf _ _ _ c.read.ensures.noted c.read.ensures.keeps
+returns-clause-kept g c =
+    let v = g.D.Placed.map c.args.device.now in
+    let w = c.args.work.now in
+    let some = c.piece-piece.ensures.some in
+    let here = drive_here v w.at w.done w.count c.piece-piece.result c.piece-piece.ensures w.done (omega arith) (omega arith) in
+    drives_of_on g.S.Shelf _ _ v w.at w.count c.piece-piece.result.drive.0 (has_at v w.at w.count w.done c.piece-piece.result.drive.0 c.requires.open.some_left here)
+    (kept_on_call g.S.Shelf (OnDrive c.piece-piece.result.drive.0) _ _ c.read.ensures.noted c.read.ensures.keeps c.read.ensures.cause.others)

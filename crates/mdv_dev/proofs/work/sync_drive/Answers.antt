@@ -1,20 +1,24 @@
-use Rattle.mdv_base.proofs.Causes.{rose_of_once}
-use Rattle.std.proofs.Common.{◌+◌, ◌-◌, ◌<◌, ◌≤◌, ◌≡◌, inl, inr, ℕ, false, [], nat_lt, Option, refl, sym, ◌∙◌, subst, arith, rules}
+use Rattle.std.proofs.Common.{◌+◌, ◌-◌, ◌<◌, ◌≤◌, ◌≡◌, inl, inr, ℕ, true, false, [], nat_lt, Option, refl, sym, ◌∙◌, subst, arith, rules}
 use Rattle.mdv_shelf.specs.Tale.{Tale}
-use Rattle.mdv_shelf.specs.Moments.{Ends}
-use Rattle.mdv_shelf.specs.Shelves.{DriveFailed}
+use Rattle.mdv_shelf.specs.Calls.{OnDrive}
+use Rattle.mdv_shelf.specs.Moments.{Ends, Moments}
+use Rattle.mdv_shelf.specs.Shelves.{DriveFailures}
+use Rattle.mdv_shelf.proofs.InTime.{kept_on_call}
 use Rattle.mdv_shelf.proofs.Blocks.{both_ways}
-use Rattle.mdv_shelf.proofs.Noted.{kept_call}
 use Rattle.mdv_map.proofs.Copies.{le_of_test, lt_of_test}
 use Rattle.mdv_map.specs.Maps.{Map}
-use Rattle.mdv_map.specs.Requests.{OnDrives}
-use Rattle.mdv_dev.specs.Works.{LeavesBuffer, HasDoneOf, written_of, is_turn}
+use Rattle.mdv_map.specs.Requests.{OnDrives, Rewriting}
+use Rattle.mdv_dev.specs.Below.{FailedOn, IsSynced}
+use Rattle.mdv_dev.specs.Works.{LeavesBuffer, HasDoneOf, HasSyncedOf, news, written_of, is_turn}
 use Rattle.mdv_dev.specs.Pieces.{IsPiece, has_drive, is_new}
 use Rattle.mdv_dev.specs.declared.piece.Piece.{Piece}
 use Rattle.mdv_dev.specs.declared.work.WorkKind.{WorkKind}
-use Rattle.mdv_dev.specs.declared.work.WorkKind.TheVariants.{Flush}
+use Rattle.mdv_dev.specs.declared.work.WorkKind.TheVariants.{Flush, Read}
+use Rattle.mdv_dev.proofs.Counting.{has_at}
+use Rattle.mdv_dev.proofs.Drives.{drives_of_on}
+use Rattle.mdv_dev.proofs.Failing.{calm_on, failed_on}
 use Rattle.mdv_dev.proofs.Lying.{drive_here, in_drive, seen_in}
-use Rattle.mdv_dev.proofs.Turning.{missed, sync_ends, sync_moments, turn_counted, turn_missed, turned}
+use Rattle.mdv_dev.proofs.Turning.{carry_ends, ends_still, missed, sync_ends, sync_moments, turn_counted, turn_missed, turned}
 use Rattle.mdv_dev.proofs.work.sync_drive.Goals as goal
 
 written_none : (w : WorkKind) (n : ℕ) → w ≡ Flush → 0 ≡ written_of w n
@@ -36,8 +40,15 @@ seen_until v at done count piece is end behind j above below = elim (both_ways (
   | inr not ↦ behind j (le_of_test j (done + piece.count) not) below
 ]
 
-done_of : (w : WorkKind) → w ≡ Flush → (v : Map) (at count done end : ℕ) (old new : Option Tale) → Ends (λ t u. OnDrives v (has_drive v at done) at count t → OnDrives v (has_drive v at end) at count u) old new
-    → Ends (λ t u. HasDoneOf w v at count done [] t → HasDoneOf w v at count end [] u) old new
+not_read : (w : WorkKind) (P : Type 0) → w ≡ Flush → w ≡ Read → P
+not_read w P is read = absurd (cc (is, read))
+
+moments_of : (w : WorkKind) → w ≡ Flush → (v : Map) (at : ℕ) (old new : Option Tale) → Moments (Rewriting v at []) old new → Moments (Rewriting v at (news w [])) old new
+moments_of w is v at old new moments = rw is moments
+
+done_of : (w : WorkKind) → w ≡ Flush → (v : Map) (at count done end : ℕ) (old new : Option Tale)
+    → Ends (λ t u. (OnDrives v (has_drive v at done) at count t → OnDrives v (has_drive v at end) at count u) × ((drive : ℕ) → (has_drive v at done drive ≡ true → IsSynced drive t) → has_drive v at end drive ≡ true → IsSynced drive u)) old new
+    → Ends (λ t u. (HasDoneOf w v at count done [] t → HasDoneOf w v at count end [] u) × ((drive : ℕ) → HasSyncedOf w v at done drive t → HasSyncedOf w v at end drive u)) old new
 done_of w is v at count done end old new ends = rw is ends
 
 pub sync-requires : goal.sync-requires
@@ -49,35 +60,61 @@ sync-requires g c =
     let there = in_drive v (w.at + w.done) (w.count - w.done) c.piece-piece.result c.piece-piece.ensures (g.S.Shelf.sizes c.args.shelf.now) c.requires.on (omega arith) in
     let known = there.known in omega arith
 
+pub returns-in_err-sync-clause-moments : goal.returns-in_err-sync-clause-moments
+returns-in_err-sync-clause-moments g c =
+    let v = g.D.Placed.map c.args.device.now in
+    let w = c.args.work.now in
+    record {
+      each = moments_of w.kind c.requires.kind v w.at (g.S.Shelf.tale c.args.shelf.now) (g.S.Shelf.tale c.sync.new.self) (sync_moments v w.at c.piece-piece.result.drive.0 (g.S.Shelf.tale c.args.shelf.now) (g.S.Shelf.tale c.sync.new.self) _ c.sync.ensures.syncs);
+      still = not_read w.kind _ c.requires.kind;
+    }
+
+pub returns-in_err-sync-clause-done : goal.returns-in_err-sync-clause-done
+returns-in_err-sync-clause-done g c =
+    let v = g.D.Placed.map c.args.device.now in
+    let w = c.args.work.now in
+    carry_ends v w w [] [] (g.S.Shelf.tale c.args.shelf.now) (g.S.Shelf.tale c.sync.new.self) (ends_still _ (g.S.Shelf.tale c.args.shelf.now) (g.S.Shelf.tale c.sync.new.self) c.in_err-sync.ensures.syncs (λ t told. (λ had. had, λ drive had. had)))
+
 pub returns-in_err-sync-clause-turned : goal.returns-in_err-sync-clause-turned
 returns-in_err-sync-clause-turned g c =
     let v = g.D.Placed.map c.args.device.now in
     let w = c.args.work.now in
     let some = c.piece-piece.ensures.some in
     let here = drive_here v w.at w.done w.count c.piece-piece.result c.piece-piece.ensures w.done (omega arith) (omega arith) in
-    missed v (DriveFailed g.S.Shelf c.args.shelf.now c.sync.new.self) w [] [] c.from_residual.result (same_buffer w.kind c.requires.kind) refl (search rules) c.requires.open.some_left c.requires.open.begins
-    (subst (λ (d : ℕ). DriveFailed g.S.Shelf c.args.shelf.now c.sync.new.self d) (sym here) (rose_of_once _ _ c.in_err-sync.ensures.cause.own.failed))
+    let on = kept_on_call g.S.Shelf (OnDrive c.piece-piece.result.drive.0) _ _ c.sync.ensures.noted c.sync.ensures.keeps c.sync.ensures.cause.others in
+    missed v (DriveFailures g.S.Shelf c.args.shelf.now c.sync.new.self) w [] [] c.from_residual.result (same_buffer w.kind c.requires.kind) refl (search rules) c.requires.open.some_left c.requires.open.begins
+    (subst (λ (d : ℕ). FailedOn d (DriveFailures g.S.Shelf c.args.shelf.now c.sync.new.self)) (sym here) (failed_on g.S.Shelf _ _ c.piece-piece.result.drive.0 on c.in_err-sync.ensures.cause.own.failed))
 
 pub returns-in_err-sync-clause-counted : goal.returns-in_err-sync-clause-counted
 returns-in_err-sync-clause-counted g c =
     turn_missed g.S.Shelf c.args.shelf.now c.sync.new.self c.args.work.now c.args.work.now 0 c.sync.ensures.counted (omega arith) c.from_residual.result (search rules)
 
 pub returns-in_err-sync-clause-kept : goal.returns-in_err-sync-clause-kept
-returns-in_err-sync-clause-kept g c = kept_call g.S.Shelf _ _ _ c.sync.ensures.noted c.sync.ensures.keeps
+returns-in_err-sync-clause-kept g c =
+    let v = g.D.Placed.map c.args.device.now in
+    let w = c.args.work.now in
+    let some = c.piece-piece.ensures.some in
+    let here = drive_here v w.at w.done w.count c.piece-piece.result c.piece-piece.ensures w.done (omega arith) (omega arith) in
+    drives_of_on g.S.Shelf _ _ v w.at w.count c.piece-piece.result.drive.0 (has_at v w.at w.count w.done c.piece-piece.result.drive.0 c.requires.open.some_left here)
+    (kept_on_call g.S.Shelf (OnDrive c.piece-piece.result.drive.0) _ _ c.sync.ensures.noted c.sync.ensures.keeps c.sync.ensures.cause.others)
 
 pub returns-clause-moments : goal.returns-clause-moments
 returns-clause-moments g c =
     let v = g.D.Placed.map c.args.device.now in
     let w = c.args.work.now in
-    sync_moments v w.at c.piece-piece.result.drive.0 (g.S.Shelf.tale c.args.shelf.now) (g.S.Shelf.tale c.sync.new.self) _ c.sync.ensures.syncs
+    record {
+      each = moments_of w.kind c.requires.kind v w.at (g.S.Shelf.tale c.args.shelf.now) (g.S.Shelf.tale c.sync.new.self) (sync_moments v w.at c.piece-piece.result.drive.0 (g.S.Shelf.tale c.args.shelf.now) (g.S.Shelf.tale c.sync.new.self) _ c.sync.ensures.syncs);
+      still = not_read w.kind _ c.requires.kind;
+    }
 
 pub returns-clause-done : goal.returns-clause-done
 returns-clause-done g c =
     let v = g.D.Placed.map c.args.device.now in
     let w = c.args.work.now in
     let seen = seen_until v w.at w.done w.count c.piece-piece.result c.piece-piece.ensures c.next_drive-work.result c.next_drive-work.ensures.seen in
-    done_of w.kind c.requires.kind v w.at w.count w.done c.next_drive-work.result (g.S.Shelf.tale c.args.shelf.now) (g.S.Shelf.tale c.sync.new.self)
-    (sync_ends v w.at w.done w.count c.piece-piece.result c.piece-piece.ensures c.requires.open.some_left c.next_drive-work.result c.next_drive-work.ensures.behind seen (g.S.Shelf.tale c.args.shelf.now) (g.S.Shelf.tale c.sync.new.self) c.in_ok-sync.ensures.syncs)
+    carry_ends v w (record w { done = c.next_drive-work.result }) [] [] (g.S.Shelf.tale c.args.shelf.now) (g.S.Shelf.tale c.sync.new.self)
+    (done_of w.kind c.requires.kind v w.at w.count w.done c.next_drive-work.result (g.S.Shelf.tale c.args.shelf.now) (g.S.Shelf.tale c.sync.new.self)
+    (sync_ends v w.at w.done w.count c.piece-piece.result c.piece-piece.ensures c.requires.open.some_left c.next_drive-work.result c.next_drive-work.ensures.behind seen (g.S.Shelf.tale c.args.shelf.now) (g.S.Shelf.tale c.sync.new.self) c.in_ok-sync.ensures.syncs))
 
 pub returns-clause-turned : goal.returns-clause-turned
 returns-clause-turned g c =
@@ -85,13 +122,21 @@ returns-clause-turned g c =
     let w = c.args.work.now in
     let some = c.piece-piece.ensures.some in
     let behind = c.next_drive-work.ensures.behind in
-    turned v (DriveFailed g.S.Shelf c.args.shelf.now c.sync.new.self) w [] [] (same_buffer w.kind c.requires.kind) refl tt c.next_drive-work.result refl (omega arith) c.next_drive-work.ensures.until c.requires.open.begins
+    let on = kept_on_call g.S.Shelf (OnDrive c.piece-piece.result.drive.0) _ _ c.sync.ensures.noted c.sync.ensures.keeps c.sync.ensures.cause.others in
+    turned v (DriveFailures g.S.Shelf c.args.shelf.now c.sync.new.self) w [] [] (same_buffer w.kind c.requires.kind) refl tt c.next_drive-work.result refl (omega arith) c.next_drive-work.ensures.until c.requires.open.begins
     (λ j above below. turn_is w.kind v w.at j c.requires.kind ∙ seen_until v w.at w.done w.count c.piece-piece.result c.piece-piece.ensures c.next_drive-work.result c.next_drive-work.ensures.seen j above below)
     (λ below. turn_is w.kind v w.at c.next_drive-work.result c.requires.kind ∙ c.next_drive-work.ensures.first below)
+    (calm_on g.S.Shelf _ _ c.piece-piece.result.drive.0 on c.in_ok-sync.ensures.cause.own.calm)
 
 pub returns-clause-counted : goal.returns-clause-counted
 returns-clause-counted g c =
     turn_counted g.S.Shelf c.args.shelf.now c.sync.new.self c.args.work.now (record c.args.work.now { done = c.next_drive-work.result }) 0 c.sync.ensures.counted (omega arith) tt (written_none c.args.work.now.kind _ c.requires.kind)
 
 pub returns-clause-kept : goal.returns-clause-kept
-returns-clause-kept g c = kept_call g.S.Shelf _ _ _ c.sync.ensures.noted c.sync.ensures.keeps
+returns-clause-kept g c =
+    let v = g.D.Placed.map c.args.device.now in
+    let w = c.args.work.now in
+    let some = c.piece-piece.ensures.some in
+    let here = drive_here v w.at w.done w.count c.piece-piece.result c.piece-piece.ensures w.done (omega arith) (omega arith) in
+    drives_of_on g.S.Shelf _ _ v w.at w.count c.piece-piece.result.drive.0 (has_at v w.at w.count w.done c.piece-piece.result.drive.0 c.requires.open.some_left here)
+    (kept_on_call g.S.Shelf (OnDrive c.piece-piece.result.drive.0) _ _ c.sync.ensures.noted c.sync.ensures.keeps c.sync.ensures.cause.others)

@@ -1,19 +1,22 @@
-use Rattle.mdv_base.proofs.Causes.{rose_of_once}
 use Rattle.std.proofs.Common.{◌+◌, ◌-◌, ◌≤◌, ◌≡◌, ℕ, List, length, Option, refl, sym, ◌∙◌, subst, arith, rules}
 use Rattle.mdv_shelf.specs.Tale.{Tale}
-use Rattle.mdv_shelf.specs.Calls.{InDrive}
+use Rattle.mdv_shelf.specs.Calls.{InDrive, OnDrive}
 use Rattle.mdv_shelf.specs.Moments.{Ends, Moments}
-use Rattle.mdv_shelf.specs.Shelves.{DriveFailed}
-use Rattle.mdv_shelf.proofs.Noted.{kept_call}
+use Rattle.mdv_shelf.specs.Shelves.{DriveFailures}
+use Rattle.mdv_shelf.proofs.InTime.{kept_on_call}
 use Rattle.mdv_map.specs.Maps.{Map}
 use Rattle.mdv_map.specs.Requests.{AreRead, Rewriting}
-use Rattle.mdv_dev.specs.Works.{LeavesBuffer, HasRoom, HasDoneOf, written_of, is_turn, news}
+use Rattle.mdv_dev.specs.Below.{FailedOn}
+use Rattle.mdv_dev.specs.Works.{LeavesBuffer, HasRoom, HasDoneOf, HasSyncedOf, written_of, is_turn, news}
 use Rattle.mdv_dev.specs.Pieces.{is_start}
 use Rattle.mdv_dev.specs.declared.work.WorkKind.{WorkKind}
-use Rattle.mdv_dev.specs.declared.work.WorkKind.TheVariants.{Write}
+use Rattle.mdv_dev.specs.declared.work.WorkKind.TheVariants.{Read, Write}
+use Rattle.mdv_dev.proofs.Counting.{has_at}
+use Rattle.mdv_dev.proofs.Drives.{drives_of_on}
+use Rattle.mdv_dev.proofs.Failing.{calm_on, failed_on}
 use Rattle.mdv_dev.proofs.Lying.{drive_here, in_drive, starts_in, starts_next}
 use Rattle.mdv_dev.proofs.Slicing.{part_is, part_long}
-use Rattle.mdv_dev.proofs.Turning.{missed, turn_counted, turn_missed, turned, write_keeps, write_moments, write_reads}
+use Rattle.mdv_dev.proofs.Turning.{carry_ends, missed, turn_counted, turn_missed, turned, write_keeps, write_moments, write_reads}
 use Rattle.mdv_dev.proofs.work.write_piece.Goals as goal
 
 -- the buffer has its blocks
@@ -36,8 +39,11 @@ moments_of : (w : WorkKind) → w ≡ Write → (v : Map) (at : ℕ) (blocks : L
 moments_of w is v at blocks old new moments = rw is moments
 
 done_of : (w : WorkKind) → w ≡ Write → (v : Map) (at count done end : ℕ) (blocks : List (List ℕ)) (old new : Option Tale) → Ends (λ t u. AreRead v at done blocks t → AreRead v at end blocks u) old new
-    → Ends (λ t u. HasDoneOf w v at count done blocks t → HasDoneOf w v at count end blocks u) old new
-done_of w is v at count done end blocks old new ends = rw is ends
+    → Ends (λ t u. (HasDoneOf w v at count done blocks t → HasDoneOf w v at count end blocks u) × ((drive : ℕ) → HasSyncedOf w v at done drive t → HasSyncedOf w v at end drive u)) old new
+done_of w is v at count done end blocks old new ends = rw is (λ t told. let there = ends t told in (there.0, there.1, (there.2, λ drive had. tt)))
+
+not_read : (w : WorkKind) (P : Type 0) → w ≡ Write → w ≡ Read → P
+not_read w P is read = absurd (cc (is, read))
 
 pub write-requires : goal.write-requires
 write-requires g c =
@@ -59,9 +65,12 @@ returns-in_err-write-clause-moments g c =
     let few = c.piece-piece.ensures.within in
     let some = c.requires.open.some_left in
     let fits : w.done + count ≤ length c.args.from.now = omega arith in
-    moments_of w.kind c.requires.kind v w.at c.args.from.now (g.S.Shelf.tale c.args.shelf.now) (g.S.Shelf.tale c.write.new.self)
-    (write_moments v w.at w.done w.count c.piece-piece.result c.piece-piece.ensures c.requires.disjoint c.requires.open.within some _ c.args.from.now (part_long w.done count c.args.from.now fits) room (part_is w.done count c.args.from.now fits)
-    (g.S.Shelf.tale c.args.shelf.now) (g.S.Shelf.tale c.write.new.self) _ c.write.ensures.writes)
+    record {
+      each = moments_of w.kind c.requires.kind v w.at c.args.from.now (g.S.Shelf.tale c.args.shelf.now) (g.S.Shelf.tale c.write.new.self)
+          (write_moments v w.at w.done w.count c.piece-piece.result c.piece-piece.ensures c.requires.disjoint c.requires.open.within some _ c.args.from.now (part_long w.done count c.args.from.now fits) room (part_is w.done count c.args.from.now fits)
+          (g.S.Shelf.tale c.args.shelf.now) (g.S.Shelf.tale c.write.new.self) _ c.write.ensures.writes);
+      still = not_read w.kind _ c.requires.kind;
+    }
 
 pub returns-in_err-write-clause-done : goal.returns-in_err-write-clause-done
 returns-in_err-write-clause-done g c =
@@ -72,9 +81,10 @@ returns-in_err-write-clause-done g c =
     let few = c.piece-piece.ensures.within in
     let some = c.requires.open.some_left in
     let fits : w.done + count ≤ length c.args.from.now = omega arith in
-    done_of w.kind c.requires.kind v w.at w.count w.done w.done c.args.from.now (g.S.Shelf.tale c.args.shelf.now) (g.S.Shelf.tale c.write.new.self)
+    carry_ends v w w c.args.from.now c.args.from.now (g.S.Shelf.tale c.args.shelf.now) (g.S.Shelf.tale c.write.new.self)
+    (done_of w.kind c.requires.kind v w.at w.count w.done w.done c.args.from.now (g.S.Shelf.tale c.args.shelf.now) (g.S.Shelf.tale c.write.new.self)
     (write_keeps v w.at w.done w.count c.piece-piece.result c.piece-piece.ensures c.requires.disjoint c.requires.open.within some _ c.args.from.now (part_long w.done count c.args.from.now fits) room (part_is w.done count c.args.from.now fits)
-    (g.S.Shelf.tale c.args.shelf.now) (g.S.Shelf.tale c.write.new.self) _ c.write.ensures.writes)
+    (g.S.Shelf.tale c.args.shelf.now) (g.S.Shelf.tale c.write.new.self) _ c.write.ensures.writes))
 
 pub returns-in_err-write-clause-turned : goal.returns-in_err-write-clause-turned
 returns-in_err-write-clause-turned g c =
@@ -82,8 +92,9 @@ returns-in_err-write-clause-turned g c =
     let w = c.args.work.now in
     let some = c.piece-piece.ensures.some in
     let here = drive_here v w.at w.done w.count c.piece-piece.result c.piece-piece.ensures w.done (omega arith) (omega arith) in
-    missed v (DriveFailed g.S.Shelf c.args.shelf.now c.write.new.self) w c.args.from.now c.args.from.now c.from_residual.result (same_buffer w.kind c.args.from.now c.requires.kind) refl (search rules) c.requires.open.some_left c.requires.open.begins
-    (subst (λ (d : ℕ). DriveFailed g.S.Shelf c.args.shelf.now c.write.new.self d) (sym here) (rose_of_once _ _ c.in_err-write.ensures.cause.own.failed))
+    let on = kept_on_call g.S.Shelf (OnDrive c.piece-piece.result.drive.0) _ _ c.write.ensures.noted c.write.ensures.keeps c.write.ensures.cause.others in
+    missed v (DriveFailures g.S.Shelf c.args.shelf.now c.write.new.self) w c.args.from.now c.args.from.now c.from_residual.result (same_buffer w.kind c.args.from.now c.requires.kind) refl (search rules) c.requires.open.some_left c.requires.open.begins
+    (subst (λ (d : ℕ). FailedOn d (DriveFailures g.S.Shelf c.args.shelf.now c.write.new.self)) (sym here) (failed_on g.S.Shelf _ _ c.piece-piece.result.drive.0 on c.in_err-write.ensures.cause.own.failed))
 
 pub returns-in_err-write-clause-counted : goal.returns-in_err-write-clause-counted
 returns-in_err-write-clause-counted g c =
@@ -96,7 +107,13 @@ returns-in_err-write-clause-counted g c =
     turn_missed g.S.Shelf c.args.shelf.now c.write.new.self w w _ c.write.ensures.counted (written_few w.kind _ _ c.requires.kind (omega arith)) c.from_residual.result (search rules)
 
 pub returns-in_err-write-clause-kept : goal.returns-in_err-write-clause-kept
-returns-in_err-write-clause-kept g c = kept_call g.S.Shelf _ _ _ c.write.ensures.noted c.write.ensures.keeps
+returns-in_err-write-clause-kept g c =
+    let v = g.D.Placed.map c.args.device.now in
+    let w = c.args.work.now in
+    let some = c.piece-piece.ensures.some in
+    let here = drive_here v w.at w.done w.count c.piece-piece.result c.piece-piece.ensures w.done (omega arith) (omega arith) in
+    drives_of_on g.S.Shelf _ _ v w.at w.count c.piece-piece.result.drive.0 (has_at v w.at w.count w.done c.piece-piece.result.drive.0 c.requires.open.some_left here)
+    (kept_on_call g.S.Shelf (OnDrive c.piece-piece.result.drive.0) _ _ c.write.ensures.noted c.write.ensures.keeps c.write.ensures.cause.others)
 
 pub returns-clause-moments : goal.returns-clause-moments
 returns-clause-moments g c =
@@ -107,9 +124,12 @@ returns-clause-moments g c =
     let few = c.piece-piece.ensures.within in
     let some = c.requires.open.some_left in
     let fits : w.done + count ≤ length c.args.from.now = omega arith in
-    moments_of w.kind c.requires.kind v w.at c.args.from.now (g.S.Shelf.tale c.args.shelf.now) (g.S.Shelf.tale c.write.new.self)
-    (write_moments v w.at w.done w.count c.piece-piece.result c.piece-piece.ensures c.requires.disjoint c.requires.open.within some _ c.args.from.now (part_long w.done count c.args.from.now fits) room (part_is w.done count c.args.from.now fits)
-    (g.S.Shelf.tale c.args.shelf.now) (g.S.Shelf.tale c.write.new.self) _ c.write.ensures.writes)
+    record {
+      each = moments_of w.kind c.requires.kind v w.at c.args.from.now (g.S.Shelf.tale c.args.shelf.now) (g.S.Shelf.tale c.write.new.self)
+          (write_moments v w.at w.done w.count c.piece-piece.result c.piece-piece.ensures c.requires.disjoint c.requires.open.within some _ c.args.from.now (part_long w.done count c.args.from.now fits) room (part_is w.done count c.args.from.now fits)
+          (g.S.Shelf.tale c.args.shelf.now) (g.S.Shelf.tale c.write.new.self) _ c.write.ensures.writes);
+      still = not_read w.kind _ c.requires.kind;
+    }
 
 pub returns-clause-done : goal.returns-clause-done
 returns-clause-done g c =
@@ -120,9 +140,10 @@ returns-clause-done g c =
     let few = c.piece-piece.ensures.within in
     let some = c.requires.open.some_left in
     let fits : w.done + count ≤ length c.args.from.now = omega arith in
-    done_of w.kind c.requires.kind v w.at w.count w.done (w.done + count) c.args.from.now (g.S.Shelf.tale c.args.shelf.now) (g.S.Shelf.tale c.write.new.self)
+    carry_ends v w (record w { done = w.done + count }) c.args.from.now c.args.from.now (g.S.Shelf.tale c.args.shelf.now) (g.S.Shelf.tale c.write.new.self)
+    (done_of w.kind c.requires.kind v w.at w.count w.done (w.done + count) c.args.from.now (g.S.Shelf.tale c.args.shelf.now) (g.S.Shelf.tale c.write.new.self)
     (write_reads v w.at w.done w.count c.piece-piece.result c.piece-piece.ensures c.requires.disjoint c.requires.open.within some _ c.args.from.now (part_long w.done count c.args.from.now fits) room (part_is w.done count c.args.from.now fits)
-    (g.S.Shelf.tale c.args.shelf.now) (g.S.Shelf.tale c.write.new.self) c.in_ok-write.ensures.writes)
+    (g.S.Shelf.tale c.args.shelf.now) (g.S.Shelf.tale c.write.new.self) c.in_ok-write.ensures.writes))
 
 pub returns-clause-turned : goal.returns-clause-turned
 returns-clause-turned g c =
@@ -130,9 +151,11 @@ returns-clause-turned g c =
     let w = c.args.work.now in
     let count = c.piece-piece.result.count in
     let some = c.piece-piece.ensures.some in
-    turned v (DriveFailed g.S.Shelf c.args.shelf.now c.write.new.self) w c.args.from.now c.args.from.now (same_buffer w.kind c.args.from.now c.requires.kind) refl tt (w.done + count) refl (omega arith) (let few = c.piece-piece.ensures.within in let left = c.requires.open.some_left in omega arith) c.requires.open.begins
+    let on = kept_on_call g.S.Shelf (OnDrive c.piece-piece.result.drive.0) _ _ c.write.ensures.noted c.write.ensures.keeps c.write.ensures.cause.others in
+    turned v (DriveFailures g.S.Shelf c.args.shelf.now c.write.new.self) w c.args.from.now c.args.from.now (same_buffer w.kind c.args.from.now c.requires.kind) refl tt (w.done + count) refl (omega arith) (let few = c.piece-piece.ensures.within in let left = c.requires.open.some_left in omega arith) c.requires.open.begins
     (λ j above below. turn_is w.kind v w.at j c.requires.kind ∙ starts_in v w.at w.done w.count c.piece-piece.result c.piece-piece.ensures j above below)
     (λ below. turn_is w.kind v w.at (w.done + count) c.requires.kind ∙ starts_next v w.at w.done w.count c.piece-piece.result c.piece-piece.ensures below)
+    (calm_on g.S.Shelf _ _ c.piece-piece.result.drive.0 on c.in_ok-write.ensures.cause.own.calm)
 
 pub returns-clause-counted : goal.returns-clause-counted
 returns-clause-counted g c =
@@ -145,4 +168,10 @@ returns-clause-counted g c =
     turn_counted g.S.Shelf c.args.shelf.now c.write.new.self w (record w { done = w.done + count }) _ c.write.ensures.counted (written_few w.kind _ _ c.requires.kind (omega arith)) tt (written_is w.kind _ _ c.requires.kind (omega arith))
 
 pub returns-clause-kept : goal.returns-clause-kept
-returns-clause-kept g c = kept_call g.S.Shelf _ _ _ c.write.ensures.noted c.write.ensures.keeps
+returns-clause-kept g c =
+    let v = g.D.Placed.map c.args.device.now in
+    let w = c.args.work.now in
+    let some = c.piece-piece.ensures.some in
+    let here = drive_here v w.at w.done w.count c.piece-piece.result c.piece-piece.ensures w.done (omega arith) (omega arith) in
+    drives_of_on g.S.Shelf _ _ v w.at w.count c.piece-piece.result.drive.0 (has_at v w.at w.count w.done c.piece-piece.result.drive.0 c.requires.open.some_left here)
+    (kept_on_call g.S.Shelf (OnDrive c.piece-piece.result.drive.0) _ _ c.write.ensures.noted c.write.ensures.keeps c.write.ensures.cause.others)
