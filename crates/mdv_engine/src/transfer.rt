@@ -9,8 +9,7 @@ ghost use Rattle.mdv_map.specs.Maps.{run_map};
 ghost use Rattle.mdv_volumes.specs.History.{Wrote};
 ghost use Rattle.mdv_volumes.specs.Tables.{IsKindMap};
 ghost use Rattle.mdv_engine.specs.Counts.{HasReadCounts, IsCommandCounted};
-ghost use Rattle.mdv_engine.specs.declared.transfer.Place.{Place};
-ghost use Rattle.mdv_engine.specs.Placed.{IsPlacedIn, IsRunIn, place_is};
+ghost use Rattle.mdv_engine.specs.Placed.{IsPlacedIn, IsRunIn, place_at};
 ghost use Rattle.mdv_engine.specs.Engine.{HasBlocksCause, HasReadCause, IsCount, IsWell};
 ghost use Rattle.mdv_shelf.specs.Shelves.{AtEachTale, AtEnd, DriveFailures};
 ghost use Rattle.mdv_engine_law.specs.Home.{IsReady, key_of};
@@ -21,29 +20,15 @@ ghost use Rattle.mdv_engine.specs.Ends.{AreBlocksCounted, AreRead, AreWritten, C
 
 use crate::engine::Engine;
 use mdv_base::{Block, DriveNo, Failed, Refusal, SliceName, VolId, ZERO_BLOCK};
+use mdv_dev::DriveRun;
 use mdv_engine_law::{Answer, Outcome};
-use mdv_shelf::{Shelf, settle};
+use mdv_shelf::Shelf;
 use mdv_status::ValueText;
 use mdv_table::{Base, Component, Stripe, Volume, VolumeKind};
 use std::alloc::Global;
 
 // The most blocks that one line reads.
 const MAX_READ: u64 = 1024;
-
-/// A block of a drive.
-#[derive(Clone, Copy)]
-pub(crate) struct Place {
-    pub(crate) drive: DriveNo,
-    pub(crate) block: u64,
-}
-
-/// So many blocks of a drive, from its block `first` on.
-#[derive(Clone, Copy)]
-pub(crate) struct Run {
-    pub(crate) drive: DriveNo,
-    pub(crate) first: u64,
-    pub(crate) blocks: u64,
-}
 
 impl Engine {
     /// Reads blocks of a volume, from block `at` of it on: 1 to 1024 of them, with one call on its drive. No memory
@@ -65,34 +50,34 @@ impl Engine {
         ensures counted { AreBlocksCounted S.Shelf shelf.old shelf.new 1 0 self.now volume at (length out.new) result }
         ensures kept { KeptOnOne S.Shelf shelf.old shelf.new }
     {
-        let place = self.place_of(volume, at, out.len() as u64)?;
-        match shelf.read(place.drive, place.block, out) {
+        let device = self.place_of(volume, at, out.len() as u64)?;
+        match mdv_dev::read_blocks(&device, shelf, at, out) {
             Ok(()) => Ok(()),
             Err(Failed) => Err(Refusal::IoFault),
         }
     }
 
     /// Writes blocks of a volume, from block `at` of it on: 1 to 1024 of them, with one write and one sync of the
-    /// drive. No memory is taken. Where a call failed, each of the blocks may be old or new.
+    /// drive. No memory is taken. Where a call failed, each of the blocks may be old or new. The buffer stays as it is.
     #[tactic(auto, using(mdv_engine_law::proofs::Kept::kept_on_itself))]
     pub fn write_blocks<S: Shelf>(
         &mut self,
         shelf: &mut S,
         volume: VolId,
         at: u64,
-        from: &[Block],
+        from: &mut [Block],
     ) -> Result<(), Refusal>
         requires ready { IsReady self.old.host (S.sizes shelf.old) }
         requires well { IsWell self.old.host self.old.state }
-        requires count { IsCount (length from.now) }
-        ensures put { AreWritten S.Shelf shelf.old shelf.new self.old volume at from.now result }
-        ensures err { IfErr result (HasBlocksCause (DriveFailures S.Shelf shelf.old shelf.new) self.old.host self.old.state volume at (length from.now)) }
-        ensures same { self.new ≡ self.old }
-        ensures counted { AreBlocksCounted S.Shelf shelf.old shelf.new 2 (length from.now) self.old volume at (length from.now) result }
+        requires count { IsCount (length from.old) }
+        ensures put { AreWritten S.Shelf shelf.old shelf.new self.old volume at from.old result }
+        ensures err { IfErr result (HasBlocksCause (DriveFailures S.Shelf shelf.old shelf.new) self.old.host self.old.state volume at (length from.old)) }
+        ensures same { (self.new ≡ self.old) × (from.new ≡ from.old) }
+        ensures counted { AreBlocksCounted S.Shelf shelf.old shelf.new 2 (length from.old) self.old volume at (length from.old) result }
         ensures kept { KeptOnOne S.Shelf shelf.old shelf.new }
     {
-        let place = self.place_of(volume, at, from.len() as u64)?;
-        match settle(shelf, place.drive, place.block, from) {
+        let device = self.place_of(volume, at, from.len() as u64)?;
+        match mdv_dev::write_blocks(&device, shelf, at, from) {
             Ok(()) => Ok(()),
             Err(_) => Err(Refusal::IoFault),
         }
@@ -168,20 +153,21 @@ impl Engine {
         ensures counted { IsCommandCounted S.tale S.calls S.written shelf.old shelf.new (Write volume at block.now) result self.new.state.opened }
         ensures kept { KeptOnOne S.Shelf shelf.old shelf.new }
     {
-        match self.write_blocks(shelf, volume, at, &[*block]) {
+        let mut blocks = [*block];
+        match self.write_blocks(shelf, volume, at, &mut blocks) {
             Ok(()) => Answer::Said(Outcome::Ok),
             Err(refusal) => Answer::Said(Outcome::Refused(refusal)),
         }
     }
 
-    // Where blocks to be read begin, or the first cause that the read is refused for.
-    fn read_place(&self, volume: VolId, at: u64, count: u64) -> Result<Place, Refusal>
+    // The volume whose blocks are to be read, or the first cause that the read is refused for.
+    fn read_place(&self, volume: VolId, at: u64, count: u64) -> Result<DriveRun, Refusal>
         requires sound { IsSound self.now.host.drives }
         requires well { IsWell self.now.host self.now.state }
-        ensures ok { IfOk result (λ place. AreBlocksAt self.now.host self.now.state volume at count (place_is place)) }
+        ensures ok { IfOk result (λ run. AreBlocksAt self.now.host self.now.state volume at count (place_at run at)) }
         ensures few { OnOk result (count ≤ 1024) }
         ensures free { OnOk result (read_refusal self.now.state.opened volume at count ≡ None) }
-        ensures within { IfOk result (IsPlacedIn self.now.host count) }
+        ensures within { IfOk result (IsPlacedIn self.now.host at count) }
         ensures err { IfErr result (λ refusal. read_refusal self.now.state.opened volume at count ≡ Some refusal) }
     {
         if count > MAX_READ {
@@ -192,12 +178,12 @@ impl Engine {
         self.place_of(volume, at, count)
     }
 
-    // Where these blocks of the volume begin, or the first cause that they are refused for.
-    fn place_of(&self, volume: VolId, at: u64, count: u64) -> Result<Place, Refusal>
+    // The volume as a device, where it has these blocks, or the first cause that they are refused for.
+    fn place_of(&self, volume: VolId, at: u64, count: u64) -> Result<DriveRun, Refusal>
         requires sound { IsSound self.now.host.drives }
         requires well { IsWell self.now.host self.now.state }
-        ensures ok { IfOk result (λ place. AreBlocksAt self.now.host self.now.state volume at count (place_is place)) }
-        ensures within { IfOk result (IsPlacedIn self.now.host count) }
+        ensures ok { IfOk result (λ run. AreBlocksAt self.now.host self.now.state volume at count (place_at run at)) }
+        ensures within { IfOk result (IsPlacedIn self.now.host at count) }
         ensures free { OnOk result (blocks_refusal self.now.state.opened volume (at + count) ≡ None) }
         ensures err { IfErr result (λ refusal. blocks_refusal self.now.state.opened volume (at + count) ≡ Some refusal) }
     {
@@ -208,35 +194,32 @@ impl Engine {
             return Err(Refusal::NoSuchVolume);
         };
         let run = self.run_of(volume);
-        if at > run.blocks || count > run.blocks - at {
+        if at > run.count || count > run.count - at {
             return Err(Refusal::OutOfRange);
         }
-        Ok(Place {
-            drive: run.drive,
-            block: run.first + at,
-        })
+        Ok(run)
     }
 
     // Where the volume lies.
-    fn run_of(&self, volume: &Volume) -> Run
+    fn run_of(&self, volume: &Volume) -> DriveRun
         requires sound { IsSound self.now.host.drives }
         requires kind { IsKindOf self.now.host.drives volume.now.kind }
-        ensures lies { IsKindMap self.now.host.drives volume.now.kind (run_map result.drive.0 result.first result.blocks) }
-        ensures sized { result.blocks ≡ size_of volume.now.kind }
+        ensures lies { IsKindMap self.now.host.drives volume.now.kind (run_map result.drive.0 result.first result.count) }
+        ensures sized { result.count ≡ size_of volume.now.kind }
         ensures within { IsRunIn self.now.host result }
-        ensures fits { result.first + result.blocks ≤ 2 ^ 40 }
+        ensures fits { result.first + result.count ≤ 2 ^ 40 }
     {
         let component = stripe_of(volume).component;
         match self.host.drives.slices.find(slice_of(&component)) {
-            Some(at) => Run {
+            Some(at) => DriveRun {
                 drive: at.drive,
                 first: at.start + component.start,
-                blocks: component.blocks,
+                count: component.blocks,
             },
-            None => Run {
+            None => DriveRun {
                 drive: DriveNo(0),
                 first: 0,
-                blocks: 0,
+                count: 0,
             },
         }
     }

@@ -16,11 +16,14 @@ returns-then-at-run-clause-err c =
 pub returns-clause-ok : goal.returns-clause-ok
 returns-clause-ok c = record {
   first = c.run_of-run.result.first;
-  blocks = c.run_of-run.result.blocks;
-  lies = volume_on c.args.self.now.host c.args.self.now.state c.requires.well c.in-Some.database (sym (ap (λ (e : Engine). e.state.opened) c.self.view_is) ∙ c.in-Some.is) c.table.result.now c.table.ensures c.args.volume c.in-Some-find.volume.now c.in-Some-find.ensures.value c.run_of-run.result.drive.0 c.run_of-run.result.first c.run_of-run.result.blocks c.run_of-run.ensures.lies;
+  blocks = c.run_of-run.result.count;
+  lies = volume_on c.args.self.now.host c.args.self.now.state c.requires.well c.in-Some.database (sym (ap (λ (e : Engine). e.state.opened) c.self.view_is) ∙ c.in-Some.is) c.table.result.now c.table.ensures c.args.volume c.in-Some-find.volume.now c.in-Some-find.ensures.value c.run_of-run.result.drive.0 c.run_of-run.result.first c.run_of-run.result.count c.run_of-run.ensures.lies;
   within = omega arith;
   block_is = refl;
 }
+
+pub returns-clause-within : goal.returns-clause-within
+returns-clause-within c = record { room = omega arith; lies = c.run_of-run.ensures.within }
 
 pub returns-clause-free : goal.returns-clause-free
 returns-clause-free c =

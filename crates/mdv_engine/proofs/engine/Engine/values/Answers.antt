@@ -39,8 +39,8 @@ new-requires g c =
     let all : c.as_slice.result.now ≡ c.read_blocks.new.out =
     c.as_slice.ensures.value ∙ ap (λ (n : ℕ). take n (c.read_blocks.new.out ++ drop (length c.read_blocks.new.out) c.in_ok-blocks.blocks.items)) whole ∙ take-append_seam c.read_blocks.new.out _ in
     let size = ap length all ∙ counted in
-    let small = (c.in_ok-_place.ensures.within (g.S.Shelf.sizes c.args.shelf.now) c.requires.ready).small in
-    let lies = c.in_ok-_place.ensures.ok.block_is in omega (arith, size, small, lies)
+    let small = (c.in_ok-_place.ensures.within.lies (g.S.Shelf.sizes c.args.shelf.now) c.requires.ready).small in
+    let room = c.in_ok-_place.ensures.within.room in omega (arith, size, small, room)
 
 pub returns-in-Err-clause-counted : goal.returns-in-Err-clause-counted
 returns-in-Err-clause-counted g c =

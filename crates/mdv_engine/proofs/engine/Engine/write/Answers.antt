@@ -13,14 +13,14 @@ returns-in-Ok-clause-moments g c = write_moments c.args.self.now.host (g.S.Shelf
 
 pub returns-in-Ok-clause-end : goal.returns-in-Ok-clause-end
 returns-in-Ok-clause-end g c =
-    rw (c.write_blocks.ensures.same) (done_ends _ c.args.self.now (command.Write c.args.volume c.args.at c.args.block.now) accepted c.args.self.now _ _
+    rw (c.write_blocks.ensures.same.0) (done_ends _ c.args.self.now (command.Write c.args.volume c.args.at c.args.block.now) accepted c.args.self.now _ _
     (written_line c.args.self.now.host (g.S.Shelf.sizes c.args.shelf.now) c.requires.ready c.args.self.now.state c.requires.well c.args.volume c.args.at c.args.block.now _ _ c.in-Ok.ensures.put.putting.place c.in-Ok.ensures.put.putting.there c.in-Ok.ensures.put.putting.allowed c.in-Ok.ensures.put.putting.moments c.in-Ok.ensures.put.settled (DriveFailures g.S.Shelf c.args.shelf.now c.write_blocks.new.shelf) c.in-Ok.ensures.put.calm)
     (written_carried c.args.self.now.host (g.S.Shelf.sizes c.args.shelf.now) c.requires.ready c.args.self.now.state c.requires.well c.args.volume c.args.at c.args.block.now _ _ c.in-Ok.ensures.put.putting.place c.in-Ok.ensures.put.putting.there c.in-Ok.ensures.put.putting.allowed c.in-Ok.ensures.put.putting.moments c.in-Ok.ensures.put.settled)
     (λ active listed is. absurd (cc (is)))
     (λ t start. (let end = c.in-Ok.ensures.put.settled t start in (end.0, end.1, (c.in-Ok.ensures.put.putting.place, c.in-Ok.ensures.put.putting.there, end.2)))))
 
 pub returns-in-Ok-clause-answer : goal.returns-in-Ok-clause-answer
-returns-in-Ok-clause-answer g c = rw (c.write_blocks.ensures.same) (record {
+returns-in-Ok-clause-answer g c = rw (c.write_blocks.ensures.same.0) (record {
   plain = tt;
   cause = c.in-Ok.ensures.put.calm;
   free = λ on has. absurd (no_creation (key_of c.args.self.now.host) (Wrote (key_of c.args.self.now.host) c.args.volume c.args.at (c.args.block.now ∷ [])) (λ is. absurd (cc (is))) has);
@@ -37,11 +37,11 @@ returns-in-Err-clause-moments g c =
 pub returns-in-Err-clause-end : goal.returns-in-Err-clause-end
 returns-in-Err-clause-end g c =
     let is = unwritten c.args.self.now.host (g.S.Shelf.sizes c.args.shelf.now) c.requires.ready c.args.self.now.state c.requires.well c.args.volume c.args.at c.args.block.now _ _ (DriveFailures g.S.Shelf c.args.shelf.now c.write_blocks.new.shelf) c.in-Err.refusal c.in-Err.ensures.err (torn_of g.S.Shelf c.args.shelf.now c.write_blocks.new.shelf c.args.self.now c.args.volume c.args.at c.args.block.now c.in-Err.refusal c.in-Err.ensures.put) (λ is. ap g.S.Shelf.tale (c.in-Err.ensures.counted.refused is)) in
-    rw (c.write_blocks.ensures.same) (command_ends _ c.args.self.now (command.Write c.args.volume c.args.at c.args.block.now) (outcome.Refused c.in-Err.refusal) c.args.self.now _ _ is.line is.carried (λ on u. absurd on))
+    rw (c.write_blocks.ensures.same.0) (command_ends _ c.args.self.now (command.Write c.args.volume c.args.at c.args.block.now) (outcome.Refused c.in-Err.refusal) c.args.self.now _ _ is.line is.carried (λ on u. absurd on))
 
 pub returns-in-Err-clause-answer : goal.returns-in-Err-clause-answer
 returns-in-Err-clause-answer g c =
-    rw (c.write_blocks.ensures.same) (refused_answer _ _ c.args.self.now c.requires.well c.in-Err.refusal (unwritten_cause c.args.self.now.host c.args.self.now.state c.args.volume c.args.at 1 (DriveFailures g.S.Shelf c.args.shelf.now c.write_blocks.new.shelf) c.in-Err.refusal c.in-Err.ensures.err) (unwritten_plain c.args.self.now.host c.args.self.now.state c.args.volume c.args.at 1 (DriveFailures g.S.Shelf c.args.shelf.now c.write_blocks.new.shelf) c.in-Err.refusal c.in-Err.ensures.err))
+    rw (c.write_blocks.ensures.same.0) (refused_answer _ _ c.args.self.now c.requires.well c.in-Err.refusal (unwritten_cause c.args.self.now.host c.args.self.now.state c.args.volume c.args.at 1 (DriveFailures g.S.Shelf c.args.shelf.now c.write_blocks.new.shelf) c.in-Err.refusal c.in-Err.ensures.err) (unwritten_plain c.args.self.now.host c.args.self.now.state c.args.volume c.args.at 1 (DriveFailures g.S.Shelf c.args.shelf.now c.write_blocks.new.shelf) c.in-Err.refusal c.in-Err.ensures.err))
 
 pub returns-in-Ok-clause-counted : goal.returns-in-Ok-clause-counted
 returns-in-Ok-clause-counted g c = record { exactly = c.in-Ok.ensures.counted.done; few = omega arith }
