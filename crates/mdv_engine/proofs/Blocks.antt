@@ -1,7 +1,7 @@
 -- What a read and a write of a volume's blocks come to.
 use Rattle.mdv_engine_law.specs.Line.{Ask, ToDo}
 use Rattle.std.proofs.Common.{◌≡◌, inl, inr, ◌+◌, ℕ, List, [], ◌∷◌, Option, Some, None, Err, refl, sym, ap, ◌∙◌, subst, arith}
-use Rattle.mdv_engine.specs.Below.{AreCalm, DriveBlock, FailedOn, Outcomes, any_of, VolId, Refusal, IoFault, Moments, Ends, IsSettled, Settling, Tale, Read, Write, Wrote, Host, key_of, IsReady, Memory, AreBlocksAt, CameTo, kept_at, IsPlain, CarriedTo, CarryMoment, Knows}
+use Rattle.mdv_engine.specs.Below.{Failures, AreCalm, DriveBlock, FailedOn, Outcomes, VolId, Refusal, IoFault, Moments, Ends, IsSettled, Settling, Tale, Read, Write, Wrote, Host, key_of, IsReady, Memory, AreBlocksAt, CameTo, kept_at, IsPlain, CarriedTo, CarryMoment, Knows}
 use Rattle.mdv_engine.proofs.Judged.{blocks_judged, judged_said, read_judged}
 use Rattle.mdv_shelf.proofs.Moments.{moments_end, moments_none, moments_weaker, ends_both}
 use Rattle.mdv_engine_law.specs.Commands as came
@@ -20,7 +20,7 @@ use Rattle.mdv_shelf.specs.Shelves.{DriveFailures}
 use Rattle.mdv_shelf.specs.declared.shelf.Shelf.{Ghosts}
 use Rattle.mdv_engine.specs.declared.engine.Engine.{Engine}
 use Rattle.mdv_engine.specs.Ends.{AreTorn, AreWritten}
-use Rattle.mdv_engine.specs.Engine.{HasBlocksCause, HasReadCause, IsWell}
+use Rattle.mdv_engine.specs.Engine.{FailedBlocks, HasBlocksCause, HasReadCause, IsWell}
 
 -- a line that left all as it was
 module _ (host : Host) (ask : Ask) (memory : Memory) (a b : Option Tale) (same : b ≡ a) where
@@ -50,14 +50,18 @@ module _ (host : Host) (memory : Memory) (volume : VolId) (at count : ℕ) where
   unwritten_plain calls r (inl is) = first_holds IsPlain order (held_of_blocks memory.opened volume (at + count)) r (blocks_plain memory.opened volume (at + count)) is.1
   unwritten_plain calls r (inr (of, free, fault)) = subst IsPlain (sym fault) fault_plain
 
-  pub unwritten_cause : (calls : Outcomes) (r : Refusal) → HasBlocksCause calls host memory volume at count r → HasAnswerCause (any_of calls) (refusing r)
-  unwritten_cause calls r (inl is) = judged_said (any_of calls) r (blocks_judged memory.opened volume (at + count) r is.1) is.0
-  unwritten_cause calls r (inr (of, free, fault)) = subst (λ (x : Refusal). HasAnswerCause (any_of calls) (refusing x)) (sym fault) (of.place.drive, of.failed)
+  -- a call on the blocks' drive excuses either, and no other
+  abbrev pub of_blocks : Outcomes → Failures
+  of_blocks calls = record { some = FailedBlocks calls host memory volume at count; none = AreCalm calls }
 
-  pub unread_cause : (calls : Outcomes) (r : Refusal) → HasReadCause calls host memory volume at count r → HasAnswerCause (any_of calls) (refusing r)
-  unread_cause calls r (inl is) = judged_said (any_of calls) r (read_judged memory.opened volume at count r is.1) is.0
-  unread_cause calls r (inr (inl (of, free, fault))) = subst (λ (x : Refusal). HasAnswerCause (any_of calls) (refusing x)) (sym fault) (of.place.drive, of.failed)
-  unread_cause calls r (inr (inr (calm, free, want))) = subst (λ (x : Refusal). HasAnswerCause (any_of calls) (refusing x)) (sym want) calm
+  pub unwritten_cause : (calls : Outcomes) (lost : Type 0) (r : Refusal) → HasBlocksCause calls host memory volume at count r → HasAnswerCause (of_blocks calls) lost (refusing r)
+  unwritten_cause calls lost r (inl is) = judged_said (of_blocks calls) lost r (blocks_judged memory.opened volume (at + count) r is.1) is.0
+  unwritten_cause calls lost r (inr (of, free, fault)) = subst (λ (x : Refusal). HasAnswerCause (of_blocks calls) lost (refusing x)) (sym fault) of
+
+  pub unread_cause : (calls : Outcomes) (lost : Type 0) (r : Refusal) → HasReadCause calls host memory volume at count r → HasAnswerCause (of_blocks calls) lost (refusing r)
+  unread_cause calls lost r (inl is) = judged_said (of_blocks calls) lost r (read_judged memory.opened volume at count r is.1) is.0
+  unread_cause calls lost r (inr (inl (of, free, fault))) = subst (λ (x : Refusal). HasAnswerCause (of_blocks calls) lost (refusing x)) (sym fault) of
+  unread_cause calls lost r (inr (inr (calm, free, want))) = subst (λ (x : Refusal). HasAnswerCause (of_blocks calls) lost (refusing x)) (sym want) calm
 
 -- of one block that was written some
 pub torn_of : {S : Type 0} (shelf : Ghosts S) (old new : S) (engine : Engine) (volume : VolId) (at : ℕ) (value : List ℕ) (r : Refusal) → AreWritten shelf old new engine volume at (value ∷ []) (Err r) → r ≡ IoFault

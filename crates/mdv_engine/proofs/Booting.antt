@@ -16,21 +16,34 @@ use Rattle.mdv_shelf.proofs.Blocks.{both_ways}
 use Rattle.mdv_database.proofs.Bringing.{is_drive}
 use Rattle.mdv_database.specs.Database.{IfAdopted, IsBooted, IsBootedTo, IsRefusal}
 use Rattle.mdv_engine_law.specs.Efforts.{BootCalls, PlaceCalls}
-use Rattle.mdv_engine_law.specs.Line.{IsRewritten, contents}
-use Rattle.mdv_engine.specs.Below.{AreCalm, DriveNo, Outcomes, has_drive, place_of, other_slot, Answer, Ends, GoesOnTo, Moments, PlaceAt, IsAdopted, IsOpened, IsTableAt, KeptOutside, IsSynced, Memory, Tale, area_of, last, nowhere, with_blocks, Newest, IsQuiet, Host, IsReady, site_of, IsUpBy, adopted, empty, down, lost, spent, wanting, booted_with, unbooted, BootMoment}
+use Rattle.mdv_engine_law.specs.Line.{AreOwnCalls, IsRewritten, contents, home_calls}
+use Rattle.mdv_engine.specs.Below.{AreCalm, DriveNo, Failures, Outcomes, has_drive, place_of, other_slot, Answer, Ends, GoesOnTo, Moments, PlaceAt, IsAdopted, IsOpened, IsTableAt, KeptOutside, IsSynced, Memory, Tale, area_of, last, nowhere, with_blocks, Newest, IsQuiet, Host, IsReady, site_of, IsUpBy, adopted, empty, down, lost, spent, wanting, booted_with, unbooted, BootMoment}
 use Rattle.mdv_engine_law.specs.Answers.{accepted}
 use Rattle.mdv_engine_law.specs.declared.answer.Answer.TheVariants.{Over}
 use Rattle.mdv_engine_law.specs.declared.answer.Ended.TheVariants as ended
 use Rattle.mdv_engine_law.proofs.Booting.{boot_moment, booted_adopted, booted_none, booting_empty, booting_still}
 use Rattle.mdv_engine_law.proofs.Keeping.{rewritten_newest, same_beside, same_content}
 use Rattle.mdv_engine.specs.Ends.{IsBootEnd}
-use Rattle.mdv_engine.specs.Engine.{HasUpCause, IsWell}
+use Rattle.mdv_engine.specs.Engine.{IsWell}
 use Rattle.mdv_engine.proofs.Sites.{here, told_site}
 use Rattle.mdv_shelf.proofs.Moments.{ends_both, moments_end, moments_weaker}
 
 -- by each moment
 pub boot_moments : (host : Host) (sizes : List ℕ) → IsReady host sizes → (t m : Tale) → PlaceMoment (site_of host) t m → BootMoment host t m
 boot_moments host sizes ready t m is = boot_moment host sizes ready t m is.quiet.outside is.quiet.quiet is.goes
+
+-- how the calls on the place's drive came out, and on one that is up or isn't
+came_out : (failures : Failures) (e : BootEnd) → HasBootCause failures e → failures.none ⊎ failures.some
+came_out failures (found.Adopted newest) cause = inl cause
+came_out failures found.Empty cause = inl cause
+came_out failures found.Down cause = inr cause
+came_out failures found.Lost cause = inr cause
+came_out failures found.Spent cause = inl cause
+came_out failures found.Memory cause = inl cause
+
+match_out : (b : Bool) (P Q : Type 0) → MatchBool b P Q → P ⊎ Q
+match_out true P Q is = inl is
+match_out false P Q is = inr is
 
 module _ (host : Host) (calls : Outcomes) (still : (drive : DriveNo) → (Contains host.own drive → ⊥) → (calls drive.0).none) where
   -- no call failed on any drive where none did on the host's own
@@ -53,6 +66,13 @@ module _ (host : Host) (calls : Outcomes) (still : (drive : DriveNo) → (Contai
       others = λ drive other. (is.others drive other, still drive other);
       calm = clean_all answer answer.clean is.clean;
     }
+
+    -- on each drive of its own one call failed at most, whatever it came to, and none on another
+    own_calls : AreOwnCalls host calls
+    own_calls drive = (λ one_of. by one_of (is_drive drive host.home.drive), still drive) where
+      by : Contains host.own drive → (drive ≡ host.home.drive) ⊎ (drive ≢ host.home.drive) → (calls drive.0).none ⊎ (calls drive.0).some
+      by one_of (inl same) = subst (λ (d : DriveNo). (calls d.0).none ⊎ (calls d.0).some) (sym same) (came_out (calls host.home.drive.0) answer.end is.place.cause)
+      by one_of (inr apart) = match_out (has_drive answer.up drive) _ _ (is.up drive one_of apart)
 
     -- the place's drive is up, where it was read what is there
     up_here : (answer.end ≢ found.Down) → has_drive answer.up host.home.drive ≡ true
@@ -102,7 +122,7 @@ module _ (host : Host) (calls : Outcomes) (still : (drive : DriveNo) → (Contai
 
       -- the calls of one that is answered, and of one that isn't
       effort_of : (read : Bool) (to : Answer) (memory : Memory) → (to ≡ accepted → answer.up ≡ memory.up) → (read ≡ false → (calls host.home.drive.0).some) → PlaceCalls (and_more ends.booted.brought made) host to read memory (contents t) → BootCalls calls made host to memory (contents t)
-      effort_of read to memory tied unread place = record { up = answer.up; brought = ends.booted.brought; tied = tied; by = ends.booted.by; read = read; unread = unread; place = place }
+      effort_of read to memory tied unread place = record { up = answer.up; brought = ends.booted.brought; tied = tied; own = is.up; by = ends.booted.by; read = read; unread = unread; place = place }
 
       -- it adopted a replica
       module _ (newest : Newest) (so : answer.end ≡ found.Adopted newest) where
@@ -152,7 +172,7 @@ module _ (host : Host) (calls : Outcomes) (still : (drive : DriveNo) → (Contai
       spent_end so =
           let of = as_booted found.Spent so in
           record {
-            rebooted = spent (as_caused found.Spent so) still refl (record { head = of.head; replica = of.replica; shown = of.shown; spent = of.spent }) (same_content t u (unwritten found.Spent so tt));
+            rebooted = spent (as_caused found.Spent so) own_calls refl (record { head = of.head; replica = of.replica; shown = of.shown; spent = of.spent }) (same_content t u (unwritten found.Spent so tt));
             booted = λ ok. absurd (cc (ok));
             synced = λ ok. absurd (cc (ok));
             effort = effort_of true (Over ended.Spent) (unbooted begun) (λ ok. absurd (cc (ok))) (λ so. absurd (cc (so))) (as_counted found.Spent so);
@@ -160,7 +180,7 @@ module _ (host : Host) (calls : Outcomes) (still : (drive : DriveNo) → (Contai
 
       pub wanting_end : answer.end ≡ found.Memory → IsBootEnd calls made host (unbooted begun) (Over ended.Memory) (unbooted begun) t u
       wanting_end so = record {
-        rebooted = wanting (as_caused found.Memory so) still (as_booted found.Memory so) refl (same_content t u (unwritten found.Memory so tt));
+        rebooted = wanting (as_caused found.Memory so) own_calls (as_booted found.Memory so) refl (same_content t u (unwritten found.Memory so tt));
         booted = λ ok. absurd (cc (ok));
         synced = λ ok. absurd (cc (ok));
         effort = effort_of true (Over ended.Memory) (unbooted begun) (λ ok. absurd (cc (ok))) (λ so. absurd (cc (so))) (as_counted found.Memory so);
@@ -168,7 +188,7 @@ module _ (host : Host) (calls : Outcomes) (still : (drive : DriveNo) → (Contai
 
       pub lost_end : answer.end ≡ found.Lost → IsBootEnd calls made host (unbooted begun) (Over (ended.Lost 0 1)) (unbooted begun) t u
       lost_end so = record {
-        rebooted = lost (as_caused found.Lost so) still (as_booted found.Lost so).1 refl (same_beside host t u kept);
+        rebooted = lost (as_caused found.Lost so) own_calls (as_booted found.Lost so).1 refl (same_beside host t u kept);
         booted = λ ok. absurd (cc (ok));
         synced = λ ok. absurd (cc (ok));
         effort = effort_of true (Over (ended.Lost 0 1)) (unbooted begun) (λ ok. absurd (cc (ok))) (λ so. absurd (cc (so))) (as_counted found.Lost so);
@@ -230,9 +250,12 @@ module _ (host : Host) (sizes : List ℕ) (ready : IsReady host sizes) (at : Pla
   pub wanting_all : answer.end ≡ found.Memory → Ends (IsBootEnd calls made host (unbooted begun) (Over ended.Memory) (unbooted begun)) a b
   wanting_all so = all _ (λ t u quiet end. wanting_end host calls still_own sizes ready answer is made begun t u quiet end so)
 
-  -- whether it is clean, and that what it opened is in order
-  pub clean_cause : HasUpCause calls host answer.clean
-  clean_cause = (up_by host calls still_own sizes ready answer is).calm
+  -- which drives are up and whether it is clean; that no call failed on the drive of what it opened; and that this is in order
+  pub up_cause : IsUpBy calls host answer.up answer.clean
+  up_cause = up_by host calls still_own sizes ready answer is
+
+  pub opened_cause : (newest : Newest) → answer.end ≡ found.Adopted newest → (home_calls host calls).none × (has_drive answer.up host.home.drive ≡ true)
+  opened_cause newest so = (subst (HasBootCause (calls host.home.drive.0)) so is.place.cause, up_here host calls still_own sizes ready answer is (λ other. cc (so, other)))
 
   pub table_well : (newest : Newest) → answer.end ≡ found.Adopted newest → IsWell host (booted_with (Some newest) answer.up answer.clean begun)
   table_well newest so = record { table = subst (λ (x : BootEnd). IfAdopted x (λ n. IsTableAt host.drives (with_blocks (place_of host.home) n.blocks).place n.table)) so is.place.table }

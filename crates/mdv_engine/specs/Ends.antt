@@ -1,5 +1,5 @@
 -- What the calls of an engine say of their answers, and of the drive in the end.
-use Rattle.mdv_engine_law.specs.Line.{Ask, deeds}
+use Rattle.mdv_engine_law.specs.Line.{Ask, ToDo, deeds}
 use Rattle.std.specs.Prelude.{◌≡◌, ◌≢◌, ◌≤◌, ◌+◌, ℕ, Bool, List, [], Option, Some, None, Result, Ok, Err, IfOk, IfErr, OnOk, Contains, length}
 use Rattle.mdv_shelf.specs.Calls.{OnDrive}
 use Rattle.mdv_shelf.specs.Shelves.{AtEachMoment, AtEachTale, AtEnd, DriveFailures, EndsTold, GivingFailed, GivingFailures, KeptOn, MadeCalls, MadeCallsAtMost, RestsOnceTold}
@@ -7,7 +7,7 @@ use Rattle.mdv_shelf.specs.declared.shelf.Shelf.{Ghosts}
 use Rattle.mdv_words.specs.declared.command.Command.{Command}
 use Rattle.mdv_words.specs.declared.command.Command.TheVariants.{Create, MakeStripe}
 use Rattle.mdv_words.specs.Line as words
-use Rattle.mdv_engine.specs.Below.{AreCalm, DriveBlock, FailedOn, DriveNo, Outcomes, any_of, key_of, site_of, identity_of, SliceName, VolId, Refusal, IoFault, OutOfMemory, KeptOutside, nowhere, IsSettled, IsSynced, Settling, Tale, last, Change, Table, Created, Answer, Ended, Host, Kept, Memory, kept_at, unbooted, asked_by, blocks_of, AreBlocksAt, CameTo, IsRebooted, IsPlainAnswer, BootedTo, CarryEnd, Executed, Knows, TellMoment, TellsFront, TurnMoment, Turned, text_of}
+use Rattle.mdv_engine.specs.Below.{AreCalm, DriveBlock, FailedOn, DriveNo, Outcomes, key_of, site_of, identity_of, SliceName, VolId, Refusal, IoFault, OutOfMemory, KeptOutside, nowhere, IsSettled, IsSynced, Settling, Tale, last, Change, Table, Created, Answer, Ended, Host, Kept, Memory, kept_at, unbooted, asked_by, blocks_of, AreBlocksAt, CameTo, IsRebooted, IsPlainAnswer, BootedTo, CarryEnd, CarryMoment, Changed, Executed, Knows, TellMoment, TellsFront, TurnMoment, Turned, text_of}
 use Rattle.mdv_store_law.specs.Site.{Newest}
 use Rattle.mdv_store_law.specs.Standing.{ShowsReplica}
 use Rattle.mdv_shelf.specs.Made.{Made, and_more, made_of}
@@ -15,7 +15,7 @@ use Rattle.mdv_engine_law.specs.declared.answer.Answer.TheVariants.{Over}
 use Rattle.mdv_engine_law.specs.declared.answer.Ended.TheVariants as ended
 use Rattle.mdv_engine_law.specs.Line.{contents}
 use Rattle.mdv_engine_law.specs.Answers.{accepted, refusing}
-use Rattle.mdv_engine_law.specs.Commands.{IsAllowed}
+use Rattle.mdv_engine_law.specs.Commands.{IsAllowed, MayLose, blamed}
 use Rattle.mdv_engine_law.specs.Refusals.{blocks_refusal, read_refusal}
 use Rattle.mdv_engine_law.specs.declared.answer.Outcome.{Outcome}
 use Rattle.mdv_engine_law.specs.declared.answer.Reply.{Reply}
@@ -27,6 +27,10 @@ use Rattle.mdv_engine_law.specs.Standing.{IsBare, LeavesDone}
 use Rattle.mdv_engine_law.specs.Efforts as efforts
 use Rattle.mdv_engine.specs.Counts.{IsQuietRefusal, IsUnlooked}
 use Rattle.mdv_engine.specs.Engine.{HasBootCause, IsNextTable, IsWell, case_at}
+
+-- each moment of a change
+abbrev pub ChangeMoments : {S : Type 0} → Ghosts S → S → S → Engine → Change → Type 0
+ChangeMoments shelf from to old change = AtEachTale shelf (CarryMoment old.host (ToDo (Changed (key_of old.host) change)) old.state) from to
 
 -- what a command leaves that the run is over with, for a place was lost: each crash then leaves the new replica of a creation
 abbrev pub LeavesMade : Host → Memory → Command → Tale → Type 0
@@ -58,10 +62,10 @@ CreationEnds shelf from to old answer new =
 
 -- What an answer says, whatever the shelf tells: its text is a reply's, it has its cause, a creation is accepted only where no database is open and no call failed in the last
 -- boot; and what the engine keeps.
-pub record HasAnswered (calls : Outcomes) (ask : Ask) (old : Engine) (answer : Answer) (new : Engine) : Type 0 where
+pub record HasAnswered (calls : Outcomes) (command : Command) (old : Engine) (answer : Answer) (new : Engine) : Type 0 where
   pub plain : IsPlainAnswer answer
-  pub cause : HasAnswerCause (any_of calls) answer
-  pub free : IsAccepted answer → Contains (deeds ask) (Created (key_of old.host)) → IsBare old.state
+  pub cause : HasAnswerCause (blamed calls old.host old.state command) (MayLose calls old.host command) answer
+  pub free : IsAccepted answer → Contains (deeds (asked_by old.host command)) (Created (key_of old.host)) → IsBare old.state
   pub host : new.host ≡ old.host
   pub well : IsWell old.host new.state
   pub begun : new.state.begun ≤ old.state.begun + 1
@@ -99,8 +103,8 @@ abbrev pub TurnEnds : {S : Type 0} → Ghosts S → S → S → Engine → Comma
 TurnEnds shelf from to old command given new = AtEnd shelf (TurnEnd (DriveFailures shelf from to) (GivingFailed shelf from to) (made_of shelf from to) old command given new) from to
 
 -- a reply to a command has its cause, and what the engine keeps
-pub record HasReplied (calls : Outcomes) (replies : Type 0) (old : Engine) (given : Reply) (new : Engine) : Type 0 where
-  pub cause : HasCommandCause (any_of calls) replies given
+pub record HasReplied (calls : Outcomes) (replies : Type 0) (old : Engine) (command : Command) (given : Reply) (new : Engine) : Type 0 where
+  pub cause : HasCommandCause (blamed calls old.host old.state command) (MayLose calls old.host command) replies given
   pub host : new.host ≡ old.host
   pub well : IsWell old.host new.state
   pub begun : new.state.begun ≤ old.state.begun + 1
@@ -155,15 +159,15 @@ BootEndsAs shelf from to host old answer new = AtEnd shelf (IsBootEnd (DriveFail
 
 -- why a boot isn't answered, and what it leaves that is
 pub record HasBootedFrom (calls : Outcomes) (host : Host) (begun : ℕ) (result : Result Memory Ended) : Type 0 where
-  pub cause : HasBootCause calls host (kept_by begun result).clean result
+  pub cause : HasBootCause calls host (kept_by begun result) result
   pub well : IfOk result (λ memory. IsWell host memory × (memory.begun ≡ begun) × (memory.entries ≡ []))
 
 pub record HasBooted (calls : Outcomes) (host : Host) (result : Result Engine Ended) : Type 0 where
-  pub cause : HasBootCause calls host (left_by result).clean result
+  pub cause : HasBootCause calls host (left_by result) result
   pub engine : IfOk result (λ engine. (engine.host ≡ host) × IsWell host engine.state × (engine.state.begun ≡ 0) × (engine.state.entries ≡ []))
 
 pub record HasRebooted (calls : Outcomes) (old : Engine) (result : Result (Unit {0}) Ended) (new : Engine) : Type 0 where
-  pub cause : HasBootCause calls old.host new.state.clean result
+  pub cause : HasBootCause calls old.host new.state result
   pub closed : IfErr result (λ refusal. new.state.opened ≡ None)
   pub host : new.host ≡ old.host
   pub well : IsWell old.host new.state

@@ -1,7 +1,7 @@
 -- What an engine keeps, what its boots answer, and why blocks and changes are refused.
-use Rattle.std.specs.Prelude.{◌≡◌, ◌⊎◌, ◌+◌, ◌≤◌, ℕ, Bool, Option, Some, None, IfSome, Result, Ok, Err, Contains}
-use Rattle.std.specs.Bool.{MatchBool}
-use Rattle.mdv_engine.specs.Below.{AreCalm, DriveBlock, DriveNo, FailedOn, Outcomes, VolId, Refusal, IoFault, OutOfMemory, with_blocks, Change, Table, Newest, IsTableAt, Answer, Host, site_of, Memory, AreBlocksAt, home_calls}
+use Rattle.std.specs.Prelude.{◌≡◌, ◌⊎◌, ◌+◌, ◌≤◌, ℕ, true, Option, Some, None, IfSome, Result, Ok, Err}
+use Rattle.mdv_engine.specs.Below.{AreCalm, Outcomes, IsUpBy, has_drive, VolId, Refusal, IoFault, OutOfMemory, with_blocks, Change, Table, Newest, IsTableAt, Answer, Host, site_of, Memory, home_calls}
+pub use Rattle.mdv_engine_law.specs.Commands.{FailedBlocks}
 use Rattle.mdv_table.specs.Change.{table_after}
 use Rattle.mdv_table.specs.Change as table
 use Rattle.mdv_table.specs.declared.change.ApplyFault.{ApplyFault}
@@ -30,25 +30,16 @@ abbrev pub boot_answer : {T : Type 0} → Result T Ended → Answer
 boot_answer (Ok booted) = accepted
 boot_answer (Err end) = Over end
 
--- a boot that is answered is clean where no call failed, and else one did on a drive of the host's own
-abbrev pub HasUpCause : Outcomes → Host → Bool → Type 0
-HasUpCause calls host clean = MatchBool clean (AreCalm calls) ((drive : DriveNo) × Contains host.own drive × (calls drive.0).some)
-
--- a boot is lost only where a call on the place's drive failed, and isn't answered for another cause only where none did; one that is answered is so
-abbrev pub HasBootCause : {T : Type 0} → Outcomes → Host → Bool → Result T Ended → Type 0
-HasBootCause calls host clean (Ok booted) = HasUpCause calls host clean
-HasBootCause calls host clean (Err end) = HasEndCause (home_calls host calls) end
+-- A boot that is answered, and left this in memory, tells by the calls that failed which drives are up and whether it is clean, and has a database open only where none failed
+-- on its drive, which is up. One is lost only where a call on that drive failed, and isn't answered for another cause only where none did.
+abbrev pub HasBootCause : {T : Type 0} → Outcomes → Host → Memory → Result T Ended → Type 0
+HasBootCause calls host memory (Ok booted) = IsUpBy calls host memory.up memory.clean × IfSome memory.opened (λ newest. (home_calls host calls).none × (has_drive memory.up host.home.drive ≡ true))
+HasBootCause calls host memory (Err end) = HasEndCause (home_calls host calls) end
 
 -- as many blocks as are read or written at once
 pub record IsCount (count : ℕ) : Type 0 where
   pub least : 1 ≤ count
   pub most : count ≤ 1024
-
--- the volume has these blocks, nothing refuses them, and a call on their drive failed
-pub record FailedBlocks (calls : Outcomes) (host : Host) (memory : Memory) (volume : VolId) (at count : ℕ) : Type 0 where
-  pub place : DriveBlock
-  pub there : AreBlocksAt host memory volume at count place
-  pub failed : FailedOn place.drive calls
 
 -- why blocks aren't read or written: the first cause that refuses them; or nothing does, the volume has them, and a call on their drive failed
 abbrev pub HasBlocksCause : Outcomes → Host → Memory → VolId → ℕ → ℕ → Refusal → Type 0

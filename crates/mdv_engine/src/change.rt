@@ -6,13 +6,10 @@ ghost use Rattle.mdv_table.specs.Change.{IsNumbered, refusal_of, table_after};
 ghost use Rattle.mdv_table.specs.Slices.{IsSound};
 ghost use Rattle.mdv_table.specs.Table.{IsOfGeometry};
 ghost use Rattle.mdv_words.specs.declared.command.Command.TheVariants as command;
-ghost use Rattle.mdv_volumes.specs.History.{Changed};
-ghost use Rattle.mdv_engine_law.specs.Line.{ToDo};
 ghost use Rattle.mdv_engine.specs.Counts.{IsCommandCounted};
-ghost use Rattle.mdv_shelf.specs.Shelves.{AtEachTale, AtEnd, DriveFailures};
-ghost use Rattle.mdv_engine_law.specs.Home.{IsReady, key_of};
-ghost use Rattle.mdv_engine_law.specs.Standing.{CarryMoment};
-ghost use Rattle.mdv_engine.specs.Ends.{CommandEnd, StripeEnds, HasAnswered, IsNext, KeptOnOne};
+ghost use Rattle.mdv_shelf.specs.Shelves.{AtEnd, DriveFailures};
+ghost use Rattle.mdv_engine_law.specs.Home.{IsReady};
+ghost use Rattle.mdv_engine.specs.Ends.{ChangeMoments, CommandEnd, StripeEnds, HasAnswered, IsNext, KeptOnOne};
 ghost use Rattle.mdv_engine.specs.Engine.{HasApplyFault, HasChangeCause, IsNextTable, IsTableOf, IsWell};
 
 use crate::engine::Engine;
@@ -38,9 +35,9 @@ impl Engine {
         requires ready { IsReady self.old.host (S.sizes shelf.old) }
         requires well { IsWell self.old.host self.old.state }
         requires numbered { volume.0 < 8192 }
-        ensures moments { AtEachTale S.Shelf (CarryMoment self.old.host (ToDo (Changed (key_of self.old.host) (Change.MakeStripe volume slice))) self.old.state) shelf.old shelf.new }
+        ensures moments { ChangeMoments S.Shelf shelf.old shelf.new self.old (Change.MakeStripe volume slice) }
         ensures end { AtEnd S.Shelf (CommandEnd (DriveFailures S.Shelf shelf.old shelf.new) self.old (command.MakeStripe volume slice) result self.new) shelf.old shelf.new }
-        ensures answer { HasAnswered (DriveFailures S.Shelf shelf.old shelf.new) (ToDo (Changed (key_of self.old.host) (Change.MakeStripe volume slice))) self.old result self.new }
+        ensures answer { HasAnswered (DriveFailures S.Shelf shelf.old shelf.new) (command.MakeStripe volume slice) self.old result self.new }
         ensures counted { IsCommandCounted S.tale S.calls S.written shelf.old shelf.new (command.MakeStripe volume slice) result self.new.state.opened }
         ensures kept { KeptOnOne S.Shelf shelf.old shelf.new }
     {
@@ -75,9 +72,9 @@ impl Engine {
         requires ready { IsReady self.old.host (S.sizes shelf.old) }
         requires well { IsWell self.old.host self.old.state }
         requires placed { IfSome self.old.state.opened (λ newest. IsTableOf self.old.host newest.blocks next) }
-        ensures moments { (change : AnyChange) → IsNext self.old change next → AtEachTale S.Shelf (CarryMoment self.old.host (ToDo (Changed (key_of self.old.host) change)) self.old.state) shelf.old shelf.new }
+        ensures moments { (change : AnyChange) → IsNext self.old change next → ChangeMoments S.Shelf shelf.old shelf.new self.old change }
         ensures end { (volume : VolId) (slice : SliceName) → IsNext self.old (Change.MakeStripe volume slice) next → StripeEnds S.Shelf shelf.old shelf.new self.old volume slice result self.new }
-        ensures answer { (change : AnyChange) → HasAnswered (DriveFailures S.Shelf shelf.old shelf.new) (ToDo (Changed (key_of self.old.host) change)) self.old result self.new }
+        ensures answer { (volume : VolId) (slice : SliceName) → HasAnswered (DriveFailures S.Shelf shelf.old shelf.new) (command.MakeStripe volume slice) self.old result self.new }
         ensures counted { (volume : VolId) (slice : SliceName) → IsCommandCounted S.tale S.calls S.written shelf.old shelf.new (command.MakeStripe volume slice) result self.new.state.opened }
         ensures kept { KeptOnOne S.Shelf shelf.old shelf.new }
     {

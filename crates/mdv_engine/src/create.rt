@@ -38,7 +38,7 @@ impl Engine {
         requires begun { self.old.state.begun + 1 < 2 ^ 32 }
         ensures moments { AtEachTale S.Shelf (CarryMoment self.old.host (ToDo (Created (key_of self.old.host))) self.old.state) shelf.old shelf.new }
         ensures end { AtEnd S.Shelf (CommandEnd (DriveFailures S.Shelf shelf.old shelf.new) self.old (Create slice force) result self.new) shelf.old shelf.new }
-        ensures answer { HasAnswered (DriveFailures S.Shelf shelf.old shelf.new) (ToDo (Created (key_of self.old.host))) self.old result self.new }
+        ensures answer { HasAnswered (DriveFailures S.Shelf shelf.old shelf.new) (Create slice force) self.old result self.new }
         ensures counted { IsCommandCounted S.tale S.calls S.written shelf.old shelf.new (Create slice force) result self.new.state.opened }
         ensures kept { KeptOnOne S.Shelf shelf.old shelf.new }
     {
@@ -84,7 +84,7 @@ impl Engine {
         requires clean { self.old.state.clean ≡ true }
         ensures moments { AtEachTale S.Shelf (CarryMoment self.old.host (ToDo (Created (key_of self.old.host))) self.old.state) shelf.old shelf.new }
         ensures end { CreationEnds S.Shelf shelf.old shelf.new self.old result self.new }
-        ensures answer { HasAnswered (DriveFailures S.Shelf shelf.old shelf.new) (ToDo (Created (key_of self.old.host))) self.old result self.new }
+        ensures answer { (slice : SliceName) (force : Bool) → HasAnswered (DriveFailures S.Shelf shelf.old shelf.new) (Create slice force) self.old result self.new }
         ensures counted { (slice : SliceName) (force : Bool) → IsCommandCounted S.tale S.calls S.written shelf.old shelf.new (Create slice force) result self.new.state.opened }
         ensures kept { KeptOnOne S.Shelf shelf.old shelf.new }
     {

@@ -73,7 +73,7 @@ impl Engine {
         requires form { IsInForm command.now }
         ensures moments { LineMoments B.Shelf self.old.host (asked_by self.old.host command.now) self.old.state (CarriesOut self.old.host command.now) bench.old bench.new }
         ensures end { TurnEnds B.Shelf bench.old bench.new self.old command.now result self.new }
-        ensures answer { HasReplied (DriveFailures B.Shelf bench.old bench.new) (GivingFailed B.Shelf bench.old bench.new) self.old result self.new }
+        ensures answer { HasReplied (DriveFailures B.Shelf bench.old bench.new) (GivingFailed B.Shelf bench.old bench.new) self.old command.now result self.new }
         ensures counted { IsTurnCounted B.Shelf bench.old bench.new command.now result self.new.state.opened }
         ensures kept { KeptInTime B.Shelf bench.old bench.new }
     {
@@ -112,7 +112,7 @@ impl Engine {
         requires form { IsInForm command.now }
         ensures moments { AtEachTale S.Shelf (CarryMoment self.old.host (asked_by self.old.host command.now) self.old.state) shelf.old shelf.new }
         ensures end { AtEnd S.Shelf (CommandEnd (DriveFailures S.Shelf shelf.old shelf.new) self.old command.now result self.new) shelf.old shelf.new }
-        ensures answer { HasAnswered (DriveFailures S.Shelf shelf.old shelf.new) (asked_by self.old.host command.now) self.old result self.new }
+        ensures answer { HasAnswered (DriveFailures S.Shelf shelf.old shelf.new) command.now self.old result self.new }
         ensures counted { IsCommandCounted S.tale S.calls S.written shelf.old shelf.new command.now result self.new.state.opened }
         ensures kept { KeptOnOne S.Shelf shelf.old shelf.new }
     {

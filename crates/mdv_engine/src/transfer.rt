@@ -97,7 +97,7 @@ impl Engine {
         requires some { 1 ≤ count }
         ensures moments { AtEachTale S.Shelf (CarryMoment self.now.host (ToSee (key_of self.now.host) volume at count) self.now.state) shelf.old shelf.new }
         ensures end { AtEnd S.Shelf (CommandEnd (DriveFailures S.Shelf shelf.old shelf.new) self.now (Read volume at count) result self.now) shelf.old shelf.new }
-        ensures answer { HasAnswered (DriveFailures S.Shelf shelf.old shelf.new) (ToSee (key_of self.now.host) volume at count) self.now result self.now }
+        ensures answer { HasAnswered (DriveFailures S.Shelf shelf.old shelf.new) (Read volume at count) self.now result self.now }
         ensures counted { IsCommandCounted S.tale S.calls S.written shelf.old shelf.new (Read volume at count) result self.now.state.opened }
         ensures kept { KeptOnOne S.Shelf shelf.old shelf.new }
     {
@@ -149,7 +149,7 @@ impl Engine {
         requires well { IsWell self.old.host self.old.state }
         ensures moments { AtEachTale S.Shelf (CarryMoment self.old.host (ToDo (Wrote (key_of self.old.host) volume at (block.now ∷ []))) self.old.state) shelf.old shelf.new }
         ensures end { AtEnd S.Shelf (CommandEnd (DriveFailures S.Shelf shelf.old shelf.new) self.old (Write volume at block.now) result self.new) shelf.old shelf.new }
-        ensures answer { HasAnswered (DriveFailures S.Shelf shelf.old shelf.new) (ToDo (Wrote (key_of self.old.host) volume at (block.now ∷ []))) self.old result self.new }
+        ensures answer { HasAnswered (DriveFailures S.Shelf shelf.old shelf.new) (Write volume at block.now) self.old result self.new }
         ensures counted { IsCommandCounted S.tale S.calls S.written shelf.old shelf.new (Write volume at block.now) result self.new.state.opened }
         ensures kept { KeptOnOne S.Shelf shelf.old shelf.new }
     {

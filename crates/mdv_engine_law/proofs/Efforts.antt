@@ -3,7 +3,7 @@ use Rattle.std.proofs.Common.{Bool, true, false, Option, Some, None}
 use Rattle.mdv_base.specs.declared.refusal.Refusal.TheVariants as refusal
 use Rattle.mdv_shelf.specs.Made.{Made, and_more}
 use Rattle.mdv_shelf.proofs.Made.{IsToo, more_too}
-use Rattle.mdv_engine_law.specs.Below.{Image, Refusal, Command, Create, Read, Write, Line, Newest}
+use Rattle.mdv_engine_law.specs.Below.{has_drive, Image, Refusal, Command, Create, Read, Write, Line, Newest}
 use Rattle.mdv_words.specs.declared.command.Command.TheVariants.{MakeStripe}
 use Rattle.mdv_words.specs.Line as words
 use Rattle.mdv_engine_law.specs.declared.answer.Answer.{Answer}
@@ -14,7 +14,7 @@ use Rattle.mdv_engine_law.specs.declared.host.Host.{Host}
 use Rattle.mdv_engine_law.specs.Efforts.{BootCalls, CommandCalls, DoneCalls, FaultCalls, LineCalls, LossCalls, NoCalls, OpenedBy, PlaceCalls, replied_to}
 use Rattle.mdv_shelf.specs.Failing.{Outcomes}
 use Rattle.mdv_engine_law.specs.Line.{Kept, Memory}
-use Rattle.mdv_engine_law.proofs.Widening.{AreWithin}
+use Rattle.mdv_engine_law.proofs.Widening.{AreWithin, match_more}
 
 module _ (one other : Made) (too : IsToo one other) where
   pub none_too : NoCalls one → NoCalls other
@@ -69,6 +69,7 @@ module _ (calls more : Outcomes) (within : AreWithin calls more) (one other : Ma
     up = is.up;
     brought = is.brought;
     tied = is.tied;
+    own = λ drive one_of away. match_more (has_drive is.up drive) _ _ _ _ (within drive.0).none (within drive.0).some (is.own drive one_of away);
     by = is.by;
     read = is.read;
     unread = λ so. (within host.home.drive.0).some (is.unread so);

@@ -1,6 +1,6 @@
 -- What a command comes to, and a line.
 use Rattle.std.specs.Prelude.{◌≡◌, ◌+◌, ◌<◌, ◌≤◌, ◌^◌, ℕ, List, [], ◌∷◌, length, Some, None}
-use Rattle.mdv_engine_law.specs.Below.{DriveBlock, Refusal, BadLine, IoFault, OutOfMemory, TooMany, entries_reply, values_reply, Entry, IsTab, MakeStripe, Command, Create, Read, Write, Line, Newest}
+use Rattle.mdv_engine_law.specs.Below.{DriveBlock, Failures, VolId, Refusal, BadLine, IoFault, OutOfMemory, TooMany, entries_reply, values_reply, Entry, IsTab, MakeStripe, Command, Create, Read, Write, Line, Newest}
 use Rattle.mdv_store_law.specs.Standing.{IsReplicaMade}
 use Rattle.mdv_tab.specs.Text.{IsFaultOf}
 use Rattle.mdv_tab.specs.declared.read.TabFault.TheVariants as fault
@@ -15,7 +15,7 @@ use Rattle.mdv_engine_law.specs.declared.host.Host.{Host}
 use Rattle.mdv_engine_law.specs.Answers.{accepted, refusing, telling}
 use Rattle.mdv_shelf.specs.Failing.{AreCalm, FailedOn, Outcomes}
 use Rattle.mdv_engine_law.specs.Home.{site_of, identity_of}
-use Rattle.mdv_engine_law.specs.Line.{Kept, IsSameBeside, Stays, IsCreated, IsUncreated, IsUnbegun, IsCommitted, IsSame, AreBlocksAt, ArePut, MayBePut, IsRebooted, IsTurnedDown, blocks_of, on_site}
+use Rattle.mdv_engine_law.specs.Line.{Kept, Memory, IsSameBeside, Stays, IsCreated, IsUncreated, IsUnbegun, IsCommitted, IsSame, AreBlocksAt, ArePut, MayBePut, IsRebooted, IsTurnedDown, blocks_of, on_site}
 use Rattle.mdv_engine_law.specs.Refusals.{Case, IsUnopposed, refusal_of}
 
 -- by what a command is judged that is carried out where this is kept
@@ -36,6 +36,26 @@ Effect host kept (Read volume at count) answer next =
     (from : DriveBlock) × AreBlocksAt host kept.memory volume at count from × (answer ≡ telling (values_reply at (blocks_of kept.content from count))) × Stays kept next
 Effect host kept (Write volume at block) answer next =
     (place : DriveBlock) × AreBlocksAt host kept.memory volume at 1 place × (answer ≡ accepted) × (next.memory ≡ kept.memory) × ArePut place (block ∷ []) kept.content next.content
+
+-- the volume has these blocks, and a call on their drive failed
+pub record FailedBlocks (calls : Outcomes) (host : Host) (memory : Memory) (volume : VolId) (at count : ℕ) : Type 0 where
+  pub place : DriveBlock
+  pub there : AreBlocksAt host memory volume at count place
+  pub failed : FailedOn place.drive calls
+
+-- The calls that may excuse a command, whatever is known of the drives' blocks: those on the drive of the blocks that it reads or writes, and else on that of the database.
+abbrev pub blamed : Outcomes → Host → Memory → Command → Failures
+blamed calls host memory (Create slice force) = record { some = FailedOn host.home.drive.0 calls; none = AreCalm calls }
+blamed calls host memory (command.MakeStripe volume slice) = record { some = FailedOn host.home.drive.0 calls; none = AreCalm calls }
+blamed calls host memory (Read volume at count) = record { some = FailedBlocks calls host memory volume at count; none = AreCalm calls }
+blamed calls host memory (Write volume at block) = record { some = FailedBlocks calls host memory volume at 1; none = AreCalm calls }
+
+-- and those behind which it may lose the place: one failed on the database's drive, where it writes there, and none of a read or a write of blocks
+abbrev pub MayLose : Outcomes → Host → Command → Type 0
+MayLose calls host (Create slice force) = FailedOn host.home.drive.0 calls
+MayLose calls host (command.MakeStripe volume slice) = FailedOn host.home.drive.0 calls
+MayLose calls host (Read volume at count) = ⊥
+MayLose calls host (Write volume at block) = ⊥
 
 -- What is left where a call on a drive failed and the line tells it: the drive of the database, or that of the blocks. A change that can't be committed ends the run instead.
 abbrev pub Fault : Outcomes → Host → Kept → Command → Kept → Type 0

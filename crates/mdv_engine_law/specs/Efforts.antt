@@ -1,9 +1,10 @@
 -- How many calls on the drives a line makes, and how many blocks it writes.
-use Rattle.std.specs.Prelude.{◌≡◌, ℕ, ◌+◌, ◌≤◌, Bool, true, false, length, Option, Some, None}
+use Rattle.std.specs.Prelude.{◌≡◌, ◌≢◌, ℕ, ◌+◌, ◌≤◌, Bool, true, false, length, Option, Some, None, Contains}
+use Rattle.std.specs.Bool.{MatchBool}
 use Rattle.mdv_shelf.specs.Everywhere.{Image}
 use Rattle.mdv_shelf.specs.Made.{Made, and_more}
 use Rattle.mdv_store_law.specs.Effort.{AdoptedBy, BroughtUpBy, EmptyBy, LostBy, SpentBy, WantingBy, blocks_for}
-use Rattle.mdv_engine_law.specs.Below.{Drives, IoFault, OutOfMemory, record_text, Command, Create, Read, Write, Line, Newest}
+use Rattle.mdv_engine_law.specs.Below.{DriveNo, Drives, has_drive, IoFault, OutOfMemory, record_text, Command, Create, Read, Write, Line, Newest}
 use Rattle.mdv_words.specs.declared.command.Command.TheVariants.{MakeStripe}
 use Rattle.mdv_words.specs.Line as words
 use Rattle.mdv_engine_law.specs.declared.answer.Answer.{Answer}
@@ -95,10 +96,12 @@ PlaceCalls made host (Over ended.Spent) read memory content = SpentBy made (site
 PlaceCalls made host (Over ended.Memory) read memory content = WantingBy made (site_of host) (on_site (site_of host) content)
 
 -- A boot reads a block of each of the host's own drives and syncs it, unless the read failed, and then makes those at its place, which it has read unless a call on its drive failed.
+-- Whatever it came to, those that are up are all but the ones on which a call failed, the place's drive aside, which may be up and have failed later.
 pub record BootCalls (calls : Outcomes) (made : Made) (host : Host) (answer : Answer) (memory : Memory) (content : Image) : Type 0 where
   pub up : Drives
   pub brought : ℕ
   pub tied : answer ≡ accepted → up ≡ memory.up
+  pub own : (drive : DriveNo) → Contains host.own drive → drive ≢ host.home.drive → MatchBool (has_drive up drive) (calls drive.0).none (calls drive.0).some
   pub by : BroughtUpBy host.own up brought
   pub read : Bool
   pub unread : read ≡ false → (home_calls host calls).some

@@ -159,9 +159,9 @@ booted_with opened up clean begun = record { opened = opened; up = up; clean = c
 abbrev pub home_calls : Host → Outcomes → Failures
 home_calls host calls = calls host.home.drive.0
 
--- no drive is used but the host's own
+-- no drive is used but the host's own, and on each of these no call failed, or just one did
 abbrev pub AreOwnCalls : Host → Outcomes → Type 0
-AreOwnCalls host calls = (drive : DriveNo) → (Contains host.own drive → ⊥) → (calls drive.0).none
+AreOwnCalls host calls = (drive : DriveNo) → (Contains host.own drive → (calls drive.0).none ⊎ (calls drive.0).some) × ((Contains host.own drive → ⊥) → (calls drive.0).none)
 
 -- What a boot comes to, from what the blocks of the database's drive hold: nothing else in memory than what it found, which drives are up, and how many creations
 -- were begun before. Where a call on that drive failed it is down, or lost, if there was a replica to adopt, and else neither; memory is

@@ -1,5 +1,6 @@
 -- One line, answered.
-use Rattle.mdv_shelf.specs.Failing.{AreCalm, Outcomes, any_of}
+use Rattle.mdv_base.specs.Causes.{Failures}
+use Rattle.mdv_shelf.specs.Failing.{AreCalm, Outcomes}
 use Rattle.mdv_engine_law.specs.Replies.{HasCommandCause, HasEndCause, HasReplyCause, IsReplyTo, reply_at, reply_to}
 use Rattle.mdv_engine_law.specs.declared.answer.Ended.{Ended}
 use Rattle.mdv_engine_law.specs.declared.answer.Ended.TheVariants as ended
@@ -9,7 +10,7 @@ use Rattle.mdv_engine_law.specs.declared.answer.Reply.TheVariants as reply
 use Rattle.mdv_engine_law.specs.Line.{Nothing, Ask, asked_by, home_calls}
 use Rattle.std.proofs.Common.{◌≡◌, Option, Some, inl, inr, ℕ, ◌<◌, List, [], length, take, refl, sym, ◌∙◌, subst, arith}
 use Rattle.mdv_run.specs.Below.{OutOfMemory, TooMany, Answer, IsAnswered, Kept, LinesMoment, Script, line, tab_text, told, Tale, Spelled, Boot, IsLine, Reply, IsReplied, IsTold, IsTurnedDown, Host, Memory, Engine, Executed, Knows, StaysHome, Turned, RanTo, kept_at}
-use Rattle.mdv_run.specs.Promise.{IsUncut, IsWorkOf, LineStays, LineStaysAs, LinesStay, SomeFailed}
+use Rattle.mdv_run.specs.Promise.{IsUncut, IsWorkOf, LineStays, LineStaysAs, LinesStay}
 use Rattle.mdv_run.specs.Turns.{LineAnswered}
 use Rattle.mdv_words.specs.Line as words
 use Rattle.mdv_words.proofs.Lines.{one_line}
@@ -198,13 +199,13 @@ pub many_comes : (lines : List ℕ) (outcomes : Outcomes) (host : Host) (kept ne
 many_comes lines outcomes host kept next answer many calm down = inr (inl (words.Tab lines, refl, came.unfit calm TooMany (inl many) down))
 
 -- why a line is replied to so: by what its command came to, by what was only told, or by the end of its boot
-pub command_reply : (outcomes : Outcomes) (replies : Type 0) (given : Reply) → HasCommandCause (any_of outcomes) replies given → HasReplyCause (SomeFailed outcomes) replies given
-command_reply outcomes replies reply.Ok cause = tt
-command_reply outcomes replies (reply.Refused refusal) cause = tt
-command_reply outcomes replies (reply.Panic active listed) cause = ((cause.0.0, cause.0.1.here), cause.1, cause.2)
-command_reply outcomes replies reply.Spent cause = tt
-command_reply outcomes replies reply.NoMemory cause = tt
-command_reply outcomes replies reply.Told cause = cause
+pub command_reply : (blamed : Failures) (lost home replies : Type 0) → (lost → home) → (given : Reply) → HasCommandCause blamed lost replies given → HasReplyCause home replies given
+command_reply blamed lost home replies lose reply.Ok cause = tt
+command_reply blamed lost home replies lose (reply.Refused refusal) cause = tt
+command_reply blamed lost home replies lose (reply.Panic active listed) cause = (lose cause.0, cause.1, cause.2)
+command_reply blamed lost home replies lose reply.Spent cause = tt
+command_reply blamed lost home replies lose reply.NoMemory cause = tt
+command_reply blamed lost home replies lose reply.Told cause = cause
 
 said_reply : (drive replies : Type 0) (said : Outcome) → HasReplyCause drive replies (reply_to said)
 said_reply drive replies outcome.Ok = tt
@@ -229,7 +230,7 @@ pub reply_more : (replies more : Type 0) → (replies → more) → (said : Outc
 reply_more replies more cause said given (inl whole) = inl whole
 reply_more replies more cause said given (inr cut) = inr (cut.0, cause cut.1)
 
-pub ended_reply : (host : Host) (outcomes : Outcomes) (replies : Type 0) (end : Ended) → HasEndCause (home_calls host outcomes) end → HasReplyCause (SomeFailed outcomes) replies (reply_at end)
-ended_reply host outcomes replies (ended.Lost active listed) cause = ((host.home.drive.0, cause.0), cause.1, cause.2)
+pub ended_reply : (host : Host) (outcomes : Outcomes) (replies : Type 0) (end : Ended) → HasEndCause (home_calls host outcomes) end → HasReplyCause (home_calls host outcomes).some replies (reply_at end)
+ended_reply host outcomes replies (ended.Lost active listed) cause = cause
 ended_reply host outcomes replies ended.Spent cause = tt
 ended_reply host outcomes replies ended.Memory cause = tt

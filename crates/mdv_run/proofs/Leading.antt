@@ -20,7 +20,8 @@ use Rattle.mdv_engine_law.specs.declared.answer.Outcome.TheVariants as outcome
 use Rattle.mdv_engine_law.specs.declared.answer.Reply.TheVariants as reply
 use Rattle.mdv_run.specs.declared.session.Turn.{Turn}
 use Rattle.mdv_run.specs.declared.session.Turn.TheVariants.{On, Over}
-use Rattle.mdv_run.specs.Promise.{IsUncut, SomeFailed}
+use Rattle.mdv_engine_law.specs.Line.{home_calls}
+use Rattle.mdv_run.specs.Promise.{IsUncut}
 use Rattle.mdv_run.specs.Turns.{LineAnswered, Leads, Point, Turns, at, turn_of, HasTurnCause, IsOn, IsLostTurn}
 use Rattle.std.proofs.lemmas.List.{append-nil}
 use Rattle.std.specs.Option.{option_map}
@@ -260,10 +261,10 @@ same_left left other one two = both (sym two ∙ one) where
   both is = cc
 
 -- the cause of a reply is that of its turn
-pub turn_cause : (now then : Counts) (r : Reply) (any : Bool) → HasReplyCause (SomeFailed (drive_failures now then)) (giving_failed now then) r → HasTurnCause now then (turn_of r any)
-turn_cause now then reply.Ok any cause = tt
-turn_cause now then (reply.Refused refusal) any cause = tt
-turn_cause now then (reply.Panic active listed) any cause = ((cause.0.0, rose_of_once _ _ cause.0.1), cause.1, cause.2)
-turn_cause now then reply.Spent any cause = tt
-turn_cause now then reply.NoMemory any cause = tt
-turn_cause now then reply.Told any cause = rose_of_once _ _ cause
+pub turn_cause : (host : Host) (now then : Counts) (r : Reply) (any : Bool) → HasReplyCause (home_calls host (drive_failures now then)).some (giving_failed now then) r → HasTurnCause host now then (turn_of r any)
+turn_cause host now then reply.Ok any cause = tt
+turn_cause host now then (reply.Refused refusal) any cause = tt
+turn_cause host now then (reply.Panic active listed) any cause = (rose_of_once _ _ cause.0, cause.1, cause.2)
+turn_cause host now then reply.Spent any cause = tt
+turn_cause host now then reply.NoMemory any cause = tt
+turn_cause host now then reply.Told any cause = rose_of_once _ _ cause

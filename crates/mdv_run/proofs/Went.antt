@@ -193,18 +193,18 @@ run_earlier host stretch other ends shows last now end memory script status t u 
 }
 
 -- a cause within a stretch is one over the longer stretch
-pub cause_within : (start now then end : Counts) (status : RunStatus) → RoseTo start now → RoseTo then end → HasStatusCause now then status → HasStatusCause start end status
-cause_within start now then end Done before behind cause = tt
-cause_within start now then end SomeRefused before behind cause = tt
-cause_within start now then end Usage before behind cause = cause
-cause_within start now then end (NoQuorum readable needed) before behind cause = cause
-cause_within start now then end (Panic active listed) before behind cause = ((cause.0.0, rose_within _ _ _ _ (before.drives cause.0.0) (behind.drives cause.0.0) cause.0.1), cause.1, cause.2)
-cause_within start now then end ReadFault before behind cause = rose_within _ _ _ _ before.source behind.source cause
-cause_within start now then end WriteFault before behind cause = rose_within _ _ _ _ before.replies behind.replies cause
-cause_within start now then end NoMemory before behind cause = tt
-cause_within start now then end (TwoDatabases a b) before behind cause = cause
-cause_within start now then end (ScriptTooLong lines bytes) before behind cause = tt
-cause_within start now then end NumbersSpent before behind cause = tt
+pub cause_within : (host : Host) (start now then end : Counts) (status : RunStatus) → RoseTo start now → RoseTo then end → HasStatusCause host now then status → HasStatusCause host start end status
+cause_within host start now then end Done before behind cause = tt
+cause_within host start now then end SomeRefused before behind cause = tt
+cause_within host start now then end Usage before behind cause = cause
+cause_within host start now then end (NoQuorum readable needed) before behind cause = cause
+cause_within host start now then end (Panic active listed) before behind cause = (rose_within _ _ _ _ (before.drives host.home.drive.0) (behind.drives host.home.drive.0) cause.0, cause.1, cause.2)
+cause_within host start now then end ReadFault before behind cause = rose_within _ _ _ _ before.source behind.source cause
+cause_within host start now then end WriteFault before behind cause = rose_within _ _ _ _ before.replies behind.replies cause
+cause_within host start now then end NoMemory before behind cause = tt
+cause_within host start now then end (TwoDatabases a b) before behind cause = cause
+cause_within host start now then end (ScriptTooLong lines bytes) before behind cause = tt
+cause_within host start now then end NumbersSpent before behind cause = tt
 
 -- a reader that has taken nothing has the whole script before it
 pub script_at_start : (reader : Reader) (left : Option (List ℕ)) (input : List ℕ) → reader ≡ record { unread = []; lines = 0; bytes = 0; line = [] } → left ≡ Some input → asked_before reader left ≡ Some (asked_of input)

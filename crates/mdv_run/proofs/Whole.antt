@@ -20,7 +20,7 @@ use Rattle.mdv_shelf.specs.Area.{KeptOutside}
 use Rattle.mdv_store_law.specs.Site.{area_of}
 use Rattle.mdv_run_law.specs.Run.{FromTo}
 use Rattle.mdv_run.specs.Promise.{between}
-use Rattle.std.proofs.Common.{◌≡◌, ℕ, Bool, List, [], ◌++◌, Option, Some, Err, refl, sym, subst, ◌∙◌, ap, false}
+use Rattle.std.proofs.Common.{◌≡◌, ℕ, List, [], ◌++◌, Option, Some, Err, refl, sym, subst, ◌∙◌, ap, false}
 use Rattle.std.proofs.lemmas.List.{append-nil}
 use Rattle.mdv_run.specs.Below.{Script, Tale, told, Ended, Host, Memory, IsRebooted, kept_at, unbooted, HasBootCause, boot_answer, RunStatus, Counts, Stretch, IsWholeRun, HasStatusCause}
 use Rattle.mdv_engine_law.specs.Line.{contents}
@@ -67,10 +67,10 @@ boot_writes shelf telling host a b moments s u is_s is_u =
     subst (KeptOutside (area_of (site_of host)) (tale_of s)) (some_is (shelf.tale b) end.0 (tale_of u) end.1 (telling b ∙ ap (λ (o : Option Story). option_map tale_of o) is_u)) end.2.kept
 
 -- why a run is over with its boot
-pub over_cause : (T : Type 0) (start end : Counts) (host : Host) (r : Ended) (clean : Bool) → HasBootCause {T = T} (drive_failures start end) host clean (Err r) → HasStatusCause start end (status_at r)
-over_cause T start end host (ended.Lost active listed) clean why = ((host.home.drive.0, rose_of_once _ _ why.0), why.1, why.2)
-over_cause T start end host ended.Spent clean why = tt
-over_cause T start end host ended.Memory clean why = tt
+pub over_cause : (T : Type 0) (start end : Counts) (host : Host) (r : Ended) (memory : Memory) → HasBootCause {T = T} (drive_failures start end) host memory (Err r) → HasStatusCause host start end (status_at r)
+over_cause T start end host (ended.Lost active listed) memory why = (rose_of_once _ _ why.0, why.1, why.2)
+over_cause T start end host ended.Spent memory why = tt
+over_cause T start end host ended.Memory memory why = tt
 
 -- behind a boot no drive's count is lower, and those of the source and of the giving are what they were
 pub boot_calm : {S : Type 0} (shelf : Ghosts S) (a b : S) (drives : List DriveNo) (source : ℕ) → KeptAmong shelf a b drives → RoseCalmly (counts (shelf.faults a) source) (counts (shelf.faults b) source)

@@ -20,7 +20,7 @@ pub use Rattle.mdv_items.specs.Items.{IsItem, IsItemTurn, Items, asked_before, a
 pub use Rattle.mdv_items.specs.declared.reader.ItemEnd.TheVariants.{End, Item, Spent, TooLong}
 pub use Rattle.mdv_run_law.specs.Run.{AreLast, AreShown, At, Counts, IsLastShown, IsNextFront, NextFront, HasStatusCause, IsAnswered, IsLeft, IsShown, IsWholeRun, LineTold, LinesTold, NextLine, RoseTo, Runs, Stretch, counts}
 pub use Rattle.mdv_run_law.specs.Told.{IsToldBy, LinesToldBy}
-pub use Rattle.mdv_run_law.specs.Run.{drive_failed, replies_failed, source_failed, status_of}
+pub use Rattle.mdv_run_law.specs.Run.{replies_failed, source_failed, status_of}
 pub use Rattle.mdv_run_law.specs.Standing.{Asks, LinesMoment, RanTo, RunMoment, behind}
 pub use Rattle.mdv_run_law.specs.Lives.{host_of}
 pub use Rattle.mdv_run_law.specs.Usage.{IsUsed}

@@ -16,6 +16,7 @@ use Rattle.mdv_home.specs.View.{own_view}
 use Rattle.mdv_home.specs.declared.geometry.Home.{Home}
 use Rattle.mdv_name.specs.declared.geometry.Geometry.{Geometry}
 use Rattle.mdv_run.specs.declared.session.Turn.{Turn}
+use Rattle.mdv_engine_law.specs.Line.{home_calls}
 use Rattle.mdv_engine_law.specs.Replies.{IsLost, HasReplyCause}
 use Rattle.mdv_engine_law.specs.declared.answer.Reply.TheVariants as reply
 use Rattle.mdv_run.specs.Calls.{ScriptCalls, TurnTook}
@@ -71,7 +72,7 @@ pub record HasRun {B I : Type 0} (shelf : Shelf B) (source : Source I) (host : H
   pub stands : (input : List ℕ) → source.left from ≡ Some input → AtEachMoment shelf (OfTales (RunMoment host (asked_of input))) old new
   pub tells : (input : List ℕ) → source.left from ≡ Some input → AtEachMoment shelf (IsToldBy host (between shelf old new) (by shelf source old from) (asked_of input)) old new
   pub home : AtEachTale shelf (StaysHome host) old new
-  pub causes : (status ≡ NoMemory) ⊎ HasStatusCause (by shelf source old from) (by shelf source new to) status
+  pub causes : (status ≡ NoMemory) ⊎ HasStatusCause host (by shelf source old from) (by shelf source new to) status
   pub counted : (input : List ℕ) → source.left from ≡ Some input → (n : ℕ) → ScriptCalls host (asked_of input) n → RoseByAtMost (2 * length host.own + 11 + n) (shelf.calls old) (shelf.calls new)
 
 -- the lines of a run behind its boot, which left this memory
@@ -82,7 +83,7 @@ pub record HaveRun {B I : Type 0} (shelf : Shelf B) (source : Source I) (host : 
   pub tells : (input : List ℕ) → source.left from ≡ Some input
       → AtEachMoment shelf (λ t m. Knows host memory t.tale → LinesFront host (between shelf old new) (at (point_at shelf source old from) (kept_at memory t.tale) false (asked_of input)) t m) old new
   pub home : AtEachTale shelf (StaysHome host) old new
-  pub causes : HasStatusCause (by shelf source old from) (by shelf source new to) status
+  pub causes : HasStatusCause host (by shelf source old from) (by shelf source new to) status
   pub counted : (input : List ℕ) → source.left from ≡ Some input → (n : ℕ) → ScriptCalls host (asked_of input) n → RoseByAtMost n (shelf.calls old) (shelf.calls new)
 
 -- one turn, in the end: what it told and led to, by the script before it, and what is known of the drive then
@@ -99,7 +100,7 @@ TurnEnds shelf source engine then bench on from to before after refused turn =
 
 -- what a turn says whatever bench and source tell: its cause, and what the engine and the reader are then
 pub record TurnAnswer (now later : Counts) (host : Host) (engine : Engine) (before after : Reader) (left rest : Option (List ℕ)) (calls made : Option ℕ) (turn : Turn) : Type 0 where
-  pub cause : HasTurnCause now later turn
+  pub cause : HasTurnCause host now later turn
   pub source : now.source ≤ later.source
   pub same : engine.host ≡ host
   pub well : IsWell host engine.state
@@ -167,11 +168,7 @@ pub record LineEnd (outcomes : Outcomes) (replies : Type 0) (made : Made) (host 
 abbrev pub LineEnds : {B : Type 0} → Shelf B → B → B → Host → List ℕ → Memory → Memory → Reply → Type 0
 LineEnds shelf bench on host text old new reply = AtEnd shelf (LineEnd (DriveFailures shelf bench on) (GivingFailed shelf bench on) (made_of shelf bench on) host text old new reply) bench on
 
--- a call on some drive failed, whatever came of those on others
-abbrev pub SomeFailed : Outcomes → Type 0
-SomeFailed calls = (drive : ℕ) × (calls drive).some
-
--- what a reply says whatever the bench tells: its cause, what the engine is then, and how many calls were made
+-- what a reply says whatever the bench tells: its cause, by whether a call on the database's drive failed, what the engine is then, and how many calls were made
 pub record LineReply (drive replies : Type 0) (host : Host) (old : Memory) (Took : ℕ → Type 0) (calls made : Option ℕ) (engine : Engine) (reply : Reply) : Type 0 where
   pub counted : (n : ℕ) → Took n → RoseByAtMost n calls made
   pub cause : HasReplyCause drive replies reply
@@ -180,7 +177,7 @@ pub record LineReply (drive replies : Type 0) (host : Host) (old : Memory) (Took
   pub begun : engine.state.begun ≤ old.begun + 1
 
 abbrev pub LineReplies : {B : Type 0} → Shelf B → Engine → B → B → (ℕ → Type 0) → Engine → Reply → Type 0
-LineReplies shelf old bench on Took new reply = LineReply (SomeFailed (DriveFailures shelf bench on)) (GivingFailed shelf bench on) old.host old.state Took (shelf.calls bench) (shelf.calls on) new reply
+LineReplies shelf old bench on Took new reply = LineReply (home_calls old.host (DriveFailures shelf bench on)).some (GivingFailed shelf bench on) old.host old.state Took (shelf.calls bench) (shelf.calls on) new reply
 
 -- the reply to a line that boots, which takes two calls for each of the host's own drives, and twelve at most; and no call was made behind one on the same part that failed
 pub record BootReplies {B : Type 0} (shelf : Shelf B) (old : Engine) (bench on : B) (new : Engine) (reply : Reply) : Type 0 where

@@ -65,9 +65,9 @@ pub record Turns (host : Host) (now then : Point) (old new : Memory) (refused : 
   pub is_told : told u ≡ told t ++ piece
   pub leads : Leads host (at now (kept_at old t) refused script) piece then (kept_at new u) before turn
 
-abbrev pub HasTurnCause : Counts → Counts → Turn → Type 0
-HasTurnCause now then (On r) = Unit {0}
-HasTurnCause now then (Over status) = HasStatusCause now then status
+abbrev pub HasTurnCause : Host → Counts → Counts → Turn → Type 0
+HasTurnCause host now then (On r) = Unit {0}
+HasTurnCause host now then (Over status) = HasStatusCause host now then status
 
 abbrev pub IsOn : Turn → Type 0
 IsOn (On r) = Unit {0}

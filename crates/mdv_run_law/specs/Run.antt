@@ -69,8 +69,13 @@ pub record OnlyUngiven (now later : Counts) : Type 0 where
 abbrev pub drive_failures : Counts → Counts → Outcomes
 drive_failures now later drive = failures_of (now.drives drive) (later.drives drive)
 
+-- a call failed on some drive
 abbrev pub drive_failed : Counts → Counts → Type 0
 drive_failed now later = (drive : ℕ) × Rose (now.drives drive) (later.drives drive)
+
+-- one on the drive of the host's database
+abbrev pub home_failed : Host → Counts → Counts → Type 0
+home_failed host now later = Rose (now.drives host.home.drive.0) (later.drives host.home.drive.0)
 
 abbrev pub source_failed : Counts → Counts → Type 0
 source_failed now later = Rose now.source later.source
@@ -385,19 +390,19 @@ pub record IsWholeRun (host : Host) (stretch : Stretch) (start end : Counts) (t 
   pub left : IsLeft host status u last
   pub runs : IsRun host stretch start end (contents t) script more status last
 
--- a status that comes only where something failed, and those that this run never has
-abbrev pub HasStatusCause : Counts → Counts → RunStatus → Type 0
-HasStatusCause start end Done = Unit {0}
-HasStatusCause start end SomeRefused = Unit {0}
-HasStatusCause start end Usage = ⊥
-HasStatusCause start end (NoQuorum readable needed) = ⊥
-HasStatusCause start end (Panic active listed) = drive_failed start end × (active ≡ 0) × (listed ≡ 1)
-HasStatusCause start end ReadFault = source_failed start end
-HasStatusCause start end WriteFault = replies_failed start end
-HasStatusCause start end NoMemory = Unit {0}
-HasStatusCause start end (TwoDatabases a b) = ⊥
-HasStatusCause start end (ScriptTooLong lines bytes) = Unit {0}
-HasStatusCause start end NumbersSpent = Unit {0}
+-- a status that comes only where something failed, a lost place where a call on the database's drive did; and those that this run never has
+abbrev pub HasStatusCause : Host → Counts → Counts → RunStatus → Type 0
+HasStatusCause host start end Done = Unit {0}
+HasStatusCause host start end SomeRefused = Unit {0}
+HasStatusCause host start end Usage = ⊥
+HasStatusCause host start end (NoQuorum readable needed) = ⊥
+HasStatusCause host start end (Panic active listed) = home_failed host start end × (active ≡ 0) × (listed ≡ 1)
+HasStatusCause host start end ReadFault = source_failed start end
+HasStatusCause host start end WriteFault = replies_failed start end
+HasStatusCause host start end NoMemory = Unit {0}
+HasStatusCause host start end (TwoDatabases a b) = ⊥
+HasStatusCause host start end (ScriptTooLong lines bytes) = Unit {0}
+HasStatusCause host start end NumbersSpent = Unit {0}
 
 -- nothing failed
 pub record IsUndisturbed (start end : Counts) : Type 0 where

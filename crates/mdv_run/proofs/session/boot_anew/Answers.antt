@@ -6,7 +6,8 @@ use Rattle.mdv_engine_law.specs.Line.{Nothing}
 use Rattle.std.proofs.lemmas.List.{append-nil}
 use Rattle.mdv_shelf.specs.Shelves.{DriveFailures, GivingFailed}
 use Rattle.mdv_run.specs.Below.{IsLine, LinesMoment, Memory, Script, line, OnReplies, Moments, Ends, told, Boot, Host, StaysHome, BootMoment, BootedTo, TurnMoment, Engine, IsWell, Knows, IsRebooted, Tale, kept_at}
-use Rattle.mdv_run.specs.Promise.{IsWorkOf, LineEnd, SomeFailed}
+use Rattle.mdv_run.specs.Promise.{IsWorkOf, LineEnd}
+use Rattle.mdv_engine_law.specs.Line.{home_calls}
 use Rattle.mdv_run.proofs.Answering.{asks_none, loud_ok, same_within, uncut_replied, line_executed, accepted_ok, accepted_turned, ended_reply, reply_more, told_reply, turn_writes}
 use Rattle.std.specs.Option.{option_map}
 use Rattle.mdv_shelf.specs.Shelves.{AtEachMoment}
@@ -152,7 +153,7 @@ pub returns-in-Err-clause-answer : goal.returns-in-Err-clause-answer
 returns-in-Err-clause-answer g c = record {
   line = record {
     counted = λ n calls. over_calls g.B.Shelf _ _ c.args.engine.now.host.own c.in-Err.end c.reboot.new.self.state c.in-Err.ensures.counted n calls;
-    cause = subst (HasReplyCause (SomeFailed (DriveFailures g.B.Shelf c.args.bench.now c.reboot.new.shelf)) _) (sym c.reply_at.ensures) (ended_reply c.args.engine.now.host (DriveFailures g.B.Shelf c.args.bench.now c.reboot.new.shelf) _ c.in-Err.end c.in-Err.ensures.answer.cause);
+    cause = subst (HasReplyCause (home_calls c.args.engine.now.host (DriveFailures g.B.Shelf c.args.bench.now c.reboot.new.shelf)).some _) (sym c.reply_at.ensures) (ended_reply c.args.engine.now.host (DriveFailures g.B.Shelf c.args.bench.now c.reboot.new.shelf) _ c.in-Err.end c.in-Err.ensures.answer.cause);
     same = c.in-Err.ensures.answer.host;
     well = c.in-Err.ensures.answer.well;
     begun = (let same = c.in-Err.ensures.answer.begun in omega arith);
@@ -164,7 +165,7 @@ pub returns-in-Ok-clause-answer : goal.returns-in-Ok-clause-answer
 returns-in-Ok-clause-answer g c = record {
   line = record {
     counted = λ n calls. boot_calls g.B.Shelf _ _ _ c.args.engine.now.host.own c.reboot.new.self.state c.in-Ok.ensures.counted c.accept.ensures.counted.once n calls;
-    cause = told_reply (SomeFailed (DriveFailures g.B.Shelf c.args.bench.now c.accept.new.bench)) (GivingFailed g.B.Shelf c.args.bench.now c.accept.new.bench) outcome.Ok c.accept.result
+    cause = told_reply (home_calls c.args.engine.now.host (DriveFailures g.B.Shelf c.args.bench.now c.accept.new.bench)).some (GivingFailed g.B.Shelf c.args.bench.now c.accept.new.bench) outcome.Ok c.accept.result
         (reply_more _ _ (calm_before _ _ _ (c.reboot.ensures.kept.others OnReplies (replies_apart c.args.engine.now.host.own))).some outcome.Ok c.accept.result c.accept.ensures.answer.cause);
     same = ap (λ (e : Engine). e.host) c.accept.ensures.answer.same ∙ c.in-Ok.ensures.answer.host;
     well = subst (λ (e : Engine). IsWell c.args.engine.now.host e.state) (sym c.accept.ensures.answer.same) c.in-Ok.ensures.answer.well;

@@ -1,7 +1,9 @@
 use Rattle.mdv_run.proofs.Counting.{none_took}
-use Rattle.std.proofs.Common.{◌+◌, ◌*◌, length, ◌≡◌, refl, ap, subst, inl, inr, Err}
-use Rattle.mdv_run.specs.Below.{counts, asked_of, HasStatusCause, Host, RunMoment, host_of}
-use Rattle.mdv_run.specs.Promise.{HasRun, between}
+use Rattle.std.proofs.Common.{◌+◌, ◌*◌, length, ◌≡◌, ◌≢◌, refl, ap, subst, inl, inr, Err}
+use Rattle.mdv_run.specs.Below.{counts, asked_of, HasStatusCause, Host, NoMemory, RunMoment, RunStatus, Usage, host_of}
+use Rattle.mdv_run.specs.Promise.{HasRun, between, by}
+use Rattle.mdv_port.specs.declared.source.Source.{Ghosts as Source}
+use Rattle.mdv_shelf.specs.declared.shelf.Shelf.{Ghosts as Shelf}
 use Rattle.mdv_run.proofs.Fronting.{IsBooting, fronts_quiet}
 use Rattle.mdv_engine_law.specs.Home.{site_of}
 use Rattle.mdv_shelf.proofs.Frame.{kept_outside_same}
@@ -14,6 +16,13 @@ use Rattle.mdv_run_law.proofs.Booting.{nothing_run}
 use Rattle.mdv_run.proofs.Used.{one_host, ready_host}
 use Rattle.mdv_run.proofs.session.run.Goals as goal
 
+-- a run of a host is no faulty use
+never_usage : {B I : Type 0} (shelf : Shelf B) (source : Source I) (host : Host) (old : B) (from : I) (new : B) (to : I) (status : RunStatus) → HasRun shelf source host old from new to status → status ≢ NoMemory → status ≡ Usage → ⊥
+never_usage shelf source host old from new to status run known is = elim run.causes [
+  | inl wanted ↦ known wanted
+  | inr cause ↦ subst (HasStatusCause host (by shelf source old from) (by shelf source new to)) is cause
+]
+
 pub run_host-requires : goal.run_host-requires
 run_host-requires g c =
     ready_host _ _ _ c.args.fresh c.in-Ok.start.drives c.in-Ok.start.own c.in-Ok.start.home c.in-Ok.ensures.value c.ranges.fresh.fits
@@ -23,7 +32,7 @@ returns-in-Ok-clause-usage g c =
     let start = c.in-Ok.ensures.value in
     record {
       exactly = λ known. (
-        λ is. absurd (elim c.run_host.ensures.has_run.causes [ inl wanted ↦ known wanted | inr cause ↦ subst (HasStatusCause _ _) is cause ]),
+        λ is. absurd (never_usage g.B.Shelf g.I.Source _ _ _ _ _ _ c.run_host.ensures.has_run known is),
         λ none. absurd (none start.table c.in-Ok.start.home start.used),
       );
       untouched = λ none. absurd (none start.table c.in-Ok.start.home start.used);

@@ -62,9 +62,10 @@ returns-in-Ok-clause-has_run g c = record {
       (subst (λ (h : Host). Moments (StaysHome h) (g.B.Shelf.tale c.boot.new.shelf) (g.B.Shelf.tale c.run_lines.new.bench)) c.in-Ok.ensures.answer.engine.0 c.run_lines.ensures.lines.home);
   counted = λ input left n calls. run_calls _ _ _ (2 * length c.args.host.own + 11) n (booted_calls g.B.Shelf _ _ c.args.host.own accepted c.in-Ok.engine.state c.in-Ok.ensures.counted)
       (c.run_lines.ensures.lines.counted input left n (subst (λ (h : Host). ScriptCalls h (asked_of input) n) (sym c.in-Ok.ensures.answer.engine.0) calls));
-  causes = inr (cause_within (counts (g.B.Shelf.faults c.args.bench.now) (g.I.Source.faults c.args.script.now)) (counts (g.B.Shelf.faults c.boot.new.shelf) (g.I.Source.faults c.args.script.now))
+  causes = inr (cause_within c.args.host (counts (g.B.Shelf.faults c.args.bench.now) (g.I.Source.faults c.args.script.now)) (counts (g.B.Shelf.faults c.boot.new.shelf) (g.I.Source.faults c.args.script.now))
       (counts (g.B.Shelf.faults c.run_lines.new.bench) (g.I.Source.faults c.run_lines.new.script)) (counts (g.B.Shelf.faults c.run_lines.new.bench) (g.I.Source.faults c.run_lines.new.script)) c.run_lines.result
-      (record { drives = λ drive. c.boot.ensures.kept.keeps.no_fewer_faults (OnDrive drive); source = omega arith; replies = c.boot.ensures.kept.keeps.no_fewer_faults OnReplies }) (record { drives = λ drive. omega arith; source = omega arith; replies = omega arith }) c.run_lines.ensures.lines.causes);
+      (record { drives = λ drive. c.boot.ensures.kept.keeps.no_fewer_faults (OnDrive drive); source = omega arith; replies = c.boot.ensures.kept.keeps.no_fewer_faults OnReplies }) (record { drives = λ drive. omega arith; source = omega arith; replies = omega arith })
+      (subst (λ (h : Host). HasStatusCause h (counts (g.B.Shelf.faults c.boot.new.shelf) (g.I.Source.faults c.args.script.now)) (counts (g.B.Shelf.faults c.run_lines.new.bench) (g.I.Source.faults c.run_lines.new.script)) c.run_lines.result) c.in-Ok.ensures.answer.engine.0 c.run_lines.ensures.lines.causes));
 }
 
 pub returns-in-Err-clause-has_run : goal.returns-in-Err-clause-has_run
@@ -86,8 +87,8 @@ returns-in-Err-clause-has_run g c = record {
   tells = λ input left. fronts_quiet g.B.Shelf g.met.B.Shelf.telling c.args.host (counts (g.B.Shelf.faults c.args.bench.now) (g.I.Source.faults c.args.script.now)) (asked_of input) (between g.B.Shelf c.args.bench.now c.boot.new.shelf) _ _ c.boot.ensures.kept.goes (moments_weaker (BootMoment c.args.host) (IsBooting c.args.host) _ _ (λ t m moment. (moment.quiet, moment.kept)) c.boot.ensures.moments);
   home = boot_stays c.args.host _ _ c.boot.ensures.moments;
   counted = λ input left n calls. only_boot _ _ (2 * length c.args.host.own + 11) n (booted_calls g.B.Shelf _ _ c.args.host.own (Over c.in-Err.end) (unbooted 0) c.in-Err.ensures.counted);
-  causes = inr (subst (λ (s : RunStatus). HasStatusCause (counts (g.B.Shelf.faults c.args.bench.now) (g.I.Source.faults c.args.script.now)) (counts (g.B.Shelf.faults c.boot.new.shelf) (g.I.Source.faults c.args.script.now)) s) (sym c.over.ensures)
-      (over_cause Engine _ _ c.args.host c.in-Err.end false c.in-Err.ensures.answer.cause));
+  causes = inr (subst (λ (s : RunStatus). HasStatusCause c.args.host (counts (g.B.Shelf.faults c.args.bench.now) (g.I.Source.faults c.args.script.now)) (counts (g.B.Shelf.faults c.boot.new.shelf) (g.I.Source.faults c.args.script.now)) s) (sym c.over.ensures)
+      (over_cause Engine (counts (g.B.Shelf.faults c.args.bench.now) (g.I.Source.faults c.args.script.now)) (counts (g.B.Shelf.faults c.boot.new.shelf) (g.I.Source.faults c.args.script.now)) c.args.host c.in-Err.end (unbooted 0) c.in-Err.ensures.answer.cause));
 }
 
 pub returns-in-Ok-clause-kept : goal.returns-in-Ok-clause-kept

@@ -1,6 +1,6 @@
 use Rattle.mdv_run.proofs.Counting.{all_left, took_on, took_over}
 use Rattle.std.proofs.Common.{◌≤◌, false, refl, sym, ◌∙◌, subst, arith}
-use Rattle.mdv_run.specs.Below.{Reader, asked_of, asked_before, OnDrive, OnReplies, Moments, Ends, Host, IsReady, Knows, IsWell, counts, LinesMoment, StaysHome}
+use Rattle.mdv_run.specs.Below.{Reader, asked_of, asked_before, OnDrive, OnReplies, Moments, Ends, Host, IsReady, Knows, IsWell, counts, HasStatusCause, LinesMoment, StaysHome}
 use Rattle.mdv_run.specs.Promise.{TurnWrites, between, point_at}
 use Rattle.mdv_run_law.specs.Told.{WorkWrites}
 use Rattle.mdv_shelf.proofs.Moments.{moments_weaker}
@@ -86,9 +86,10 @@ returns-in-Over-clause-lines g c =
       home = both_stay c.args.engine.now.host _ _ _ before.home
           (subst (λ (h : Host). Moments (StaysHome h) (g.B.Shelf.tale c.loop-refused.bench) (g.B.Shelf.tale c.take_turn.new.bench)) before.host c.in-Over.ensures.stays.home);
       counted = λ input left n calls. took_over c.args.engine.now.host c.loop-refused.engine.host before.host _ _ _ n _ (before.calls input left n calls) c.in-Over.ensures.answer.counted;
-      causes = cause_within (counts (g.B.Shelf.faults c.args.bench.now) (g.I.Source.faults c.args.script.now)) (counts (g.B.Shelf.faults c.loop-refused.bench) (g.I.Source.faults c.loop-refused.script)) (counts (g.B.Shelf.faults c.take_turn.new.bench) (g.I.Source.faults c.take_turn.new.script)) (counts (g.B.Shelf.faults c.take_turn.new.bench) (g.I.Source.faults c.take_turn.new.script)) c.in-Over.status
+      causes = subst (λ (h : Host). HasStatusCause h (counts (g.B.Shelf.faults c.args.bench.now) (g.I.Source.faults c.args.script.now)) (counts (g.B.Shelf.faults c.take_turn.new.bench) (g.I.Source.faults c.take_turn.new.script)) c.in-Over.status) before.host
+          (cause_within c.loop-refused.engine.host (counts (g.B.Shelf.faults c.args.bench.now) (g.I.Source.faults c.args.script.now)) (counts (g.B.Shelf.faults c.loop-refused.bench) (g.I.Source.faults c.loop-refused.script)) (counts (g.B.Shelf.faults c.take_turn.new.bench) (g.I.Source.faults c.take_turn.new.script)) (counts (g.B.Shelf.faults c.take_turn.new.bench) (g.I.Source.faults c.take_turn.new.script)) c.in-Over.status
           (record { drives = λ drive. before.kept.keeps.no_fewer_faults (OnDrive drive); source = before.source; replies = before.kept.keeps.no_fewer_faults OnReplies })
-          (record { drives = λ drive. omega arith; source = omega arith; replies = omega arith }) c.in-Over.ensures.answer.cause;
+          (record { drives = λ drive. omega arith; source = omega arith; replies = omega arith }) c.in-Over.ensures.answer.cause);
     }
 
 pub returns-in-Over-clause-kept : goal.returns-in-Over-clause-kept

@@ -71,7 +71,7 @@ returns-in-Ok-Item-clause-end g c = λ lines before t told.
 
 pub returns-in-Ok-Item-clause-answer : goal.returns-in-Ok-Item-clause-answer
 returns-in-Ok-Item-clause-answer g c = record {
-  cause = subst (HasTurnCause (counts (g.B.Shelf.faults c.args.bench.now) (g.I.Source.faults c.args.script.now)) (counts (g.B.Shelf.faults c.answer_item.new.bench) (g.I.Source.faults c.next.new.source))) (sym c.turn_of.ensures) (turn_cause (counts (g.B.Shelf.faults c.args.bench.now) (g.I.Source.faults c.args.script.now)) (counts (g.B.Shelf.faults c.answer_item.new.bench) (g.I.Source.faults c.next.new.source)) c.answer_item.result c.args.any_refused c.answer_item.ensures.answer.cause);
+  cause = subst (HasTurnCause c.args.engine.now.host (counts (g.B.Shelf.faults c.args.bench.now) (g.I.Source.faults c.args.script.now)) (counts (g.B.Shelf.faults c.answer_item.new.bench) (g.I.Source.faults c.next.new.source))) (sym c.turn_of.ensures) (turn_cause c.args.engine.now.host (counts (g.B.Shelf.faults c.args.bench.now) (g.I.Source.faults c.args.script.now)) (counts (g.B.Shelf.faults c.answer_item.new.bench) (g.I.Source.faults c.next.new.source)) c.answer_item.result c.args.any_refused c.answer_item.ensures.answer.cause);
   source = c.next.ensures.cause.later;
   same = c.answer_item.ensures.answer.same;
   well = c.answer_item.ensures.answer.well;
@@ -145,7 +145,7 @@ returns-in-Ok-TooLong-clause-end g c = λ lines before t told.
 
 pub returns-in-Ok-TooLong-clause-answer : goal.returns-in-Ok-TooLong-clause-answer
 returns-in-Ok-TooLong-clause-answer g c = record {
-  cause = subst (HasTurnCause (counts (g.B.Shelf.faults c.args.bench.now) (g.I.Source.faults c.args.script.now)) (counts (g.B.Shelf.faults c.refuse.new.bench) (g.I.Source.faults c.next.new.source))) (sym c.turn_of-in-Ok-TooLong.ensures) (turn_cause (counts (g.B.Shelf.faults c.args.bench.now) (g.I.Source.faults c.args.script.now)) (counts (g.B.Shelf.faults c.refuse.new.bench) (g.I.Source.faults c.next.new.source)) c.refuse.result c.args.any_refused (told_reply _ _ (outcome.Refused LineTooLong) c.refuse.result c.refuse.ensures.answer.cause));
+  cause = subst (HasTurnCause c.args.engine.now.host (counts (g.B.Shelf.faults c.args.bench.now) (g.I.Source.faults c.args.script.now)) (counts (g.B.Shelf.faults c.refuse.new.bench) (g.I.Source.faults c.next.new.source))) (sym c.turn_of-in-Ok-TooLong.ensures) (turn_cause c.args.engine.now.host (counts (g.B.Shelf.faults c.args.bench.now) (g.I.Source.faults c.args.script.now)) (counts (g.B.Shelf.faults c.refuse.new.bench) (g.I.Source.faults c.next.new.source)) c.refuse.result c.args.any_refused (told_reply _ _ (outcome.Refused LineTooLong) c.refuse.result c.refuse.ensures.answer.cause));
   source = c.next.ensures.cause.later;
   same = ap (λ (e : Engine). e.host) c.refuse.ensures.answer.same;
   well = subst (λ (e : Engine). IsWell c.args.engine.now.host e.state) (sym c.refuse.ensures.answer.same) c.requires.well;

@@ -23,3 +23,15 @@ returns-in-Read-clause-counted g c = rw (c.in-Read.is) c.read.ensures.counted
 
 pub returns-in-Write-clause-counted : goal.returns-in-Write-clause-counted
 returns-in-Write-clause-counted g c = rw (c.in-Write.is) c.write.ensures.counted
+
+pub returns-in-Create-clause-answer : goal.returns-in-Create-clause-answer
+returns-in-Create-clause-answer g c = rw (c.in-Create.is) c.make.ensures.answer
+
+pub returns-in-MakeStripe-clause-answer : goal.returns-in-MakeStripe-clause-answer
+returns-in-MakeStripe-clause-answer g c = rw (c.in-MakeStripe.is) c.make_stripe.ensures.answer
+
+pub returns-in-Read-clause-answer : goal.returns-in-Read-clause-answer
+returns-in-Read-clause-answer g c = rw (c.in-Read.is) c.read.ensures.answer
+
+pub returns-in-Write-clause-answer : goal.returns-in-Write-clause-answer
+returns-in-Write-clause-answer g c = rw (c.in-Write.is) c.write.ensures.answer

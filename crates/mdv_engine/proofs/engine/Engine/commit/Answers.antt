@@ -1,5 +1,4 @@
 use Rattle.std.proofs.Common.{◌≡◌, ◌∙◌, rules, Some, refl, ap, sym, subst}
-use Rattle.mdv_engine_law.specs.Line.{ToDo}
 use Rattle.mdv_base.specs.declared.refusal.Refusal.TheVariants.{NoDatabase}
 use Rattle.std.specs.Fmt.{digits}
 use Rattle.mdv_engine_law.specs.Replies.{IsPlain}
@@ -7,8 +6,9 @@ use Rattle.mdv_shelf.specs.Shelves.{DriveFailures}
 use Rattle.mdv_engine_law.specs.Replies.{HasAnswerCause}
 use Rattle.mdv_base.specs.Causes.{Failures}
 use Rattle.mdv_engine_law.specs.declared.answer.Answer.{Answer}
-use Rattle.mdv_engine.specs.Below.{any_of, key_of, ReplicaFull, MakeStripe, Changed, Local, place_of, OnDrive, TooLong, HasCommitCause, Newest, IsPlainAnswer}
+use Rattle.mdv_engine.specs.Below.{key_of, ReplicaFull, MakeStripe, Changed, Local, place_of, OnDrive, TooLong, HasCommitCause, Newest, IsPlainAnswer}
 use Rattle.mdv_engine_law.specs.Answers.{accepted, refusing}
+use Rattle.mdv_engine_law.specs.Commands.{MayLose, blamed}
 use Rattle.mdv_engine_law.specs.declared.answer.Answer.TheVariants.{Over}
 use Rattle.mdv_engine_law.specs.declared.answer.Ended.TheVariants as ended
 use Rattle.mdv_engine_law.proofs.Plain.{numbers_plain}
@@ -23,7 +23,7 @@ use Rattle.mdv_engine.proofs.Parts.{commit_goes, commit_goes_to, commit_opened, 
 use Rattle.mdv_words.specs.declared.command.Command.TheVariants as command
 use Rattle.mdv_engine.proofs.Counting.{committed_counted, counted_as}
 use Rattle.mdv_engine.proofs.Sites.{laid_open}
-use Rattle.mdv_engine.proofs.Drives.{calm_all, failed_at, failed_one}
+use Rattle.mdv_engine.proofs.Drives.{calm_all, failed_at}
 use Rattle.mdv_engine.proofs.engine.Engine.commit.Goals as goal
 use Rattle.mdv_engine.proofs.engine.Engine.commit.Goals.{in-Ok, in-Err-Lost, in-Err-TooLong, in-Err-Spent}
 
@@ -85,11 +85,11 @@ returns-clause-end g c = λ volume slice is.
     ]
 
 -- the answer is this one, which has its cause
-said_cause : (failures : Failures) (this answer : Answer) → answer ≡ this → HasAnswerCause failures this → HasAnswerCause failures answer
-said_cause failures this answer is cause = subst (HasAnswerCause failures) (sym is) cause
+said_cause : (failures : Failures) (lost : Type 0) (this answer : Answer) → answer ≡ this → HasAnswerCause failures lost this → HasAnswerCause failures lost answer
+said_cause failures lost this answer is cause = subst (HasAnswerCause failures lost) (sym is) cause
 
 pub returns-clause-answer : goal.returns-clause-answer
-returns-clause-answer g c = λ change. record {
+returns-clause-answer g c = λ volume slice. record {
   plain = elim c.match-commit.branch [
     | in-Ok w ↦ subst IsPlainAnswer (sym w.result-is) tt
     | in-Err-Lost w ↦ subst IsPlainAnswer (sym w.result-is) tt
@@ -97,16 +97,18 @@ returns-clause-answer g c = λ change. record {
     | in-Err-Spent w ↦ subst IsPlainAnswer (sym w.result-is) tt
   ];
   cause =
-      let fails = any_of (DriveFailures g.S.Shelf c.args.shelf.now c.commit.new.shelf) in
+      let calls = DriveFailures g.S.Shelf c.args.shelf.now c.commit.new.shelf in
+      let fails = blamed calls c.args.self.now.host c.args.self.now.state (command.MakeStripe volume slice) in
+      let loses = MayLose calls c.args.self.now.host (command.MakeStripe volume slice) in
       let at_is : c.place_at-at.result ≡ place_of c.args.self.now.host.home = c.place_at-at.ensures ∙ ap (λ (e : Engine). place_of e.host.home) c.self.view_is in
       elim c.match-commit.branch [
-        | in-Ok w ↦ said_cause fails accepted _ w.result-is (calm_all g.S.Shelf _ _ c.place_at-at.result.drive.0 c.commit.ensures.kept w.in-Ok.ensures.answer.0)
-        | in-Err-Lost w ↦ said_cause fails (Over (ended.Lost 0 1)) _ w.result-is
-            ((c.place_at-at.result.drive.0, failed_one g.S.Shelf _ _ c.place_at-at.result.drive.0 c.commit.ensures.kept (subst (HasCommitCause (DriveFailures g.S.Shelf c.args.shelf.now c.commit.new.shelf c.place_at-at.result.drive.0) c.in-Some.database c.args.next) w.in-Err-Lost.field-0-is w.in-Err-Lost.ensures.answer.1).0), refl, refl)
-        | in-Err-TooLong w ↦ said_cause fails (refusing (ReplicaFull w.in-Err-TooLong.fault.bytes w.in-Err-TooLong.fault.room)) _ w.result-is (λ drive. ap (λ (s : g.row.S.Denot). g.S.Shelf.faults s (OnDrive drive)) (rw w.in-Err-TooLong.field-0-is at w.in-Err-TooLong.ensures.counted))
-        | in-Err-Spent w ↦ said_cause fails (Over ended.Spent) _ w.result-is (λ drive. ap (λ (s : g.row.S.Denot). g.S.Shelf.faults s (OnDrive drive)) (rw w.in-Err-Spent.field-0-is at w.in-Err-Spent.ensures.counted))
+        | in-Ok w ↦ said_cause fails loses accepted _ w.result-is (calm_all g.S.Shelf _ _ c.place_at-at.result.drive.0 c.commit.ensures.kept w.in-Ok.ensures.answer.0)
+        | in-Err-Lost w ↦ said_cause fails loses (Over (ended.Lost 0 1)) _ w.result-is
+            (failed_at g.S.Shelf _ _ c.place_at-at.result (place_of c.args.self.now.host.home) at_is c.commit.ensures.kept (subst (HasCommitCause (DriveFailures g.S.Shelf c.args.shelf.now c.commit.new.shelf c.place_at-at.result.drive.0) c.in-Some.database c.args.next) w.in-Err-Lost.field-0-is w.in-Err-Lost.ensures.answer.1).0, refl, refl)
+        | in-Err-TooLong w ↦ said_cause fails loses (refusing (ReplicaFull w.in-Err-TooLong.fault.bytes w.in-Err-TooLong.fault.room)) _ w.result-is (λ drive. ap (λ (s : g.row.S.Denot). g.S.Shelf.faults s (OnDrive drive)) (rw w.in-Err-TooLong.field-0-is at w.in-Err-TooLong.ensures.counted))
+        | in-Err-Spent w ↦ said_cause fails loses (Over ended.Spent) _ w.result-is (λ drive. ap (λ (s : g.row.S.Denot). g.S.Shelf.faults s (OnDrive drive)) (rw w.in-Err-Spent.field-0-is at w.in-Err-Spent.ensures.counted))
       ];
-  free = λ on has. absurd (no_creation (key_of c.args.self.now.host) (Changed (key_of c.args.self.now.host) change) (λ is. absurd (cc (is))) has);
+  free = λ on has. absurd (no_creation (key_of c.args.self.now.host) (Changed (key_of c.args.self.now.host) (MakeStripe volume slice)) (λ is. absurd (cc (is))) has);
   host = search rules;
   well = search rules;
   begun = search rules;
@@ -118,10 +120,10 @@ unfolding digits
 nothing_open_plain = record { one_line = refl; begins = refl }
 
 pub returns-in_default-clause-answer : goal.returns-in_default-clause-answer
-returns-in_default-clause-answer g c = λ change.
+returns-in_default-clause-answer g c = λ volume slice.
     let calls = DriveFailures g.S.Shelf c.args.shelf.now c.args.shelf.now in
-    subst (λ (e : Engine). HasAnswered calls (ToDo (Changed (key_of c.args.self.now.host) change)) c.args.self.now (refusing NoDatabase) e) (sym c.self.view_is)
-    (refused_answer calls (ToDo (Changed (key_of c.args.self.now.host) change)) c.args.self.now c.requires.well NoDatabase (λ drive. refl) nothing_open_plain)
+    subst (λ (e : Engine). HasAnswered calls (command.MakeStripe volume slice) c.args.self.now (refusing NoDatabase) e) (sym c.self.view_is)
+    (refused_answer calls (command.MakeStripe volume slice) c.args.self.now c.requires.well NoDatabase (λ drive. refl) nothing_open_plain)
 
 pub returns-clause-counted : goal.returns-clause-counted
 returns-clause-counted g c = λ volume slice.

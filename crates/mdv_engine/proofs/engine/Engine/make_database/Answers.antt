@@ -17,7 +17,7 @@ use Rattle.mdv_engine.proofs.Sites.{place_is}
 use Rattle.mdv_engine.proofs.Counting.{refused_counted}
 use Rattle.mdv_engine.proofs.Ending.{command_ends, lost_ends}
 use Rattle.mdv_engine.specs.Engine.{IsTableOf, case_at}
-use Rattle.mdv_engine.proofs.Drives.{calm_all, failed_at, failed_one}
+use Rattle.mdv_engine.proofs.Drives.{calm_all, failed_at}
 use Rattle.mdv_engine.proofs.engine.Engine.make_database.Goals as goal
 
 -- what a creation that came to this answer, and left this in memory, is to be
@@ -117,6 +117,10 @@ unbegun_made : (e v : Engine) → e ≡ v → (a b : Option Tale) → b ≡ a �
 unbegun_made e v is a b same slice force free calls calm = subst (Creates slice force calls (refusing OutOfMemory) (begun e.state) a b) is
     (unbegun_creation e.host e.state a b same slice force (subst (λ (x : Engine). IsAllowed (case_at x) (Create slice force)) (sym is) free) calls calm)
 
+-- the place is that of the engine
+at_home : (e v : Engine) → e ≡ v → (at : PlaceAt) → at ≡ place_of e.host.home → at ≡ place_of v.host.home
+at_home e v is at at_is = at_is ∙ ap (λ (x : Engine). place_of x.host.home) is
+
 -- what is kept of the host
 same_host : (e v : Engine) → e ≡ v → e.host ≡ v.host
 same_host e v is = ap (λ (x : Engine). x.host) is
@@ -158,7 +162,7 @@ returns-in-Err-Memory-clause-end g c = λ slice force free.
     (λ on u. tt)
 
 pub returns-in-Ok-clause-answer : goal.returns-in-Ok-clause-answer
-returns-in-Ok-clause-answer g c = record {
+returns-in-Ok-clause-answer g c = λ slice force. record {
   plain = tt;
   cause = (calm_all g.S.Shelf _ _ c.place_at.result.drive.0 c.create.ensures.kept c.in-Ok.ensures.answer.0);
   free = λ on has. (c.requires.none, c.requires.clean);
@@ -168,9 +172,9 @@ returns-in-Ok-clause-answer g c = record {
 }
 
 pub returns-in-Err-Failed-clause-answer : goal.returns-in-Err-Failed-clause-answer
-returns-in-Err-Failed-clause-answer g c = record {
+returns-in-Err-Failed-clause-answer g c = λ slice force. record {
   plain = fault_plain;
-  cause = (c.place_at.result.drive.0, failed_one g.S.Shelf _ _ c.place_at.result.drive.0 c.create.ensures.kept (rw c.in-Err-Failed.field-0-is at c.in-Err-Failed.ensures.answer));
+  cause = failed_at g.S.Shelf _ _ c.place_at.result _ (at_home _ _ c.self.view_is c.place_at.result c.place_at.ensures) c.create.ensures.kept (rw c.in-Err-Failed.field-0-is at c.in-Err-Failed.ensures.answer);
   free = λ on has. (c.requires.none, c.requires.clean);
   host = same_host _ _ c.self.view_is;
   well = search rules;
@@ -178,9 +182,9 @@ returns-in-Err-Failed-clause-answer g c = record {
 }
 
 pub returns-in-Err-Lost-clause-answer : goal.returns-in-Err-Lost-clause-answer
-returns-in-Err-Lost-clause-answer g c = record {
+returns-in-Err-Lost-clause-answer g c = λ slice force. record {
   plain = tt;
-  cause = ((c.place_at.result.drive.0, failed_one g.S.Shelf _ _ c.place_at.result.drive.0 c.create.ensures.kept (rw c.in-Err-Lost.field-0-is at c.in-Err-Lost.ensures.answer)), refl, refl);
+  cause = (failed_at g.S.Shelf _ _ c.place_at.result _ (at_home _ _ c.self.view_is c.place_at.result c.place_at.ensures) c.create.ensures.kept (rw c.in-Err-Lost.field-0-is at c.in-Err-Lost.ensures.answer), refl, refl);
   free = λ on has. (c.requires.none, c.requires.clean);
   host = same_host _ _ c.self.view_is;
   well = search rules;
@@ -188,7 +192,7 @@ returns-in-Err-Lost-clause-answer g c = record {
 }
 
 pub returns-in-Err-Memory-clause-answer : goal.returns-in-Err-Memory-clause-answer
-returns-in-Err-Memory-clause-answer g c = record {
+returns-in-Err-Memory-clause-answer g c = λ slice force. record {
   plain = memory_plain;
   cause = (calm_all g.S.Shelf _ _ c.place_at.result.drive.0 c.create.ensures.kept (rw c.in-Err-Memory.field-0-is at c.in-Err-Memory.ensures.answer));
   free = λ on has. (c.requires.none, c.requires.clean);

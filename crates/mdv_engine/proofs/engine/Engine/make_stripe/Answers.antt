@@ -8,7 +8,7 @@ use Rattle.mdv_engine.proofs.Committing.{refused_line, refused_plain}
 use Rattle.mdv_engine_law.specs.declared.answer.Outcome.TheVariants as outcome
 use Rattle.mdv_engine.proofs.Counting.{refused_counted}
 use Rattle.mdv_engine.proofs.Ending.{command_ends, refused_answer}
-use Rattle.mdv_engine.specs.Below.{any_of}
+use Rattle.mdv_engine_law.specs.Commands.{MayLose, blamed}
 use Rattle.mdv_engine.proofs.engine.Engine.make_stripe.Goals as goal
 
 pub returns-in-Ok-clause-end : goal.returns-in-Ok-clause-end
@@ -22,11 +22,13 @@ returns-in-Err-clause-end g c =
     (λ on u. tt)
 
 pub returns-in-Ok-clause-answer : goal.returns-in-Ok-clause-answer
-returns-in-Ok-clause-answer g c = c.commit.ensures.answer (MakeStripe c.args.volume c.args.slice)
+returns-in-Ok-clause-answer g c = c.commit.ensures.answer c.args.volume c.args.slice
 
 pub returns-in-Err-clause-answer : goal.returns-in-Err-clause-answer
 returns-in-Err-clause-answer g c =
-    refused_answer _ _ c.args.self.now c.requires.well c.in-Err.refusal (change_cause c.args.self.now.host c.args.self.now.state (MakeStripe c.args.volume c.args.slice) (any_of (DriveFailures g.S.Shelf c.args.shelf.now c.args.shelf.now)) (λ drive. refl) c.in-Err.refusal c.in-Err.ensures.err) (refused_plain c.args.self.now.host c.args.self.now.state c.args.volume c.args.slice c.in-Err.refusal c.in-Err.ensures.err)
+    let calls = DriveFailures g.S.Shelf c.args.shelf.now c.args.shelf.now in
+    let asked = command.MakeStripe c.args.volume c.args.slice in
+    refused_answer calls asked c.args.self.now c.requires.well c.in-Err.refusal (change_cause c.args.self.now.host c.args.self.now.state (MakeStripe c.args.volume c.args.slice) (blamed calls c.args.self.now.host c.args.self.now.state asked) (MayLose calls c.args.self.now.host asked) (λ drive. refl) c.in-Err.refusal c.in-Err.ensures.err) (refused_plain c.args.self.now.host c.args.self.now.state c.args.volume c.args.slice c.in-Err.refusal c.in-Err.ensures.err)
 
 pub returns-in-Err-clause-counted : goal.returns-in-Err-clause-counted
 returns-in-Err-clause-counted g c =
