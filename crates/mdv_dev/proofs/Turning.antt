@@ -204,6 +204,6 @@ rewriting_still shelf old new v work buffer same = record {
   still = λ is. same;
 }
 
--- nothing else ends otherwise
+-- where the tale stays, what holds of it holds in the end
 pub ends_still : (Q : Tale → Tale → Type 0) (old new : Option Tale) → new ≡ old → ((t : Tale) → old ≡ Some t → Q t t) → Ends Q old new
 ends_still Q old new same here t told = (t, same ∙ told, here t told)
