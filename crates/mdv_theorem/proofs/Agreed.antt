@@ -33,8 +33,9 @@ use Rattle.mdv_words.proofs.Lines.{one_line}
 use Rattle.mdv_words.specs.Line.{Exec}
 use Rattle.mdv_words.specs.declared.command.Command.TheVariants.{Read, Write}
 use Rattle.mdv_theorem.specs.Exchanges.{Exchange, IsSameBlock, MayBeWritten, TellsBlock, exchanges_by, exchanges_of}
-use Rattle.mdv_theorem.specs.Observed.{Bears, IsOrWasWritten, RunsAgree}
+use Rattle.mdv_theorem.specs.Observed.{Bears, RunsAgree}
 use Rattle.mdv_theorem.specs.Running.{Running, Runs, WentOn, exchanges_now, ran_on}
+use Rattle.mdv_theorem.specs.Words.{IsOrWasWritten}
 use Rattle.mdv_theorem.proofs.Contents.{IsToldOf, told_block}
 use Rattle.mdv_theorem.proofs.Given.{Given}
 use Rattle.mdv_theorem.proofs.Lasting.{since_began}
@@ -141,7 +142,7 @@ module _ (given : Given) (drives : Geometry) (home : Home) (before : List Ran) (
       | inl was ↦ inl (ap significant (settled (last t spot.drive block_at) was) ∙ there_old on from)
       | inr (one, new, has, may, is) ↦ elim (Contains-append_cases (read ∷ []) (behind ++ since_then.since) one has) [
         | inl first ↦ absurd (never_written read volume volume number number old new tells (subst (λ (e : Exchange). MayBeWritten volume number new e) (sym (the_only read one first)) may))
-        | inr later ↦ inr (one, new, later, may, ap significant is)
+        | inr later ↦ inr (inl (one, new, later, may, ap significant is))
       ]
     ]
 

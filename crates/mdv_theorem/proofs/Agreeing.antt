@@ -17,7 +17,8 @@ use Rattle.mdv_table.specs.Slices.{IsSound}
 use Rattle.mdv_table.specs.declared.table.Table.{Table}
 use Rattle.mdv_volumes.specs.Tables.{IsMapOf}
 use Rattle.mdv_theorem.specs.Exchanges.{Exchange, IsSameBlock}
-use Rattle.mdv_theorem.specs.Observed.{IsOrWasWritten, ReadsAgree}
+use Rattle.mdv_theorem.specs.Observed.{ReadsAgree}
+use Rattle.mdv_theorem.specs.Words.{IsOrWasWritten}
 use Rattle.mdv_theorem.proofs.Contents.{IsToldOf, WasWritten, content_steps, told_block}
 use Rattle.mdv_theorem.proofs.Steps.{Failed, Steps, reached, stepped, steps_cut}
 use Rattle.mdv_theorem.proofs.Tables.{Keeps, Stands, keeps_open, keeps_steps, map_carried, open_keeps, stands_boot, stands_line, stands_steps}
@@ -51,7 +52,7 @@ module _ (host : Host) (sound : IsSound host.drives) (sees : SeesHome host) (vol
 
     by : (last.content told.drive (told.first + number) ≡ mid.content told.drive (told.first + number)) ⊎ WasWritten host sound sees volume told.drive told.first told.count number told.within es last → IsOrWasWritten volume number old es block
     by (inl same) = inl (is ∙ ap significant (same ∙ told.stays.content told.drive (told.first + number)) ∙ sym told.same)
-    by (inr (one, new, has, may, reads)) = inr (one, new, has, may, is ∙ ap significant reads)
+    by (inr (one, new, has, may, reads)) = inr (inl (one, new, has, may, is ∙ ap significant reads))
 
 pub reads_agree : ReadsAgree
 reads_agree = λ drives home before script is_home run read again first between later volume number old block parts tells tells_again.

@@ -1,10 +1,11 @@
 -- What a read tells of a block is what the new drives held there, on the slice where the volume lies, or was written since.
-use Rattle.std.proofs.Common.{◌≡◌, ⊎_elim, inl, inr, ℕ, ◌+◌, List, [], ◌∷◌, ◌++◌, Option, Some, IfSome, sym, ◌∙◌, ap, subst, append_assoc}
+use Rattle.std.proofs.Common.{◌≡◌, ⊎_elim, inl, inr, ℕ, ◌+◌, List, [], ◌∷◌, ◌++◌, Option, Some, IfSome, refl, sym, ◌∙◌, ap, subst, append_assoc, arith}
 use Rattle.std.proofs.lemmas.List.{append-nil, append_cancel_right}
 use Rattle.mdv_base.specs.declared.name.VolId.{VolId}
 use Rattle.mdv_engine_law.specs.Home.{site_of}
 use Rattle.mdv_engine_law.specs.Standing.{StandsAt}
 use Rattle.mdv_engine_law.specs.declared.host.Host.{Host}
+use Rattle.mdv_engine_law.proofs.Beside.{run_is}
 use Rattle.mdv_engine_law.proofs.Plain.{nothing_answers}
 use Rattle.mdv_home.specs.Home.{IsHome}
 use Rattle.mdv_home.specs.declared.geometry.Home.{Home}
@@ -16,6 +17,7 @@ use Rattle.mdv_run_law.specs.Lives.{Ran, host_of, new_drives}
 use Rattle.mdv_run_law.specs.Run.{At, behind_boot, drive_failures}
 use Rattle.mdv_run_law.specs.Told.{RunToldBy}
 use Rattle.mdv_run_law.proofs.Extents.{one_place}
+use Rattle.mdv_shelf.specs.Everywhere.{Image}
 use Rattle.mdv_shelf.specs.Story.{Story, marked, tale_of}
 use Rattle.mdv_shelf.specs.Tale.{Begun, MayLeave, Start, Tale, last, values}
 use Rattle.mdv_shelf.proofs.Everywhere.{last_image}
@@ -30,8 +32,9 @@ use Rattle.mdv_table.specs.declared.table.Table.{Table}
 use Rattle.mdv_volumes.specs.History.{History}
 use Rattle.mdv_volumes.specs.Tables.{IsMapOf}
 use Rattle.mdv_theorem.specs.Exchanges.{Exchange, TellsBlock, exchanges, exchanges_by, exchanges_of}
-use Rattle.mdv_theorem.specs.Observed.{BlocksBegin, IsOrWasWritten, MayLieOn}
+use Rattle.mdv_theorem.specs.Observed.{BlocksBegin}
 use Rattle.mdv_theorem.specs.Running.{Running, exchanges_now}
+use Rattle.mdv_theorem.specs.Words.{HeldAtFirst, IsOrWasWritten}
 use Rattle.mdv_theorem.proofs.Contents.{IsToldOf, told_block}
 use Rattle.mdv_theorem.proofs.Given.{Given}
 use Rattle.mdv_theorem.proofs.Later.{LastsKnown, lasts_boot, open_has, stands_as}
@@ -49,6 +52,10 @@ begun_left : (start : Start) (drive block : ℕ) (x : List ℕ) → MayLeave (Be
 unfolding MayLeave values
 begun_left start drive block x (inl is) = is
 begun_left start drive block x (inr none) = absurd none
+
+-- the block has what the new drives held, or what one of these lines may have written
+abbrev Begins : Geometry → Home → Image → VolId → ℕ → List ℕ → List Exchange → Type 0
+Begins drives home made volume number block lines = (bytes : List ℕ) × HeldAtFirst drives home made lines volume number bytes × IsOrWasWritten volume number bytes lines block
 
 one_story : (at : Option Story) (a b : Story) → at ≡ Some a → at ≡ Some b → a ≡ b
 one_story at a b first second = let same : Some a ≡ Some b = sym first ∙ second in cc (same)
@@ -152,8 +159,8 @@ module _ (drives : Geometry) (home : Home) (before : List Ran) (script : Script)
     lie : LiesOn drives home before script sound is_home run volume (exchanges_by home before ++ here) (run_map its.drive its.first its.count)
     lie = lies_there drives home before script sound is_home run volume here (drive_failures run.start by.booted) by.kept place.at.kept by.boots Any place.upto its.newest its.opened (run_map its.drive its.first its.count) its.lies
 
-    abbrev lies_on : MayLieOn drives (exchanges_by home before ++ here) volume
-    lies_on = record { slice = lie.slice; may = lie.may; at = lie.at; has = ((view_is_own.seen drives home.host lie.slice lie.at).0 lie.has).0 }
+    same_blocks : its.count ≡ lie.at.blocks
+    same_blocks = (run_is its.drive its.first its.count lie.at.drive.0 lie.at.start lie.at.blocks lie.is).as_many
 
     held : run.made its.drive (its.first + number) ≡ run.made lie.at.drive.0 (lie.at.start + number)
     held =
@@ -168,15 +175,21 @@ module _ (drives : Geometry) (home : Home) (before : List Ran) (script : Script)
         let may : MayLeave now its.drive (its.first + number) x = subst (MayLeave now its.drive (its.first + number)) reads ((last_image now).each its.drive (its.first + number)) in
         ⊎_elim
         (λ old. inl (its.same ∙ ap significant (begun_left _ its.drive (its.first + number) x old ∙ held)))
-        (λ (w : Written volume number (exchanges_by home before ++ here) x). inr (w.0, w.1, w.2, w.3, its.same ∙ ap significant w.4))
+        (λ (w : Written volume number (exchanges_by home before ++ here) x). inr (inl (w.0, w.1, w.2, w.3, its.same ∙ ap significant w.4)))
         (all_left x may)
 
-    block_begins : (lies : MayLieOn drives (exchanges_by home before ++ here) volume) × IsOrWasWritten volume number (run.made lies.at.drive.0 (lies.at.start + number)) (exchanges_by home before ++ here) block
-    block_begins = (lies_on, value)
+    begins_with : HeldAtFirst drives home run.made (exchanges_by home before ++ here) volume number (run.made lie.at.drive.0 (lie.at.start + number))
+    begins_with =
+        let within = its.within in
+        let many = same_blocks in
+        record { slice = lie.slice; may = lie.may; at = lie.at; has = lie.has; within = omega (arith, within, many); held = refl }
+
+    block_begins : Begins drives home run.made volume number block (exchanges_by home before ++ here)
+    block_begins = (_, begins_with, value)
 
 pub blocks_begin : Given → BlocksBegin
 blocks_begin given drives home before script is_home run read earlier volume number block answered tells =
-    subst (λ (l : List Exchange). (lies : MayLieOn drives l volume) × IsOrWasWritten volume number (run.made lies.at.drive.0 (lies.at.start + number)) l block) (sym answered.behind) (elim run.tells.tells [
+    subst (Begins drives home run.made volume number block) (sym answered.behind) (elim run.tells.tells [
       | inl none ↦
           absurd (unreplied script answered.here answered.later read (values_reply tells.at tells.blocks)
           (subst (λ (l : List (List ℕ)). exchanges script l ≡ answered.here ++ read ∷ answered.later) (ap replies_in none.0 ∙ nothing_answers) answered.is) tells.told)

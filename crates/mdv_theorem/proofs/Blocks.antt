@@ -37,7 +37,7 @@ use Rattle.mdv_volumes.proofs.Found.{AreLasting, some_lasts}
 use Rattle.mdv_volumes.proofs.Lists.{contains_first}
 use Rattle.mdv_words.specs.declared.command.Command.TheVariants.{Write}
 use Rattle.mdv_theorem.specs.Exchanges.{Exchange, IsAcknowledged, MayBeWritten, exchanges_by}
-use Rattle.mdv_theorem.specs.Observed.{IsOrWasWritten}
+use Rattle.mdv_theorem.specs.Words.{IsOrWasWritten}
 use Rattle.mdv_theorem.proofs.Found.{Found, asked_at, content, deed_told, es, its, its_course, key, lasting_found, lined, ok_sated, range_found, site}
 use Rattle.mdv_theorem.proofs.Lined.{AreLined, AreOfReply, AreReplied, IsLinedAt, host, lined_at, lined_begins}
 use Rattle.mdv_theorem.proofs.Lines.{lets, the_only}
@@ -192,7 +192,7 @@ module _ (drives : Geometry) (home : Home) (made : Image) (before : List Ran) (t
           | inr later ↦
               let came = lined_begins drives home between line.later line.of_between issue later in
               let value = one_issue its_key volume number x is.at is.blocks came.2.0 came.2.1 is.among is.value in
-              inr (came.0, came.2.0, came.1, subst (λ (n : ℕ). MayBeWritten volume n came.2.0 came.0) value.0 came.2.2, ap significant value.1)
+              inr (inl (came.0, came.2.0, came.1, subst (λ (n : ℕ). MayBeWritten volume n came.2.0 came.0) value.0 came.2.2, ap significant value.1))
         ]
 
     -- the values that its block may have

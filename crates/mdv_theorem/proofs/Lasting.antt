@@ -14,10 +14,11 @@ use Rattle.mdv_run_law.proofs.Extents.{SeesHome}
 use Rattle.mdv_status.specs.Values.{significant, values_reply}
 use Rattle.mdv_volumes.specs.Tables.{IsMapOf}
 use Rattle.mdv_theorem.specs.Exchanges.{Exchange, IsAcknowledged, IsSameBlock, MayBeWritten, TellsBlock, exchanges_by}
-use Rattle.mdv_theorem.specs.Observed.{IsOrWasWritten, WritesLast}
+use Rattle.mdv_theorem.specs.Observed.{WritesLast}
 use Rattle.mdv_theorem.specs.Running.{Running}
 use Rattle.mdv_theorem.proofs.Agreeing.{told_there}
 use Rattle.mdv_theorem.proofs.Blocks.{write_left}
+use Rattle.mdv_theorem.specs.Words.{IsOrWasWritten}
 use Rattle.mdv_theorem.proofs.Contents.{IsToldOf, WasWritten, acked_block, content_steps, first_left, told_block}
 use Rattle.mdv_theorem.proofs.Living.{lived_life}
 use Rattle.mdv_theorem.proofs.Parting.{in_first, in_second, parts}
@@ -29,15 +30,17 @@ use Rattle.mdv_theorem.proofs.Tables.{Keeps, Offers, keeps_boot, keeps_open, kee
 -- a block that has a value, or one that a line may have written, is told so
 pub was_told : (volume : VolId) (number : ℕ) (old block x : List ℕ) (lines : List Exchange) → IsSameBlock block x → IsOrWasWritten volume number old lines x → IsOrWasWritten volume number old lines block
 was_told volume number old block x lines same (inl is) = inl (same ∙ is)
-was_told volume number old block x lines same (inr (one, new, has, may, is)) = inr (one, new, has, may, same ∙ is)
+was_told volume number old block x lines same (inr (inl (one, new, has, may, is))) = inr (inl (one, new, has, may, same ∙ is))
+was_told volume number old block x lines same (inr (inr away)) = inr (inr away)
 
 -- lines before others, and behind them
 more_behind : (volume : VolId) (number : ℕ) (old x : List ℕ) (lines more : List Exchange) → IsOrWasWritten volume number old lines x → IsOrWasWritten volume number old (lines ++ more) x
 more_behind volume number old x lines more (inl is) = inl is
-more_behind volume number old x lines more (inr (one, new, has, may, is)) = inr (one, new, Contains-append_left lines more one has, may, is)
+more_behind volume number old x lines more (inr (inl (one, new, has, may, is))) = inr (inl (one, new, Contains-append_left lines more one has, may, is))
+more_behind volume number old x lines more (inr (inr (one, has, may))) = inr (inr (one, Contains-append_left lines more one has, may))
 
 more_before : (volume : VolId) (number : ℕ) (old x : List ℕ) (lines more : List Exchange) → (one : Exchange) (new : List ℕ) → Contains more one → MayBeWritten volume number new one → x ≡ new → IsOrWasWritten volume number old (lines ++ more) x
-more_before volume number old x lines more one new has may is = inr (one, new, Contains-append_right lines more one has, may, ap significant is)
+more_before volume number old x lines more one new has may is = inr (inl (one, new, Contains-append_right lines more one has, may, ap significant is))
 
 module _ (drives : Geometry) (home : Home) (before : List Ran) (script : Script) (sound : IsSound drives) (is_home : IsHome drives home) (run : Running drives home before script) (here : List Exchange) (read : Exchange) (at : Reached run here read)
     (volume : VolId) (number : ℕ) (block : List ℕ) (tells : TellsBlock volume number block read) where

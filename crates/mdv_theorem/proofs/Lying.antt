@@ -27,7 +27,7 @@ use Rattle.mdv_volumes.specs.Tables.{IsKindMap, IsMapOf}
 use Rattle.mdv_words.specs.declared.command.Command.TheVariants as command
 use Rattle.mdv_theorem.specs.Exchanges.{Asks, Exchange, IsTold, MayBeMade, exchanges_by}
 use Rattle.mdv_theorem.specs.Running.{Running}
-use Rattle.mdv_theorem.specs.Words.{MayLie}
+use Rattle.mdv_theorem.specs.Words.{MayLie, MayTakeAway}
 use Rattle.mdv_theorem.proofs.Changes.{HasStripe, has_new, one_slice, stripe, stripe_map, stripe_stays, was_there}
 use Rattle.mdv_theorem.proofs.Found.{Found, stripe_found}
 use Rattle.mdv_theorem.proofs.Holding.{holds_boot, holds_steps, open_holds}
@@ -143,11 +143,16 @@ module _ (drives : Geometry) (home : Home) (before : List Ran) (script : Script)
         let same = one_volume newest.table.plan.volumes volume (stripe host.drives volume elsewhere) of there.1.numbers.ascending (there.0, refl) has in
         one_slice host.drives volume elsewhere slice (same ∙ is)
 
+    only_since : (newest : Newest) → kept.memory.opened ≡ Some newest → (of : Volume) (slice : SliceName) → HasVolume newest.table.plan.volumes volume of → of ≡ stripe host.drives volume slice → (old since : List Exchange) → lines ≡ old ++ since
+        → ((one : Exchange) → Contains since one → MayTakeAway volume one → ⊥) → (other : Exchange) (elsewhere : SliceName) → Contains since other → Asks other (command.MakeStripe volume elsewhere) → IsTold other ok_line → elsewhere ≡ slice
+    only_since newest opened of slice has is old since parts stays other elsewhere among =
+        only_there newest opened of slice has is other elsewhere (subst (λ (l : List Exchange). Contains l other) (sym parts) (Contains-append_right old since other among))
+
     pub lies_there : (newest : Newest) → kept.memory.opened ≡ Some newest → (v : Map) → IsMapOf host.drives newest.table volume v → LiesOn lines v
     lies_there newest opened v lies =
         let made = now_made newest opened lies.of lies.has in
         let at = stripe_map host.drives volume made.slice v host_sound (subst (λ (w : Volume). IsKindMap host.drives w.kind v) made.is lies.kind) in
-        record { slice = made.slice; may = record { made = made.made; asked = made.asked; may = made.may; only = only_there newest opened lies.of made.slice lies.has made.is }; at = at.0; has = at.1; is = at.2 }
+        record { slice = made.slice; may = record { made = made.made; asked = made.asked; may = made.may; only = only_since newest opened lies.of made.slice lies.has made.is }; at = at.0; has = at.1; is = at.2 }
 
   -- where the run has come to a line
   pub lies_made : (here : List Exchange) (one : Exchange) (at : Reached run here one) (newest : Newest) → at.kept.memory.opened ≡ Some newest → (v : Map) → IsMapOf host.drives newest.table volume v → LiesOn (exchanges_by home before ++ here) v

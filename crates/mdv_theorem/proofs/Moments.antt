@@ -70,11 +70,20 @@ module _ (drives : Geometry) (home : Home) (made : Image) (before : List Ran) (f
   abbrev Says : Moment → Moment → Type 0
   Says t m = (OfTales (RunMoment (host_of drives home fresh) script) t m × IsToldBy (host_of drives home fresh) stretch start script t m) × IsMomentOf stretch t m
 
+  -- one more run behind any that led to its start
+  one_more : (t m : Moment) (here : Says t m) (first : List Ran) (from : Tale) → Runs drives first from before t.tale → (next : Tale) → MayBeFound m.tale next
+      → Runs drives first from (record { home = home; fresh = fresh; script = script; bytes = here.0.1.bytes } ∷ before) next
+  one_more t m here first from runs next found =
+      let same : here.0.0.bytes ≡ here.0.1.bytes = append_cancel_left (told t.tale) here.0.0.bytes here.0.1.bytes (sym here.0.0.is_told ∙ here.0.1.is_told) in
+      subst (λ (bytes : List ℕ). Runs drives first from (record { home = home; fresh = fresh; script = script; bytes = bytes } ∷ before) next) same
+      (run_on before home fresh stretch start t m next script runs is_home here.0.0 here.0.1 here.1 found)
+
   lives_on : (t m : Moment) → Lived drives made before t.tale → Says t m → LivesOn drives home made before fresh script stretch start t m
   lives_on t m lived here =
       let same : here.0.0.bytes ≡ here.0.1.bytes = append_cancel_left (told t.tale) here.0.0.bytes here.0.1.bytes (sym here.0.0.is_told ∙ here.0.1.is_told) in
       record {
         run = record { made = made; fresh = fresh; stretch = stretch; start = start; t = t; m = m; life = lived; tells = here.0.1; moment = here.1 };
+        held = refl;
         numbered = refl;
         stretched = refl;
         counted = refl;
@@ -86,9 +95,9 @@ module _ (drives : Geometry) (home : Home) (made : Image) (before : List Ran) (f
           fair = lived.fair;
           told = lived.told;
           new = lived.new;
-          runs = subst (λ (bytes : List ℕ). Runs drives [] (restarted made lived.told) (record { home = home; fresh = fresh; script = script; bytes = bytes } ∷ before) next) same
-              (run_on before home fresh stretch start t m next script lived.runs is_home here.0.0 here.0.1 here.1 found);
+          runs = one_more t m here [] (restarted made lived.told) lived.runs next found;
         };
+        adds = one_more t m here;
       }
 
 pub runs_live_on : RunsLiveOn

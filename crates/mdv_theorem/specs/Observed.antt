@@ -23,9 +23,9 @@ use Rattle.mdv_status.specs.Telling.{replies_in}
 use Rattle.mdv_status.specs.Values.{values_reply}
 use Rattle.mdv_words.specs.declared.command.Command.{Command}
 use Rattle.mdv_words.specs.declared.command.Command.TheVariants.{Read}
-use Rattle.mdv_theorem.specs.Exchanges.{Asks, Exchange, IsAcknowledged, IsOn, IsSameBlock, IsTold, MayBeWritten, TellsBlock, exchanges_by, exchanges_of}
+use Rattle.mdv_theorem.specs.Exchanges.{Asks, Exchange, IsAcknowledged, IsOn, IsTold, TellsBlock, exchanges_by, exchanges_of}
 use Rattle.mdv_theorem.specs.Running.{HasAnswered, Running, Runs, WentOn, exchanges_now, ran_on}
-use Rattle.mdv_theorem.specs.Words.{HasBegun, HasDatabase, IsThere, MayLie}
+use Rattle.mdv_theorem.specs.Words.{HasBegun, HasDatabase, HeldAtFirst, IsOrWasWritten, IsThere, MayLie}
 
 -- how a run may end whose script could be read and whose replies could be told: with Panic only where the database's drive failed
 abbrev pub MayEnd : Type 0 → RunStatus → Type 0
@@ -100,11 +100,6 @@ ReadsAreTold =
     → Answered run one earlier → HasBegun volume earlier → Asks one (Read volume at count) → count ≤ 1024 → KeepsCopies run volume earlier (at + count)
     → (reply : List ℕ) → IsTold one reply → (reply ≡ refusal_line OutOfMemory) ⊎ AreValuesOf at count reply
 
--- the block has these bytes, or others that one of these lines may have written
-abbrev pub IsOrWasWritten : VolId → ℕ → List ℕ → List Exchange → List ℕ → Type 0
-IsOrWasWritten volume number old lines block =
-    IsSameBlock block old ⊎ ((one : Exchange) × (new : List ℕ) × Contains lines one × MayBeWritten volume number new one × IsSameBlock block new)
-
 -- what a read tells of a block that was written, and the write acknowledged, is that write's, or one's that was issued later
 abbrev pub WritesLast : Type 0
 WritesLast =
@@ -119,19 +114,12 @@ ReadsAgree =
     → (read again : Exchange) (first between later : List Exchange) (volume : VolId) (number : ℕ) (old block : List ℕ) → exchanges_now run ≡ first ++ read ∷ between ++ again ∷ later
     → TellsBlock volume number old read → TellsBlock volume number block again → IsOrWasWritten volume number old between block
 
--- a slice on which the volume may lie by these lines, with its blocks
-pub record MayLieOn (drives : Geometry) (lines : List Exchange) (volume : VolId) : Type 0 where
-  pub slice : SliceName
-  pub may : MayLie volume slice lines
-  pub at : SliceAt
-  pub has : HasSlice drives.slices slice at
-
 -- What a read tells of a block is what the new drives held there, on a slice on which the volume may lie, or was written since.
 abbrev pub BlocksBegin : Type 0
 BlocksBegin =
     (drives : Geometry) (home : Home) (before : List Ran) (script : Script) → IsHome drives home → (run : Running drives home before script)
     → (read : Exchange) (earlier : List Exchange) (volume : VolId) (number : ℕ) (block : List ℕ) → Answered run read earlier → TellsBlock volume number block read
-    → (lies : MayLieOn drives earlier volume) × IsOrWasWritten volume number (run.made lies.at.drive.0 (lies.at.start + number)) earlier block
+    → (bytes : List ℕ) × HeldAtFirst drives home run.made earlier volume number bytes × IsOrWasWritten volume number bytes earlier block
 
 -- What a read tells of a block is what a read of an earlier run told of it, or was written in between, where the volume bore the losses of drives in that run, up to a moment at which that was told.
 abbrev pub RunsAgree : Type 0

@@ -68,9 +68,10 @@ module _ {drives : Geometry} {home : Home} {before : List Ran} {script : Script}
   ran_now = record { home = home; fresh = run.fresh; script = script; bytes = run.tells.bytes }
 
 -- At a moment of a run that began at t, by this stretch, these counts and this word of its identities, on what these runs led to: it is one of such a run under way, by the same; what the
--- contract of `run` says there holds; and whatever may be found of it those runs led to, and this one.
+-- contract of `run` says there holds; and whatever may be found of it those runs led to, and this one, from the new drives on and from any start on that they led from.
 pub record LivesOn (drives : Geometry) (home : Home) (made : Image) (before : List Ran) (fresh : ℕ) (script : Script) (stretch : Stretch) (start : Counts) (t m : Moment) : Type 0 where
   pub run : Running drives home before script
+  pub held : run.made ≡ made
   pub numbered : run.fresh ≡ fresh
   pub stretched : run.stretch ≡ stretch
   pub counted : run.start ≡ start
@@ -79,6 +80,7 @@ pub record LivesOn (drives : Geometry) (home : Home) (made : Image) (before : Li
   pub stands : RunMoment (host_of drives home fresh) script t.tale m.tale
   pub said : stands.bytes ≡ run.tells.bytes
   pub lived : (next : Tale) → MayBeFound m.tale next → Lived drives made (ran_now run ∷ before) next
+  pub adds : (first : List Ran) (from : Tale) → Runs drives first from before t.tale → (next : Tale) → MayBeFound m.tale next → Runs drives first from (ran_now run ∷ before) next
 
 -- What the contract of `run` says at each of its moments (its clauses `stands` and `tells`) makes it a run under way there, and one more run of a life wherever it is stopped.
 abbrev pub RunsLiveOn : Type 0
@@ -89,7 +91,7 @@ RunsLiveOn =
     → AtEach (IsToldBy (host_of drives home fresh) stretch start script) stretch.old stretch.before stretch.new stretch.after
     → AtEach (LivesOn drives home made before fresh script stretch start) stretch.old stretch.before stretch.new stretch.after
 
--- A run that was under way went on, up to a later moment, and the next run starts from what may be found of that.
+-- A run under way is, at that moment or another of its own, what its contract says there, and the next run starts from what may be found of that. Which of the two is earlier it doesn't say.
 pub record WentOn {drives : Geometry} {home : Home} {before : List Ran} {script : Script} (run : Running drives home before script) (next : Tale) : Type 0 where
   pub m : Moment
   pub stands : RunMoment (host_of drives home run.fresh) script run.t.tale m.tale
@@ -101,7 +103,7 @@ pub record WentOn {drives : Geometry} {home : Home} {before : List Ran} {script 
 abbrev pub ran_on : {drives : Geometry} {home : Home} {before : List Ran} {script : Script} (run : Running drives home before script) (next : Tale) → WentOn run next → Ran
 ran_on {home = home} {script = script} run next went = record { home = home; fresh = run.fresh; script = script; bytes = went.stands.bytes }
 
--- A run under way went on up to each moment that lives on from the same start, and then into whatever may be found of it: as a run of a life it is the one that is stopped there.
+-- A run under way is so at each moment that lives on from the same start, earlier or later, and goes into whatever may be found of it: as a run of a life it is the one that is stopped there.
 abbrev pub RunsGoOn : Type 0
 RunsGoOn =
     (drives : Geometry) (home : Home) (made : Image) (before : List Ran) (fresh : ℕ) (script : Script) (stretch : Stretch) (start : Counts) (t m : Moment) (next : Tale)

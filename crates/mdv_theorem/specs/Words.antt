@@ -1,11 +1,17 @@
 -- What lines show of a database and of a volume: that they are there, that the volume's blocks may be read, and where it lies. Further commands and kinds of volumes widen these words.
-use Rattle.std.specs.Prelude.{◌≡◌, Bool, List, ◌∷◌, ◌++◌, Contains}
+use Rattle.std.specs.Prelude.{◌≡◌, ◌⊎◌, ◌+◌, ◌<◌, ℕ, Bool, List, ◌∷◌, ◌++◌, Contains}
 use Rattle.mdv_base.specs.declared.drive.SliceName.{SliceName}
 use Rattle.mdv_base.specs.declared.name.VolId.{VolId}
 use Rattle.mdv_engine_law.specs.Replies.{ok_line}
+use Rattle.mdv_home.specs.View.{own_view}
+use Rattle.mdv_home.specs.declared.geometry.Home.{Home}
+use Rattle.mdv_name.specs.SliceIndex.{HasSlice}
+use Rattle.mdv_name.specs.declared.geometry.Geometry.{Geometry}
+use Rattle.mdv_name.specs.declared.slice_lines.SliceAt.{SliceAt}
+use Rattle.mdv_shelf.specs.Everywhere.{Image}
 use Rattle.mdv_words.specs.declared.command.Command.{Command}
 use Rattle.mdv_words.specs.declared.command.Command.TheVariants.{Create, MakeStripe, Read, Write}
-use Rattle.mdv_theorem.specs.Exchanges.{Asks, Exchange, IsTold, MayBeMade, MayHaveBegun, ShowsThere}
+use Rattle.mdv_theorem.specs.Exchanges.{Asks, Exchange, IsSameBlock, IsTold, MayBeMade, MayBeWritten, MayHaveBegun, ShowsThere}
 
 -- the command takes the volume away: none does so far
 abbrev pub TakesAway : VolId → Command → Type 0
@@ -60,10 +66,25 @@ pub record HasDatabase (lines : List Exchange) : Type 0 where
   pub told : IsTold made ok_line
   pub stays : (one : Exchange) → Contains behind one → MayTakeDatabase one → ⊥
 
--- The volume may lie on the slice: one of these lines may have made it there, and those of them that were told `ok` to making it named that slice. A line in work on another slice is
--- nothing to a volume whose making was told `ok`.
+-- The volume may lie on the slice: one of these lines may have made it there, and those that were told `ok` to making it, behind the last one that may have taken it away, named that slice.
+-- A line in work on another slice is nothing to a volume whose making was told `ok`.
 pub record MayLie (volume : VolId) (slice : SliceName) (lines : List Exchange) : Type 0 where
   pub made : Exchange
   pub asked : Contains lines made
   pub may : MayBeMade volume slice made
-  pub only : (other : Exchange) (elsewhere : SliceName) → Contains lines other → Asks other (MakeStripe volume elsewhere) → IsTold other ok_line → elsewhere ≡ slice
+  pub only : (before since : List Exchange) → lines ≡ before ++ since → ((one : Exchange) → Contains since one → MayTakeAway volume one → ⊥)
+      → (other : Exchange) (elsewhere : SliceName) → Contains since other → Asks other (MakeStripe volume elsewhere) → IsTold other ok_line → elsewhere ≡ slice
+
+-- what the new drives, which held this, held in that block of the volume: in that block of a slice of the host on which the volume may lie by these lines
+pub record HeldAtFirst (drives : Geometry) (home : Home) (made : Image) (lines : List Exchange) (volume : VolId) (number : ℕ) (bytes : List ℕ) : Type 0 where
+  pub slice : SliceName
+  pub may : MayLie volume slice lines
+  pub at : SliceAt
+  pub has : HasSlice (own_view drives home.host).slices slice at
+  pub within : number < at.blocks
+  pub held : bytes ≡ made at.drive.0 (at.start + number)
+
+-- The block has these bytes, or others that one of these lines may have written, or one of them may have taken the volume away.
+abbrev pub IsOrWasWritten : VolId → ℕ → List ℕ → List Exchange → List ℕ → Type 0
+IsOrWasWritten volume number old lines block =
+    IsSameBlock block old ⊎ ((one : Exchange) × (new : List ℕ) × Contains lines one × MayBeWritten volume number new one × IsSameBlock block new) ⊎ ((one : Exchange) × Contains lines one × MayTakeAway volume one)
