@@ -1,18 +1,19 @@
--- A database whose creation was told `ok` stays: it is open behind any further lines of the host, and none of them is told that there is none.
-use Rattle.std.proofs.Common.{◌≡◌, inl, inr, ℕ, Bool, not, ◌&&◌, ◌+◌, List, [], ◌++◌, Option, Some, None, All, Contains, sym, ◌∙◌, ap, subst, arith}
+-- A database that a line showed stays: it is open behind any further lines of the host, and none of them is told that there is none, or that one was made.
+use Rattle.std.proofs.Common.{◌≡◌, inl, inr, ℕ, Bool, not, ◌&&◌, ◌+◌, List, [], ◌++◌, Option, Some, None, All, Contains, refl, sym, ◌∙◌, ap, subst, arith}
 use Rattle.std.proofs.lemmas.List.Elements.{All-append, All-cons, All-nil, Contains-append_cases}
 use Rattle.std.specs.List.{find}
 use Rattle.std.specs.Option.{is_some}
 use Rattle.std.specs.Prelude.{nat_lt}
 use Rattle.mdv_base.specs.Order.{order, where_so}
 use Rattle.mdv_base.specs.Refusal.{number_of}
-use Rattle.mdv_base.specs.declared.refusal.Refusal.TheVariants.{NeedForce, TooMany, TooSmall, WrongState}
+use Rattle.mdv_base.specs.declared.refusal.Refusal.TheVariants.{NeedForce, NoDatabase, TooMany, TooSmall, WrongState}
 use Rattle.mdv_base.specs.declared.state_word.StateWord.TheVariants.{Down}
 use Rattle.mdv_base.proofs.Order.{first_holds}
 use Rattle.mdv_engine_law.specs.Commands.{case_of}
 use Rattle.mdv_engine_law.specs.Line.{Kept, Memory}
 use Rattle.mdv_engine_law.specs.Refusals.{Case, has_number, held_of_blocks, held_of_change, held_of_creation, held_of_read, held_past, is_plain, refusal_of, size_of}
 use Rattle.mdv_engine_law.specs.Replies.{ok_line, refusal_line, text_of}
+use Rattle.mdv_engine_law.proofs.Allowed.{allowed_none}
 use Rattle.mdv_home.specs.Home.{IsHome}
 use Rattle.mdv_home.specs.declared.geometry.Home.{Home}
 use Rattle.mdv_name.specs.SliceIndex.{slice_at}
@@ -21,14 +22,14 @@ use Rattle.mdv_port.specs.Script.{Script}
 use Rattle.mdv_run_law.specs.Below.{Command, Create, Host, IsSound, MakeStripe, Newest, NoSuchSlice, NoSuchVolume, OutOfRange, Read, Refusal, SliceInUse, SliceName, VolId, Volume, Write, WrongKind}
 use Rattle.mdv_run_law.specs.Lives.{Ran, host_of}
 use Rattle.mdv_table.specs.declared.change.Change.TheVariants as change
-use Rattle.mdv_theorem.specs.Exchanges.{Asks, Exchange, IsTold, exchanges_by}
+use Rattle.mdv_theorem.specs.Exchanges.{Asks, Exchange, IsGranted, IsTold, ShowsThere, exchanges_by}
 use Rattle.mdv_theorem.specs.Observed.{DatabasesStay}
 use Rattle.mdv_theorem.specs.Running.{HasAnswered, Running}
 use Rattle.mdv_theorem.proofs.Aside.{IsAside, change_aside, commanded, told_as, where_all}
 use Rattle.mdv_theorem.proofs.Found.{created_found}
 use Rattle.mdv_theorem.proofs.Living.{lived_life}
 use Rattle.mdv_theorem.proofs.Parting.{cut, cut_has}
-use Rattle.mdv_theorem.proofs.Staying.{Passed, found_open, its_home, its_sound, passed}
+use Rattle.mdv_theorem.proofs.Staying.{Passed, found_open, it_stays, its_home, its_sound, passed}
 use Rattle.mdv_theorem.proofs.Steps.{Failed, Reached, reached, told_once}
 use Rattle.mdv_theorem.proofs.Tables.{granted_done, open_on, opened_steps}
 
@@ -84,12 +85,11 @@ module _ (case : Case) (newest : Newest) (opened : case.memory.opened ≡ Some n
 abbrev IsOpen : Kept → Type 0
 IsOpen kept = (newest : Newest) × (kept.memory.opened ≡ Some newest)
 
-module _ (drives : Geometry) (home : Home) (before : List Ran) (script : Script) (sound : IsSound drives) (is_home : IsHome drives home) (run : Running drives home before script) (calm : HasAnswered run home.drive)
-    (made : Exchange) (slice : SliceName) (force : Bool) (asks : Asks made (Create slice force)) (told : IsTold made ok_line) where
+module _ (drives : Geometry) (home : Home) (before : List Ran) (script : Script) (sound : IsSound drives) (is_home : IsHome drives home) (run : Running drives home before script) (calm : HasAnswered run home.drive) where
   abbrev host : Host
   host = host_of drives home run.fresh
 
-  module _ (here : List Exchange) (one : Exchange) (at : Reached run here one) where
+  module _ (here : List Exchange) (one : Exchange) (at : Reached run here one) (made : Exchange) (slice : SliceName) (force : Bool) (asks : Asks made (Create slice force)) (told : IsTold made ok_line) where
     -- created by an earlier run, the database is found by the boot and stays open
     created_before : Contains (exchanges_by home before) made → IsOpen at.kept
     created_before has =
@@ -117,13 +117,33 @@ module _ (drives : Geometry) (home : Home) (before : List Ran) (script : Script)
           created_here c.front c.rest (passed drives home before script sound is_home run here one at c.front c.rest made c.is)
     ]
 
+  -- a command that was done behind its creation shows it too, by the volume that it is on
+  module _ (here : List Exchange) (one : Exchange) (at : Reached run here one) (shown : Exchange) (has : Contains (exchanges_by home before ++ here) shown) where
+    by_volume : (volume : VolId) → ShowsThere volume shown → IsOpen at.kept
+    by_volume volume shows = let its = it_stays drives home before script sound is_home run here one at calm shown volume has shows in (its.newest, its.opened)
+
+    shown_open : (command : Command) → Asks shown command → IsGranted shown command → IsOpen at.kept
+    shown_open (Create slice force) asks granted = stays_open here one at shown slice force asks granted has
+    shown_open (MakeStripe volume slice) asks granted = by_volume volume (record { command = MakeStripe volume slice; asks = asks; on = refl; granted = granted })
+    shown_open (Read volume at_block count) asks granted = by_volume volume (record { command = Read volume at_block count; asks = asks; on = refl; granted = granted })
+    shown_open (Write volume at_block block) asks granted = by_volume volume (record { command = Write volume at_block block; asks = asks; on = refl; granted = granted })
+
 pub databases_stay : DatabasesStay
-databases_stay drives home before script is_home run calm one earlier command answered has asks refusal told is =
+databases_stay drives home before script is_home run calm one earlier command answered has asks =
     let sound = run.life.fair in
-    let at = reached run answered.here answered.later one (refusal_line refusal) answered.is told in
-    let among = subst (λ (l : List Exchange). Contains l has.made) (sym has.parts ∙ answered.behind) (cut_has has.before has.behind has.made) in
-    let there = stays_open drives home before script sound is_home run calm has.made has.slice has.force has.asks has.told answered.here one at among in
-    let its_host = host_of drives home run.fresh in
-    let other : IsElse refusal = told_as IsElseNumber (omega arith) (omega arith) at.calls its_host at.kept at.next command (refused_else (case_of its_host at.kept) there.0 there.1 command) at.answer at.said refusal
-    (told_once one (text_of at.answer) (refusal_line refusal) at.told told) (commanded at.calls its_host at.kept at.next one.text command at.answer asks at.comes) in
-    other (ap number_of is)
+    let among = subst (λ (l : List Exchange). Contains l has.shown) (sym has.parts ∙ answered.behind) (cut_has has.before has.behind has.shown) in
+    let its_host = host_of drives home run.fresh in (
+      λ told.
+          let at = reached run answered.here answered.later one (refusal_line NoDatabase) answered.is told in
+          let there = shown_open drives home before script sound is_home run calm answered.here one at has.shown among has.command has.asks has.granted in
+          let other : IsElse NoDatabase = told_as IsElseNumber (omega arith) (omega arith) at.calls its_host at.kept at.next command (refused_else (case_of its_host at.kept) there.0 there.1 command) at.answer at.said NoDatabase
+          (told_once one (text_of at.answer) (refusal_line NoDatabase) at.told told) (commanded at.calls its_host at.kept at.next one.text command at.answer asks at.comes) in
+          other refl,
+      λ slice force is told.
+          let at = reached run answered.here answered.later one ok_line answered.is told in
+          let there = shown_open drives home before script sound is_home run calm answered.here one at has.shown among has.command has.asks has.granted in
+          let free = (granted_done its_host at.calls at.kept at.next one at.answer at.comes at.said at.told (Create slice force) (subst (Asks one) is asks) told).0 in
+          let none : at.kept.memory.opened ≡ None = allowed_none (case_of its_host at.kept) slice force free in
+          let some = there.1 in
+          cc (none, some),
+    )

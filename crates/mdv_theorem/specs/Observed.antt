@@ -1,11 +1,11 @@
 -- The theorem in a user's words: of scripts, replies and drives that answer, with no word of replicas, numbers or histories.
-use Rattle.std.specs.Prelude.{◌≡◌, ◌⊎◌, ◌↔◌, ◌+◌, ◌≤◌, ℕ, None, List, ◌∷◌, ◌++◌, length, Option, Contains}
+use Rattle.std.specs.Prelude.{◌≡◌, ◌⊎◌, ◌↔◌, ◌+◌, ◌≤◌, ℕ, Bool, None, List, ◌∷◌, ◌++◌, length, Option, Contains}
 use Rattle.mdv_base.specs.Causes.{Rose}
 use Rattle.mdv_base.specs.declared.drive.SliceName.{SliceName}
 use Rattle.mdv_base.specs.declared.name.VolId.{VolId}
 use Rattle.mdv_base.specs.declared.refusal.Refusal.{Refusal}
 use Rattle.mdv_base.specs.declared.refusal.Refusal.TheVariants.{NoDatabase, NoSuchVolume, OutOfMemory}
-use Rattle.mdv_engine_law.specs.Replies.{IsRefusal, refusal_line}
+use Rattle.mdv_engine_law.specs.Replies.{IsRefusal, ok_line, refusal_line}
 use Rattle.mdv_engine_law.specs.declared.host.Host.{Host}
 use Rattle.mdv_home.specs.Home.{IsHome}
 use Rattle.mdv_home.specs.View.{own_view}
@@ -22,7 +22,7 @@ use Rattle.mdv_shelf.specs.Tale.{Tale}
 use Rattle.mdv_status.specs.Telling.{replies_in}
 use Rattle.mdv_status.specs.Values.{values_reply}
 use Rattle.mdv_words.specs.declared.command.Command.{Command}
-use Rattle.mdv_words.specs.declared.command.Command.TheVariants.{Read}
+use Rattle.mdv_words.specs.declared.command.Command.TheVariants.{Create, Read}
 use Rattle.mdv_theorem.specs.Exchanges.{Asks, Exchange, IsAcknowledged, IsOn, IsTold, TellsBlock, exchanges_by, exchanges_of}
 use Rattle.mdv_theorem.specs.Running.{HasAnswered, Running, Runs, WentOn, exchanges_now, ran_on}
 use Rattle.mdv_theorem.specs.Words.{HasBegun, HasDatabase, HeldAtFirst, IsOrWasWritten, IsThere, MayLie}
@@ -60,12 +60,12 @@ RunsAnswer =
     → (status ≡ Done) ⊎ (status ≡ SomeRefused)
     → ((one : Exchange) → Contains (exchanges_of script whole.more) one → one.reply ≡ None → ⊥) × ((status ≡ SomeRefused) ↔ ((reply : List ℕ) × Contains (replies_in whole.more) reply × IsRefusal reply))
 
--- Where lines show that there is a database, none behind them is told that there is none, as long as its drive answers.
+-- Where lines show that there is a database, none behind them is told that there is none, nor a creation that one was made, as long as its drive answers.
 abbrev pub DatabasesStay : Type 0
 DatabasesStay =
     (drives : Geometry) (home : Home) (before : List Ran) (script : Script) → IsHome drives home → (run : Running drives home before script) → HasAnswered run home.drive
     → (one : Exchange) (earlier : List Exchange) (command : Command) → Answered run one earlier → HasDatabase earlier → Asks one command
-    → (refusal : Refusal) → IsTold one (refusal_line refusal) → refusal ≡ NoDatabase → ⊥
+    → (IsTold one (refusal_line NoDatabase) → ⊥) × ((slice : SliceName) (force : Bool) → command ≡ Create slice force → IsTold one ok_line → ⊥)
 
 -- where lines show a volume to be there, none behind them on it is told that it isn't, or that there is no database, as long as the database's drive answers
 abbrev pub VolumesStay : Type 0

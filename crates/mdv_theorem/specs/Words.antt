@@ -1,5 +1,5 @@
 -- What lines show of a database and of a volume: that they are there, that the volume's blocks may be read, and where it lies. Further commands and kinds of volumes widen these words.
-use Rattle.std.specs.Prelude.{◌≡◌, ◌⊎◌, ◌+◌, ◌<◌, ℕ, Bool, List, ◌∷◌, ◌++◌, Contains}
+use Rattle.std.specs.Prelude.{◌≡◌, ◌⊎◌, ◌+◌, ◌<◌, ℕ, List, ◌∷◌, ◌++◌, Contains}
 use Rattle.mdv_base.specs.declared.drive.SliceName.{SliceName}
 use Rattle.mdv_base.specs.declared.name.VolId.{VolId}
 use Rattle.mdv_engine_law.specs.Replies.{ok_line}
@@ -11,7 +11,7 @@ use Rattle.mdv_name.specs.declared.slice_lines.SliceAt.{SliceAt}
 use Rattle.mdv_shelf.specs.Everywhere.{Image}
 use Rattle.mdv_words.specs.declared.command.Command.{Command}
 use Rattle.mdv_words.specs.declared.command.Command.TheVariants.{Create, MakeStripe, Read, Write}
-use Rattle.mdv_theorem.specs.Exchanges.{Asks, Exchange, IsSameBlock, IsTold, MayBeMade, MayBeWritten, MayHaveBegun, ShowsThere}
+use Rattle.mdv_theorem.specs.Exchanges.{Asks, Exchange, IsGranted, IsSameBlock, IsTold, MayBeMade, MayBeWritten, MayHaveBegun, ShowsThere}
 
 -- the command takes the volume away: none does so far
 abbrev pub TakesAway : VolId → Command → Type 0
@@ -54,16 +54,23 @@ pub record MayTakeDatabase (one : Exchange) : Type 0 where
   pub takes : TakesDatabase command
   pub begun : MayHaveBegun one
 
--- one of these lines made a database, and was told `ok`, and none behind it may have taken it away
+-- the command is done with a database alone, or makes one: each does so far
+abbrev pub NeedsDatabase : Command → Type 0
+NeedsDatabase (Create slice force) = Unit {0}
+NeedsDatabase (MakeStripe volume slice) = Unit {0}
+NeedsDatabase (Read volume at count) = Unit {0}
+NeedsDatabase (Write volume at block) = Unit {0}
+
+-- one of these lines made a database, or was done with one, as it was told, and none behind it may have taken it away
 pub record HasDatabase (lines : List Exchange) : Type 0 where
-  pub made : Exchange
-  pub slice : SliceName
-  pub force : Bool
+  pub shown : Exchange
+  pub command : Command
   pub before : List Exchange
   pub behind : List Exchange
-  pub parts : lines ≡ before ++ made ∷ behind
-  pub asks : Asks made (Create slice force)
-  pub told : IsTold made ok_line
+  pub parts : lines ≡ before ++ shown ∷ behind
+  pub asks : Asks shown command
+  pub needs : NeedsDatabase command
+  pub granted : IsGranted shown command
   pub stays : (one : Exchange) → Contains behind one → MayTakeDatabase one → ⊥
 
 -- The volume may lie on the slice: one of these lines may have made it there, and those that were told `ok` to making it, behind the last one that may have taken it away, named that slice.
