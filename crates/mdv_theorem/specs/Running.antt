@@ -68,7 +68,7 @@ module _ {drives : Geometry} {home : Home} {before : List Ran} {script : Script}
   ran_now = record { home = home; fresh = run.fresh; script = script; bytes = run.tells.bytes }
 
 -- At a moment of a run that began at t, by this stretch, these counts and this word of its identities, on what these runs led to: it is one of such a run under way, by the same; what the
--- contract of `run` says there holds; and whatever may be found of it those runs led to, and this one, from the new drives on and from any start on that they led from.
+-- contract of `run` says there holds; and whatever may be found of it those runs led to, and this one: from the new drives on (`lived`), and from any later start on as well (`adds`).
 pub record LivesOn (drives : Geometry) (home : Home) (made : Image) (before : List Ran) (fresh : ℕ) (script : Script) (stretch : Stretch) (start : Counts) (t m : Moment) : Type 0 where
   pub run : Running drives home before script
   pub held : run.made ≡ made

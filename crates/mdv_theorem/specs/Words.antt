@@ -1,4 +1,5 @@
--- What lines show of a database and of a volume: that they are there, that the volume's blocks may be read, and where it lies. Further commands and kinds of volumes widen these words.
+-- What lines show of a database and of a volume: that they are there, that the volume's blocks may be read, where it lies, and what its blocks may have. Further commands and kinds of
+-- volumes widen these words.
 use Rattle.std.specs.Prelude.{◌≡◌, ◌⊎◌, ◌+◌, ◌<◌, ℕ, List, ◌∷◌, ◌++◌, Contains}
 use Rattle.mdv_base.specs.declared.drive.SliceName.{SliceName}
 use Rattle.mdv_base.specs.declared.name.VolId.{VolId}

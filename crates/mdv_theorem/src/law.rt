@@ -19,7 +19,8 @@ pub fn blocks_keep_their_values()
     ensures agree { RunsAgree }
 {}
 
-/// A database whose creation was told `ok`, by this run or an earlier one, stays: no line is told that there is none, as long as its drive answers.
+/// A database that a line was told to have made, or to have been done with, in this run or an earlier one, stays: no line is told that there is none, nor a creation that one was
+/// made, as long as its drive answers.
 pub fn databases_stay()
     ensures { DatabasesStay }
 {}
@@ -30,7 +31,7 @@ pub fn lines_are_answered()
 {}
 
 /// The law speaks of each moment of a run that the contract of `run` speaks of, by its clauses `stands` and `tells`: there a run is under way, and wherever it is stopped it is
-/// one more run of the life that it began on. Of two such moments of one run, it went on from the one to the other, as the law over runs asks.
+/// one more run of the life that it began on. Of two such moments of one run, whichever is earlier, the other is one that it may have been stopped at, as the law over runs asks.
 pub fn runs_live_on()
     ensures lives { RunsLiveOn }
     ensures goes { RunsGoOn }
