@@ -1,5 +1,6 @@
 -- A request, turn after turn.
-use Rattle.std.proofs.Common.{◌≡◌, ◌⊎◌, inl, inr, ℕ, ◌+◌, ◌-◌, ◌<◌, ◌≤◌, true, List, length, Result, Ok, Err, OnOk, refl, sym, ◌∙◌, ap, subst, arith}
+use Rattle.std.proofs.Common.{◌≡◌, ◌⊎◌, inl, inr, ℕ, ◌+◌, ◌-◌, ◌<◌, ◌≤◌, true, List, length, take, Result, Ok, Err, OnOk, refl, sym, ◌∙◌, ap, subst, arith}
+use Rattle.std.proofs.lemmas.List.{take-take}
 use Rattle.mdv_shelf.specs.Calls.{Took}
 use Rattle.mdv_shelf.specs.Shelves.{AtEachTale, AtEnd, DriveFailures}
 use Rattle.mdv_shelf.specs.declared.shelf.Shelf.{Ghosts}
@@ -40,6 +41,7 @@ pub record HasGone {S : Type 0} (shelf : Ghosts S) (v : Map) (before now : S) (s
   pub within : work.done ≤ start.count
   pub begins : work.done < start.count → is_turn v start.kind start.at work.done ≡ true
   pub leaves : LeavesBuffer start.kind buffer after
+  pub front : take start.done after ≡ take start.done buffer
   pub moments : IsRewriting shelf before now v start buffer
   pub done : AtEnd shelf (Carries v start buffer work after) before now
   pub calm : AreCalm (DriveFailures shelf before now)
@@ -62,6 +64,10 @@ leaves_more : (k : WorkKind) (a b c : List (List ℕ)) → LeavesBuffer k a b �
 leaves_more Read a b c one two = two ∙ one
 leaves_more Write a b c one two = two ∙ one
 leaves_more Flush a b c one two = two ∙ one
+
+-- a longer front stays, and so a shorter one
+front_more : (m n : ℕ) (a b c : List (List ℕ)) → m ≤ n → take m b ≡ take m a → take n c ≡ take n b → take m c ≡ take m a
+front_more m n a b c le one two = sym (take-take m n c le) ∙ ap (take m) two ∙ take-take m n b le ∙ one
 
 same_news : (k : WorkKind) (a b : List (List ℕ)) → LeavesBuffer k a b → news k b ≡ news k a
 same_news Read a b is = refl
@@ -93,6 +99,7 @@ module _ {S : Type 0} (shelf : Ghosts S) (v : Map) (before : S) (start : Work) (
         within = turn.turned.within;
         begins = turn.turned.begins;
         leaves = turn.turned.buffer;
+        front = turn.turned.front;
         moments = turn.moments;
         done = turn.done;
         calm = turn.turned.calm;
@@ -131,6 +138,7 @@ module _ {S : Type 0} (shelf : Ghosts S) (v : Map) (before : S) (start : Work) (
           within = turned.within;
           begins = turned.begins;
           leaves = leaves_more start.kind buffer after later gone.leaves turned.buffer;
+          front = front_more start.done work.done buffer after later (omega arith) gone.front turned.front;
           moments = moments_on turn.moments;
           done = done_on turn.done;
           calm = calm_more shelf before now next gone.calm turned.calm;
@@ -181,7 +189,7 @@ module _ {S : Type 0} (shelf : Ghosts S) (v : Map) (before : S) (start : Work) (
       record {
         moments = gone.moments;
         done = gone.done;
-        finished = record { same = gone.same; buffer = gone.leaves; whole = (whole, gone.calm); stayed = tt };
+        finished = record { same = gone.same; buffer = gone.leaves; front = gone.front; whole = (whole, gone.calm); stayed = tt };
         counted = record { done = took; failed = tt };
         kept = gone.kept;
       }
@@ -194,6 +202,7 @@ module _ {S : Type 0} (shelf : Ghosts S) (v : Map) (before : S) (start : Work) (
       finished = record {
         same = turn.turned.same;
         buffer = turn.turned.buffer;
+        front = turn.turned.front;
         whole = no_ok result ((more.done ≡ start.count) × AreCalm (DriveFailures shelf before next)) none;
         stayed =
             let still : more.done ≡ start.done = turn.turned.stayed.0 in
@@ -229,6 +238,7 @@ module _ {S : Type 0} (shelf : Ghosts S) (v : Map) (before : S) (start : Work) (
           finished = record {
             same = turned.same;
             buffer = leaves_more start.kind buffer after later gone.leaves turned.buffer;
+            front = front_more start.done work.done buffer after later (omega arith) gone.front turned.front;
             whole = no_ok result ((more.done ≡ start.count) × AreCalm (DriveFailures shelf before next)) none;
             stayed =
                 let still : more.done ≡ work.done = turned.stayed.0 in

@@ -37,8 +37,8 @@ is_turn v Flush at k = is_new v at k
 abbrev pub turns : Map → WorkKind → ℕ → ℕ → ℕ
 turns v kind at count = count_to (is_turn v kind at) count
 
--- What a request has done by now, told of its own blocks alone: those that are done read as the buffer, or the drives that they
--- lie on are synced.
+-- What a request has done by now, told of its own blocks alone: those that are done read as the buffer; of a flush, those of its blocks are
+-- on the disk that lie on drives that it has come to.
 abbrev pub HasDoneOf : WorkKind → Map → ℕ → ℕ → ℕ → List (List ℕ) → Tale → Type 0
 HasDoneOf Read v at count done buffer t = AreRead v at done buffer t
 HasDoneOf Write v at count done buffer t = AreRead v at done buffer t
@@ -80,8 +80,8 @@ pub record IsRewriting {S : Type 0} (shelf : Ghosts S) (old new : S) (v : Map) (
   pub each : AtEachTale shelf (Rewriting v work.at (news work.kind buffer)) old new
   pub still : work.kind ≡ Read → shelf.tale new ≡ shelf.tale old
 
--- One turn: more is done, up to where the next one begins, or to the end. Where its call failed, no more is done. The buffer stays
--- but for the blocks that it did, or tried to.
+-- One turn: more is done, up to where the next one begins, or to the end, and the buffer stays but for the blocks that it did. Where its
+-- call failed, no more is done, and the front of the buffer stays, as far as blocks are done.
 pub record IsTurned {T E : Type 0} (v : Map) (calls : Outcomes) (old : Work) (before : List (List ℕ)) (new : Work) (after : List (List ℕ)) (result : Result T E) : Type 0 where
   pub same : new ≡ record old { done = new.done }
   pub buffer : LeavesBuffer old.kind before after
@@ -93,10 +93,12 @@ pub record IsTurned {T E : Type 0} (v : Map) (calls : Outcomes) (old : Work) (be
   pub calm : OnOk result (AreCalm calls)
   pub stayed : OnErr result ((new.done ≡ old.done) × FailedOn (drive_of (v.copies (old.at + old.done))) calls)
 
--- All turns of it. Where a call failed, all before it stays done: it failed at the first block that isn't.
+-- All turns of it. The front of the buffer stays, as far as blocks were done before. Where a call failed, all before it stays done: it
+-- failed at the first block that isn't.
 pub record IsFinished {T E : Type 0} (v : Map) (calls : Outcomes) (old : Work) (before : List (List ℕ)) (new : Work) (after : List (List ℕ)) (result : Result T E) : Type 0 where
   pub same : new ≡ record old { done = new.done }
   pub buffer : LeavesBuffer old.kind before after
+  pub front : take old.done after ≡ take old.done before
   pub whole : OnOk result ((new.done ≡ old.count) × AreCalm calls)
   pub stayed : OnErr result ((old.done ≤ new.done) × FailedAt calls v old.kind old.at old.count new.done)
 

@@ -215,6 +215,6 @@ pub record AreBlocksCounted {S : Type 0} (shelf : Ghosts S) (old new : S) (calls
   pub failed : result ≡ Err IoFault → (made_of shelf old new).within 1 calls written
   pub refused : IfErr result (λ refusal. blocks_refusal engine.state.opened volume (at + count) ≡ Some refusal → new ≡ old)
 
--- nothing is written, synced or read behind a failed call on one and the same drive, and the counts of all others stay
+-- All calls that changed something or failed are on one and the same drive, and none there changed something behind a failed one.
 abbrev pub KeptOnOne : {S : Type 0} → Ghosts S → S → S → Type 0
 KeptOnOne shelf old new = (drive : ℕ) × KeptOn shelf old new (OnDrive drive)
