@@ -1,5 +1,5 @@
 -- What a boot of the host's database comes to and leaves, told of the host.
-use Rattle.std.proofs.Common.{◌≡◌, ◌≢◌, ◌⊎◌, inl, inr, ℕ, Bool, true, false, List, Option, None, Some, Contains, refl, sym, ◌∙◌, ap, subst}
+use Rattle.std.proofs.Common.{◌≡◌, ◌≢◌, ◌⊎◌, inl, inr, ℕ, Bool, true, false, List, Option, None, Some, IfSome, Contains, refl, sym, ◌∙◌, ap, subst}
 use Rattle.std.specs.Bool.{MatchBool}
 use Rattle.mdv_database.specs.Boot.{BootAnswer, BootEnds, BootMoment as PlaceMoment, BootedBy, HasBootCause, is_answered}
 use Rattle.mdv_database.specs.declared.database.BootEnd.{BootEnd}
@@ -16,15 +16,17 @@ use Rattle.mdv_shelf.proofs.Blocks.{both_ways}
 use Rattle.mdv_database.proofs.Bringing.{is_drive}
 use Rattle.mdv_database.specs.Database.{IfAdopted, IsBooted, IsBootedTo, IsRefusal}
 use Rattle.mdv_engine_law.specs.Efforts.{BootCalls, PlaceCalls}
-use Rattle.mdv_engine_law.specs.Line.{AreOwnCalls, IsRewritten, contents, home_calls}
-use Rattle.mdv_engine.specs.Below.{AreCalm, DriveNo, Failures, Outcomes, has_drive, place_of, other_slot, Answer, Ends, GoesOnTo, Moments, PlaceAt, IsAdopted, IsOpened, IsTableAt, KeptOutside, IsSynced, Memory, Tale, area_of, last, nowhere, with_blocks, Newest, IsQuiet, Host, IsReady, site_of, IsUpBy, adopted, empty, down, lost, spent, wanting, booted_with, unbooted, BootMoment}
+use Rattle.mdv_engine_law.specs.Line.{IsRewritten, contents, home_calls}
+use Rattle.mdv_engine.specs.Below.{AreCalm, AreOwnCalls, DriveNo, Failures, Outcomes, has_drive, place_of, other_slot, Answer, Ends, GoesOnTo, Moments, PlaceAt, IsAdopted, IsOpened, IsTableAt, KeptOutside, IsSynced, Memory, Tale, area_of, last, nowhere, with_blocks, Newest, IsQuiet, Host, IsReady, site_of, IsUpBy, adopted, empty, down, lost, spent, wanting, booted_with, unbooted, BootMoment}
 use Rattle.mdv_engine_law.specs.Answers.{accepted}
 use Rattle.mdv_engine_law.specs.declared.answer.Answer.TheVariants.{Over}
+use Rattle.mdv_engine_law.specs.declared.answer.Ended.{Ended}
 use Rattle.mdv_engine_law.specs.declared.answer.Ended.TheVariants as ended
 use Rattle.mdv_engine_law.proofs.Booting.{boot_moment, booted_adopted, booted_none, booting_empty, booting_still}
 use Rattle.mdv_engine_law.proofs.Keeping.{rewritten_newest, same_beside, same_content}
 use Rattle.mdv_engine.specs.Ends.{IsBootEnd}
-use Rattle.mdv_engine.specs.Engine.{IsWell}
+use Rattle.mdv_engine_law.specs.Replies.{HasEndCause}
+use Rattle.mdv_engine.specs.Engine.{IsAnsweredBy, IsEndedBy, IsWell}
 use Rattle.mdv_engine.proofs.Sites.{here, told_site}
 use Rattle.mdv_shelf.proofs.Moments.{ends_both, moments_end, moments_weaker}
 
@@ -250,12 +252,35 @@ module _ (host : Host) (sizes : List ℕ) (ready : IsReady host sizes) (at : Pla
   pub wanting_all : answer.end ≡ found.Memory → Ends (IsBootEnd calls made host (unbooted begun) (Over ended.Memory) (unbooted begun)) a b
   wanting_all so = all _ (λ t u quiet end. wanting_end host calls still_own sizes ready answer is made begun t u quiet end so)
 
-  -- which drives are up and whether it is clean; that no call failed on the drive of what it opened; and that this is in order
-  pub up_cause : IsUpBy calls host answer.up answer.clean
-  up_cause = up_by host calls still_own sizes ready answer is
+  -- by which calls it came to what it opened, to nothing, and to its end where it isn't answered
+  caused : (e : BootEnd) → answer.end ≡ e → HasBootCause (calls host.home.drive.0) e
+  caused e so = subst (HasBootCause (calls host.home.drive.0)) so is.place.cause
 
-  pub opened_cause : (newest : Newest) → answer.end ≡ found.Adopted newest → (home_calls host calls).none × (has_drive answer.up host.home.drive ≡ true)
-  opened_cause newest so = (subst (HasBootCause (calls host.home.drive.0)) so is.place.cause, up_here host calls still_own sizes ready answer is (λ other. cc (so, other)))
+  answered_by : (opened : Option Newest) → IfSome opened (λ newest. (home_calls host calls).none × (has_drive answer.up host.home.drive ≡ true)) → IsAnsweredBy calls host (booted_with opened answer.up answer.clean begun)
+  answered_by opened cause = record {
+    own = own_calls host calls still_own sizes ready answer is;
+    up = up_by host calls still_own sizes ready answer is;
+    down = λ off. caused found.Down (is.here off);
+    opened = cause;
+  }
+
+  pub adopted_cause : (newest : Newest) → answer.end ≡ found.Adopted newest → IsAnsweredBy calls host (booted_with (Some newest) answer.up answer.clean begun)
+  adopted_cause newest so = answered_by (Some newest) (caused (found.Adopted newest) so, up_here host calls still_own sizes ready answer is (λ other. cc (so, other)))
+
+  pub none_cause : IsAnsweredBy calls host (booted_with None answer.up answer.clean begun)
+  none_cause = answered_by None tt
+
+  ended_by : (end : Ended) → HasEndCause (home_calls host calls) end → IsEndedBy calls host end
+  ended_by end cause = record { own = own_calls host calls still_own sizes ready answer is; cause = cause }
+
+  pub lost_cause : answer.end ≡ found.Lost → IsEndedBy calls host (ended.Lost 0 1)
+  lost_cause so = ended_by (ended.Lost 0 1) (caused found.Lost so, refl, refl)
+
+  pub spent_cause : answer.end ≡ found.Spent → IsEndedBy calls host ended.Spent
+  spent_cause so = ended_by ended.Spent (caused found.Spent so)
+
+  pub wanting_cause : answer.end ≡ found.Memory → IsEndedBy calls host ended.Memory
+  wanting_cause so = ended_by ended.Memory (caused found.Memory so)
 
   pub table_well : (newest : Newest) → answer.end ≡ found.Adopted newest → IsWell host (booted_with (Some newest) answer.up answer.clean begun)
   table_well newest so = record { table = subst (λ (x : BootEnd). IfAdopted x (λ n. IsTableAt host.drives (with_blocks (place_of host.home) n.blocks).place n.table)) so is.place.table }

@@ -17,7 +17,7 @@ pub use Rattle.mdv_database.specs.declared.database.CommitFault.{CommitFault}
 pub use Rattle.mdv_engine_law.specs.Home.{IsReady, StaysHome, identity_of, key_of, site_of}
 pub use Rattle.mdv_engine_law.specs.Commands.{CameTo, IsAllowed}
 pub use Rattle.mdv_shelf.specs.Failing.{AreCalm, FailedOn, Outcomes}
-pub use Rattle.mdv_engine_law.specs.Line.{AreBlocksAt, HasVolumeOn, IsUpBy, booted_with, home_calls}
+pub use Rattle.mdv_engine_law.specs.Line.{AreBlocksAt, AreOwnCalls, HasVolumeOn, IsUpBy, booted_with, home_calls}
 pub use Rattle.mdv_engine_law.specs.Line.{IsRebooted, IsTurnedDown, IsUsedUp, Kept, Memory, adopted, asked_by, blocks_of, down}
 pub use Rattle.mdv_engine_law.specs.Line.{empty, kept_at, lost, record_room, spent, unbooted, wanting}
 pub use Rattle.mdv_engine_law.specs.Replies.{IsPlain, IsPlainAnswer, text_of}

@@ -1,6 +1,6 @@
 -- What an engine keeps, what its boots answer, and why blocks and changes are refused.
-use Rattle.std.specs.Prelude.{◌≡◌, ◌⊎◌, ◌+◌, ◌≤◌, ℕ, true, Option, Some, None, IfSome, Result, Ok, Err}
-use Rattle.mdv_engine.specs.Below.{AreCalm, Outcomes, IsUpBy, has_drive, VolId, Refusal, IoFault, OutOfMemory, with_blocks, Change, Table, Newest, IsTableAt, Answer, Host, site_of, Memory, home_calls}
+use Rattle.std.specs.Prelude.{◌≡◌, ◌⊎◌, ◌+◌, ◌≤◌, ℕ, true, false, Option, Some, None, IfSome, Result, Ok, Err}
+use Rattle.mdv_engine.specs.Below.{AreCalm, Outcomes, AreOwnCalls, IsUpBy, has_drive, VolId, Refusal, IoFault, OutOfMemory, with_blocks, Change, Table, Newest, IsTableAt, Answer, Host, site_of, Memory, home_calls}
 pub use Rattle.mdv_engine_law.specs.Commands.{FailedBlocks}
 use Rattle.mdv_table.specs.Change.{table_after}
 use Rattle.mdv_table.specs.Change as table
@@ -30,11 +30,23 @@ abbrev pub boot_answer : {T : Type 0} → Result T Ended → Answer
 boot_answer (Ok booted) = accepted
 boot_answer (Err end) = Over end
 
--- A boot that is answered, and left this in memory, tells by the calls that failed which drives are up and whether it is clean, and has a database open only where none failed
--- on its drive, which is up. One is lost only where a call on that drive failed, and isn't answered for another cause only where none did.
+-- A boot that is answered, and left this in memory: which drives are up and whether it is clean, it tells by the calls that failed. The database's drive is down only where a call
+-- on it failed; and a database is open only where none did there, and its drive is up.
+pub record IsAnsweredBy (calls : Outcomes) (host : Host) (memory : Memory) : Type 0 where
+  pub own : AreOwnCalls host calls
+  pub up : IsUpBy calls host memory.up memory.clean
+  pub down : has_drive memory.up host.home.drive ≡ false → (home_calls host calls).some
+  pub opened : IfSome memory.opened (λ newest. (home_calls host calls).none × (has_drive memory.up host.home.drive ≡ true))
+
+-- one that isn't: it is lost only where a call on the database's drive failed, and ends for another cause only where none did there
+pub record IsEndedBy (calls : Outcomes) (host : Host) (end : Ended) : Type 0 where
+  pub own : AreOwnCalls host calls
+  pub cause : HasEndCause (home_calls host calls) end
+
+-- by which calls a boot came to its answer
 abbrev pub HasBootCause : {T : Type 0} → Outcomes → Host → Memory → Result T Ended → Type 0
-HasBootCause calls host memory (Ok booted) = IsUpBy calls host memory.up memory.clean × IfSome memory.opened (λ newest. (home_calls host calls).none × (has_drive memory.up host.home.drive ≡ true))
-HasBootCause calls host memory (Err end) = HasEndCause (home_calls host calls) end
+HasBootCause calls host memory (Ok booted) = IsAnsweredBy calls host memory
+HasBootCause calls host memory (Err end) = IsEndedBy calls host end
 
 -- as many blocks as are read or written at once
 pub record IsCount (count : ℕ) : Type 0 where

@@ -68,7 +68,7 @@ boot_writes shelf telling host a b moments s u is_s is_u =
 
 -- why a run is over with its boot
 pub over_cause : (T : Type 0) (start end : Counts) (host : Host) (r : Ended) (memory : Memory) → HasBootCause {T = T} (drive_failures start end) host memory (Err r) → HasStatusCause host start end (status_at r)
-over_cause T start end host (ended.Lost active listed) memory why = (rose_of_once _ _ why.0, why.1, why.2)
+over_cause T start end host (ended.Lost active listed) memory why = (rose_of_once _ _ why.cause.0, why.cause.1, why.cause.2)
 over_cause T start end host ended.Spent memory why = tt
 over_cause T start end host ended.Memory memory why = tt
 

@@ -4,7 +4,7 @@ use Rattle.mdv_shelf.specs.Made.{made_of}
 use Rattle.mdv_shelf.specs.Shelves.{DriveFailures}
 use Rattle.mdv_engine_law.proofs.Ready.{at_home, own_drives_lie}
 use Rattle.mdv_engine.specs.Below.{DriveNo, PlaceAt}
-use Rattle.mdv_engine.proofs.Booting.{adopted_all, all_moments, lost_all, none_all, opened_cause, own_still, spent_all, table_well, up_cause, wanting_all}
+use Rattle.mdv_engine.proofs.Booting.{adopted_all, adopted_cause, all_moments, lost_all, lost_cause, none_all, none_cause, own_still, spent_all, spent_cause, table_well, wanting_all, wanting_cause}
 use Rattle.mdv_engine.proofs.Sites.{on_drive}
 use Rattle.mdv_engine.proofs.engine.boot_from.Goals as goal
 
@@ -48,18 +48,24 @@ returns-in-Spent-clause-end g c = spent_all c.args.host.now (g.S.Shelf.sizes c.a
 pub returns-in-Memory-clause-end : goal.returns-in-Memory-clause-end
 returns-in-Memory-clause-end g c = wanting_all c.args.host.now (g.S.Shelf.sizes c.args.shelf.now) c.requires c.place_at.result c.place_at.ensures c.as_slice.result.now c.as_slice.ensures (DriveFailures g.S.Shelf c.args.shelf.now c.boot-end.new.shelf) (made_of g.S.Shelf c.args.shelf.now c.boot-end.new.shelf) c.boot-end.result c.args.begun _ _ c.boot-end.ensures.answer (own_still g.S.Shelf c.args.shelf.now c.boot-end.new.shelf c.as_slice.result.now c.boot-end.ensures.kept) c.boot-end.ensures.moments c.boot-end.ensures.end c.in-Memory.is
 
--- what is in memory behind a boot that was answered has its cause
+-- by which calls it came to its answer
 pub returns-in-Adopted-clause-answer : goal.returns-in-Adopted-clause-answer
 returns-in-Adopted-clause-answer g c = rw c.booted.ensures (record {
-  cause = (
-    up_cause c.args.host.now (g.S.Shelf.sizes c.args.shelf.now) c.requires c.place_at.result c.place_at.ensures c.as_slice.result.now c.as_slice.ensures (DriveFailures g.S.Shelf c.args.shelf.now c.boot-end.new.shelf) (made_of g.S.Shelf c.args.shelf.now c.boot-end.new.shelf) c.boot-end.result c.args.begun _ _ c.boot-end.ensures.answer (own_still g.S.Shelf c.args.shelf.now c.boot-end.new.shelf c.as_slice.result.now c.boot-end.ensures.kept) c.boot-end.ensures.moments c.boot-end.ensures.end,
-    opened_cause c.args.host.now (g.S.Shelf.sizes c.args.shelf.now) c.requires c.place_at.result c.place_at.ensures c.as_slice.result.now c.as_slice.ensures (DriveFailures g.S.Shelf c.args.shelf.now c.boot-end.new.shelf) (made_of g.S.Shelf c.args.shelf.now c.boot-end.new.shelf) c.boot-end.result c.args.begun _ _ c.boot-end.ensures.answer (own_still g.S.Shelf c.args.shelf.now c.boot-end.new.shelf c.as_slice.result.now c.boot-end.ensures.kept) c.boot-end.ensures.moments c.boot-end.ensures.end c.in-Adopted.database c.in-Adopted.is,
-  );
+  cause = adopted_cause c.args.host.now (g.S.Shelf.sizes c.args.shelf.now) c.requires c.place_at.result c.place_at.ensures c.as_slice.result.now c.as_slice.ensures (DriveFailures g.S.Shelf c.args.shelf.now c.boot-end.new.shelf) (made_of g.S.Shelf c.args.shelf.now c.boot-end.new.shelf) c.boot-end.result c.args.begun _ _ c.boot-end.ensures.answer (own_still g.S.Shelf c.args.shelf.now c.boot-end.new.shelf c.as_slice.result.now c.boot-end.ensures.kept) c.boot-end.ensures.moments c.boot-end.ensures.end c.in-Adopted.database c.in-Adopted.is;
   well = (table_well c.args.host.now (g.S.Shelf.sizes c.args.shelf.now) c.requires c.place_at.result c.place_at.ensures c.as_slice.result.now c.as_slice.ensures (DriveFailures g.S.Shelf c.args.shelf.now c.boot-end.new.shelf) (made_of g.S.Shelf c.args.shelf.now c.boot-end.new.shelf) c.boot-end.result c.args.begun _ _ c.boot-end.ensures.answer (own_still g.S.Shelf c.args.shelf.now c.boot-end.new.shelf c.as_slice.result.now c.boot-end.ensures.kept) c.boot-end.ensures.moments c.boot-end.ensures.end c.in-Adopted.database c.in-Adopted.is, refl, refl);
 })
 
 pub returns-in-Empty-clause-answer : goal.returns-in-Empty-clause-answer
 returns-in-Empty-clause-answer g c = rw c.booted-in-Empty.ensures (record {
-  cause = (up_cause c.args.host.now (g.S.Shelf.sizes c.args.shelf.now) c.requires c.place_at.result c.place_at.ensures c.as_slice.result.now c.as_slice.ensures (DriveFailures g.S.Shelf c.args.shelf.now c.boot-end.new.shelf) (made_of g.S.Shelf c.args.shelf.now c.boot-end.new.shelf) c.boot-end.result c.args.begun _ _ c.boot-end.ensures.answer (own_still g.S.Shelf c.args.shelf.now c.boot-end.new.shelf c.as_slice.result.now c.boot-end.ensures.kept) c.boot-end.ensures.moments c.boot-end.ensures.end, tt);
+  cause = none_cause c.args.host.now (g.S.Shelf.sizes c.args.shelf.now) c.requires c.place_at.result c.place_at.ensures c.as_slice.result.now c.as_slice.ensures (DriveFailures g.S.Shelf c.args.shelf.now c.boot-end.new.shelf) (made_of g.S.Shelf c.args.shelf.now c.boot-end.new.shelf) c.boot-end.result c.args.begun _ _ c.boot-end.ensures.answer (own_still g.S.Shelf c.args.shelf.now c.boot-end.new.shelf c.as_slice.result.now c.boot-end.ensures.kept) c.boot-end.ensures.moments c.boot-end.ensures.end;
   well = (record { table = tt }, refl, refl);
 })
+
+pub returns-in-Lost-clause-answer : goal.returns-in-Lost-clause-answer
+returns-in-Lost-clause-answer g c = record { cause = lost_cause c.args.host.now (g.S.Shelf.sizes c.args.shelf.now) c.requires c.place_at.result c.place_at.ensures c.as_slice.result.now c.as_slice.ensures (DriveFailures g.S.Shelf c.args.shelf.now c.boot-end.new.shelf) (made_of g.S.Shelf c.args.shelf.now c.boot-end.new.shelf) c.boot-end.result c.args.begun _ _ c.boot-end.ensures.answer (own_still g.S.Shelf c.args.shelf.now c.boot-end.new.shelf c.as_slice.result.now c.boot-end.ensures.kept) c.boot-end.ensures.moments c.boot-end.ensures.end c.in-Lost.is; well = tt }
+
+pub returns-in-Spent-clause-answer : goal.returns-in-Spent-clause-answer
+returns-in-Spent-clause-answer g c = record { cause = spent_cause c.args.host.now (g.S.Shelf.sizes c.args.shelf.now) c.requires c.place_at.result c.place_at.ensures c.as_slice.result.now c.as_slice.ensures (DriveFailures g.S.Shelf c.args.shelf.now c.boot-end.new.shelf) (made_of g.S.Shelf c.args.shelf.now c.boot-end.new.shelf) c.boot-end.result c.args.begun _ _ c.boot-end.ensures.answer (own_still g.S.Shelf c.args.shelf.now c.boot-end.new.shelf c.as_slice.result.now c.boot-end.ensures.kept) c.boot-end.ensures.moments c.boot-end.ensures.end c.in-Spent.is; well = tt }
+
+pub returns-in-Memory-clause-answer : goal.returns-in-Memory-clause-answer
+returns-in-Memory-clause-answer g c = record { cause = wanting_cause c.args.host.now (g.S.Shelf.sizes c.args.shelf.now) c.requires c.place_at.result c.place_at.ensures c.as_slice.result.now c.as_slice.ensures (DriveFailures g.S.Shelf c.args.shelf.now c.boot-end.new.shelf) (made_of g.S.Shelf c.args.shelf.now c.boot-end.new.shelf) c.boot-end.result c.args.begun _ _ c.boot-end.ensures.answer (own_still g.S.Shelf c.args.shelf.now c.boot-end.new.shelf c.as_slice.result.now c.boot-end.ensures.kept) c.boot-end.ensures.moments c.boot-end.ensures.end c.in-Memory.is; well = tt }

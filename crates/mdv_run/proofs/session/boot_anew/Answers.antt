@@ -153,7 +153,7 @@ pub returns-in-Err-clause-answer : goal.returns-in-Err-clause-answer
 returns-in-Err-clause-answer g c = record {
   line = record {
     counted = λ n calls. over_calls g.B.Shelf _ _ c.args.engine.now.host.own c.in-Err.end c.reboot.new.self.state c.in-Err.ensures.counted n calls;
-    cause = subst (HasReplyCause (home_calls c.args.engine.now.host (DriveFailures g.B.Shelf c.args.bench.now c.reboot.new.shelf)).some _) (sym c.reply_at.ensures) (ended_reply c.args.engine.now.host (DriveFailures g.B.Shelf c.args.bench.now c.reboot.new.shelf) _ c.in-Err.end c.in-Err.ensures.answer.cause);
+    cause = subst (HasReplyCause (home_calls c.args.engine.now.host (DriveFailures g.B.Shelf c.args.bench.now c.reboot.new.shelf)).some _) (sym c.reply_at.ensures) (ended_reply c.args.engine.now.host (DriveFailures g.B.Shelf c.args.bench.now c.reboot.new.shelf) _ c.in-Err.end c.in-Err.ensures.answer.cause.cause);
     same = c.in-Err.ensures.answer.host;
     well = c.in-Err.ensures.answer.well;
     begun = (let same = c.in-Err.ensures.answer.begun in omega arith);
