@@ -54,14 +54,14 @@ module _ (host : Host) (memory : Memory) (volume : VolId) (at count : ℕ) where
   abbrev pub of_blocks : Outcomes → Failures
   of_blocks calls = record { some = FailedBlocks calls host memory volume at count; none = AreCalm calls }
 
-  pub unwritten_cause : (calls : Outcomes) (lost : Type 0) (r : Refusal) → HasBlocksCause calls host memory volume at count r → HasAnswerCause (of_blocks calls) lost (refusing r)
-  unwritten_cause calls lost r (inl is) = judged_said (of_blocks calls) lost r (blocks_judged memory.opened volume (at + count) r is.1) is.0
-  unwritten_cause calls lost r (inr (of, free, fault)) = subst (λ (x : Refusal). HasAnswerCause (of_blocks calls) lost (refusing x)) (sym fault) of
+  pub unwritten_cause : (calls : Outcomes) (lost spends : Type 0) (r : Refusal) → HasBlocksCause calls host memory volume at count r → HasAnswerCause (of_blocks calls) lost spends (refusing r)
+  unwritten_cause calls lost spends r (inl is) = judged_said (of_blocks calls) lost spends r (blocks_judged memory.opened volume (at + count) r is.1) is.0
+  unwritten_cause calls lost spends r (inr (of, free, fault)) = subst (λ (x : Refusal). HasAnswerCause (of_blocks calls) lost spends (refusing x)) (sym fault) of
 
-  pub unread_cause : (calls : Outcomes) (lost : Type 0) (r : Refusal) → HasReadCause calls host memory volume at count r → HasAnswerCause (of_blocks calls) lost (refusing r)
-  unread_cause calls lost r (inl is) = judged_said (of_blocks calls) lost r (read_judged memory.opened volume at count r is.1) is.0
-  unread_cause calls lost r (inr (inl (of, free, fault))) = subst (λ (x : Refusal). HasAnswerCause (of_blocks calls) lost (refusing x)) (sym fault) of
-  unread_cause calls lost r (inr (inr (calm, free, want))) = subst (λ (x : Refusal). HasAnswerCause (of_blocks calls) lost (refusing x)) (sym want) calm
+  pub unread_cause : (calls : Outcomes) (lost spends : Type 0) (r : Refusal) → HasReadCause calls host memory volume at count r → HasAnswerCause (of_blocks calls) lost spends (refusing r)
+  unread_cause calls lost spends r (inl is) = judged_said (of_blocks calls) lost spends r (read_judged memory.opened volume at count r is.1) is.0
+  unread_cause calls lost spends r (inr (inl (of, free, fault))) = subst (λ (x : Refusal). HasAnswerCause (of_blocks calls) lost spends (refusing x)) (sym fault) of
+  unread_cause calls lost spends r (inr (inr (calm, free, want))) = subst (λ (x : Refusal). HasAnswerCause (of_blocks calls) lost spends (refusing x)) (sym want) calm
 
 -- of one block that was written some
 pub torn_of : {S : Type 0} (shelf : Ghosts S) (old new : S) (engine : Engine) (volume : VolId) (at : ℕ) (value : List ℕ) (r : Refusal) → AreWritten shelf old new engine volume at (value ∷ []) (Err r) → r ≡ IoFault

@@ -5,7 +5,7 @@ use Rattle.mdv_words.specs.declared.command.Command.{Command}
 use Rattle.mdv_shelf.specs.Made.{Made}
 use Rattle.mdv_engine.specs.Below.{Outcomes, Key, Refusal, Ends, Tale, Deed, Created, Answer, Host, Memory, kept_at, unbooted, asked_by, CameTo, IsRebooted, adopted, empty, down, lost, spent, wanting, IsPlain, CarriedTo, CarryEnd, Knows}
 use Rattle.mdv_engine_law.specs.Answers.{refusing}
-use Rattle.mdv_engine_law.specs.Commands.{MayLose, blamed}
+use Rattle.mdv_engine_law.specs.Commands.{MayLose, MaySpend, blamed}
 use Rattle.mdv_engine_law.specs.Replies.{HasAnswerCause, IsAccepted}
 use Rattle.mdv_engine_law.specs.Standing.{LeavesDone}
 use Rattle.mdv_engine_law.specs.declared.answer.Answer.TheVariants.{Said, Over}
@@ -46,7 +46,7 @@ pub command_ends : (calls : Outcomes) (old : Engine) (command : Command) (this :
 command_ends calls old command this new a b came carried done = other_ends calls old command (Said this) new a b came carried done (λ active listed is u. absurd (cc (is)))
 
 -- a refusal before anything was done
-pub refused_answer : (calls : Outcomes) (command : Command) (old : Engine) → IsWell old.host old.state → (r : Refusal) → HasAnswerCause (blamed calls old.host old.state command) (MayLose calls old.host command) (refusing r) → IsPlain r
+pub refused_answer : (calls : Outcomes) (command : Command) (old : Engine) → IsWell old.host old.state → (r : Refusal) → HasAnswerCause (blamed calls old.host old.state command) (MayLose calls old.host command) (MaySpend command) (refusing r) → IsPlain r
     → HasAnswered calls command old (refusing r) old
 refused_answer calls command old well r cause plain = record { plain = plain; cause = cause; free = λ on has. absurd on; host = refl; well = well; begun = at_most old.state.begun }
   where

@@ -90,14 +90,14 @@ pub change_judged : (host : Host) (opened : Option Newest) (change : Change) (r 
 change_judged host opened (MakeStripe volume slice) r is = first_holds IsJudged order (held_of_change host opened (MakeStripe volume slice)) r (change_held host opened volume slice) is
 
 -- such a refusal comes where no call failed
-pub judged_said : (failures : Failures) (lost : Type 0) (r : Refusal) → IsJudged r → failures.none → HasAnswerCause failures lost (refusing r)
-judged_said failures lost IoFault judged calm = absurd judged
-judged_said failures lost OutOfMemory judged calm = absurd judged
-judged_said failures lost other judged calm = calm
+pub judged_said : (failures : Failures) (lost spends : Type 0) (r : Refusal) → IsJudged r → failures.none → HasAnswerCause failures lost spends (refusing r)
+judged_said failures lost spends IoFault judged calm = absurd judged
+judged_said failures lost spends OutOfMemory judged calm = absurd judged
+judged_said failures lost spends other judged calm = calm
 
-pub change_cause : (host : Host) (memory : Memory) (change : Change) (failures : Failures) (lost : Type 0) → failures.none → (r : Refusal) → HasChangeCause host memory change r → HasAnswerCause failures lost (refusing r)
-change_cause host memory change failures lost calm r (inl is) = judged_said failures lost r (change_judged host memory.opened change r is) calm
-change_cause host memory change failures lost calm r (inr (some, want)) = subst (λ (x : Refusal). HasAnswerCause failures lost (refusing x)) (sym want) calm
+pub change_cause : (host : Host) (memory : Memory) (change : Change) (failures : Failures) (lost spends : Type 0) → failures.none → (r : Refusal) → HasChangeCause host memory change r → HasAnswerCause failures lost spends (refusing r)
+change_cause host memory change failures lost spends calm r (inl is) = judged_said failures lost spends r (change_judged host memory.opened change r is) calm
+change_cause host memory change failures lost spends calm r (inr (some, want)) = subst (λ (x : Refusal). HasAnswerCause failures lost spends (refusing x)) (sym want) calm
 
 -- and is no failed call
 pub change_no_fault : (host : Host) (memory : Memory) (change : Change) (r : Refusal) → HasChangeCause host memory change r → r ≡ IoFault → ⊥

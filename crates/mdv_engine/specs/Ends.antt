@@ -15,7 +15,7 @@ use Rattle.mdv_engine_law.specs.declared.answer.Answer.TheVariants.{Over}
 use Rattle.mdv_engine_law.specs.declared.answer.Ended.TheVariants as ended
 use Rattle.mdv_engine_law.specs.Line.{contents}
 use Rattle.mdv_engine_law.specs.Answers.{accepted, refusing}
-use Rattle.mdv_engine_law.specs.Commands.{IsAllowed, MayLose, blamed}
+use Rattle.mdv_engine_law.specs.Commands.{IsAllowed, MayLose, MaySpend, blamed}
 use Rattle.mdv_engine_law.specs.Refusals.{blocks_refusal, read_refusal}
 use Rattle.mdv_engine_law.specs.declared.answer.Outcome.{Outcome}
 use Rattle.mdv_engine_law.specs.declared.answer.Reply.{Reply}
@@ -64,7 +64,7 @@ CreationEnds shelf from to old answer new =
 -- boot; and what the engine keeps.
 pub record HasAnswered (calls : Outcomes) (command : Command) (old : Engine) (answer : Answer) (new : Engine) : Type 0 where
   pub plain : IsPlainAnswer answer
-  pub cause : HasAnswerCause (blamed calls old.host old.state command) (MayLose calls old.host command) answer
+  pub cause : HasAnswerCause (blamed calls old.host old.state command) (MayLose calls old.host command) (MaySpend command) answer
   pub free : IsAccepted answer → Contains (deeds (asked_by old.host command)) (Created (key_of old.host)) → IsBare old.state
   pub host : new.host ≡ old.host
   pub well : IsWell old.host new.state
@@ -104,7 +104,7 @@ TurnEnds shelf from to old command given new = AtEnd shelf (TurnEnd (DriveFailur
 
 -- a reply to a command has its cause, and what the engine keeps
 pub record HasReplied (calls : Outcomes) (replies : Type 0) (old : Engine) (command : Command) (given : Reply) (new : Engine) : Type 0 where
-  pub cause : HasCommandCause (blamed calls old.host old.state command) (MayLose calls old.host command) replies given
+  pub cause : HasCommandCause (blamed calls old.host old.state command) (MayLose calls old.host command) (MaySpend command) replies given
   pub host : new.host ≡ old.host
   pub well : IsWell old.host new.state
   pub begun : new.state.begun ≤ old.state.begun + 1

@@ -84,26 +84,26 @@ module _ (failed more : Type 0) (piece : List ℕ) (cause : failed → more) whe
   told_more (Over end) r is = is
 
 -- why a reply came to a command
-module _ (drive failed : Failures) (loss over : Type 0) (replies more : Type 0) (piece : List ℕ) (one : IsWithin drive failed) (lose : loss → over) (other : replies → more) where
-  refused_cause : (r : Refusal) → HasAnswerCause drive loss (Said (outcome.Refused r)) → HasCommandCause failed over more (reply.Refused r)
+module _ (drive failed : Failures) (loss over spends : Type 0) (replies more : Type 0) (piece : List ℕ) (one : IsWithin drive failed) (lose : loss → over) (other : replies → more) where
+  refused_cause : (r : Refusal) → HasAnswerCause drive loss spends (Said (outcome.Refused r)) → HasCommandCause failed over spends more (reply.Refused r)
   refused_cause refusal.BadLine cause = one.none cause
   refused_cause refusal.IoFault cause = one.some cause
   refused_cause other cause = search rules
 
-  said_cause : (this : Outcome) → HasAnswerCause drive loss (Said this) → HasCommandCause failed over more (reply_to this)
+  said_cause : (this : Outcome) → HasAnswerCause drive loss spends (Said this) → HasCommandCause failed over spends more (reply_to this)
   said_cause outcome.Ok cause = one.none cause
   said_cause (outcome.Values text) cause = one.none cause
   said_cause (outcome.Refused refusal) cause = refused_cause refusal cause
 
-  ended_cause : (end : Ended) → HasAnswerCause drive loss (Over end) → HasCommandCause failed over more (reply_at end)
+  ended_cause : (end : Ended) → HasAnswerCause drive loss spends (Over end) → HasCommandCause failed over spends more (reply_at end)
   ended_cause (ended.Lost active listed) cause = (lose cause.0, cause.1, cause.2)
-  ended_cause ended.Spent cause = one.none cause
+  ended_cause ended.Spent cause = (one.none cause.0, cause.1)
   ended_cause ended.Memory cause = absurd cause
 
-  pub command_cause : (answer : Answer) (r : Reply) → HasAnswerCause drive loss answer → IsTold replies answer r piece → HasCommandCause failed over more r
-  command_cause (Said this) r cause (inl whole) = subst (HasCommandCause failed over more) (sym whole.0) (said_cause this cause)
-  command_cause (Said this) r cause (inr cut) = subst (HasCommandCause failed over more) (sym cut.given_is) (other cut.cause)
-  command_cause (Over end) r cause is = subst (HasCommandCause failed over more) (sym is.0) (ended_cause end cause)
+  pub command_cause : (answer : Answer) (r : Reply) → HasAnswerCause drive loss spends answer → IsTold replies answer r piece → HasCommandCause failed over spends more r
+  command_cause (Said this) r cause (inl whole) = subst (HasCommandCause failed over spends more) (sym whole.0) (said_cause this cause)
+  command_cause (Said this) r cause (inr cut) = subst (HasCommandCause failed over spends more) (sym cut.given_is) (other cut.cause)
+  command_cause (Over end) r cause is = subst (HasCommandCause failed over spends more) (sym is.0) (ended_cause end cause)
 
 -- and to what is only said
 pub reply_cause : (failed : Type 0) (piece : List ℕ) (this : Outcome) (r : Reply) → IsTold failed (Said this) r piece → IsReplyTo failed this r

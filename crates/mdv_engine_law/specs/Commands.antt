@@ -57,6 +57,13 @@ MayLose calls host (command.MakeStripe volume slice) = FailedOn host.home.drive.
 MayLose calls host (Read volume at count) = ⊥
 MayLose calls host (Write volume at block) = ⊥
 
+-- and whether it may find the number of its database's tables spent: a change alone, which draws the next
+abbrev pub MaySpend : Command → Type 0
+MaySpend (Create slice force) = ⊥
+MaySpend (command.MakeStripe volume slice) = Unit {0}
+MaySpend (Read volume at count) = ⊥
+MaySpend (Write volume at block) = ⊥
+
 -- What is left where a call on a drive failed and the line tells it: the drive of the database, or that of the blocks. A change that can't be committed ends the run instead.
 abbrev pub Fault : Outcomes → Host → Kept → Command → Kept → Type 0
 Fault calls host kept (Create slice force) next = FailedOn host.home.drive.0 calls × IsUncreated host kept next

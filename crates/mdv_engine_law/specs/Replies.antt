@@ -201,15 +201,15 @@ HasReplyCause drive replies reply.NoMemory = Unit {0}
 HasReplyCause drive replies reply.Told = replies
 
 -- A reply to a command tells a call that failed, of those that may excuse it, or the run is over with it, where its place is lost, and else none failed; of one whose
--- giving failed it says nothing of the drives. No command ends a run for want of memory.
-abbrev pub HasCommandCause : Failures → Type 0 → Type 0 → Reply → Type 0
-HasCommandCause blamed lost replies reply.Ok = blamed.none
-HasCommandCause blamed lost replies (reply.Refused IoFault) = blamed.some
-HasCommandCause blamed lost replies (reply.Refused other) = blamed.none
-HasCommandCause blamed lost replies (reply.Panic active listed) = lost × (active ≡ 0) × (listed ≡ 1)
-HasCommandCause blamed lost replies reply.Spent = blamed.none
-HasCommandCause blamed lost replies reply.NoMemory = ⊥
-HasCommandCause blamed lost replies reply.Told = replies
+-- giving failed it says nothing of the drives. A number is spent only of a command that may spend one, and no command ends a run for want of memory.
+abbrev pub HasCommandCause : Failures → Type 0 → Type 0 → Type 0 → Reply → Type 0
+HasCommandCause blamed lost spends replies reply.Ok = blamed.none
+HasCommandCause blamed lost spends replies (reply.Refused IoFault) = blamed.some
+HasCommandCause blamed lost spends replies (reply.Refused other) = blamed.none
+HasCommandCause blamed lost spends replies (reply.Panic active listed) = lost × (active ≡ 0) × (listed ≡ 1)
+HasCommandCause blamed lost spends replies reply.Spent = blamed.none × spends
+HasCommandCause blamed lost spends replies reply.NoMemory = ⊥
+HasCommandCause blamed lost spends replies reply.Told = replies
 
 -- what was said is the reply, or its giving failed
 abbrev pub IsReplyTo : Type 0 → Outcome → Reply → Type 0
@@ -228,15 +228,16 @@ HasEndCause drive (ended.Lost active listed) = drive.some × (active ≡ 0) × (
 HasEndCause drive ended.Spent = drive.none
 HasEndCause drive ended.Memory = drive.none
 
--- A command tells a call that failed, of those that may excuse it, or ends the run, where its place is lost, and else none failed; and it never ends a run for want of memory.
-abbrev pub HasAnswerCause : Failures → Type 0 → Answer → Type 0
-HasAnswerCause blamed lost (Said outcome.Ok) = blamed.none
-HasAnswerCause blamed lost (Said (outcome.Values text)) = blamed.none
-HasAnswerCause blamed lost (Said (outcome.Refused IoFault)) = blamed.some
-HasAnswerCause blamed lost (Said (outcome.Refused other)) = blamed.none
-HasAnswerCause blamed lost (Over (ended.Lost active listed)) = lost × (active ≡ 0) × (listed ≡ 1)
-HasAnswerCause blamed lost (Over ended.Spent) = blamed.none
-HasAnswerCause blamed lost (Over ended.Memory) = ⊥
+-- A command tells a call that failed, of those that may excuse it, or ends the run, where its place is lost, and else none failed; it ends one with a number that is spent only where
+-- it may spend one, and never for want of memory.
+abbrev pub HasAnswerCause : Failures → Type 0 → Type 0 → Answer → Type 0
+HasAnswerCause blamed lost spends (Said outcome.Ok) = blamed.none
+HasAnswerCause blamed lost spends (Said (outcome.Values text)) = blamed.none
+HasAnswerCause blamed lost spends (Said (outcome.Refused IoFault)) = blamed.some
+HasAnswerCause blamed lost spends (Said (outcome.Refused other)) = blamed.none
+HasAnswerCause blamed lost spends (Over (ended.Lost active listed)) = lost × (active ≡ 0) × (listed ≡ 1)
+HasAnswerCause blamed lost spends (Over ended.Spent) = blamed.none × spends
+HasAnswerCause blamed lost spends (Over ended.Memory) = ⊥
 
 -- The calls of a telling: one, by which no drive's count rose, and none at all where the reply was told whole; and none where the run is over.
 pub record IsTellingCounted {S : Type 0} (shelf : Ghosts S) (old new : S) (given : Reply) : Type 0 where

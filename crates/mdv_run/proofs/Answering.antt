@@ -199,13 +199,13 @@ pub many_comes : (lines : List ℕ) (outcomes : Outcomes) (host : Host) (kept ne
 many_comes lines outcomes host kept next answer many calm down = inr (inl (words.Tab lines, refl, came.unfit calm TooMany (inl many) down))
 
 -- why a line is replied to so: by what its command came to, by what was only told, or by the end of its boot
-pub command_reply : (blamed : Failures) (lost home replies : Type 0) → (lost → home) → (given : Reply) → HasCommandCause blamed lost replies given → HasReplyCause home replies given
-command_reply blamed lost home replies lose reply.Ok cause = tt
-command_reply blamed lost home replies lose (reply.Refused refusal) cause = tt
-command_reply blamed lost home replies lose (reply.Panic active listed) cause = (lose cause.0, cause.1, cause.2)
-command_reply blamed lost home replies lose reply.Spent cause = tt
-command_reply blamed lost home replies lose reply.NoMemory cause = tt
-command_reply blamed lost home replies lose reply.Told cause = cause
+pub command_reply : (blamed : Failures) (lost spends home replies : Type 0) → (lost → home) → (given : Reply) → HasCommandCause blamed lost spends replies given → HasReplyCause home replies given
+command_reply blamed lost spends home replies lose reply.Ok cause = tt
+command_reply blamed lost spends home replies lose (reply.Refused refusal) cause = tt
+command_reply blamed lost spends home replies lose (reply.Panic active listed) cause = (lose cause.0, cause.1, cause.2)
+command_reply blamed lost spends home replies lose reply.Spent cause = tt
+command_reply blamed lost spends home replies lose reply.NoMemory cause = tt
+command_reply blamed lost spends home replies lose reply.Told cause = cause
 
 said_reply : (drive replies : Type 0) (said : Outcome) → HasReplyCause drive replies (reply_to said)
 said_reply drive replies outcome.Ok = tt

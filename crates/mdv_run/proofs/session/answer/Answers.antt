@@ -27,7 +27,7 @@ use Rattle.mdv_run.proofs.Fronts.{AnswerFront, LineFront, front_of, only_refused
 use Rattle.mdv_engine.specs.Ends.{CarriesOut, OnlyAnswers}
 use Rattle.mdv_engine.specs.Tab.{KeepsLines}
 use Rattle.mdv_engine.proofs.Entering.{kept_begun, kept_host, kept_well}
-use Rattle.mdv_engine_law.specs.Commands.{MayLose, blamed}
+use Rattle.mdv_engine_law.specs.Commands.{MayLose, MaySpend, blamed}
 use Rattle.mdv_engine_law.specs.Line.{home_calls}
 use Rattle.mdv_engine_law.proofs.Widening.{lose_home}
 use Rattle.mdv_run.proofs.Answering.{asks_none, command_works, stays_as, uncut_replied, command_reply, told_reply, no_boot, line_executed, refused_turned, refused_down, refused_keeps, refused_knows, turn_home, turn_writes}
@@ -91,7 +91,7 @@ returns-in-Ok-Command-clause-answer g c = record {
   cause =
       let calls = DriveFailures g.B.Shelf c.args.bench.now c.exec.new.bench in
       let host = c.args.engine.now.host in
-      command_reply (blamed calls host c.args.engine.now.state c.in-Ok-Command.command) (MayLose calls host c.in-Ok-Command.command) (home_calls host calls).some _ (lose_home calls host c.in-Ok-Command.command) c.exec.result c.exec.ensures.answer.cause;
+      command_reply (blamed calls host c.args.engine.now.state c.in-Ok-Command.command) (MayLose calls host c.in-Ok-Command.command) (MaySpend c.in-Ok-Command.command) (home_calls host calls).some _ (lose_home calls host c.in-Ok-Command.command) c.exec.result c.exec.ensures.answer.cause;
   same = c.exec.ensures.answer.host;
   well = c.exec.ensures.answer.well;
   begun = c.exec.ensures.answer.begun;

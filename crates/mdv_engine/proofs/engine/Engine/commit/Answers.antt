@@ -85,8 +85,8 @@ returns-clause-end g c = λ volume slice is.
     ]
 
 -- the answer is this one, which has its cause
-said_cause : (failures : Failures) (lost : Type 0) (this answer : Answer) → answer ≡ this → HasAnswerCause failures lost this → HasAnswerCause failures lost answer
-said_cause failures lost this answer is cause = subst (HasAnswerCause failures lost) (sym is) cause
+said_cause : (failures : Failures) (lost spends : Type 0) (this answer : Answer) → answer ≡ this → HasAnswerCause failures lost spends this → HasAnswerCause failures lost spends answer
+said_cause failures lost spends this answer is cause = subst (HasAnswerCause failures lost spends) (sym is) cause
 
 pub returns-clause-answer : goal.returns-clause-answer
 returns-clause-answer g c = λ volume slice. record {
@@ -102,11 +102,11 @@ returns-clause-answer g c = λ volume slice. record {
       let loses = MayLose calls c.args.self.now.host (command.MakeStripe volume slice) in
       let at_is : c.place_at-at.result ≡ place_of c.args.self.now.host.home = c.place_at-at.ensures ∙ ap (λ (e : Engine). place_of e.host.home) c.self.view_is in
       elim c.match-commit.branch [
-        | in-Ok w ↦ said_cause fails loses accepted _ w.result-is (calm_all g.S.Shelf _ _ c.place_at-at.result.drive.0 c.commit.ensures.kept w.in-Ok.ensures.answer.0)
-        | in-Err-Lost w ↦ said_cause fails loses (Over (ended.Lost 0 1)) _ w.result-is
+        | in-Ok w ↦ said_cause fails loses (Unit {0}) accepted _ w.result-is (calm_all g.S.Shelf _ _ c.place_at-at.result.drive.0 c.commit.ensures.kept w.in-Ok.ensures.answer.0)
+        | in-Err-Lost w ↦ said_cause fails loses (Unit {0}) (Over (ended.Lost 0 1)) _ w.result-is
             (failed_at g.S.Shelf _ _ c.place_at-at.result (place_of c.args.self.now.host.home) at_is c.commit.ensures.kept (subst (HasCommitCause (DriveFailures g.S.Shelf c.args.shelf.now c.commit.new.shelf c.place_at-at.result.drive.0) c.in-Some.database c.args.next) w.in-Err-Lost.field-0-is w.in-Err-Lost.ensures.answer.1).0, refl, refl)
-        | in-Err-TooLong w ↦ said_cause fails loses (refusing (ReplicaFull w.in-Err-TooLong.fault.bytes w.in-Err-TooLong.fault.room)) _ w.result-is (λ drive. ap (λ (s : g.row.S.Denot). g.S.Shelf.faults s (OnDrive drive)) (rw w.in-Err-TooLong.field-0-is at w.in-Err-TooLong.ensures.counted))
-        | in-Err-Spent w ↦ said_cause fails loses (Over ended.Spent) _ w.result-is (λ drive. ap (λ (s : g.row.S.Denot). g.S.Shelf.faults s (OnDrive drive)) (rw w.in-Err-Spent.field-0-is at w.in-Err-Spent.ensures.counted))
+        | in-Err-TooLong w ↦ said_cause fails loses (Unit {0}) (refusing (ReplicaFull w.in-Err-TooLong.fault.bytes w.in-Err-TooLong.fault.room)) _ w.result-is (λ drive. ap (λ (s : g.row.S.Denot). g.S.Shelf.faults s (OnDrive drive)) (rw w.in-Err-TooLong.field-0-is at w.in-Err-TooLong.ensures.counted))
+        | in-Err-Spent w ↦ said_cause fails loses (Unit {0}) (Over ended.Spent) _ w.result-is ((λ drive. ap (λ (s : g.row.S.Denot). g.S.Shelf.faults s (OnDrive drive)) (rw w.in-Err-Spent.field-0-is at w.in-Err-Spent.ensures.counted)), tt)
       ];
   free = λ on has. absurd (no_creation (key_of c.args.self.now.host) (Changed (key_of c.args.self.now.host) (MakeStripe volume slice)) (λ is. absurd (cc (is))) has);
   host = search rules;

@@ -16,7 +16,7 @@ use Rattle.mdv_engine.specs.Ends.{CarriesOut, LeavesMade}
 use Rattle.mdv_engine_law.specs.Efforts.{LossCalls, blocks_of, calls_of, wanting_calls}
 use Rattle.mdv_shelf.specs.Made.{made_of}
 use Rattle.mdv_engine_law.specs.Replies.{IsLost}
-use Rattle.mdv_engine_law.specs.Commands.{MayLose, blamed}
+use Rattle.mdv_engine_law.specs.Commands.{MayLose, MaySpend, blamed}
 use Rattle.mdv_shelf.specs.Shelves.{DriveFailures}
 use Rattle.mdv_engine.proofs.Counting.{calm_given, command_calls, command_most, done_told, replied_calls, telling_most, done_then, fault_then, fault_told, lost_told, none_at_most, not_lost, quiet_answer, quiet_told, spent_told, told_lost, told_ok, unlooked_told, unwritten_told, wanting_told, whole_or_lost}
 use Rattle.mdv_engine.proofs.engine.Engine.exec.Goals as goal
@@ -87,7 +87,7 @@ returns-clause-answer g c = record {
       let calls = DriveFailures g.B.Shelf c.args.bench.now c.carry_out-answer.new.shelf in
       let all = DriveFailures g.B.Shelf c.args.bench.now c.tell.new.bench in
       let within : AreWithin calls all = λ drive. within_calm _ _ _ (c.tell.ensures.counted.drives drive) in
-      command_cause (blamed calls host c.args.self.now.state c.args.command.now) (blamed all host c.args.self.now.state c.args.command.now) (MayLose calls host c.args.command.now) (MayLose all host c.args.command.now) _ _ c.tell.ensures.answers.0
+      command_cause (blamed calls host c.args.self.now.state c.args.command.now) (blamed all host c.args.self.now.state c.args.command.now) (MayLose calls host c.args.command.now) (MayLose all host c.args.command.now) (MaySpend c.args.command.now) _ _ c.tell.ensures.answers.0
       (blamed_more calls all within host c.args.self.now.state c.args.command.now) (lose_more calls all within host c.args.command.now)
       (calm_before _ _ _ (c.carry_out-answer.ensures.kept.1.others OnReplies (λ is. absurd (cc (is))))).some
       c.carry_out-answer.result c.tell.result c.carry_out-answer.ensures.answer.cause c.tell.ensures.answers.1;

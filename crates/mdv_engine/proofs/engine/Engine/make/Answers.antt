@@ -1,6 +1,6 @@
 use Rattle.std.proofs.Common.{◌∙◌, refl, subst, sym}
 use Rattle.mdv_engine_law.specs.Commands as came
-use Rattle.mdv_engine_law.specs.Commands.{MayLose, blamed}
+use Rattle.mdv_engine_law.specs.Commands.{MayLose, MaySpend, blamed}
 use Rattle.mdv_engine.specs.Below.{Create, Created, key_of}
 use Rattle.mdv_engine_law.proofs.Allowed.{allowed_none, allowed_room, allowed_clean}
 use Rattle.mdv_engine_law.proofs.Plain.{refusal_plain}
@@ -34,7 +34,7 @@ pub returns-in-Some-clause-answer : goal.returns-in-Some-clause-answer
 returns-in-Some-clause-answer g c =
     let calls = DriveFailures g.S.Shelf c.args.shelf.now c.args.shelf.now in
     let asked = Create c.args.slice c.args.force in
-    refused_answer calls asked c.args.self.now c.requires.well c.in-Some.refusal (judged_said (blamed calls c.args.self.now.host c.args.self.now.state asked) (MayLose calls c.args.self.now.host asked) c.in-Some.refusal (creation_judged (case_at c.args.self.now) c.args.slice c.args.force c.in-Some.refusal (sym c.creation_refusal.ensures ∙ c.in-Some.is)) (λ drive. refl)) (refusal_plain (case_at c.args.self.now) (Create c.args.slice c.args.force) c.in-Some.refusal (sym c.creation_refusal.ensures ∙ c.in-Some.is))
+    refused_answer calls asked c.args.self.now c.requires.well c.in-Some.refusal (judged_said (blamed calls c.args.self.now.host c.args.self.now.state asked) (MayLose calls c.args.self.now.host asked) (MaySpend asked) c.in-Some.refusal (creation_judged (case_at c.args.self.now) c.args.slice c.args.force c.in-Some.refusal (sym c.creation_refusal.ensures ∙ c.in-Some.is)) (λ drive. refl)) (refusal_plain (case_at c.args.self.now) (Create c.args.slice c.args.force) c.in-Some.refusal (sym c.creation_refusal.ensures ∙ c.in-Some.is))
 
 pub returns-in-None-clause-end : goal.returns-in-None-clause-end
 returns-in-None-clause-end g c = c.make_database.ensures.end c.args.slice c.args.force (sym c.creation_refusal.ensures ∙ c.in-None.is)

@@ -8,7 +8,7 @@ use Rattle.mdv_engine.proofs.Committing.{refused_line, refused_plain}
 use Rattle.mdv_engine_law.specs.declared.answer.Outcome.TheVariants as outcome
 use Rattle.mdv_engine.proofs.Counting.{refused_counted}
 use Rattle.mdv_engine.proofs.Ending.{command_ends, refused_answer}
-use Rattle.mdv_engine_law.specs.Commands.{MayLose, blamed}
+use Rattle.mdv_engine_law.specs.Commands.{MayLose, MaySpend, blamed}
 use Rattle.mdv_engine.proofs.engine.Engine.make_stripe.Goals as goal
 
 pub returns-in-Ok-clause-end : goal.returns-in-Ok-clause-end
@@ -28,7 +28,7 @@ pub returns-in-Err-clause-answer : goal.returns-in-Err-clause-answer
 returns-in-Err-clause-answer g c =
     let calls = DriveFailures g.S.Shelf c.args.shelf.now c.args.shelf.now in
     let asked = command.MakeStripe c.args.volume c.args.slice in
-    refused_answer calls asked c.args.self.now c.requires.well c.in-Err.refusal (change_cause c.args.self.now.host c.args.self.now.state (MakeStripe c.args.volume c.args.slice) (blamed calls c.args.self.now.host c.args.self.now.state asked) (MayLose calls c.args.self.now.host asked) (λ drive. refl) c.in-Err.refusal c.in-Err.ensures.err) (refused_plain c.args.self.now.host c.args.self.now.state c.args.volume c.args.slice c.in-Err.refusal c.in-Err.ensures.err)
+    refused_answer calls asked c.args.self.now c.requires.well c.in-Err.refusal (change_cause c.args.self.now.host c.args.self.now.state (MakeStripe c.args.volume c.args.slice) (blamed calls c.args.self.now.host c.args.self.now.state asked) (MayLose calls c.args.self.now.host asked) (MaySpend asked) (λ drive. refl) c.in-Err.refusal c.in-Err.ensures.err) (refused_plain c.args.self.now.host c.args.self.now.state c.args.volume c.args.slice c.in-Err.refusal c.in-Err.ensures.err)
 
 pub returns-in-Err-clause-counted : goal.returns-in-Err-clause-counted
 returns-in-Err-clause-counted g c =

@@ -38,7 +38,7 @@ returns-in-Err-clause-moments g c = moments_still c.args.self.now.host (ToSee (k
 pub returns-in-Err-clause-answer : goal.returns-in-Err-clause-answer
 returns-in-Err-clause-answer g c =
     refused_answer (DriveFailures g.S.Shelf c.args.shelf.now c.values.new.shelf) (command.Read c.args.volume c.args.at c.args.count) c.args.self.now c.requires.well c.in-Err.refusal
-    (unread_cause c.args.self.now.host c.args.self.now.state c.args.volume c.args.at c.args.count (DriveFailures g.S.Shelf c.args.shelf.now c.values.new.shelf) ⊥ c.in-Err.refusal c.in-Err.ensures.err)
+    (unread_cause c.args.self.now.host c.args.self.now.state c.args.volume c.args.at c.args.count (DriveFailures g.S.Shelf c.args.shelf.now c.values.new.shelf) ⊥ ⊥ c.in-Err.refusal c.in-Err.ensures.err)
     (unread_plain c.args.self.now.host c.args.self.now.state c.args.volume c.args.at c.args.count (DriveFailures g.S.Shelf c.args.shelf.now c.values.new.shelf) c.in-Err.refusal c.in-Err.ensures.err)
 
 pub returns-in-Err-clause-end : goal.returns-in-Err-clause-end

@@ -41,7 +41,7 @@ returns-in-Err-clause-end g c =
 
 pub returns-in-Err-clause-answer : goal.returns-in-Err-clause-answer
 returns-in-Err-clause-answer g c =
-    rw (c.write_blocks.ensures.same.0) (refused_answer (DriveFailures g.S.Shelf c.args.shelf.now c.write_blocks.new.shelf) (command.Write c.args.volume c.args.at c.args.block.now) c.args.self.now c.requires.well c.in-Err.refusal (unwritten_cause c.args.self.now.host c.args.self.now.state c.args.volume c.args.at 1 (DriveFailures g.S.Shelf c.args.shelf.now c.write_blocks.new.shelf) ⊥ c.in-Err.refusal c.in-Err.ensures.err) (unwritten_plain c.args.self.now.host c.args.self.now.state c.args.volume c.args.at 1 (DriveFailures g.S.Shelf c.args.shelf.now c.write_blocks.new.shelf) c.in-Err.refusal c.in-Err.ensures.err))
+    rw (c.write_blocks.ensures.same.0) (refused_answer (DriveFailures g.S.Shelf c.args.shelf.now c.write_blocks.new.shelf) (command.Write c.args.volume c.args.at c.args.block.now) c.args.self.now c.requires.well c.in-Err.refusal (unwritten_cause c.args.self.now.host c.args.self.now.state c.args.volume c.args.at 1 (DriveFailures g.S.Shelf c.args.shelf.now c.write_blocks.new.shelf) ⊥ ⊥ c.in-Err.refusal c.in-Err.ensures.err) (unwritten_plain c.args.self.now.host c.args.self.now.state c.args.volume c.args.at 1 (DriveFailures g.S.Shelf c.args.shelf.now c.write_blocks.new.shelf) c.in-Err.refusal c.in-Err.ensures.err))
 
 pub returns-in-Ok-clause-counted : goal.returns-in-Ok-clause-counted
 returns-in-Ok-clause-counted g c = record { exactly = c.in-Ok.ensures.counted.done; few = omega arith }
