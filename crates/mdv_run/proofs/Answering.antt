@@ -28,7 +28,7 @@ use Rattle.mdv_shelf.proofs.Made.{IsToo}
 use Rattle.mdv_engine_law.proofs.Efforts.{line_too, none_too, replied_too}
 use Rattle.mdv_engine_law.proofs.Staying.{stays_still}
 use Rattle.mdv_engine_law.proofs.Widening.{AreWithin}
-use Rattle.mdv_run_law.specs.Run.{IsQuiet, TextCalls}
+use Rattle.mdv_run_law.specs.Run.{AreSynced, IsQuiet, TextCalls}
 use Rattle.mdv_engine.specs.Counts.{IsQuietRefusal}
 use Rattle.mdv_engine_law.specs.Standing.{LeavesDone, LineWrites, TurnMoment, WritesOnly}
 use Rattle.mdv_engine_law.specs.declared.answer.Answer.TheVariants.{Said, Over as Ends}
@@ -76,14 +76,16 @@ loud_ok failed given (inr cut) quiet = subst IsQuietRefusal cut.0 quiet
 
 -- a line that was carried out is answered
 pub line_executed : (text : List ℕ) (spelled : Spelled) → IsLine text spelled → (outcomes : Outcomes) (replies : Type 0) (made : Made) (host : Host) (old new : Memory) (given : Reply) (t u : Tale) → Executed outcomes replies made host spelled old new given t u → LineWrites host spelled old t u
-    → (IsQuietRefusal given → KeptOutside nowhere t u) → (given ≡ reply.Ok → (command : Command) → spelled ≡ words.Exec command → LeavesDone host old command u) → LineAnswered outcomes replies made host text old new given t u
-line_executed text spelled is outcomes replies made host old new given t u done writes unwritten leaves = record {
+    → (IsQuietRefusal given → KeptOutside nowhere t u) → (given ≡ reply.Ok → (command : Command) → spelled ≡ words.Exec command → LeavesDone host old command u) → (given ≡ reply.Ok → spelled ≡ Boot → AreSynced host outcomes u) → LineAnswered outcomes replies made host text old new given t u
+line_executed text spelled is outcomes replies made host old new given t u done writes unwritten leaves synced = record {
   answer = done.answer;
   done = inr (inl (spelled, is, done.carried));
   calls = inr (inl (spelled, is, done.effort));
   writes = inr (spelled, is, writes);
   unwritten = λ on quiet. unwritten (quiet_reply replies done.answer given done.replied.piece done.replied.as_told on quiet);
-  leaves = λ on ok command here. leaves (accepted_reply replies done.answer given done.replied.piece done.replied.as_told on ok) command (one_line text spelled (words.Exec command) is here);
+  leaves = λ on ok.
+      let told = accepted_reply replies done.answer given done.replied.piece done.replied.as_told on ok in
+      record { done = λ command here. leaves told command (one_line text spelled (words.Exec command) is here); synced = λ here. synced told (one_line text spelled Boot is here) };
   replied = done.replied;
 }
 

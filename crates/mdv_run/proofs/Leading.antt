@@ -125,7 +125,7 @@ led_on host script left old new t u ran = λ h known. let gone = ran.goes h know
 -- what its answer says of the drives, where it was told whole, and of each history
 record Tells (host : Host) (from : At) (then : Point) (answer : Answer) (next : Kept) : Type 0 where
   pub unwritten : IsQuiet answer → FromTo (KeptOutside nowhere) from.story then.story
-  pub leaves : answer ≡ accepted → FromTo (λ t u. NextLeaves host from.kept.memory from.script u) from.story then.story
+  pub leaves : answer ≡ accepted → FromTo (λ t u. NextLeaves (drive_failures from.counts then.counts) host from.kept.memory from.script u) from.story then.story
   pub leads : FromTo (LeadsOn host from.kept.memory next.memory) from.story then.story
 
 -- how one turn leads on: its answer is the next line's, by whatever counts each drive failed as often
@@ -200,7 +200,7 @@ leads_line now then r rose host old new any s more text before t u passes is nex
       (passage_of now then t u passes old new any s more done.replied.piece done.replied.is_told)
       (λ on. record {
         unwritten = λ quiet. from_to now then t u passes (KeptOutside nowhere) (done.unwritten on quiet);
-        leaves = λ ok. from_to now then t u passes (λ _ v. NextLeaves host old s v) (subst (λ (x : Script). NextLeaves host old x u) (sym is) (done.leaves on ok));
+        leaves = λ ok. from_to now then t u passes (λ _ v. NextLeaves (drive_failures now.counts then.counts) host old s v) (subst (λ (x : Script). NextLeaves (drive_failures now.counts then.counts) host old x u) (sym is) (done.leaves on ok));
         leads = from_to now then t u passes (LeadsOn host old new) (led on);
       }) done.replied.as_told;
 }

@@ -4,16 +4,13 @@ use Rattle.std.specs.Prelude.{◌≡◌, ℕ, Bool, true, List, ◌++◌, Option
 use Rattle.mdv_run.specs.Below.{Script, Tale, told, Answer, Reply, Host, Kept, Memory, kept_at, Replied, RunStatus, Panic, WriteFault, NoMemory, NumbersSpent, At, Counts, IsNextFront, LinesToldBy, LineTold, Runs, Stretch, IsAnswered, IsLeft, HasStatusCause}
 use Rattle.mdv_engine_law.specs.Answers.{accepted}
 use Rattle.mdv_engine_law.specs.Replies.{IsReplied}
-use Rattle.mdv_engine_law.specs.Standing.{LeavesDone}
 use Rattle.mdv_run_law.specs.Run.{IsQuiet}
 use Rattle.mdv_shelf.specs.Area.{KeptOutside, nowhere}
 use Rattle.mdv_shelf.specs.Story.{Moment, Story}
-use Rattle.mdv_words.specs.Line.{Exec, IsLine}
-use Rattle.mdv_words.specs.declared.command.Command.{Command}
 use Rattle.mdv_shelf.specs.Made.{Made}
 use Rattle.mdv_shelf.specs.Story.{Effort}
 use Rattle.mdv_engine_law.specs.Efforts.{replied_to}
-use Rattle.mdv_run_law.specs.Run.{EndsAt, IsLastShown, IsLostStatus, TextCalls, TextWrites, Over as IsOver}
+use Rattle.mdv_run_law.specs.Run.{EndsAt, IsLastShown, IsLostStatus, TextCalls, TextLeaves, TextWrites, Over as IsOver}
 use Rattle.mdv_engine_law.specs.declared.answer.Reply.TheVariants as reply
 use Rattle.mdv_run.specs.declared.session.Turn.{Turn}
 use Rattle.mdv_run.specs.declared.session.Turn.TheVariants.{On, Over}
@@ -26,7 +23,7 @@ pub record LineAnswered (outcomes : Outcomes) (replies : Type 0) (made : Made) (
   pub calls : TextCalls outcomes (replied_to answer made) host (kept_at old t) text answer (kept_at new u)
   pub writes : TextWrites host old text t u
   pub unwritten : IsReplied reply → IsQuiet answer → KeptOutside nowhere t u
-  pub leaves : IsReplied reply → answer ≡ accepted → (command : Command) → IsLine text (Exec command) → LeavesDone host old command u
+  pub leaves : IsReplied reply → answer ≡ accepted → TextLeaves outcomes host old text u
   pub replied : Replied replies answer reply t u
 
 -- how a run goes on with a reply

@@ -8,6 +8,7 @@ use Rattle.mdv_home.specs.Drives.{own_drives}
 use Rattle.mdv_home.specs.View.{own_view}
 use Rattle.mdv_name.specs.declared.geometry.Geometry.{Geometry}
 use Rattle.mdv_shelf.specs.Made.{Made, made_between}
+use Rattle.mdv_shelf.specs.Settle.{IsSynced}
 use Rattle.mdv_run_law.specs.Below.{Image, on_site, Rose, BadLine, LineTooLong, OutOfMemory, IsHome, Script, at_end, spent, too_long, line, Head, Part, OnDrive, OnReplies, Tale, told, replies_in, IsSound, Line, IsLine, IsFound, IsOpened, Answer, Host, site_of, Kept, IsSame, IsSameBeside, ComesTo, IsRebooted, IsTurnedDown, contents, unbooted}
 use Rattle.mdv_shelf.specs.Story.{Effort, Tally, Moment, Story, Mark, marked, AtEach, InTime, tale_of}
 use Rattle.mdv_engine_law.specs.Replies.{outcome_text, refusal_line, text_of}
@@ -22,7 +23,7 @@ use Rattle.mdv_engine_law.specs.Awake.{Happening}
 use Rattle.mdv_engine_law.specs.Standing.{IsKnown, LeavesDone, LineWrites, StandsAt}
 use Rattle.mdv_store_law.specs.Machine as machine
 use Rattle.mdv_volumes.specs.History.{History, history_after}
-use Rattle.mdv_words.specs.Line.{Exec}
+use Rattle.mdv_words.specs.Line.{Boot, Exec}
 use Rattle.mdv_words.specs.declared.command.Command.{Command}
 use Rattle.mdv_shelf.specs.Area.{KeptOutside, nowhere}
 use Rattle.mdv_store_law.specs.Site.{area_of}
@@ -189,24 +190,35 @@ pub record IsPassage (now : At) (piece : List ℕ) (later : At) : Type 0 where
   pub told : (s u : Story) → now.story ≡ Some s → later.story ≡ Some u → told (tale_of u) ≡ told (tale_of s) ++ piece
   pub reads : (u : Story) → later.story ≡ Some u → IsSame later.kept.content (contents (tale_of u))
 
--- What the next line of a script leaves that was told `ok`, where this was in memory: a write its blocks on the disk, with all that the drive was given before.
-abbrev pub NextLeaves : Host → Memory → Script → Tale → Type 0
-NextLeaves host memory (line text rest) u = (command : Command) → IsLine text (Exec command) → LeavesDone host memory command u
-NextLeaves host memory other u = Unit {0}
+-- of each of the host's own drives on which no call failed a crash leaves then what a read gives
+abbrev pub AreSynced : Host → Outcomes → Tale → Type 0
+AreSynced host calls u = (drive : DriveNo) → Contains host.own drive → ((calls drive.0).some → ⊥) → IsSynced drive.0 u
+
+-- What a line with this text leaves that was told `ok`, where its calls came out so and this was in memory: a write its blocks on the disk, with all that the drive was
+-- given before; and `boot` each of the host's own drives synced on which no call failed.
+pub record TextLeaves (calls : Outcomes) (host : Host) (memory : Memory) (text : List ℕ) (u : Tale) : Type 0 where
+  pub done : (command : Command) → IsLine text (Exec command) → LeavesDone host memory command u
+  pub synced : IsLine text Boot → AreSynced host calls u
+
+-- and the next line of a script
+abbrev pub NextLeaves : Outcomes → Host → Memory → Script → Tale → Type 0
+NextLeaves calls host memory (line text rest) u = TextLeaves calls host memory text u
+NextLeaves calls host memory other u = Unit {0}
 
 -- each history that is known before is led to one that is known behind
 abbrev pub Leads : Host → Memory → Memory → Tale → Tale → Type 0
 Leads host old new t u = (h : History) → IsKnown host old h t → machine.Goes history_after (Happening host) (λ es. Unit {0}) (λ g. StandsAt host g u) (λ es after. IsKnown host new after u) h
 
 -- A line that was answered, and whose reply was told whole: by as many calls as it takes, and one, by which no block was written but those that it may write, none where it was
--- refused for another cause than a failed call; and a write that was told `ok` is on the disk.
+-- refused for another cause than a failed call; and a write that was told `ok` is on the disk, and behind a `boot` that was told it the own drives are synced on which
+-- none of its calls failed.
 pub record LineTold (host : Host) (now : At) (piece : List ℕ) (later : At) : Type 0 where
   pub answer : Answer
   pub comes : NextLine host now.counts now.kept now.script answer later.counts later.kept later.script
   pub calls : NextCalls (drive_failures now.counts later.counts) (replied_to answer (made_between now.effort later.effort)) host now.kept now.script answer later.kept
   pub writes : FromTo (NextWrites host now.kept.memory now.script) now.story later.story
   pub unwritten : IsQuiet answer → FromTo (KeptOutside nowhere) now.story later.story
-  pub leaves : answer ≡ accepted → FromTo (λ t u. NextLeaves host now.kept.memory now.script u) now.story later.story
+  pub leaves : answer ≡ accepted → FromTo (λ t u. NextLeaves (drive_failures now.counts later.counts) host now.kept.memory now.script u) now.story later.story
   pub leads : FromTo (Leads host now.kept.memory later.kept.memory) now.story later.story
   pub said : IsSaid answer
   pub as_text : piece ≡ text_of answer

@@ -1,17 +1,15 @@
 -- What was told of a run by each of its moments, and where it was then: what is known of the drives and of each history at the last place between two lines, and what was done since.
-use Rattle.std.specs.Prelude.{◌≡◌, ◌⊎◌, ℕ, List, [], ◌++◌, Some, Contains}
-use Rattle.mdv_base.specs.declared.drive.DriveNo.{DriveNo}
+use Rattle.std.specs.Prelude.{◌≡◌, ◌⊎◌, ℕ, List, [], ◌++◌, Some}
 use Rattle.mdv_engine_law.specs.Answers.{accepted}
 use Rattle.mdv_engine_law.specs.Efforts.{BootCalls}
 use Rattle.mdv_shelf.specs.Failing.{Outcomes}
 use Rattle.mdv_engine_law.specs.Line.{Memory, asked_by}
 use Rattle.mdv_engine_law.specs.Standing.{BootedTo, WritesOnly}
 use Rattle.mdv_run_law.specs.Below.{Host, IsLine, IsRebooted, Kept, Script, Tale, contents, line, site_of, told}
-use Rattle.mdv_run_law.specs.Run.{At, Counts, FromTo, IsNextFront, IsPoint, LinesTold, Progress, RoseCalmly, StoryGoesOn, Stretch, behind_boot, drive_failures, started}
+use Rattle.mdv_run_law.specs.Run.{AreSynced, At, Counts, FromTo, IsNextFront, IsPoint, LinesTold, Progress, RoseCalmly, StoryGoesOn, Stretch, behind_boot, drive_failures, started}
 use Rattle.mdv_run_law.specs.Standing.{LinesMoment, RanTo}
 use Rattle.mdv_shelf.specs.Area.{KeptOutside}
 use Rattle.mdv_shelf.specs.Made.{made_between}
-use Rattle.mdv_shelf.specs.Settle.{IsSynced}
 use Rattle.mdv_shelf.specs.Story.{Moment, Story, tale_of}
 use Rattle.mdv_store_law.specs.Site.{area_of}
 use Rattle.mdv_words.specs.Line.{Exec}
@@ -40,10 +38,6 @@ pub record LinesToldBy (host : Host) (stretch : Stretch) (first : At) (told : Li
   pub ran : FromTo (RanTo host first.script first.kept.memory at.kept.memory at.script) first.story at.story
   pub work : (s : Story) → at.story ≡ Some s → AtWork host at (tale_of s) m.tale
   pub front : IsNextFront host at rest m
-
--- of each of the host's own drives on which no call failed a crash leaves then what a read gives
-abbrev pub AreSynced : Host → Outcomes → Tale → Type 0
-AreSynced host calls u = (drive : DriveNo) → Contains host.own drive → ((calls drive.0).some → ⊥) → IsSynced drive.0 u
 
 -- where the boot at a run's start, which began at t, has led: each history that the drives stood with is known with what is in memory, and the drives are synced
 pub record HasBroughtUp (host : Host) (calls : Outcomes) (memory : Memory) (t u : Tale) : Type 0 where

@@ -66,12 +66,12 @@ module _ (host : Host) (start : Counts) (m : Moment) (stretch : Stretch) (sound 
 
     next_settled : (now mid : At) (answer : Answer) (script more : Script) → NextLine host now.counts now.kept script answer mid.counts mid.kept more → IsSaid answer → ((drive_failures now.counts mid.counts drive).some → ⊥) → Stands host now.kept
         → (s u : Story) → now.story ≡ Some s → mid.story ≡ Some u → FromTo (NextWrites host now.kept.memory script) now.story mid.story → (IsQuiet answer → FromTo (KeptOutside nowhere) now.story mid.story)
-        → (answer ≡ accepted → FromTo (λ t u. NextLeaves host now.kept.memory script u) now.story mid.story) → IsSettledAt host sound drive b out (tale_of s) → IsSettledAt host sound drive b out (tale_of u)
+        → (answer ≡ accepted → FromTo (λ t u. NextLeaves (drive_failures now.counts mid.counts) host now.kept.memory script u) now.story mid.story) → IsSettledAt host sound drive b out (tale_of s) → IsSettledAt host sound drive b out (tale_of u)
     next_settled now mid answer at_end more comes said calm stands s u old new writes unwritten leaves settled = absurd comes
     next_settled now mid answer (spent n c) more comes said calm stands s u old new writes unwritten leaves settled = absurd comes
     next_settled now mid answer (too_long rest) more comes said calm stands s u old new writes unwritten leaves settled = still_settled host sound drive b out (tale_of s) (tale_of u) (writes s u old new drive b refl) settled
     next_settled now mid answer (line text rest) more comes said calm stands s u old new writes unwritten leaves settled =
-        text_settled host sound drive b out (drive_failures now.counts mid.counts) calm text answer now.kept mid.kept stands comes.2 said (tale_of s) (tale_of u) (λ quiet. unwritten quiet s u old new) (λ ok. leaves ok s u old new) settled (writes s u old new)
+        text_settled host sound drive b out (drive_failures now.counts mid.counts) calm text answer now.kept mid.kept stands comes.2 said (tale_of s) (tale_of u) (λ quiet. unwritten quiet s u old new) (λ ok. (leaves ok s u old new).done) settled (writes s u old new)
 
     -- lines by which no call failed on its drive
     pub lines_settled : (bytes : ℕ) (now at : At) (front : List ℕ) → LinesTold host stretch bytes now front at → Stands host now.kept → start.drives drive ≤ now.counts.drives drive → (Rose (start.drives drive) (at.counts.drives drive) → ⊥) → IsThere now → IsThere at

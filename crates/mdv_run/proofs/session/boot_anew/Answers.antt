@@ -25,6 +25,7 @@ use Rattle.mdv_engine_law.proofs.Executing.{executed}
 use Rattle.mdv_base.proofs.Causes.{calm_before, within_calm}
 use Rattle.mdv_shelf.specs.Made.{and_more, made_of}
 use Rattle.mdv_shelf.proofs.Made.{with_more}
+use Rattle.mdv_shelf.proofs.Settled.{synced_still}
 use Rattle.mdv_engine_law.specs.Line.{contents}
 use Rattle.mdv_engine_law.specs.Home.{site_of}
 use Rattle.mdv_shelf.specs.Area.{KeptOutside}
@@ -79,7 +80,8 @@ returns-in-Ok-clause-end g c = λ text boots.
             (ap told (some_is _ up.0 quiet.0 up.1 quiet.1) ∙ quiet.2.quiet) up.2.rebooted end.2
             (boot_too (DriveFailures g.B.Shelf c.args.bench.now c.reboot.new.shelf) (DriveFailures g.B.Shelf c.args.bench.now c.reboot.new.shelf) (same_within (DriveFailures g.B.Shelf c.args.bench.now c.reboot.new.shelf)) (made_of g.B.Shelf c.args.bench.now c.reboot.new.shelf) (and_more 1 made) (with_more g.B.Shelf.calls g.B.Shelf.written _ _ _ 1 c.accept.ensures.counted.once) host accepted new (contents t) up.2.effort))
             (turn_writes host Nothing old _ _ (both_turns host c.reboot.new.self.host c.in-Ok.ensures.answer.host old new _ _ _ c.reboot.ensures.moments (λ s start. (let there = c.in-Ok.ensures.end s start in (there.0, there.1, there.2.booted refl))) c.accept.ensures.moments.each) t end.0 is end.1)
-            (λ quiet. absurd (loud_ok _ c.accept.result c.accept.ensures.answer.cause quiet)) (λ ok command same. absurd (cc (same)));
+            (λ quiet. absurd (loud_ok _ c.accept.result c.accept.ensures.answer.cause quiet)) (λ ok command same. absurd (cc (same)))
+            (λ ok same drive own calm. synced_still drive.0 up.0 end.0 (λ block. end.2.kept drive.0 block refl) (up.2.synced refl drive own (λ once. calm ((within_calm _ _ _ (c.accept.ensures.answer.calm drive.0)).some once))));
         ran = λ on more. booted_ran host old new t up.0 (up.2.booted refl) text more boots c.in-Ok.ensures.answer.fresh end.0 (accepted_turned host new _ c.accept.result up.0 end.0 end.2 on) (stays_still host up.0 end.0 end.2.kept) (accepted_ok host new _ c.accept.result up.0 end.0 end.2 on);
         knows = λ kept known. knows_kept host up.0 end.0 end.2.kept new (up.2.booted refl).knows;
       },
