@@ -201,12 +201,12 @@ module _ (given : Given) (drives : Geometry) (home : Home) (before more : List R
     -- no call had failed on its drive by the first read
     settled : (x : List ℕ) → MayLeave then_at told_again.drive (told_again.first + number) x → x ≡ last then_at told_again.drive (told_again.first + number)
     settled =
-        let lies = lies_made drives home more other sound is_home later volume its_here again to told_again.newest told_again.opened (run_map told_again.drive told_again.first told_again.count) told_again.lies in
+        let lies = lies_made drives home more other sound is_home later volume its_here again to told_again.newest told_again.opened (grown told_first.newest.table lasts_then).1 (run_map told_again.drive told_again.first told_again.count) told_again.lies in
         let place = run_is told_again.drive told_again.first told_again.count lies.at.drive.0 lies.at.start lies.at.blocks lies.is in
         let on = place.on_drive in
         let within = told_again.within in
         let many = place.as_many in
-        let calm = bears.answered lies.slice lies.at lies.may lies.has (omega (arith, within, many)) in
+        let calm = bears.answered lies.slice lies.at lies.may lies.has lies.plain (omega (arith, within, many)) in
         let is_own = ((view_is_own.seen drives home.host lies.slice lies.at).0 lies.has).1 in
         let out = subst (λ (d : ℕ). area_of (site_of (host_of drives home run.fresh)) d (told_again.first + number) ≡ false) on (spot_out drives home sound is_home final volume number spot) in
         let begun = run.moment.begins in

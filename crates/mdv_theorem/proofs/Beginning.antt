@@ -157,7 +157,7 @@ module _ (drives : Geometry) (home : Home) (before : List Ran) (script : Script)
 
     -- where it lies
     lie : LiesOn drives home before script sound is_home run volume (exchanges_by home before ++ here) (run_map its.drive its.first its.count)
-    lie = lies_there drives home before script sound is_home run volume here (drive_failures run.start by.booted) by.kept place.at.kept by.boots Any place.upto its.newest its.opened (run_map its.drive its.first its.count) its.lies
+    lie = lies_there drives home before script sound is_home run volume here (drive_failures run.start by.booted) by.kept place.at.kept by.boots Any place.upto its.newest its.opened plan (run_map its.drive its.first its.count) its.lies
 
     same_blocks : its.count ≡ lie.at.blocks
     same_blocks = (run_is its.drive its.first its.count lie.at.drive.0 lie.at.start lie.at.blocks lie.is).as_many
@@ -182,7 +182,7 @@ module _ (drives : Geometry) (home : Home) (before : List Ran) (script : Script)
     begins_with =
         let within = its.within in
         let many = same_blocks in
-        record { slice = lie.slice; may = lie.may; at = lie.at; has = lie.has; within = omega (arith, within, many); held = refl }
+        record { slice = lie.slice; may = lie.may; at = lie.at; has = lie.has; plain = lie.plain; within = omega (arith, within, many); held = refl }
 
     block_begins : Begins drives home run.made volume number block (exchanges_by home before ++ here)
     block_begins = (_, begins_with, value)

@@ -1,5 +1,5 @@
 -- The volumes of a table that changes made: each change made one, and each of them was made by one, on its slice.
-use Rattle.std.proofs.Common.{◌≡◌, ◌⊎◌, inl, inr, ⊎_elim, ℕ, ◌+◌, Bool, true, false, nat_lt, if◌then◌else◌, List, [], ◌∷◌, Contains, refl, sym, ◌∙◌, ap, subst, arith}
+use Rattle.std.proofs.Common.{◌≡◌, ◌⊎◌, inl, inr, ⊎_elim, ℕ, ◌+◌, Bool, true, false, nat_lt, if◌then◌else◌, List, [], ◌∷◌, Contains, refl, sym, ◌∙◌, ap, subst, arith, Some}
 use Rattle.std.proofs.lemmas.List.Elements.{All-contains, All-contains_itself}
 use Rattle.mdv_base.specs.declared.drive.SliceName.{SliceName}
 use Rattle.mdv_base.specs.declared.name.VolId.{VolId}
@@ -12,6 +12,7 @@ use Rattle.mdv_store_law.specs.Log.{AreMade}
 use Rattle.mdv_table.specs.Change.{IsAfter, blocks_at}
 use Rattle.mdv_table.specs.Slices.{IsSound}
 use Rattle.mdv_table.specs.Volume.{kind_slices, stripe_on}
+use Rattle.mdv_table.specs.Table.{IsKindOf}
 use Rattle.mdv_table.specs.Volumes.{HasVolume, with_volume}
 use Rattle.mdv_table.specs.declared.change.Change.{Change}
 use Rattle.mdv_table.specs.declared.change.Change.TheVariants.{MakeStripe}
@@ -92,6 +93,14 @@ module _ (g : Geometry) where
             let before = made_by changes made.0 volume of made.1 (old, has.1) in
             record { slice = before.slice; change = contains_behind (MakeStripe other its) (MakeStripe volume before.slice) changes before.change; is = before.is }
       ]
+
+  -- its slice isn't set aside for replicas
+  pub stripe_plain : (volume : VolId) (slice : SliceName) (at : SliceAt) → IsSound g → IsKindOf g (stripe volume slice).kind → HasSlice g.slices slice at → at.db ≡ false
+  stripe_plain volume slice at sound kind has =
+      let its = kind.component in
+      let both : Some its.at ≡ Some at = sym ((slice_at-some g slice its.at sound).1 its.has) ∙ (slice_at-some g slice at sound).1 has in
+      let same : its.at ≡ at = cc (both) in
+      subst (λ (a : SliceAt). a.db ≡ false) same its.whole.plain
 
   -- where it lies
   pub stripe_map : (volume : VolId) (slice : SliceName) (v : Map) → IsSound g → IsKindMap g (stripe volume slice).kind v → (at : SliceAt) × HasSlice g.slices slice at × (v ≡ run_map at.drive.0 at.start at.blocks)

@@ -1,6 +1,6 @@
 -- Where a volume lies that a line of a run finds in the open table: on the slice on which a line before it may have made it, and on which each line made it that was told `ok`.
-use Rattle.std.proofs.Common.{◌≡◌, inl, inr, ℕ, List, [], ◌∷◌, ◌++◌, Some, Contains, refl, sym, ◌∙◌, ap, subst}
-use Rattle.std.proofs.lemmas.List.Elements.{Contains-append_cases, Contains-append_left, Contains-append_right}
+use Rattle.std.proofs.Common.{◌≡◌, inl, inr, ℕ, List, [], ◌∷◌, ◌++◌, Some, Contains, refl, sym, ◌∙◌, ap, subst, false}
+use Rattle.std.proofs.lemmas.List.Elements.{All-contains, Contains-append_cases, Contains-append_left, Contains-append_right}
 use Rattle.mdv_engine_law.specs.Answers.{accepted}
 use Rattle.mdv_engine_law.specs.Commands.{Effect, IsAllowed, case_of}
 use Rattle.mdv_engine_law.specs.Line.{IsRebooted, Kept, Memory, contents}
@@ -20,6 +20,7 @@ use Rattle.mdv_run_law.proofs.Extents.{SeesHome}
 use Rattle.mdv_shelf.specs.Failing.{Outcomes}
 use Rattle.mdv_store_law.specs.Steps.{next_newest}
 use Rattle.mdv_table.specs.Change.{IsAfter, table_after}
+use Rattle.mdv_table.specs.Table.{IsKindOf, IsPlanOf}
 use Rattle.mdv_table.specs.Volumes.{HasVolume}
 use Rattle.mdv_table.specs.declared.change.Change.TheVariants.{MakeStripe}
 use Rattle.mdv_table.specs.declared.plan.Plan.{Plan}
@@ -28,7 +29,7 @@ use Rattle.mdv_words.specs.declared.command.Command.TheVariants as command
 use Rattle.mdv_theorem.specs.Exchanges.{Asks, Exchange, IsTold, MayBeMade, exchanges_by}
 use Rattle.mdv_theorem.specs.Running.{Running}
 use Rattle.mdv_theorem.specs.Words.{MayLie, MayTakeAway}
-use Rattle.mdv_theorem.proofs.Changes.{HasStripe, has_new, one_slice, stripe, stripe_map, stripe_stays, was_there}
+use Rattle.mdv_theorem.proofs.Changes.{HasStripe, has_new, one_slice, stripe, stripe_map, stripe_plain, stripe_stays, was_there}
 use Rattle.mdv_theorem.proofs.Found.{Found, stripe_found}
 use Rattle.mdv_theorem.proofs.Holding.{holds_boot, holds_steps, open_holds}
 use Rattle.mdv_theorem.proofs.Lines.{never_in}
@@ -82,6 +83,7 @@ module _ (drives : Geometry) (home : Home) (before : List Ran) (script : Script)
       pub may : MayLie volume slice all
       pub at : SliceAt
       pub has : HasSlice host.drives.slices slice at
+      pub plain : at.db ≡ false
       pub is : v ≡ run_map at.drive.0 at.start at.blocks
 
   -- a making that was done
@@ -148,12 +150,13 @@ module _ (drives : Geometry) (home : Home) (before : List Ran) (script : Script)
     only_since newest opened of slice has is old since parts stays other elsewhere among =
         only_there newest opened of slice has is other elsewhere (subst (λ (l : List Exchange). Contains l other) (sym parts) (Contains-append_right old since other among))
 
-    pub lies_there : (newest : Newest) → kept.memory.opened ≡ Some newest → (v : Map) → IsMapOf host.drives newest.table volume v → LiesOn lines v
-    lies_there newest opened v lies =
+    pub lies_there : (newest : Newest) → kept.memory.opened ≡ Some newest → IsPlanOf host.drives newest.table.plan → (v : Map) → IsMapOf host.drives newest.table volume v → LiesOn lines v
+    lies_there newest opened plan v lies =
         let made = now_made newest opened lies.of lies.has in
+        let kind = All-contains (λ (w : Volume). IsKindOf host.drives w.kind) newest.table.plan.volumes lies.of plan.kinds lies.has.0 in
         let at = stripe_map host.drives volume made.slice v host_sound (subst (λ (w : Volume). IsKindMap host.drives w.kind v) made.is lies.kind) in
-        record { slice = made.slice; may = record { made = made.made; asked = made.asked; may = made.may; only = only_since newest opened lies.of made.slice lies.has made.is }; at = at.0; has = at.1; is = at.2 }
+        record { slice = made.slice; may = record { made = made.made; asked = made.asked; may = made.may; only = only_since newest opened lies.of made.slice lies.has made.is }; at = at.0; has = at.1; plain = stripe_plain host.drives volume made.slice at.0 host_sound (subst (λ (w : Volume). IsKindOf host.drives w.kind) made.is kind) at.1; is = at.2 }
 
   -- where the run has come to a line
-  pub lies_made : (here : List Exchange) (one : Exchange) (at : Reached run here one) (newest : Newest) → at.kept.memory.opened ≡ Some newest → (v : Map) → IsMapOf host.drives newest.table volume v → LiesOn (exchanges_by home before ++ here) v
-  lies_made here one at newest opened v lies = lies_there here at.booted at.first at.kept at.boots (Failed run) at.steps newest opened v lies
+  pub lies_made : (here : List Exchange) (one : Exchange) (at : Reached run here one) (newest : Newest) → at.kept.memory.opened ≡ Some newest → IsPlanOf host.drives newest.table.plan → (v : Map) → IsMapOf host.drives newest.table volume v → LiesOn (exchanges_by home before ++ here) v
+  lies_made here one at newest opened plan v lies = lies_there here at.booted at.first at.kept at.boots (Failed run) at.steps newest opened plan v lies

@@ -31,9 +31,9 @@ reads_are_told drives home before script is_home run calm one earlier volume at 
     let there = it_stays drives home before script sound is_home run answered.here one to calm begun.shown volume among begun.shows in
     let plan = there.is.has.is.of_geometry in
     let of = there.so.1.of in
-    let lies = lies_made drives home before script sound is_home run volume answered.here one to there.newest there.opened there.so.0 there.so.1 in
+    let lies = lies_made drives home before script sound is_home run volume answered.here one to there.newest there.opened plan there.so.0 there.so.1 in
     let may = subst (λ (l : List Exchange). MayLie volume lies.slice l) (sym answered.behind) lies.may in
-    let good = slice_readable (Failed run) (at + count) lies.at there.so.0 lies.is (copies.within lies.slice lies.at may lies.has) (copies.answered lies.slice lies.at may lies.has) in
+    let good = slice_readable (Failed run) (at + count) lies.at there.so.0 lies.is (copies.within lies.slice lies.at may lies.has lies.plain) (copies.answered lies.slice lies.at may lies.has lies.plain) in
     let found = find_is there.newest.table.plan.volumes volume of plan.numbers.ascending there.so.1.has in
     let size = kind_size (Failed run) (at + count) its_host.drives of.kind there.so.0 there.so.1.kind good in
     let free = read_free to.kept.memory.opened there.newest volume of at count there.opened found size few in

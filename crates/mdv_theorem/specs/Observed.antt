@@ -1,5 +1,5 @@
 -- The theorem in a user's words: of scripts, replies and drives that answer, with no word of replicas, numbers or histories.
-use Rattle.std.specs.Prelude.{◌≡◌, ◌⊎◌, ◌↔◌, ◌+◌, ◌≤◌, ℕ, Bool, None, List, ◌∷◌, ◌++◌, length, Option, Contains}
+use Rattle.std.specs.Prelude.{◌≡◌, ◌⊎◌, ◌↔◌, ◌+◌, ◌≤◌, ℕ, Bool, None, List, ◌∷◌, ◌++◌, length, Option, Contains, false}
 use Rattle.mdv_base.specs.Causes.{Rose}
 use Rattle.mdv_base.specs.declared.drive.SliceName.{SliceName}
 use Rattle.mdv_base.specs.declared.name.VolId.{VolId}
@@ -75,16 +75,16 @@ VolumesStay =
     → Answered run one earlier → IsThere volume earlier → Asks one command → IsOn volume command
     → (refusal : Refusal) → IsTold one (refusal_line refusal) → (refusal ≡ NoDatabase → ⊥) × (refusal ≡ NoSuchVolume → ⊥)
 
--- The volume keeps its copies of its first so many blocks in this run: each slice of the host on which it may lie by these lines has so many, on a drive that answers. Of a slice that
--- the host hasn't it asks nothing.
+-- The volume keeps its copies of its first so many blocks in this run: each slice of the host that isn't marked `db`, and on which it may lie by these lines, has so many, on a
+-- drive that answers. Of a slice that the host hasn't it asks nothing.
 pub record KeepsCopies {drives : Geometry} {home : Home} {before : List Ran} {script : Script} (run : Running drives home before script) (volume : VolId) (lines : List Exchange) (end : ℕ) : Type 0 where
-  pub within : (slice : SliceName) (at : SliceAt) → MayLie volume slice lines → HasSlice (own_view drives home.host).slices slice at → end ≤ at.blocks
-  pub answered : (slice : SliceName) (at : SliceAt) → MayLie volume slice lines → HasSlice (own_view drives home.host).slices slice at → HasAnswered run at.drive
+  pub within : (slice : SliceName) (at : SliceAt) → MayLie volume slice lines → HasSlice (own_view drives home.host).slices slice at → at.db ≡ false → end ≤ at.blocks
+  pub answered : (slice : SliceName) (at : SliceAt) → MayLie volume slice lines → HasSlice (own_view drives home.host).slices slice at → at.db ≡ false → HasAnswered run at.drive
 
--- The volume bears the losses of drives in this run, so that none takes the value of one of its first so many blocks back: each slice of the host on which it may lie by these lines, and
--- that has so many, is on a drive that answered.
+-- The volume bears the losses of drives in this run, so that none takes the value of one of its first so many blocks back: each slice of the host that isn't marked
+-- `db`, on which it may lie by these lines, and that has so many, is on a drive that answered.
 pub record Bears {drives : Geometry} {home : Home} {before : List Ran} {script : Script} (run : Running drives home before script) (volume : VolId) (lines : List Exchange) (end : ℕ) : Type 0 where
-  pub answered : (slice : SliceName) (at : SliceAt) → MayLie volume slice lines → HasSlice (own_view drives home.host).slices slice at → end ≤ at.blocks → HasAnswered run at.drive
+  pub answered : (slice : SliceName) (at : SliceAt) → MayLie volume slice lines → HasSlice (own_view drives home.host).slices slice at → at.db ≡ false → end ≤ at.blocks → HasAnswered run at.drive
 
 -- values of so many blocks, from that one on
 pub record AreValuesOf (at count : ℕ) (reply : List ℕ) : Type 0 where

@@ -1,6 +1,6 @@
 -- What lines show of a database and of a volume: that they are there, that the volume's blocks may be read, where it lies, and what its blocks may have. Further commands and kinds of
 -- volumes widen these words.
-use Rattle.std.specs.Prelude.{◌≡◌, ◌⊎◌, ◌+◌, ◌<◌, ℕ, List, ◌∷◌, ◌++◌, Contains}
+use Rattle.std.specs.Prelude.{◌≡◌, ◌⊎◌, ◌+◌, ◌<◌, ℕ, List, ◌∷◌, ◌++◌, Contains, false}
 use Rattle.mdv_base.specs.declared.drive.SliceName.{SliceName}
 use Rattle.mdv_base.specs.declared.name.VolId.{VolId}
 use Rattle.mdv_engine_law.specs.Replies.{ok_line}
@@ -83,12 +83,14 @@ pub record MayLie (volume : VolId) (slice : SliceName) (lines : List Exchange) :
   pub only : (before since : List Exchange) → lines ≡ before ++ since → ((one : Exchange) → Contains since one → MayTakeAway volume one → ⊥)
       → (other : Exchange) (elsewhere : SliceName) → Contains since other → Asks other (MakeStripe volume elsewhere) → IsTold other ok_line → elsewhere ≡ slice
 
--- what the new drives, which held this, held in that block of the volume: in that block of a slice of the host on which the volume may lie by these lines
+-- what the new drives, which held this, held in that block of the volume: in that block of a slice of the host that isn't marked `db`, on which the
+-- volume may lie by these lines
 pub record HeldAtFirst (drives : Geometry) (home : Home) (made : Image) (lines : List Exchange) (volume : VolId) (number : ℕ) (bytes : List ℕ) : Type 0 where
   pub slice : SliceName
   pub may : MayLie volume slice lines
   pub at : SliceAt
   pub has : HasSlice (own_view drives home.host).slices slice at
+  pub plain : at.db ≡ false
   pub within : number < at.blocks
   pub held : bytes ≡ made at.drive.0 (at.start + number)
 

@@ -2,8 +2,9 @@ ghost use Rattle.mdv_theorem.specs.Observed.{BlocksBegin, DatabasesStay, ReadsAg
 ghost use Rattle.mdv_theorem.specs.Running.{RunsGoOn, RunsLiveOn};
 
 /// Whatever ran on the drives before, whatever failed and crashed then: a run whose script can be read and whose replies can be told ends with Panic only where its database's
-/// drive failed; a volume that was made, read or written stays; a read of it is told as long as it keeps its copies; and what it tells of a block is
-/// the last write that was acknowledged, or one that was issued later, and what an earlier read of the run told, or was written in between.
+/// drive failed; a volume that was made, read or written stays, and a read of it is told as long as it keeps its copies, both as long as the database's
+/// drive answers; and what it tells of a block is the last write that was acknowledged, or one that was issued later, and what an earlier read of the
+/// run told, or was written in between.
 pub fn runs_keep_their_word()
     ensures ends { RunsEnd }
     ensures there { VolumesStay }
