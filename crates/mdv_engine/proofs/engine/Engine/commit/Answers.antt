@@ -23,7 +23,8 @@ use Rattle.mdv_engine.proofs.Parts.{commit_goes, commit_goes_to, commit_opened, 
 use Rattle.mdv_words.specs.declared.command.Command.TheVariants as command
 use Rattle.mdv_engine.proofs.Counting.{committed_counted, counted_as}
 use Rattle.mdv_engine.proofs.Sites.{laid_open}
-use Rattle.mdv_engine.proofs.Drives.{calm_all, failed_at}
+use Rattle.mdv_dev.proofs.Failing.{calm_on}
+use Rattle.mdv_engine.proofs.Drives.{failed_at}
 use Rattle.mdv_engine.proofs.engine.Engine.commit.Goals as goal
 use Rattle.mdv_engine.proofs.engine.Engine.commit.Goals.{in-Ok, in-Err-Lost, in-Err-TooLong, in-Err-Spent}
 
@@ -62,7 +63,7 @@ returns-clause-end g c = λ volume slice is.
     elim c.match-commit.branch [
       | in-Ok w ↦
           end_as host memory volume slice _ _ accepted _ w.result-is _ _ (opened_as _ memory same _ _ w.in-Ok.ensures.answer.1) _
-          (committed_answer host _ c.requires.ready _ at_is memory volume slice next db opened chosen placed _ _ (commit_quiet _ _ _ _ _ _ c.commit.ensures.moments) w.in-Ok.ensures.answer.2.in_room _ (calm_all g.S.Shelf _ _ c.place_at-at.result.drive.0 c.commit.ensures.kept w.in-Ok.ensures.answer.0) w.in-Ok.ensures.answer.2.countable (commit_opened _ _ _ _ _ _ host.drives (Local host.home.host) (Some change) w.in-Ok.ensures.end))
+          (committed_answer host _ c.requires.ready _ at_is memory volume slice next db opened chosen placed _ _ (commit_quiet _ _ _ _ _ _ c.commit.ensures.moments) w.in-Ok.ensures.answer.2.in_room _ (calm_on g.S.Shelf _ _ c.place_at-at.result.drive.0 c.commit.ensures.kept w.in-Ok.ensures.answer.0) w.in-Ok.ensures.answer.2.countable (commit_opened _ _ _ _ _ _ host.drives (Local host.home.host) (Some change) w.in-Ok.ensures.end))
           (committed_carried host _ c.requires.ready _ at_is memory change next db opened chosen placed _ _ (commit_quiet _ _ _ _ _ _ c.commit.ensures.moments) (commit_opened _ _ _ _ _ _ host.drives (Local host.home.host) (Some change) w.in-Ok.ensures.end) (commit_goes_to _ _ _ _ _ _ host.drives (Local host.home.host) (Some change) w.in-Ok.ensures.end))
       | in-Err-Lost w ↦
           let failed = subst (HasCommitCause (DriveFailures g.S.Shelf c.args.shelf.now c.commit.new.shelf c.place_at-at.result.drive.0) db next) w.in-Err-Lost.field-0-is w.in-Err-Lost.ensures.answer.1 in
@@ -102,7 +103,7 @@ returns-clause-answer g c = λ volume slice. record {
       let loses = MayLose calls c.args.self.now.host (command.MakeStripe volume slice) in
       let at_is : c.place_at-at.result ≡ place_of c.args.self.now.host.home = c.place_at-at.ensures ∙ ap (λ (e : Engine). place_of e.host.home) c.self.view_is in
       elim c.match-commit.branch [
-        | in-Ok w ↦ said_cause fails loses (Unit {0}) accepted _ w.result-is (calm_all g.S.Shelf _ _ c.place_at-at.result.drive.0 c.commit.ensures.kept w.in-Ok.ensures.answer.0)
+        | in-Ok w ↦ said_cause fails loses (Unit {0}) accepted _ w.result-is (calm_on g.S.Shelf _ _ c.place_at-at.result.drive.0 c.commit.ensures.kept w.in-Ok.ensures.answer.0)
         | in-Err-Lost w ↦ said_cause fails loses (Unit {0}) (Over (ended.Lost 0 1)) _ w.result-is
             (failed_at g.S.Shelf _ _ c.place_at-at.result (place_of c.args.self.now.host.home) at_is c.commit.ensures.kept (subst (HasCommitCause (DriveFailures g.S.Shelf c.args.shelf.now c.commit.new.shelf c.place_at-at.result.drive.0) c.in-Some.database c.args.next) w.in-Err-Lost.field-0-is w.in-Err-Lost.ensures.answer.1).0, refl, refl)
         | in-Err-TooLong w ↦ said_cause fails loses (Unit {0}) (refusing (ReplicaFull w.in-Err-TooLong.fault.bytes w.in-Err-TooLong.fault.room)) _ w.result-is (λ drive. ap (λ (s : g.row.S.Denot). g.S.Shelf.faults s (OnDrive drive)) (rw w.in-Err-TooLong.field-0-is at w.in-Err-TooLong.ensures.counted))

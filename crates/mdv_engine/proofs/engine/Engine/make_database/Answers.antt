@@ -17,7 +17,8 @@ use Rattle.mdv_engine.proofs.Sites.{place_is}
 use Rattle.mdv_engine.proofs.Counting.{refused_counted}
 use Rattle.mdv_engine.proofs.Ending.{command_ends, lost_ends}
 use Rattle.mdv_engine.specs.Engine.{IsTableOf, case_at}
-use Rattle.mdv_engine.proofs.Drives.{calm_all, failed_at}
+use Rattle.mdv_dev.proofs.Failing.{calm_on}
+use Rattle.mdv_engine.proofs.Drives.{failed_at}
 use Rattle.mdv_engine.proofs.engine.Engine.make_database.Goals as goal
 
 -- what a creation that came to this answer, and left this in memory, is to be
@@ -140,7 +141,7 @@ returns-in-Err-Memory-clause-moments g c = moments_still c.args.self.now.host (T
 pub returns-in-Ok-clause-end : goal.returns-in-Ok-clause-end
 returns-in-Ok-clause-end g c = λ slice force free.
     command_ends _ c.args.self.now (Create slice force) outcome.Ok (record { host = c.args.self.now.host; state = _ }) _ _
-    (made _ _ _ c.self.view_is c.requires.ready c.place_at.result c.place_at.ensures c.requires.room c.requires.none c.requires.clean _ _ (create_quiet _ _ _ _ _ _ c.create.ensures.moments) c.in-Ok.database c.in-Ok.ensures.answer.1.is (create_safe _ _ _ _ _ _ _ c.in-Ok.ensures.end) slice force free (DriveFailures g.S.Shelf c.args.shelf.now c.create.new.shelf) (calm_all g.S.Shelf _ _ c.place_at.result.drive.0 c.create.ensures.kept c.in-Ok.ensures.answer.0))
+    (made _ _ _ c.self.view_is c.requires.ready c.place_at.result c.place_at.ensures c.requires.room c.requires.none c.requires.clean _ _ (create_quiet _ _ _ _ _ _ c.create.ensures.moments) c.in-Ok.database c.in-Ok.ensures.answer.1.is (create_safe _ _ _ _ _ _ _ c.in-Ok.ensures.end) slice force free (DriveFailures g.S.Shelf c.args.shelf.now c.create.new.shelf) (calm_on g.S.Shelf _ _ c.place_at.result.drive.0 c.create.ensures.kept c.in-Ok.ensures.answer.0))
     (carried _ _ _ c.self.view_is c.requires.ready c.place_at.result c.place_at.ensures c.requires.room c.requires.none c.requires.clean _ _ (create_quiet _ _ _ _ _ _ c.create.ensures.moments) c.in-Ok.database c.in-Ok.ensures.answer.1.is (create_safe _ _ _ _ _ _ _ c.in-Ok.ensures.end) (create_opened _ _ _ _ _ _ _ c.in-Ok.ensures.end c.in-Ok.ensures.answer.1.is) (create_goes_to _ _ _ _ _ _ _ c.in-Ok.ensures.end))
     (λ on u. tt)
 
@@ -158,13 +159,13 @@ returns-in-Err-Lost-clause-end g c = λ slice force free.
 
 pub returns-in-Err-Memory-clause-end : goal.returns-in-Err-Memory-clause-end
 returns-in-Err-Memory-clause-end g c = λ slice force free.
-    command_ends _ c.args.self.now (Create slice force) (outcome.Refused OutOfMemory) (record { host = c.args.self.now.host; state = _ }) _ _ (unbegun_made _ _ c.self.view_is _ _ (ap g.S.Shelf.tale (rw (c.in-Err-Memory.is ∙ ap Err c.in-Err-Memory.field-0-is) at c.create.ensures.counted)) slice force free (DriveFailures g.S.Shelf c.args.shelf.now c.create.new.shelf) (calm_all g.S.Shelf _ _ c.place_at.result.drive.0 c.create.ensures.kept (rw c.in-Err-Memory.field-0-is at c.in-Err-Memory.ensures.answer))) (unbegun _ _ c.self.view_is _ _ (ap g.S.Shelf.tale (rw (c.in-Err-Memory.is ∙ ap Err c.in-Err-Memory.field-0-is) at c.create.ensures.counted)))
+    command_ends _ c.args.self.now (Create slice force) (outcome.Refused OutOfMemory) (record { host = c.args.self.now.host; state = _ }) _ _ (unbegun_made _ _ c.self.view_is _ _ (ap g.S.Shelf.tale (rw (c.in-Err-Memory.is ∙ ap Err c.in-Err-Memory.field-0-is) at c.create.ensures.counted)) slice force free (DriveFailures g.S.Shelf c.args.shelf.now c.create.new.shelf) (calm_on g.S.Shelf _ _ c.place_at.result.drive.0 c.create.ensures.kept (rw c.in-Err-Memory.field-0-is at c.in-Err-Memory.ensures.answer))) (unbegun _ _ c.self.view_is _ _ (ap g.S.Shelf.tale (rw (c.in-Err-Memory.is ∙ ap Err c.in-Err-Memory.field-0-is) at c.create.ensures.counted)))
     (λ on u. tt)
 
 pub returns-in-Ok-clause-answer : goal.returns-in-Ok-clause-answer
 returns-in-Ok-clause-answer g c = λ slice force. record {
   plain = tt;
-  cause = (calm_all g.S.Shelf _ _ c.place_at.result.drive.0 c.create.ensures.kept c.in-Ok.ensures.answer.0);
+  cause = (calm_on g.S.Shelf _ _ c.place_at.result.drive.0 c.create.ensures.kept c.in-Ok.ensures.answer.0);
   free = λ on has. (c.requires.none, c.requires.clean);
   host = same_host _ _ c.self.view_is;
   well = record { table = new_well _ _ _ c.self.view_is c.requires.ready c.place_at.result c.place_at.ensures c.requires.room c.requires.none c.requires.clean _ _ (create_quiet _ _ _ _ _ _ c.create.ensures.moments) c.in-Ok.database c.in-Ok.ensures.answer.1.is c.in-Ok.ensures.answer.1.table };
@@ -194,7 +195,7 @@ returns-in-Err-Lost-clause-answer g c = λ slice force. record {
 pub returns-in-Err-Memory-clause-answer : goal.returns-in-Err-Memory-clause-answer
 returns-in-Err-Memory-clause-answer g c = λ slice force. record {
   plain = memory_plain;
-  cause = (calm_all g.S.Shelf _ _ c.place_at.result.drive.0 c.create.ensures.kept (rw c.in-Err-Memory.field-0-is at c.in-Err-Memory.ensures.answer));
+  cause = (calm_on g.S.Shelf _ _ c.place_at.result.drive.0 c.create.ensures.kept (rw c.in-Err-Memory.field-0-is at c.in-Err-Memory.ensures.answer));
   free = λ on has. (c.requires.none, c.requires.clean);
   host = same_host _ _ c.self.view_is;
   well = search rules;
