@@ -1,11 +1,12 @@
--- The lines of values, and that of a number of entries.
+-- The lines of values, that of a number of entries, and how lines are cut.
 use Rattle.std.proofs.Common.{◌≡◌, ℕ, zero, suc, ◌+◌, ◌/◌, ◌%◌, ◌<◌, Bool, true, false, cond, ◌==◌, nat_lt, List, [], ◌∷◌, ◌++◌, codes, refl, sym, ◌∙◌, ap, append_assoc, arith, ne_eqb, lt-ltb}
 use Rattle.std.specs.Char.{is_ascii_digit}
 use Rattle.std.specs.Fmt.{digit_glyph, digits_onto, digits, decimal}
-use Rattle.std.specs.List.{flat_map}
+use Rattle.std.specs.List.{All, concat, flat_map}
+use Rattle.std.proofs.lemmas.List.Elements.{All-cons, All-head, All-nil, All-tail}
 use Rattle.std.proofs.lemmas.Bool.Decides.{nat_tests}
 use Rattle.mdv_port.specs.Script.{pieces}
-use Rattle.mdv_status.specs.Values.{hex_byte, significant, hex_text, block_text, value_line, values_text, values_reply, entries_line, ok_line}
+use Rattle.mdv_status.specs.Values.{hex_byte, significant, hex_text, block_text, value_line, values_text, values_reply, entries_line, printed_reply, ok_line}
 use Rattle.mdv_status.specs.Telling.{lacks, begins_with_digit, IsValueLine, AreValueLines, value_lines}
 use Rattle.mdv_status.proofs.Pieces.{lacks_one, lacks_append, pieces_line}
 
@@ -100,11 +101,23 @@ line_cut bytes rest is =
     ap (λ (l : List ℕ). pieces (l ++ rest)) is.line ∙ ap pieces (append_assoc is.text (10 ∷ []) rest) ∙ pieces_line is.text rest is.whole
     ∙ ap (λ (l : List ℕ). l ∷ pieces rest) (sym is.line)
 
-pub reply_cut : (at : ℕ) (blocks : List (List ℕ)) (rest : List ℕ) → pieces (values_reply at blocks ++ rest) ≡ value_lines at blocks ++ ok_line ∷ pieces rest
-reply_cut at [] rest = pieces_line (codes "ok") rest refl
-reply_cut at (block ∷ blocks) rest =
-    let line : List ℕ = value_line at block in
-    let more : List ℕ = values_text (at + 1) blocks in
+-- lines, and the line `ok` behind them
+pub lines_cut : (ls : List (List ℕ)) (rest : List ℕ) → All IsOneLine ls → pieces (printed_reply (concat ls) ++ rest) ≡ ls ++ ok_line ∷ pieces rest
+lines_cut [] rest all = pieces_line (codes "ok") rest refl
+lines_cut (line ∷ ls) rest all =
+    let more : List ℕ = concat ls in
     ap (λ (l : List ℕ). pieces (l ++ rest)) (append_assoc line more ok_line) ∙ ap pieces (append_assoc line (more ++ ok_line) rest)
-    ∙ line_cut line ((more ++ ok_line) ++ rest) (value_one_line line (is_value_line at block))
-    ∙ ap (λ (l : List (List ℕ)). line ∷ l) (reply_cut (at + 1) blocks rest)
+    ∙ line_cut line ((more ++ ok_line) ++ rest) (All-head IsOneLine line ls all)
+    ∙ ap (λ (l : List (List ℕ)). line ∷ l) (lines_cut ls rest (All-tail IsOneLine line ls all))
+
+-- lines of values are put together of their lines
+pub values_joined : (at : ℕ) (blocks : List (List ℕ)) → values_text at blocks ≡ concat (value_lines at blocks)
+values_joined at [] = refl
+values_joined at (block ∷ blocks) = ap (λ (l : List ℕ). value_line at block ++ l) (values_joined (at + 1) blocks)
+
+one_lines : (at : ℕ) (blocks : List (List ℕ)) → All IsOneLine (value_lines at blocks)
+one_lines at [] = All-nil IsOneLine
+one_lines at (block ∷ blocks) = All-cons IsOneLine (value_line at block) (value_lines (at + 1) blocks) (value_one_line (value_line at block) (is_value_line at block)) (one_lines (at + 1) blocks)
+
+pub reply_cut : (at : ℕ) (blocks : List (List ℕ)) (rest : List ℕ) → pieces (values_reply at blocks ++ rest) ≡ value_lines at blocks ++ ok_line ∷ pieces rest
+reply_cut at blocks rest = ap (λ (l : List ℕ). pieces (printed_reply l ++ rest)) (values_joined at blocks) ∙ lines_cut (value_lines at blocks) rest (one_lines at blocks)

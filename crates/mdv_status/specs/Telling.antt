@@ -1,10 +1,10 @@
--- How replies lie among the bytes that are told: a reply to a read is its lines of values and the line `ok`, one to a block of entries their number and this line.
+-- How replies lie among the bytes that are told: a reply to a read is its lines of values and the line `ok`, one to a block of entries their number and this line, and one to a print its lines and this line.
 use Rattle.std.specs.Prelude.{◌≡◌, ℕ, Bool, true, false, not, ◌&&◌, ◌||◌, ◌==◌, ◌+◌, ◌<◌, List, [], ◌∷◌, ◌++◌, length, map, take, All, codes, if◌then◌else◌}
 use Rattle.std.specs.Char.{is_ascii_digit}
-use Rattle.std.specs.List.{list_all}
+use Rattle.std.specs.List.{concat, list_all}
 use Rattle.std.specs.Str.{bytes_eq}
 use Rattle.mdv_port.specs.Script.{pieces}
-use Rattle.mdv_status.specs.Values.{significant, value_line, values_reply, entries_reply, ok_line}
+use Rattle.mdv_status.specs.Values.{significant, value_line, values_reply, entries_reply, printed_reply, ok_line}
 
 -- the byte isn't in the text
 abbrev pub lacks : ℕ → List ℕ → Bool
@@ -37,6 +37,13 @@ refused = codes "refused E"
 -- A whole line with which a reply ends: `ok`, or one that tells a refusal. A volume may be called `ok` or `refused`, but no line on it is one of these.
 abbrev pub ends_reply : List ℕ → Bool
 ends_reply piece = bytes_eq piece ok_line || not (lacks 10 piece) && bytes_eq (take 9 piece) refused
+
+-- one line that ends no reply: a text without a newline, and a newline; the line is neither `ok` nor one that tells a refusal
+pub record IsQuietLine (bytes : List ℕ) : Type 0 where
+  pub text : List ℕ
+  pub line : bytes ≡ text ++ 10 ∷ []
+  pub whole : lacks 10 text ≡ true
+  pub quiet : ends_reply bytes ≡ false
 
 -- what bytes come to: the replies among them, each with all its lines, and what is told behind the last one, which is no reply yet
 pub record Said : Type 0 where
@@ -82,6 +89,11 @@ pub record ValuesAreOneReply : Type 0 where
 pub record EntriesAreOneReply : Type 0 where
   pub more : (n : ℕ) (rest : List ℕ) → said_in (entries_reply n ++ rest) ≡ with_reply (entries_reply n) (said_in rest)
   pub front : (n count : ℕ) → count < length (entries_reply n) → said_in (take count (entries_reply n)) ≡ unsaid (take count (entries_reply n))
+
+-- So is a reply to a print, of lines none of which ends a reply.
+pub record PrintsAreOneReply : Type 0 where
+  pub more : (ls : List (List ℕ)) (rest : List ℕ) → All IsQuietLine ls → said_in (printed_reply (concat ls) ++ rest) ≡ with_reply (printed_reply (concat ls)) (said_in rest)
+  pub front : (ls : List (List ℕ)) (count : ℕ) → All IsQuietLine ls → count < length (printed_reply (concat ls)) → said_in (take count (printed_reply (concat ls))) ≡ unsaid (take count (printed_reply (concat ls)))
 
 -- So is a line that tells a refusal; and bytes without a newline are no reply.
 pub record RefusalsAreOneReply : Type 0 where

@@ -1,4 +1,4 @@
--- What a read tells, a line for each block, and what a block of entries tells, their number; `ok` stands behind them.
+-- What a read tells, a line for each block, what a block of entries tells, their number, and what a print tells, its lines; `ok` stands behind them.
 use Rattle.std.specs.Prelude.{ℕ, zero, false, List, [], ◌∷◌, ◌++◌, ◌+◌, ◌/◌, ◌%◌, codes, decimal, flat_map}
 use Rattle.std.specs.Fmt.{digit_glyph}
 
@@ -48,3 +48,7 @@ entries_line n = codes "entries " ++ decimal n ++ 10 ∷ []
 -- the whole reply to a block of entries
 abbrev pub entries_reply : ℕ → List ℕ
 entries_reply n = entries_line n ++ ok_line
+
+-- the whole reply to a line that prints these lines
+abbrev pub printed_reply : List ℕ → List ℕ
+printed_reply lines = lines ++ ok_line

@@ -1,4 +1,4 @@
-ghost use Rattle.mdv_status.specs.Telling.{ValuesAreLines, ValuesAreOneReply, ValuesAreTold, EntriesAreOneReply, RefusalsAreOneReply};
+ghost use Rattle.mdv_status.specs.Telling.{ValuesAreLines, ValuesAreOneReply, ValuesAreTold, EntriesAreOneReply, PrintsAreOneReply, RefusalsAreOneReply};
 
 /// The reply to a read is one line for each block, which begins with a digit, and the line `ok`, and bytes
 /// behind it change none of them.
@@ -15,6 +15,11 @@ pub fn values_are_one_reply()
 /// So is the reply to a block of entries.
 pub fn entries_are_one_reply()
     ensures { EntriesAreOneReply }
+{}
+
+/// So is the reply to a print, where none of its lines is `ok` or begins with `refused E`.
+pub fn prints_are_one_reply()
+    ensures { PrintsAreOneReply }
 {}
 
 /// Two lists of blocks of one length whose replies are the same are the same.

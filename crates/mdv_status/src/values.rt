@@ -1,6 +1,6 @@
 ghost use Rattle.std.specs.Prelude.{◌≡◌, ◌↔◌, false, ◌+◌, ◌<◌, ◌^◌, ◌∷◌, [], ◌++◌, length, decimal, flat_map, IsTrue, IfOk, OnOk};
 ghost use Rattle.std.specs.Fmt.{digit_glyph};
-ghost use Rattle.mdv_status.specs.Values.{hex_byte, significant as spec_significant, block_text, value_line, values_text, values_reply, entries_reply};
+ghost use Rattle.mdv_status.specs.Values.{hex_byte, significant as spec_significant, block_text, value_line, values_text, values_reply, entries_reply, printed_reply};
 
 use itoa::Buffer;
 use mdv_base::Block;
@@ -14,7 +14,7 @@ const ENTRIES: &[u8] = b"entries ";
 // So many bytes at the end of a block are looked at together.
 const CHUNK: usize = 64;
 
-/// The whole reply to a read or to a block of entries, as it is told at once.
+/// The whole reply to a read, to a block of entries or to a print, as it is told at once.
 #[derive(Drop)]
 pub struct ValueText {
     text: Vec<u8>,
@@ -50,6 +50,16 @@ impl ValueText {
         text.extend_from_slice(ENTRIES)?;
         text.extend_from_slice(number.format(count).as_bytes())?;
         text.push(b'\n')?;
+        text.extend_from_slice(OK)?;
+        Ok(ValueText { text })
+    }
+
+    /// The reply that tells these lines. It takes their memory and copies none of it, and fails only
+    /// where there is no room in it for the 3 bytes of the end and more is refused.
+    pub fn of_lines(lines: Vec<u8>) -> Result<ValueText, AllocError>
+        ensures { IfOk result (λ text. text ≡ printed_reply lines.items) }
+    {
+        let mut text = lines;
         text.extend_from_slice(OK)?;
         Ok(ValueText { text })
     }

@@ -1,0 +1,9 @@
+//! The volumes of an engine's table, each on one slice, as the text of an md.tab.
+#![tactic(auto)]
+
+mod law;
+mod text;
+mod whole;
+
+pub use law::listings_are_lines;
+pub use text::listing;
