@@ -32,7 +32,7 @@ module _ (at : PlaceAt) (slot : Slot) (mark : Mark) (table : Table) where
       let from = leaves_more (Claims at mark.boot) (Takes at slot mark table) t u v first second image is in (from.0, from.1, record { between = from.2.0; claims = from.2.1; takes = from.2.2 })
 
 -- what was found is written anew
-module _ (at : PlaceAt) (sizes : List ℕ) (found : Found) (fits : greatest found.head + 1 < 2 ^ 63) (spare : IsSpareSlot found.head found.spare) (in_place : found.head.master.blocks ≤ at.place.blocks) where
+module _ (at : PlaceAt) (sizes : List ℕ) (found : Found) (fits : greatest found.head + 1 < 2 ^ 63) (spare : IsSpareSlot found.head found.spare) where
   abbrev site : Geometry → Key → Site
   site drives key = site_of drives key at sizes
 
@@ -46,7 +46,7 @@ module _ (at : PlaceAt) (sizes : List ℕ) (found : Found) (fits : greatest foun
 
     adopt_moment : (t m : Tale) → RewriteMoment place found.spare mark found.table t m → AdoptMoment at sizes found t m
     adopt_moment t m is = record {
-      quiet = quiet_sized at found.head.master.blocks t m in_place (there (λ p k. IsQuiet p t m) is.quiet);
+      quiet = there (λ p k. IsQuiet p t m) is.quiet;
       goes = λ drives key was. adoptions_go.goes (site drives key) found.head found.spare found.table t m (adopts drives key t was) (there (λ p k. Rewrites p found.spare k found.table t m) is.rewrites);
     }
 
@@ -57,7 +57,7 @@ module _ (at : PlaceAt) (sizes : List ℕ) (found : Found) (fits : greatest foun
     pub adopt_lost : (old new : Option Tale) → Moments (RewriteMoment place found.spare mark found.table) old new → Ends (AdoptEnds at sizes found Lost) old new
     adopt_lost old new moments t is =
         let end = moments_end (RewriteMoment place found.spare mark found.table) old new moments t is in
-        (end.0, end.1, record { synced = tt; adopted = λ drives key was. tt; goes = (adopt_moment t end.0 end.2).goes; refuses = λ no. absurd no })
+        (end.0, end.1, record { synced = tt; within = tt; adopted = λ drives key was. tt; goes = (adopt_moment t end.0 end.2).goes; refuses = λ no. absurd no })
 
     pub adopt_ends : (newest : Newest) → newest ≡ adopted_newest found.head found.spare found.table → (old new : Option Tale) → Ends (RewriteEnds place found.spare mark found.table) old new → Ends (AdoptEnds at sizes found (Adopted newest)) old new
     adopt_ends newest newest_is old new ends = subst (λ (n : Newest). Ends (AdoptEnds at sizes found (Adopted n)) old new) (sym newest_is) (λ t is. (
@@ -67,6 +67,7 @@ module _ (at : PlaceAt) (sizes : List ℕ) (found : Found) (fits : greatest foun
           end.1,
           record {
             synced = there (λ p k. IsSynced p.drive.0 end.0) end.2.synced;
+            within = there (λ p k. IsQuiet p t end.0) end.2.quiet;
             adopted = λ drives key was. (
               adoptions_go.adopts (site drives key) found.head found.spare found.table t end.0 (adopts drives key t was) leaves,
               adoptions_go.opens (site drives key) found.head found.spare found.table t end.0 (adopts drives key t was) leaves,
@@ -79,11 +80,11 @@ module _ (at : PlaceAt) (sizes : List ℕ) (found : Found) (fits : greatest foun
 -- where the number to draw is none, nothing is done
 pub adopt_still : (at : PlaceAt) (sizes : List ℕ) (found : Found) (told : Option Tale) → Moments (AdoptMoment at sizes found) told told
 adopt_still at sizes found told = moments_none (AdoptMoment at sizes found) told told refl
-    (λ t. record { quiet = quiet_same at t; goes = λ drives key was log covers known. record { es = []; course = tt; come = record { tells = refl; issues = tt; begins = tt }; stands = covers; after = tt } })
+    (λ t. record { quiet = quiet_same (with_blocks at found.head.master.blocks) t; goes = λ drives key was log covers known. record { es = []; course = tt; come = record { tells = refl; issues = tt; begins = tt }; stands = covers; after = tt } })
 
 pub adopt_spent : (at : PlaceAt) (sizes : List ℕ) (found : Found) (told : Option Tale) → Ends (AdoptEnds at sizes found Spent) told told
 adopt_spent at sizes found told t is =
-    (t, is, record { synced = tt; adopted = λ drives key was. tt; goes = λ drives key was log covers known. record { es = []; course = tt; come = record { tells = refl; issues = tt; begins = tt }; stands = covers; after = tt }; refuses = λ so. refl })
+    (t, is, record { synced = tt; within = tt; adopted = λ drives key was. tt; goes = λ drives key was log covers known. record { es = []; course = tt; come = record { tells = refl; issues = tt; begins = tt }; stands = covers; after = tt }; refuses = λ so. refl })
 
 pub if_adopted_weaker : (end : BootEnd) (P Q : Newest → Type 0) → ((newest : Newest) → P newest → Q newest) → IfAdopted end P → IfAdopted end Q
 if_adopted_weaker (Adopted newest) P Q weaker is = weaker newest is
@@ -157,6 +158,7 @@ module _ (drives : Geometry) (key : Key) (at : PlaceAt) (sizes : List ℕ) (foun
             shown = adoption_shown answer (last t at.drive.0) is the;
             adopted = if_adopted_weaker answer (λ newest. IsAdopted site_there (last t at.drive.0) newest u × IsOpened site_there newest u) (λ newest. IsAdopted site_there (last t at.drive.0) newest u) (λ newest both. both.0) (ends.adopted drives key was);
             opened = if_adopted_weaker answer (λ newest. IsAdopted site_there (last t at.drive.0) newest u × IsOpened site_there newest u) (λ newest. IsOpened site_there newest u) (λ newest both. both.1) (ends.adopted drives key was);
+            within = ends.within;
             empty = λ same. absurd (never_empty answer is same);
             goes = ends.goes drives key was;
             refuses = λ refused. subst (λ (w : Tale). KeptOutside nowhere t w) (sym (ends.refuses refused)) (kept_outside_same nowhere t);
@@ -176,13 +178,13 @@ module _ (drives : Geometry) (key : Key) (at : PlaceAt) (sizes : List ℕ) (foun
             },
           )
 
-  pub adopted_moments : (old new : Option Tale) → IsSound drives → Gave site_there old (Some found) → Moments (AdoptMoment at sizes found) old new → Moments (PlaceMoment site_there) old new
-  adopted_moments old new sound gave moments t told_so =
+  pub adopted_moments : found.head.master.blocks ≤ at.place.blocks → (old new : Option Tale) → IsSound drives → Gave site_there old (Some found) → Moments (AdoptMoment at sizes found) old new → Moments (PlaceMoment site_there) old new
+  adopted_moments in_place old new sound gave moments t told_so =
       let grew = moments t told_so in
       let the = gave t told_so in (
         grew.0,
         grew.1,
-        grew_weaker (AdoptMoment at sizes found t) (PlaceMoment site_there t) t grew.0 (λ m adopting. record { quiet = adopting.quiet; goes = λ synced. adopting.goes drives key (found_in t sound synced the) }) grew.2,
+        grew_weaker (AdoptMoment at sizes found t) (PlaceMoment site_there t) t grew.0 (λ m adopting. record { quiet = quiet_sized at found.head.master.blocks t m in_place adopting.quiet; goes = λ synced. adopting.goes drives key (found_in t sound synced the) }) grew.2,
       )
 
 -- where nothing was adopted, nor the place found empty, and no block was written
@@ -192,6 +194,7 @@ refused_place failures site answer t u shown none some goes kept = record {
   shown = shown;
   adopted = none (λ newest. IsAdopted site (last t site.at.drive.0) newest u);
   opened = none (λ newest. IsOpened site newest u);
+  within = none (λ newest. IsQuiet (with_blocks site.at newest.blocks) t u);
   empty = λ e. absurd (some e);
   goes = goes;
   refuses = λ refused. kept;
@@ -219,6 +222,7 @@ module _ (site : Site) (old new : Option Tale) (same : new ≡ old) where
             shown = finds.found;
             adopted = tt;
             opened = tt;
+            within = tt;
             empty = λ e. nothing_found t finds.found synced;
             goes = empty_goes_on t finds.found synced;
             refuses = λ refused. kept_outside_same nowhere t;

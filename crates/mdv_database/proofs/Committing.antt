@@ -9,7 +9,6 @@ use Rattle.mdv_database.specs.declared.database.CommitFault.TheVariants as unwri
 use Rattle.mdv_database.specs.Commit.{CommitAnswer, CommitDone, CommitMoment}
 use Rattle.mdv_database.specs.Database.{IsCommitted, IsQuiet, MayCommit, site_of}
 use Rattle.mdv_database.specs.Write.{WriteEnds, WriteMoment}
-use Rattle.mdv_database.proofs.Quiet.{quiet_sized}
 
 -- where a commit writes, and under which mark: the other slot, under the next count
 pub record IsNextPlace (at : PlaceAt) (newest : Newest) (sized : PlaceAt) (slot : Slot) (mark : Mark) : Type 0 where
@@ -17,7 +16,6 @@ pub record IsNextPlace (at : PlaceAt) (newest : Newest) (sized : PlaceAt) (slot 
   pub of_slot : slot ≡ other_slot newest.slot
   pub of_mark : mark ≡ next_mark newest
   pub fits : newest.mark.count + 1 < 2 ^ 63
-  pub in_place : newest.blocks ≤ at.place.blocks
 
 module _ (at : PlaceAt) (newest : Newest) (next : Table) (sized : PlaceAt) (slot : Slot) (mark : Mark) (here : IsNextPlace at newest sized slot mark) where
   at_next : (P : PlaceAt → Slot → Mark → Type 0) → P sized slot mark → P (with_blocks at newest.blocks) (other_slot newest.slot) (next_mark newest)
@@ -34,7 +32,7 @@ module _ (at : PlaceAt) (newest : Newest) (next : Table) (sized : PlaceAt) (slot
 
     commit_moment : (t m : Tale) → WriteMoment sized slot mark next t m → CommitMoment at sizes newest next t m
     commit_moment t m is = record {
-      quiet = quiet_sized at newest.blocks t m here.in_place (at_next (λ p s k. IsQuiet p t m) is.quiet);
+      quiet = at_next (λ p s k. IsQuiet p t m) is.quiet;
       goes = λ drives key asked may. commits_go.goes (site drives key) newest asked next t m (commits drives key asked t may) (at_next (λ p s k. Leaves (MayTake p s k next) t m) is.leaves);
     }
 

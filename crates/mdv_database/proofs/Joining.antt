@@ -20,7 +20,7 @@ use Rattle.mdv_store_law.proofs.Covering.{goes_from_more, kept_goes_on}
 use Rattle.mdv_database.specs.declared.database.BootEnd.{BootEnd}
 use Rattle.mdv_database.specs.declared.database.BootEnd.TheVariants.{Adopted, Empty, Down, Lost, Spent, Memory}
 use Rattle.mdv_database.specs.declared.database.Booted.{Booted}
-use Rattle.mdv_database.specs.Below.{Anything, Failures, Geometry, Ghosts, IsAdopted, IsSynced, NoCreation, PlaceAt, Site, Tale, last, nowhere, range}
+use Rattle.mdv_database.specs.Below.{Anything, Failures, Geometry, Ghosts, IsAdopted, IsSynced, NoCreation, PlaceAt, Site, Tale, last, nowhere, range, with_blocks}
 use Rattle.mdv_database.specs.Boot.{BootAnswer, BootCalls, BootEnds, BootEndsAs, BootMoment, BootedBy, HasBootCause, HereEnds, HereEndsAs, IsCleanBy, IsCleanIn, PlaceAnswer, PlaceEnds, PlaceMoment, is_answered}
 use Rattle.mdv_database.specs.Bringing.{AreSynced, AreUpBy, BringingEnds}
 use Rattle.mdv_database.specs.Counts.{IsBootCounted, IsBringingCounted, IsPlaceCounted, made_behind}
@@ -85,6 +85,8 @@ module _ (site : Site) (inner outer : Failures) (so : IsWithin inner outer) (ans
     adopted = if_adopted_weaker answer (λ newest. IsAdopted site (last u site.at.drive.0) newest v) (λ newest. IsAdopted site (last t site.at.drive.0) newest v)
         (λ newest is. from_content (λ (c : ℕ → List ℕ). IsAdopted site c newest v) is) ends.adopted;
     opened = ends.opened;
+    within = if_adopted_weaker answer (λ newest. IsQuiet (with_blocks site.at newest.blocks) u v) (λ newest. IsQuiet (with_blocks site.at newest.blocks) t v)
+        (λ newest. quiet_more (with_blocks site.at newest.blocks) t u v (unwritten_quiet (with_blocks site.at newest.blocks) t u unwritten)) ends.within;
     empty = ends.empty;
     goes = goes_from_more site Anything NoCreation [] (IsBootedTo answer) t u v unwritten.kept ends.goes;
     refuses = λ refused. kept_outside_more nowhere t u v unwritten.kept (ends.refuses refused);

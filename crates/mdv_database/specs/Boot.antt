@@ -37,11 +37,12 @@ BootedBy made site content end.Spent = SpentBy made site content
 BootedBy made site content end.Memory = WantingBy made site content
 
 -- In the end the answer is what the blocks of the place's drive showed at the start, and what was found, or that nothing is there, is on the
--- disk; the log went on to it, and what adopts nothing wrote nothing.
+-- disk; the log went on to it; what adopts wrote the replica's own blocks alone, and what adopts nothing wrote nothing.
 pub record PlaceEnds (failures : Failures) (site : Site) (answer : BootEnd) (t u : Tale) : Type 0 where
   pub shown : IsBooted failures site (last t site.at.drive.0) answer
   pub adopted : IfAdopted answer (λ newest. IsAdopted site (last t site.at.drive.0) newest u)
   pub opened : IfAdopted answer (λ newest. IsOpened site newest u)
+  pub within : IfAdopted answer (λ newest. IsQuiet (with_blocks site.at newest.blocks) t u)
   pub empty : answer ≡ end.Empty → ShowsNothing site u
   pub goes : GoesOnTo site (IsBootedTo answer) t u
   pub refuses : IsRefusal answer → KeptOutside nowhere t u
@@ -122,13 +123,14 @@ pub record BootAnswer (failed : ℕ → Failures) (drives : Geometry) (sizes : L
   pub others : (drive : DriveNo) → (Contains own drive → ⊥) → has_drive answer.up drive ≡ false
   pub clean : IsCleanBy failed own answer
 
--- what was found is written anew, on whichever table of drives it was found
+-- what was found is written anew, within the replica's own blocks, on whichever table of drives it was found
 pub record AdoptMoment (at : PlaceAt) (sizes : List ℕ) (found : Found) (t m : Tale) : Type 0 where
-  pub quiet : IsQuiet at t m
+  pub quiet : IsQuiet (with_blocks at found.head.master.blocks) t m
   pub goes : (drives : Geometry) (key : Key) → IsFoundIn (site_of drives key at sizes) found t → GoesOn (site_of drives key at sizes) t m
 
 pub record AdoptEnds (at : PlaceAt) (sizes : List ℕ) (found : Found) (answer : BootEnd) (t u : Tale) : Type 0 where
   pub synced : IfAdopted answer (λ newest. IsSynced at.drive.0 u)
+  pub within : IfAdopted answer (λ newest. IsQuiet (with_blocks at newest.blocks) t u)
   pub adopted : (drives : Geometry) (key : Key) → IsFoundIn (site_of drives key at sizes) found t
       → IfAdopted answer (λ newest. IsAdopted (site_of drives key at sizes) (last t at.drive.0) newest u × IsOpened (site_of drives key at sizes) newest u)
   pub goes : (drives : Geometry) (key : Key) → IsFoundIn (site_of drives key at sizes) found t → GoesOnTo (site_of drives key at sizes) (IsBootedTo answer) t u
@@ -156,5 +158,6 @@ pub record RewriteMoment (at : PlaceAt) (slot : Slot) (mark : Mark) (table : Tab
 
 -- and are on the disk in the end
 pub record RewriteEnds (at : PlaceAt) (slot : Slot) (mark : Mark) (table : Table) (t u : Tale) : Type 0 where
+  pub quiet : IsQuiet at t u
   pub rewritten : Leaves (Rewritten at slot mark table) t u
   pub synced : IsSynced at.drive.0 u

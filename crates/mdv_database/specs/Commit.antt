@@ -1,7 +1,7 @@
 -- What a commit says: of each moment, of the end, and of its answer.
 use Rattle.mdv_record.specs.declared.record.TooLong.{TooLong}
 use Rattle.std.specs.Prelude.{◌≡◌, ℕ, ◌+◌, ◌≤◌, ◌<◌, ◌^◌, List, length, Option, Result, Ok, Err}
-use Rattle.mdv_database.specs.Below.{Failures, Key, Geometry, record_text, PlaceAt, room_of, IsSynced, Tale, Change, Table, IsWithNewest, asks_of, NoCreation, Newest, Anything, GoesFrom, IsOpened, next_newest}
+use Rattle.mdv_database.specs.Below.{Failures, Key, Geometry, record_text, PlaceAt, room_of, with_blocks, IsSynced, Tale, Change, Table, IsWithNewest, asks_of, NoCreation, Newest, Anything, GoesFrom, IsOpened, next_newest}
 use Rattle.mdv_database.specs.declared.database.CommitFault.{CommitFault}
 use Rattle.mdv_database.specs.declared.database.CommitFault.TheVariants as unwritten
 use Rattle.mdv_database.specs.Database.{IsQuiet, MayCommit, IsCommitted, site_of}
@@ -10,9 +10,9 @@ use Rattle.mdv_database.specs.Database.{IsQuiet, MayCommit, IsCommitted, site_of
 abbrev pub ForEachChange : PlaceAt → List ℕ → Newest → Table → Tale → (Geometry → Key → Option Change → Type 0) → Type 0
 ForEachChange at sizes newest next t P = (drives : Geometry) (key : Key) (asked : Option Change) → MayCommit (site_of drives key at sizes) newest asked next t → P drives key asked
 
--- by each moment nothing was told, nothing done outside the place, and the log goes on by the change alone
+-- by each moment nothing was told, nothing done outside the replica's own blocks, and the log goes on by the change alone
 pub record CommitMoment (at : PlaceAt) (sizes : List ℕ) (newest : Newest) (next : Table) (t m : Tale) : Type 0 where
-  pub quiet : IsQuiet at t m
+  pub quiet : IsQuiet (with_blocks at newest.blocks) t m
   pub goes : ForEachChange at sizes newest next t (λ drives key asked. GoesFrom (site_of drives key at sizes) (IsWithNewest (site_of drives key at sizes) newest) NoCreation (asks_of asked) Anything t m)
 
 -- in the end the next table is on the disk, the log's newest, and its `ok` may be told

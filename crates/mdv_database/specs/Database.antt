@@ -109,20 +109,21 @@ IsBootedTo end.Memory log = Unit {0}
 abbrev pub first_table : Place → Table
 first_table place = record { plan = record { lists = One (place ∷ []); volumes = [] }; status = record {} }
 
--- what a creation of this place begins with
-abbrev pub first_newest : PlaceAt → Newest
-first_newest at = record { blocks = at.place.blocks; slot = First; mark = first_mark; table = first_table at.place }
+-- what a creation of so many blocks of this place begins with
+abbrev pub first_newest : PlaceAt → ℕ → Newest
+first_newest at blocks = record { blocks = blocks; slot = First; mark = first_mark; table = first_table (with_blocks at blocks).place }
 
--- whatever a crash leaves, the place has the replica that a creation of this identity makes, with its one table
-abbrev pub IsSafe : Site → Identity → Tale → Type 0
-IsSafe site identity = Everywhere (λ image. IsNewestOf site (image site.at.drive.0) (created_head site identity (first_table site.at.place)) (first_newest site.at))
+-- whatever a crash leaves, the place has the replica of so many blocks that a creation of this identity makes, with its one table
+abbrev pub IsSafe : Site → ℕ → Identity → Tale → Type 0
+IsSafe site blocks identity =
+    Everywhere (λ image. IsNewestOf site (image site.at.drive.0) (created_head site blocks identity (first_table (with_blocks site.at blocks).place)) (first_newest site.at blocks))
 
--- what is known of the log after a creation
-abbrev pub IsCreatedTo : Site → Identity → Result Newest CreateFault → Log → Type 0
-IsCreatedTo site identity (Ok newest) log = IsCreated site identity newest.table log
-IsCreatedTo site identity (Err unmade.Failed) log = is_firm log ≡ false
-IsCreatedTo site identity (Err unmade.Lost) log = Unit {0}
-IsCreatedTo site identity (Err unmade.Memory) log = Unit {0}
+-- what is known of the log after a creation of so many blocks
+abbrev pub IsCreatedTo : ℕ → Identity → Result Newest CreateFault → Log → Type 0
+IsCreatedTo blocks identity (Ok newest) log = IsCreated blocks identity newest.table log
+IsCreatedTo blocks identity (Err unmade.Failed) log = is_firm log ≡ false
+IsCreatedTo blocks identity (Err unmade.Lost) log = Unit {0}
+IsCreatedTo blocks identity (Err unmade.Memory) log = Unit {0}
 
 -- what a commit starts from: an open database, and a table that a change makes of its newest one, or that one again
 pub record MayCommit (site : Site) (newest : Newest) (asked : Option Change) (next : Table) (t : Tale) : Type 0 where

@@ -11,6 +11,7 @@ pub record WriteMoment (at : PlaceAt) (slot : Slot) (mark : Mark) (table : Table
 
 -- and is on the disk in the end
 pub record WriteEnds (at : PlaceAt) (slot : Slot) (mark : Mark) (table : Table) (t u : Tale) : Type 0 where
+  pub quiet : IsQuiet at t u
   pub written : Leaves (Takes at slot mark table) t u
   pub synced : IsSynced at.drive.0 u
 

@@ -259,33 +259,35 @@ fn rewrite<S: Shelf>(
     Ok(())
 }
 
-/// Makes the database: a replica is formatted with claim 1, and the table without volumes is written under
-/// the mark (1, 0).
+/// Makes the database: a replica of so many blocks of the place is formatted with claim 1, and the table
+/// without volumes, which names the place with this length, is written under the mark (1, 0).
 pub fn create<S: Shelf>(
     shelf: &mut S,
     alloc: Global,
     at: PlaceAt,
+    blocks: u32,
     key: &Key,
     identity: Identity,
 ) -> Result<Database, CreateFault>
-    requires placed { IsPlaced (S.sizes shelf.old) at }
-    requires length { at.place.blocks ≤ 8192 }
-    ensures answer { CreateAnswer (DriveFailures S.Shelf shelf.old shelf.new at.drive.0) at result }
-    ensures moments { AtEachTale S.Shelf (CreateMoment at key.now (S.sizes shelf.old) identity) shelf.old shelf.new }
-    ensures end { AtEnd S.Shelf (CreateEnds at key.now (S.sizes shelf.old) identity result) shelf.old shelf.new }
+    requires laid { IsLaid (S.sizes shelf.old) at blocks }
+    requires length { blocks ≤ 8192 }
+    ensures answer { CreateAnswer (DriveFailures S.Shelf shelf.old shelf.new at.drive.0) at blocks result }
+    ensures moments { AtEachTale S.Shelf (CreateMoment at blocks key.now (S.sizes shelf.old) identity) shelf.old shelf.new }
+    ensures end { AtEnd S.Shelf (CreateEnds at blocks key.now (S.sizes shelf.old) identity result) shelf.old shelf.new }
     ensures counted { IsCreationCounted S.Shelf shelf.old shelf.new result }
     ensures kept { KeptOn S.Shelf shelf.old shelf.new (OnDrive at.drive.0) }
 {
-    let mut body = Body::new(alloc, at.place.blocks)?;
-    let table = first_table(alloc, at.place);
-    match format(shelf, at, key, identity, 1) {
+    let mut body = Body::new(alloc, blocks)?;
+    let sized = at_length(at, blocks);
+    let table = first_table(alloc, sized.place);
+    match format(shelf, sized, key, identity, 1) {
         Ok(()) => {}
         Err(Failed) => return Err(CreateFault::Failed),
     }
     let mark = Mark { boot: 1, count: 0 };
-    match body.write(shelf, at, Slot::First, mark, &table) {
+    match body.write(shelf, sized, Slot::First, mark, &table) {
         Ok(()) => Ok(Database {
-            blocks: at.place.blocks,
+            blocks,
             slot: Slot::First,
             mark,
             table,

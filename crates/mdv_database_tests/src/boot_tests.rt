@@ -17,6 +17,11 @@ use std::test::Fail;
 const TABLE: &[u8] =
     b"host hostA\nhost hostB\ndrive c0t0d0 40 hostA a0.img\ndrive c0t1d0 40 hostB b0.img\ndrive c0t2d0 80 hostA a1.img\ndrive c0t3d0 40 hostA a2.img\nslice c0t0d0s0 0 40\nslice c0t1d0s7 0 40 db\nslice c0t2d0s7 8 72 db\n";
 
+// The home's slice has 72 blocks, of which 16 lie in front of a replica.
+const SLICE: u64 = 72;
+
+const WHOLE: u32 = 56;
+
 // What a boot comes to, which drives are up then, and whether it was clean.
 struct Want {
     end: &'static str,
@@ -232,12 +237,12 @@ fn booted(
 #[test]
 fn adopts_with_a_failing_call(rt: HostRuntime) -> Result<(), Fail> {
     let (table, home) = home_of(rt.alloc(), TABLE, b"hostA")?;
-    if home.blocks < 32 {
+    if home.blocks < SLICE {
         return Err("room for a replica".into());
     }
     for (number, want) in MADE {
         let mut shelf = drives_of(rt.alloc(), &table)?;
-        let made = creates(rt.alloc(), &table, &home, &mut shelf);
+        let made = creates(rt.alloc(), &table, &home, &mut shelf, WHOLE);
         assert!(rt; made.is_ok(), "a database");
         // the creation took twelve calls
         let booted = booted(
@@ -276,12 +281,12 @@ fn lose(shelf: &mut MemShelf, lost: &[u32])
 #[test]
 fn brings_up_what_is_not_lost(rt: HostRuntime) -> Result<(), Fail> {
     let (table, home) = home_of(rt.alloc(), TABLE, b"hostA")?;
-    if home.blocks < 32 {
+    if home.blocks < SLICE {
         return Err("room for a replica".into());
     }
     for (lost, want) in LOST {
         let mut shelf = drives_of(rt.alloc(), &table)?;
-        let made = creates(rt.alloc(), &table, &home, &mut shelf);
+        let made = creates(rt.alloc(), &table, &home, &mut shelf, WHOLE);
         assert!(rt; made.is_ok(), "a database");
         lose(&mut shelf, lost);
         let booted = boots(rt.alloc(), &table, &home, &mut shelf);

@@ -5,3 +5,5 @@
 mod boot_tests;
 #[cfg(test)]
 mod ground;
+#[cfg(test)]
+mod length_tests;

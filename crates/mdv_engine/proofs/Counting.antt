@@ -5,7 +5,7 @@ use Rattle.mdv_shelf.proofs.Between.{between_none}
 use Rattle.mdv_shelf.proofs.Counts.{took_at_most, took_wider}
 use Rattle.mdv_engine.specs.Below.{SliceName, Table, record_text, Outcomes, Refusal, IoFault, OutOfMemory, VolId, Tale, Newest, Answer, Host, Memory}
 use Rattle.mdv_words.specs.declared.command.Command.{Command}
-use Rattle.mdv_words.specs.declared.command.Command.TheVariants.{Create, MakeStripe, Read, Write}
+use Rattle.mdv_words.specs.declared.command.Command.TheVariants.{Create, MakeStripe, Print, Read, Write}
 use Rattle.mdv_engine_law.specs.Answers.{IsQuiet, refusing}
 use Rattle.mdv_engine_law.specs.Refusals.{blocks_refusal}
 use Rattle.mdv_engine_law.specs.declared.answer.Answer.TheVariants.{Said, Over}
@@ -17,7 +17,7 @@ use Rattle.mdv_engine_law.specs.declared.answer.Reply.{Reply}
 use Rattle.mdv_engine_law.specs.declared.answer.Reply.TheVariants as reply
 use Rattle.mdv_engine_law.specs.Replies.{IsAccepted, IsLost, IsReplied, IsTellingCounted, IsTold, reply_at, reply_to}
 use Rattle.mdv_shelf.specs.declared.shelf.Shelf.{Ghosts}
-use Rattle.mdv_engine_law.specs.Efforts.{CommandCalls, DoneCalls, FaultCalls, LossCalls, blocks_of, calls_of, wanting_calls, written_by, replied_to}
+use Rattle.mdv_engine_law.specs.Efforts.{CommandCalls, DoneCalls, FaultCalls, LossCalls, MakesJust, blocks_of, calls_of, wanting_calls, written_by, replied_to}
 use Rattle.mdv_engine_law.proofs.Efforts.{command_too, done_too, fault_too}
 use Rattle.mdv_shelf.specs.Made.{and_more, made_by}
 use Rattle.mdv_shelf.proofs.Made.{with_more}
@@ -160,26 +160,39 @@ module _ {S : Type 0} (tale : S → Option Tale) (calls written : S → Option �
     blocks_counted command outcomes host memory volume at n refusal opened (inr (of, free, fault)) none took = subst (λ (x : Refusal). IsCommandCounted tale calls written old new command (refusing x) opened) (sym fault) (took fault)
 
     fault_most : (command : Command) → FaultCalls (made_by calls written old new) command → TookAtMost calls written old new (calls_of command) (blocks_of command)
-    fault_most (Create slice force) took = took_wider calls written old new 6 5 12 8 (omega arith) (omega arith) took.at_most
+    fault_most (Create slice force blocks) took = took_wider calls written old new 6 5 12 8 (omega arith) (omega arith) took.at_most
     fault_most (MakeStripe volume slice) took = absurd took
     fault_most (Read volume at count) took = took.at_most
     fault_most (Write volume at block) took = took.at_most
+    fault_most (Print names) took = absurd took
 
     loss_most : (command : Command) → LossCalls (made_by calls written old new) command → TookAtMost calls written old new (calls_of command) (blocks_of command)
-    loss_most (Create slice force) took = took.at_most
+    loss_most (Create slice force blocks) took = took.at_most
     loss_most (MakeStripe volume slice) took = took.at_most
     loss_most (Read volume at count) took = absurd took
     loss_most (Write volume at block) took = absurd took
+    loss_most (Print names) took = absurd took
 
     wanting_less : (command : Command) → wanting_calls command ≤ calls_of command
-    wanting_less (Create slice force) = omega arith
+    wanting_less (Create slice force blocks) = omega arith
     wanting_less (MakeStripe volume slice) = omega arith
     wanting_less (Read volume at count) = omega arith
     wanting_less (Write volume at block) = omega arith
+    wanting_less (Print names) = omega arith
 
   module _ (old new : S) (command : Command) (opened : Option Newest) where
+    exact_most : (c : Command) → written_by c opened ≤ blocks_of c → Took calls written old new (calls_of c) (written_by c opened) → TookAtMost calls written old new (calls_of c) (blocks_of c)
+    exact_most c few took = took_at_most calls written old new (calls_of c) (written_by c opened) (calls_of c) (blocks_of c) (omega arith) few took
+
+    just_most : (c : Command) → written_by c opened ≤ blocks_of c → MakesJust (made_by calls written old new) c opened → TookAtMost calls written old new (calls_of c) (blocks_of c)
+    just_most (Create slice force blocks) few took = exact_most (Create slice force blocks) few took
+    just_most (MakeStripe volume slice) few took = exact_most (MakeStripe volume slice) few took
+    just_most (Read volume at count) few took = exact_most (Read volume at count) few took
+    just_most (Write volume at block) few took = exact_most (Write volume at block) few took
+    just_most (Print names) few took = took.at_most
+
     done_most : DoneCalls (made_by calls written old new) command opened → TookAtMost calls written old new (calls_of command) (blocks_of command)
-    done_most took = took_at_most calls written old new (calls_of command) (written_by command opened) (calls_of command) (blocks_of command) (omega arith) took.few took.exactly
+    done_most took = just_most command took.few took.exactly
 
     pub command_most : (answer : Answer) → IsCommandCounted tale calls written old new command answer opened → TookAtMost calls written old new (calls_of command) (blocks_of command)
     command_most (Said outcome.Ok) took = done_most took

@@ -43,7 +43,7 @@ none_created key (n, less, is) = absurd (omega (arith, less))
 module _ (lines : List ℕ) where
   -- what the answer says
   pub kept_plain : (old new : Engine) (this : Outcome) → HasKept old lines this new → IsPlainOutcome this
-  kept_plain old new this (all entries tab is now) = subst IsPlainOutcome (sym is) (inr (record { count = length entries; is = refl }))
+  kept_plain old new this (all entries tab is now) = subst IsPlainOutcome (sym is) (inr (inl (record { count = length entries; is = refl })))
   kept_plain old new this (none r (inl why) is now) = subst IsPlainOutcome (sym is) (refusal_plain lines r why)
   kept_plain old new this (none r (inr want) is now) = subst IsPlainOutcome (sym is) (subst IsPlain (sym want) memory_plain)
 

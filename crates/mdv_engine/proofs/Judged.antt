@@ -23,7 +23,7 @@ IsJudged IoFault = ⊥
 IsJudged OutOfMemory = ⊥
 IsJudged other = Unit {0}
 
-where_judged : (holds : Bool) (r : Refusal) → IsJudged r → All IsJudged (where_so holds r)
+pub where_judged : (holds : Bool) (r : Refusal) → IsJudged r → All IsJudged (where_so holds r)
 where_judged true r judged = All-cons IsJudged r [] judged (All-nil IsJudged)
 where_judged false r judged = All-nil IsJudged
 
@@ -59,11 +59,11 @@ creation_held gone plain unread unforced used small =
     (and_judged unread (WrongState Down) (where_so unforced NeedForce ++ (where_so used SliceInUse ++ where_so small TooSmall)) tt
     (and_judged unforced NeedForce (where_so used SliceInUse ++ where_so small TooSmall) tt (and_judged used SliceInUse (where_so small TooSmall) tt (where_judged small TooSmall tt)))))
 
-pub creation_judged : (case : Case) (slice : SliceName) (force : Bool) (r : Refusal) → refusal_of case (Create slice force) ≡ Some r → IsJudged r
-creation_judged case slice force r is =
+pub creation_judged : (case : Case) (slice : SliceName) (force : Bool) (blocks : ℕ) (r : Refusal) → refusal_of case (Create slice force blocks) ≡ Some r → IsJudged r
+creation_judged case slice force blocks r is =
     let at = slice_at case.host.drives.slices slice in
-    first_holds IsJudged order (held_of_creation case slice force) r
-    (creation_held (not (is_some at)) (is_plain at) (not case.memory.clean) (not (is_some case.memory.opened) && not force) (is_some case.memory.opened) (nat_lt case.host.home.blocks 8208)) is
+    first_holds IsJudged order (held_of_creation case slice force blocks) r
+    (creation_held (not (is_some at)) (is_plain at) (not case.memory.clean) (not (is_some case.memory.opened) && not force) (is_some case.memory.opened) (nat_lt case.host.home.blocks (16 + blocks))) is
 
 -- and a change
 change_held_so : (gone taken set_aside used long : Bool) (full : Refusal) → IsJudged full

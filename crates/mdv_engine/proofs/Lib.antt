@@ -11,5 +11,6 @@ pub mod Drives
 pub mod Ending
 pub mod Entering
 mod Parts
+pub mod Printing
 mod Judging
 pub mod Judged

@@ -1,9 +1,10 @@
 -- What a boot, a creation and a commit of the database say, part by part.
-use Rattle.std.proofs.Common.{◌≡◌, ℕ, List, Option, Ok, Err, Result, sym, subst}
-use Rattle.mdv_engine.specs.Below.{Identity, PlaceAt, Moments, Ends, Tale, IsPlaceOf, Geometry, Key, Change, Table, NoCreation, asks_of, Anything, Site, Newest, GoesFrom, GoesMaking, IsOpened, IsWithNewest, ShowsNothing, IsQuiet, IsSafe, IsCommitted, MayCommit, first_newest, first_table, next_newest}
+use Rattle.std.proofs.Common.{◌≡◌, ◌≤◌, ℕ, List, Option, Ok, Err, Result, sym, subst}
+use Rattle.mdv_engine.specs.Below.{Identity, PlaceAt, with_blocks, Moments, Ends, Tale, IsPlaceOf, Geometry, Key, Change, Table, NoCreation, asks_of, Anything, Site, Newest, GoesFrom, GoesMaking, IsOpened, IsWithNewest, ShowsNothing, IsQuiet, IsSafe, IsCommitted, MayCommit, first_newest, first_table, next_newest}
 use Rattle.mdv_store_law.specs.Going.{created_head}
 use Rattle.mdv_store_law.specs.Standing.{ShowsReplica}
 use Rattle.mdv_shelf.proofs.Moments.{moments_weaker}
+use Rattle.mdv_database.proofs.Quiet.{quiet_sized}
 use Rattle.mdv_database.specs.Database.{IsCreatedTo, site_of}
 use Rattle.mdv_database.specs.Commit.{CommitMoment, CommitDone}
 use Rattle.mdv_database.specs.Create.{CreateMoment, CreateEnds}
@@ -14,42 +15,42 @@ ends_of : (Q R : Tale → Tale → Type 0) (a b : Option Tale) → ((t u : Tale)
 ends_of Q R a b weaker ends t is = (let end = ends t is in (end.0, end.1, weaker t end.0 end.2))
 
 -- a creation
-module _ (at : PlaceAt) (key : Key) (sizes : List ℕ) (identity : Identity) (a b : Option Tale) where
+module _ (at : PlaceAt) (blocks : ℕ) (key : Key) (sizes : List ℕ) (identity : Identity) (a b : Option Tale) where
   abbrev there : Geometry → Site
   there drives = site_of drives key at sizes
 
-  pub create_quiet : Moments (CreateMoment at key sizes identity) a b → Moments (IsQuiet at) a b
-  create_quiet moments = moments_weaker (CreateMoment at key sizes identity) (IsQuiet at) a b (λ t m is. is.quiet) moments
+  pub create_quiet : blocks ≤ at.place.blocks → Moments (CreateMoment at blocks key sizes identity) a b → Moments (IsQuiet at) a b
+  create_quiet within moments = moments_weaker (CreateMoment at blocks key sizes identity) (IsQuiet at) a b (λ t m is. quiet_sized at blocks t m within is.quiet) moments
 
-  pub create_goes : Moments (CreateMoment at key sizes identity) a b → (drives : Geometry) → IsPlaceOf drives at.place → Moments (λ t m. ShowsNothing (there drives) t → GoesMaking (there drives) identity Anything t m) a b
+  pub create_goes : Moments (CreateMoment at blocks key sizes identity) a b → (drives : Geometry) → IsPlaceOf drives (with_blocks at blocks).place → Moments (λ t m. ShowsNothing (there drives) t → GoesMaking (there drives) identity Anything t m) a b
   create_goes moments drives has =
-      moments_weaker (CreateMoment at key sizes identity) (λ t m. ShowsNothing (there drives) t → GoesMaking (there drives) identity Anything t m) a b (λ t m is. is.goes drives has) moments
+      moments_weaker (CreateMoment at blocks key sizes identity) (λ t m. ShowsNothing (there drives) t → GoesMaking (there drives) identity Anything t m) a b (λ t m is. is.goes drives has) moments
 
-  module _ (result : Result Newest CreateFault) (ends : Ends (CreateEnds at key sizes identity result) a b) where
-    pub create_goes_to : (drives : Geometry) → IsPlaceOf drives at.place → Ends (λ t u. ShowsNothing (there drives) t → GoesMaking (there drives) identity (IsCreatedTo (there drives) identity result) t u) a b
+  module _ (result : Result Newest CreateFault) (ends : Ends (CreateEnds at blocks key sizes identity result) a b) where
+    pub create_goes_to : (drives : Geometry) → IsPlaceOf drives (with_blocks at blocks).place → Ends (λ t u. ShowsNothing (there drives) t → GoesMaking (there drives) identity (IsCreatedTo blocks identity result) t u) a b
     create_goes_to drives has =
-        ends_of (CreateEnds at key sizes identity result) (λ t u. ShowsNothing (there drives) t → GoesMaking (there drives) identity (IsCreatedTo (there drives) identity result) t u) a b (λ t u is. is.goes drives has) ends
+        ends_of (CreateEnds at blocks key sizes identity result) (λ t u. ShowsNothing (there drives) t → GoesMaking (there drives) identity (IsCreatedTo blocks identity result) t u) a b (λ t u is. is.goes drives has) ends
 
     pub create_failed : result ≡ Err unmade.Failed → (drives : Geometry) → Ends (λ t u. ShowsNothing (there drives) t → ShowsNothing (there drives) u) a b
-    create_failed failures drives = ends_of (CreateEnds at key sizes identity result) (λ t u. ShowsNothing (there drives) t → ShowsNothing (there drives) u) a b (λ t u is. is.failed failures drives) ends
+    create_failed failures drives = ends_of (CreateEnds at blocks key sizes identity result) (λ t u. ShowsNothing (there drives) t → ShowsNothing (there drives) u) a b (λ t u is. is.failed failures drives) ends
 
-    pub create_lost : result ≡ Err unmade.Lost → (drives : Geometry) → IsPlaceOf drives at.place → Ends (λ _ u. ShowsReplica (there drives) identity u) a b
-    create_lost lost drives has = ends_of (CreateEnds at key sizes identity result) (λ _ u. ShowsReplica (there drives) identity u) a b (λ t u is. is.lost lost drives has) ends
+    pub create_lost : result ≡ Err unmade.Lost → (drives : Geometry) → IsPlaceOf drives (with_blocks at blocks).place → Ends (λ _ u. ShowsReplica (there drives) identity u) a b
+    create_lost lost drives has = ends_of (CreateEnds at blocks key sizes identity result) (λ _ u. ShowsReplica (there drives) identity u) a b (λ t u is. is.lost lost drives has) ends
 
-  module _ (newest : Newest) (ends : Ends (CreateEnds at key sizes identity (Ok newest)) a b) where
-    pub create_safe : (drives : Geometry) → IsPlaceOf drives at.place → Ends (λ _ u. IsSafe (there drives) identity u) a b
-    create_safe drives has = ends_of (CreateEnds at key sizes identity (Ok newest)) (λ _ u. IsSafe (there drives) identity u) a b (λ t u is. is.safe drives has) ends
+  module _ (newest : Newest) (ends : Ends (CreateEnds at blocks key sizes identity (Ok newest)) a b) where
+    pub create_safe : (drives : Geometry) → IsPlaceOf drives (with_blocks at blocks).place → Ends (λ _ u. IsSafe (there drives) blocks identity u) a b
+    create_safe drives has = ends_of (CreateEnds at blocks key sizes identity (Ok newest)) (λ _ u. IsSafe (there drives) blocks identity u) a b (λ t u is. is.safe drives has) ends
 
-    pub create_opened : newest ≡ first_newest at → (drives : Geometry) → IsPlaceOf drives at.place → Ends (λ _ u. IsOpened (there drives) newest u) a b
+    pub create_opened : newest ≡ first_newest at blocks → (drives : Geometry) → IsPlaceOf drives (with_blocks at blocks).place → Ends (λ _ u. IsOpened (there drives) newest u) a b
     create_opened new drives has =
-        ends_of (CreateEnds at key sizes identity (Ok newest)) (λ _ u. IsOpened (there drives) newest u) a b
-        (λ t u is. subst (λ (n : Newest). IsOpened (there drives) n u) (sym new) (record { head = created_head (there drives) identity (first_table at.place); each = is.safe drives has }))
+        ends_of (CreateEnds at blocks key sizes identity (Ok newest)) (λ _ u. IsOpened (there drives) newest u) a b
+        (λ t u is. subst (λ (n : Newest). IsOpened (there drives) n u) (sym new) (record { head = created_head (there drives) blocks identity (first_table (with_blocks at blocks).place); each = is.safe drives has }))
         ends
 
 -- a commit
 module _ (at : PlaceAt) (sizes : List ℕ) (newest : Newest) (next : Table) (a b : Option Tale) where
-  pub commit_quiet : Moments (CommitMoment at sizes newest next) a b → Moments (IsQuiet at) a b
-  commit_quiet moments = moments_weaker (CommitMoment at sizes newest next) (IsQuiet at) a b (λ t m is. is.quiet) moments
+  pub commit_quiet : newest.blocks ≤ at.place.blocks → Moments (CommitMoment at sizes newest next) a b → Moments (IsQuiet at) a b
+  commit_quiet within moments = moments_weaker (CommitMoment at sizes newest next) (IsQuiet at) a b (λ t m is. quiet_sized at newest.blocks t m within is.quiet) moments
 
   module _ (drives : Geometry) (key : Key) (asked : Option Change) where
     abbrev here : Site

@@ -1,6 +1,7 @@
 -- Where the database of a host's home lies, and what is said there of the place that the code computed.
 use Rattle.std.proofs.Math.Nat.{le-min, min-le_left}
-use Rattle.mdv_home.proofs.Places.{whole_place}
+use Rattle.mdv_words.specs.Line.{IsLength}
+use Rattle.mdv_home.specs.declared.geometry.Home.{Home}
 use Rattle.std.proofs.Common.{◌≡◌, ◌+◌, ◌-◌, ◌≤◌, ℕ, List, [], ◌∷◌, refl, sym, subst, ap, arith}
 use Rattle.std.proofs.lemmas.List.Elements.{All-head}
 use Rattle.mdv_engine.specs.Below.{Local, Place, line_of, place_of, SliceAt, PlaceAt, IsPlaced, with_blocks, KeptOutside, Tale, One, Table, IsListsOf, IsPlaceOf, Site, area_of, IsLaid, IsOnDrive, IsQuiet, Host, IsReady, site_of}
@@ -9,6 +10,10 @@ use Rattle.std.proofs.lemmas.Option.{slice_get_within}
 use Rattle.mdv_engine_law.proofs.Lifting.{site_here}
 use Rattle.mdv_engine_law.proofs.Ready.{home_seen, home_size, size_is}
 use Rattle.mdv_engine.specs.Engine.{IsTableOf}
+
+-- a replica of so many blocks is no longer than the place, where the home's slice has room for it
+pub fits_place : (at : PlaceAt) (h : Home) (blocks : ℕ) → at ≡ place_of h → IsLength blocks → 16 + blocks ≤ h.blocks → blocks ≤ at.place.blocks
+fits_place at h blocks at_is form room = subst (λ (p : PlaceAt). blocks ≤ p.place.blocks) (sym at_is) (le-min form.1 (omega (arith, room)))
 
 module _ (host : Host) (sizes : List ℕ) (ready : IsReady host sizes) (at : PlaceAt) (at_is : at ≡ place_of host.home) where
   -- the site that the database is told
@@ -39,18 +44,17 @@ module _ (host : Host) (sizes : List ℕ) (ready : IsReady host sizes) (at : Pla
     size = (let few = ready.small.few_drive_blocks in let size = size_is host sizes ready in omega (arith, few, size));
   })
 
-  -- the whole place
-  pub placed_whole : 8208 ≤ host.home.blocks → IsPlaced sizes at
-  placed_whole room = subst (IsPlaced sizes) (sym at_is) (subst (λ (n : ℕ). IsPlaced sizes (with_blocks (place_of host.home) n)) (sym (whole_place host.home room)) (subst (λ (p : PlaceAt). IsPlaced sizes (with_blocks p 8192)) at_is (placed 8192 (omega arith) (omega arith))))
+  -- it ends within the place too
+  pub laid : (blocks : ℕ) → IsLength blocks → 16 + blocks ≤ host.home.blocks → IsLaid sizes at blocks
+  laid blocks form room = record { placed = placed blocks form.0 room; in_place = fits_place at host.home blocks at_is form room }
 
-  -- it is one of the table of drives
-  pub place_is : 8208 ≤ host.home.blocks → IsPlaceOf host.drives at.place
-  place_is room = subst (λ (p : PlaceAt). IsPlaceOf host.drives p.place) (sym at_is)
-      (subst (λ (n : ℕ). IsPlaceOf host.drives (record { slice = host.home.slice; start = 16; blocks = n })) (sym (whole_place host.home room)) (record {
-        at = (line_of host.home).at;
-        has = home_seen host sizes ready;
-        lies = record { db = refl; start = refl; least = omega arith; most = omega arith; within = omega arith };
-      }))
+  -- and is one of the table of drives
+  pub place_is : (blocks : ℕ) → IsLength blocks → 16 + blocks ≤ host.home.blocks → IsPlaceOf host.drives (with_blocks at blocks).place
+  place_is blocks form room = subst (λ (p : PlaceAt). IsPlaceOf host.drives (with_blocks p blocks).place) (sym at_is) (record {
+    at = (line_of host.home).at;
+    has = home_seen host sizes ready;
+    lies = (let least = form.0 in let most = form.1 in record { db = refl; start = refl; least = least; most = most; within = omega (arith, room) });
+  })
 
   -- it has no more than the default length
   pub short_place : at.place.blocks ≤ 8192

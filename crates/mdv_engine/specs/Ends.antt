@@ -34,7 +34,7 @@ ChangeMoments shelf from to old change = AtEachTale shelf (CarryMoment old.host 
 
 -- what a command leaves that the run is over with, for a place was lost: each crash then leaves the new replica of a creation
 abbrev pub LeavesMade : Host → Memory → Command → Tale → Type 0
-LeavesMade host old (Create slice force) u = ShowsReplica (site_of host) (identity_of host old.begun) u
+LeavesMade host old (Create slice force blocks) u = ShowsReplica (site_of host) (identity_of host old.begun) u
 LeavesMade host old other u = Unit {0}
 
 -- a command that was carried out: what it came to and led to, what it left where it was done, and where the run is over, for a place was lost
@@ -55,10 +55,10 @@ IsNext engine change next = IsNextTable engine.host engine.state change next
 abbrev pub StripeEnds : {S : Type 0} → Ghosts S → S → S → Engine → VolId → SliceName → Answer → Engine → Type 0
 StripeEnds shelf from to old volume slice answer new = AtEnd shelf (CommandEnd (DriveFailures shelf from to) old (MakeStripe volume slice) answer new) from to
 
--- the end of a creation that nothing refuses
-abbrev pub CreationEnds : {S : Type 0} → Ghosts S → S → S → Engine → Answer → Engine → Type 0
-CreationEnds shelf from to old answer new =
-    (slice : SliceName) (force : Bool) → IsAllowed (case_at old) (Create slice force) → AtEnd shelf (CommandEnd (DriveFailures shelf from to) old (Create slice force) answer new) from to
+-- the end of a creation of a replica of so many blocks that nothing refuses
+abbrev pub CreationEnds : {S : Type 0} → Ghosts S → S → S → Engine → ℕ → Answer → Engine → Type 0
+CreationEnds shelf from to old blocks answer new =
+    (slice : SliceName) (force : Bool) → IsAllowed (case_at old) (Create slice force blocks) → AtEnd shelf (CommandEnd (DriveFailures shelf from to) old (Create slice force blocks) answer new) from to
 
 -- What an answer says, whatever the shelf tells: its text is a reply's, it has its cause, a creation is accepted only where no database is open and no call failed in the last
 -- boot; and what the engine keeps.

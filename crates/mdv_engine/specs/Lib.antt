@@ -4,4 +4,5 @@ pub mod Engine
 pub mod Placed
 pub mod Counts
 pub mod Ends
+pub mod Printing
 pub mod Tab

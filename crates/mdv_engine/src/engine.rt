@@ -117,12 +117,17 @@ impl Engine {
         ensures kept { KeptOnOne S.Shelf shelf.old shelf.new }
     {
         match command {
-            Command::Create { slice, force } => self.make(shelf, alloc, *slice, *force),
+            Command::Create {
+                slice,
+                force,
+                blocks,
+            } => self.make(shelf, alloc, *slice, *force, *blocks),
             Command::MakeStripe { volume, slice } => self.make_stripe(
                 shelf, alloc, *volume, *slice,
             ),
             Command::Read { volume, at, count } => self.read(shelf, alloc, *volume, *at, *count),
             Command::Write { volume, at, block } => self.write(shelf, *volume, *at, block),
+            Command::Print { names } => Answer::Said(self.print(alloc, names.as_slice())),
         }
     }
 }

@@ -6,6 +6,7 @@ mod change;
 mod create;
 mod engine;
 mod keep;
+mod print;
 mod state;
 mod transfer;
 

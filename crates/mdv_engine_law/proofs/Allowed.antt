@@ -1,5 +1,5 @@
 -- What is so where nothing refuses a creation.
-use Rattle.std.proofs.Common.{◌≡◌, ◌≤◌, ◌++◌, ◌&&◌, not, ℕ, Bool, false, true, List, Option, Some, None, Contains, refl, arith}
+use Rattle.std.proofs.Common.{◌≡◌, ◌≤◌, ◌+◌, ◌++◌, ◌&&◌, not, ℕ, Bool, false, true, List, Option, Some, None, Contains, refl, arith}
 use Rattle.std.specs.Prelude.{nat_lt, is_some}
 use Rattle.std.specs.List.{find}
 use Rattle.std.proofs.lemmas.Bool.Decides.{nat_tests}
@@ -21,7 +21,7 @@ not_not false is = absurd (cc (is))
 enough : (blocks least : ℕ) → nat_lt blocks least ≡ false → least ≤ blocks
 enough blocks least is = grind (arith, nat_tests)
 
-module _ (case : Case) (slice : SliceName) (force : Bool) (free : IsAllowed case (Create slice force)) where
+module _ (case : Case) (slice : SliceName) (force : Bool) (blocks : ℕ) (free : IsAllowed case (Create slice force blocks)) where
   abbrev gone : List Refusal
   gone = where_so (not (is_some (slice_at case.host.drives.slices slice))) NoSuchSlice
 
@@ -38,12 +38,12 @@ module _ (case : Case) (slice : SliceName) (force : Bool) (free : IsAllowed case
   used = where_so (is_some case.memory.opened) SliceInUse
 
   abbrev small : List Refusal
-  small = where_so (nat_lt case.host.home.blocks 8208) TooSmall
+  small = where_so (nat_lt case.host.home.blocks (16 + blocks)) TooSmall
 
   -- none of the first two holds
   from_third : (n : ℕ) → Contains order n → find (has_number n) (unread ++ (unforced ++ (used ++ small))) ≡ None
   from_third n has =
-      none_behind n plain (unread ++ (unforced ++ (used ++ small))) (none_behind n gone (plain ++ (unread ++ (unforced ++ (used ++ small)))) (none_found (held_of_creation case slice force) free n has))
+      none_behind n plain (unread ++ (unforced ++ (used ++ small))) (none_behind n gone (plain ++ (unread ++ (unforced ++ (used ++ small)))) (none_found (held_of_creation case slice force blocks) free n has))
 
   -- nor of the first four
   from_fifth : (n : ℕ) → Contains order n → find (has_number n) (used ++ small) ≡ None
@@ -56,5 +56,5 @@ module _ (case : Case) (slice : SliceName) (force : Bool) (free : IsAllowed case
   pub allowed_none : case.memory.opened ≡ None
   allowed_none = is_none case.memory.opened (none_here 7 (is_some case.memory.opened) SliceInUse small refl (from_fifth 7 (19, omega arith, refl)))
 
-  pub allowed_room : 8208 ≤ case.host.home.blocks
-  allowed_room = enough case.host.home.blocks 8208 (none_last 10 (nat_lt case.host.home.blocks 8208) TooSmall refl (none_behind 10 used small (from_fifth 10 (23, omega arith, refl))))
+  pub allowed_room : 16 + blocks ≤ case.host.home.blocks
+  allowed_room = enough case.host.home.blocks (16 + blocks) (none_last 10 (nat_lt case.host.home.blocks (16 + blocks)) TooSmall refl (none_behind 10 used small (from_fifth 10 (23, omega arith, refl))))

@@ -64,10 +64,7 @@ HasBegun host up es h = HasBooted (key_of host) up es × (h.up (key_of host) ≡
 module _ (host : Host) (t : Tale) (up : Drives) where
   -- a boot begins, by which nothing is done
   begins : (h : History) → StandsAt host h t → StandsAt host (history_after h (Boots (key_of host) up)) t
-  begins h stands = record {
-    stands = record { databases = stands.stands.databases; laid = stands.stands.laid; apart = stands.stands.apart; volumes = stands.stands.volumes };
-    room = stands.room;
-  }
+  begins h stands = record { databases = stands.databases; laid = stands.laid; apart = stands.apart; volumes = stands.volumes }
 
   has_begun : (h : History) → HasBegun host up (Boots (key_of host) up ∷ []) (history_after h (Boots (key_of host) up))
   has_begun h = (Contains-push [] (Boots (key_of host) up), own_up) where
@@ -119,8 +116,8 @@ module _ (host : Host) (t : Tale) (up : Drives) where
           of_geometry = rw (is.table) of_geometry;
           synced = λ drive on. synced (record { 0 = drive }) on;
         } in
-        let all = boots_go.all (sites_of host) g (key_of host) (site_of host) is.version (is_in up) u found there.stands in
-        happened host [] [] [] u g (wakings (key_of host) all.0) all.1.happens there.room (wakings_issue host (key_of host) all.0)
+        let all = boots_go.all (sites_of host) g (key_of host) (site_of host) is.version (is_in up) u found there in
+        happened host [] [] [] u g (wakings (key_of host) all.0) all.1.happens (wakings_issue host (key_of host) all.0)
         (λ fs k. IsNewestIn newest (log_of k.databases (key_of host)) × (k.up (key_of host) ≡ up) × AreWoken (site_of host) newest.table (is_in up) k (key_of host)) (wakings_awake host (key_of host) all.0 g) tt (
           subst (λ (ds : List Database). IsNewestIn newest (log_of ds (key_of host))) (sym all.1.databases) is,
           ap (λ (of : Key → Drives). of (key_of host)) all.1.up ∙ drives,

@@ -52,13 +52,13 @@ module _ (host : Host) (sizes : List ℕ) (ready : IsReady host sizes) (memory :
       (only_asked host sizes ready memory newest opened volume slice table made placed t h known es (subst (λ (ds : List Database). log.IsCourse host.drives (log_of ds key) es) grows.databases fine) within other asked))
       (λ es g there woken up after. then (grew.0 ++ es) g there (ap (λ (of : Key → Drives). of key) (up ∙ grows.up) ∙ known.up) (are_woken host sizes ready memory newest opened volume slice table made placed t h known grew.0 grew.1 grows g woken) after) (goes (is_opened known.knows))
       (grown_stands host sizes ready memory newest opened volume slice table made placed t h known grew.0 grew.1 grows)
-      (subst (λ (ds : List Database). IsWithNewest (site_of host) newest (log_of ds key)) (sym grows.databases) (record { is_log = (known.stands.stands.databases key (site_of host) (own_site host)).is_log; is_newest = own })) in
+      (subst (λ (ds : List Database). IsWithNewest (site_of host) newest (log_of ds key)) (sym grows.databases) (record { is_log = (known.stands.databases key (site_of host) (own_site host)).is_log; is_newest = own })) in
       behind went grows
     where
       behind : {es : List Event} {g : History} → Goes host (Changed (key_of host) change ∷ []) [] (λ fs k. Then (es ++ fs) k) m g → IsGrown host sizes ready memory newest opened volume slice table made placed t h known es g → Goes host (Changed (key_of host) change ∷ []) [] Then m h
       behind {es} {g} went grows =
           goes_more host [] (Changed (key_of host) change ∷ []) (Changed (key_of host) change ∷ []) [] [] (λ fs k. (fs ≡ es) × (k ≡ g)) Then t m h (part_itself (Changed (key_of host) change ∷ []))
-          (happened host [] [] [] t h es grows.happens known.stands.room grows.issues (λ fs k. (fs ≡ es) × (k ≡ g)) grows.awake tt (refl, sym grows.is))
+          (happened host [] [] [] t h es grows.happens grows.issues (λ fs k. (fs ≡ es) × (k ≡ g)) grows.awake tt (refl, sym grows.is))
           (λ fs k there is. subst (λ (w : List Event). Goes host (Changed (key_of host) change ∷ []) [] (λ more x. Then (w ++ more) x) m k) (sym is.0) (subst (λ (x : History). Goes host (Changed (key_of host) change ∷ []) [] (λ more y. Then (es ++ more) y) m x) (sym is.1) went))
 
   pub changing_moment : told m ≡ told t → Commits host newest change Anything t m → CarryMoment host (ToDo (Changed (key_of host) change)) memory t m

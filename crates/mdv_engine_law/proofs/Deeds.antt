@@ -32,16 +32,16 @@ module _ (host : Host) (memory : Memory) (u v : Tale) (kept : KeptOutside nowher
   tells : (deed : Deed) (e : Event) → Happens (sites_of host) h (e ∷ []) [] (deed ∷ []) v → IsAwakeAt (sites_of host) h e → IsIssue (IsOfRun host) e → (log_of (history_after h e).databases (key_of host)).family ≡ (log_of h.databases (key_of host)).family
       → (history_after h e).woken ≡ h.woken → (history_after h e).up ≡ h.up → Goes host [] (deed ∷ []) Known v h
   tells deed e happens awake issue same woken up =
-      happened host [] [] (deed ∷ []) v h (e ∷ []) happens here.room (issue, tt) Known (awake, tt) tt
-      (known_on host memory h (history_after h e) v (happened_stands host [] [] (deed ∷ []) v h (e ∷ []) happens here.room (issue, tt)) same (ap (λ (drives : Key → Drives). drives (key_of host)) up) (λ volume. ap (λ (w : Key → VolId → _). w (key_of host) volume) woken) (known_kept host u v kept memory h known))
+      happened host [] [] (deed ∷ []) v h (e ∷ []) happens (issue, tt) Known (awake, tt) tt
+      (known_on host memory h (history_after h e) v (happened_stands host [] [] (deed ∷ []) v h (e ∷ []) happens (issue, tt)) same (ap (λ (drives : Key → Drives). drives (key_of host)) up) (λ volume. ap (λ (w : Key → VolId → _). w (key_of host) volume) woken) (known_kept host u v kept memory h known))
 
   -- what came to the newest table
   newest_told : (asked : Option Change) → IsTellable (sites_of host) h (key_of host) asked → Goes host [] (deed_of (key_of host) asked ∷ []) Known v h
   newest_told asked can =
       let which = log.with_asked asked [] in
       let before = can.may.before in
-      let is = databases_go (sites_of host) h (key_of host) can.site (log.Told which before ∷ []) v v (sites_apart host) can.is_site here.stands (kept_outside_same (area_of can.site) v) (can.may.may, tt)
-      (told_covers can.site (log_of h.databases (key_of host)) which before v (here.stands.databases (key_of host) can.site can.is_site).covers) (λ table none. absurd (never which before table none)) in
+      let is = databases_go (sites_of host) h (key_of host) can.site (log.Told which before ∷ []) v v (sites_apart host) can.is_site here (kept_outside_same (area_of can.site) v) (can.may.may, tt)
+      (told_covers can.site (log_of h.databases (key_of host)) which before v (here.databases (key_of host) can.site can.is_site).covers) (λ table none. absurd (never which before table none)) in
       tells (deed_of (key_of host) asked) (OfDatabase (key_of host) (identity_in (current_of h.databases (key_of host))) (log.Told which before)) (record { course = is.happens.course; begins = is.happens.begins; tells = is.happens.tells ∙ one_deed (key_of host) asked before; stands = is.happens.stands }) tt tt
       (ap (λ (l : log.Log). l.family) is.own) is.woken is.up
     where
@@ -60,13 +60,13 @@ module _ (host : Host) (memory : Memory) (u v : Tale) (kept : KeptOutside nowher
     course = (((can.untold.1, can.untold.2), can.range, can.only), tt);
     begins = refl;
     tells = refl;
-    stands = record { databases = here.stands.databases; laid = here.stands.laid; apart = here.stands.apart; volumes = here.stands.volumes };
+    stands = record { databases = here.databases; laid = here.laid; apart = here.apart; volumes = here.volumes };
   }) tt tt refl refl refl
   told_one (Saw key volume at blocks) can = tells (Saw key volume at blocks) (Shows can.0 key volume at blocks) (record {
     course = ((can.1, can.2), tt);
     begins = refl;
     tells = refl;
-    stands = record { databases = here.stands.databases; laid = here.stands.laid; apart = here.stands.apart; volumes = here.stands.volumes };
+    stands = record { databases = here.databases; laid = here.laid; apart = here.apart; volumes = here.volumes };
   }) tt tt refl refl refl
 
   -- once all that was done was told, what was known is known

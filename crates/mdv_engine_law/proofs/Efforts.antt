@@ -3,7 +3,7 @@ use Rattle.std.proofs.Common.{Bool, true, false, Option, Some, None}
 use Rattle.mdv_base.specs.declared.refusal.Refusal.TheVariants as refusal
 use Rattle.mdv_shelf.specs.Made.{Made, and_more}
 use Rattle.mdv_shelf.proofs.Made.{IsToo, more_too}
-use Rattle.mdv_engine_law.specs.Below.{has_drive, Image, Refusal, Command, Create, Read, Write, Line, Newest}
+use Rattle.mdv_engine_law.specs.Below.{has_drive, Image, Refusal, Command, Create, Print, Read, Write, Line, Newest}
 use Rattle.mdv_words.specs.declared.command.Command.TheVariants.{MakeStripe}
 use Rattle.mdv_words.specs.Line as words
 use Rattle.mdv_engine_law.specs.declared.answer.Answer.{Answer}
@@ -11,7 +11,7 @@ use Rattle.mdv_engine_law.specs.declared.answer.Answer.TheVariants.{Said, Over}
 use Rattle.mdv_engine_law.specs.declared.answer.Ended.TheVariants as ended
 use Rattle.mdv_engine_law.specs.declared.answer.Outcome.TheVariants as outcome
 use Rattle.mdv_engine_law.specs.declared.host.Host.{Host}
-use Rattle.mdv_engine_law.specs.Efforts.{BootCalls, CommandCalls, DoneCalls, FaultCalls, LineCalls, LossCalls, NoCalls, OpenedBy, PlaceCalls, replied_to}
+use Rattle.mdv_engine_law.specs.Efforts.{BootCalls, CommandCalls, DoneCalls, FaultCalls, LineCalls, LossCalls, MakesJust, NoCalls, OpenedBy, PlaceCalls, replied_to}
 use Rattle.mdv_shelf.specs.Failing.{Outcomes}
 use Rattle.mdv_engine_law.specs.Line.{Kept, Memory}
 use Rattle.mdv_engine_law.proofs.Widening.{AreWithin, match_more}
@@ -20,20 +20,29 @@ module _ (one other : Made) (too : IsToo one other) where
   pub none_too : NoCalls one → NoCalls other
   none_too none = too.within _ _ _ none
 
+  just_too : (command : Command) (opened : Option Newest) → MakesJust one command opened → MakesJust other command opened
+  just_too (Create slice force blocks) opened calls = too.exactly _ _ calls
+  just_too (MakeStripe volume slice) opened calls = too.exactly _ _ calls
+  just_too (Read volume at count) opened calls = too.exactly _ _ calls
+  just_too (Write volume at block) opened calls = too.exactly _ _ calls
+  just_too (Print names) opened calls = none_too calls
+
   pub done_too : (command : Command) (opened : Option Newest) → DoneCalls one command opened → DoneCalls other command opened
-  done_too command opened done = record { exactly = too.exactly _ _ done.exactly; few = done.few }
+  done_too command opened done = record { exactly = just_too command opened done.exactly; few = done.few }
 
   pub fault_too : (command : Command) → FaultCalls one command → FaultCalls other command
-  fault_too (Create slice force) calls = too.within _ _ _ calls
+  fault_too (Create slice force blocks) calls = too.within _ _ _ calls
   fault_too (MakeStripe volume slice) calls = absurd calls
   fault_too (Read volume at count) calls = too.within _ _ _ calls
   fault_too (Write volume at block) calls = too.within _ _ _ calls
+  fault_too (Print names) calls = absurd calls
 
   loss_too : (command : Command) → LossCalls one command → LossCalls other command
-  loss_too (Create slice force) calls = too.within _ _ _ calls
+  loss_too (Create slice force blocks) calls = too.within _ _ _ calls
   loss_too (MakeStripe volume slice) calls = too.within _ _ _ calls
   loss_too (Read volume at count) calls = absurd calls
   loss_too (Write volume at block) calls = absurd calls
+  loss_too (Print names) calls = absurd calls
 
   refused_too : (command : Command) (r : Refusal) (opened : Option Newest) → CommandCalls one command (Said (outcome.Refused r)) opened → CommandCalls other command (Said (outcome.Refused r)) opened
   refused_too command refusal.IoFault opened calls = fault_too command calls

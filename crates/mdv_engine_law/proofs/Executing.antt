@@ -2,7 +2,7 @@
 use Rattle.std.proofs.Common.{◌≡◌, inl, inr, ℕ, false, List, ◌++◌, sym, refl, ◌∙◌, ap, subst, rules}
 use Rattle.mdv_base.proofs.Causes.{IsWithin}
 use Rattle.mdv_base.specs.declared.refusal.Refusal.TheVariants as refusal
-use Rattle.mdv_engine_law.specs.Below.{Image, Failures, Refusal, KeptOutside, nowhere, Tale, told, Command, Create, Read, Write, Line}
+use Rattle.mdv_engine_law.specs.Below.{Image, Failures, Refusal, KeptOutside, nowhere, Tale, told, Command, Create, Print, Read, Write, Line}
 use Rattle.mdv_words.specs.declared.command.Command.TheVariants.{MakeStripe}
 use Rattle.mdv_words.specs.Line as words
 use Rattle.mdv_engine_law.specs.declared.answer.Answer.{Answer}
@@ -45,20 +45,22 @@ module _ (failed more : Outcomes) (cause : AreWithin failed more) (host : Host) 
   rebooted_more (wanting calm own headed is same) = wanting (home.none calm) (own_more failed more cause host own) headed is same
 
   gives_up_more : (command : Command) (end : Ended) → GivesUp failed host kept command end next → GivesUp more host kept command end next
-  gives_up_more (Create slice force) (ended.Lost active listed) is = (on_more failed more cause host.home.drive.0 is.0, is.1, is.2, is.3, is.4)
-  gives_up_more (Create slice force) ended.Spent is = absurd is
-  gives_up_more (Create slice force) ended.Memory is = absurd is
+  gives_up_more (Create slice force blocks) (ended.Lost active listed) is = (on_more failed more cause host.home.drive.0 is.0, is.1, is.2, is.3, is.4)
+  gives_up_more (Create slice force blocks) ended.Spent is = absurd is
+  gives_up_more (Create slice force blocks) ended.Memory is = absurd is
   gives_up_more (MakeStripe volume slice) (ended.Lost active listed) is = (on_more failed more cause host.home.drive.0 is.0, is.1, is.2, is.3)
   gives_up_more (MakeStripe volume slice) ended.Spent is = (calm_more failed more cause is.0, is.1, is.2, is.3, is.4)
   gives_up_more (MakeStripe volume slice) ended.Memory is = absurd is
   gives_up_more (Read volume at count) end is = absurd is
   gives_up_more (Write volume at block) end is = absurd is
+  gives_up_more (Print names) end is = absurd is
 
   fault_more : (command : Command) → Fault failed host kept command next → Fault more host kept command next
-  fault_more (Create slice force) is = (on_more failed more cause host.home.drive.0 is.0, is.1)
+  fault_more (Create slice force blocks) is = (on_more failed more cause host.home.drive.0 is.0, is.1)
   fault_more (MakeStripe volume slice) is = absurd is
   fault_more (Read volume at count) is = (is.0, on_more failed more cause is.0.drive is.1, is.2, is.3)
   fault_more (Write volume at block) is = (is.0, on_more failed more cause is.0.drive is.1, is.2, is.3, is.4)
+  fault_more (Print names) is = absurd is
 
   pub came_more : (command : Command) → CameTo failed host kept command answer next → CameTo more host kept command answer next
   came_more command (came.refused calm refusal is left) = came.refused (calm_more failed more cause calm) refusal is left

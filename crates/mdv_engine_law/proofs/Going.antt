@@ -17,59 +17,6 @@ use Rattle.mdv_engine_law.specs.Home.{key_of, sites_of}
 use Rattle.mdv_engine_law.specs.Standing.{StandsAt, IsOfRun, Does, Goes}
 use Rattle.mdv_engine_law.proofs.Knowing.{stands_kept}
 
--- a database was made only where there is room for it
-abbrev pub HasRoom : Host → History → Type 0
-HasRoom host h = IfSome (log_of h.databases (key_of host)).issued (λ identity. 8208 ≤ host.home.blocks)
-
--- only a creation changes whose log it is
-later_issued : (e : log.Event) → IsLater e → (lg : Log) → (log.log_after lg e).issued ≡ lg.issued
-later_issued (log.Issued identity) later lg = absurd later
-later_issued (log.Writing mark asked before table) later lg = refl
-later_issued log.Written later lg = refl
-later_issued (log.Told which before) later lg = refl
-
-event_issued : (key k : Key) (e : log.Event) → IsLater e → (ds : List Database) → (log_of (with_event key e ds) k).issued ≡ (log_of ds k).issued
-event_issued key k e later [] = refl
-event_issued key k e later (d ∷ ds) = elim (both_ways (is_current key d)) [
-  | inl does ↦ elim (both_ways (is_current k d)) [
-    | inl here ↦ rw (does, here) (later_issued e later d.log)
-    | inr away ↦ rw (does, away) refl
-  ]
-  | inr never ↦ elim (both_ways (is_current k d)) [
-    | inl here ↦ rw (never, here) refl
-    | inr away ↦ rw (never, away) (event_issued key k e later ds)
-  ]
-]
-
-module _ (host : Host) where
-  abbrev Room : Log → Type 0
-  Room lg = IfSome lg.issued (λ identity. 8208 ≤ host.home.blocks)
-
-  created_room : (key : Key) (identity : Identity) (ds : List Database) → IsOfRun host identity → Room (log_of ds (key_of host)) → Room (log_of (with_creation key identity ds) (key_of host))
-  created_room key identity ds is room = elim (both_ways (same_key key (key_of host))) [
-    | inl does ↦ subst (λ (k : Key). Room (log_of (with_creation key identity ds) k)) (key_is key (key_of host) does) (subst (λ (o : Option Database). Room (log_in o)) (sym (creation_here key identity ds)) is.room)
-    | inr never ↦ subst (λ (o : Option Database). Room (log_in o)) (sym (creation_elsewhere key (key_of host) (λ same. true_never same never) identity ds)) room
-  ]
-    where
-      true_never : key ≡ key_of host → same_key key (key_of host) ≡ false → ⊥
-      true_never same never = let itself = subst (λ (k : Key). same_key key k ≡ true) same (key_itself key) in cc (itself, never)
-
-  room_next : (h : History) (e : Event) → MayHappen (sites_of host) h e → IsIssue (IsOfRun host) e → HasRoom host h → HasRoom host (history_after h e)
-  room_next h (Creation key identity) may is room = created_room key identity h.databases is room
-  room_next h (OfDatabase key identity e) may is room = subst (λ (o : Option Identity). IfSome o (λ i. 8208 ≤ host.home.blocks)) (sym (event_issued key (key_of host) e may.later h.databases)) room
-  room_next h (OfVolume key volume e) may is room = room
-  room_next h (Reads key volume at blocks) may is room = room
-  room_next h (Acknowledges place key volume at blocks) may is room = room
-  room_next h (Shows place key volume at blocks) may is room = room
-  room_next h (Boots key up) may is room = room
-  room_next h Stops may is room = room
-  room_next h Crashes may is room = room
-
-  -- events that issue only creations of this run keep that
-  pub room_after : (h : History) (es : List Event) → IsCourse (sites_of host) h es → AreAll (IsIssue (IsOfRun host)) es → HasRoom host h → HasRoom host (history_after_all h es)
-  room_after h [] course is room = room
-  room_after h (e ∷ es) course is room = room_after (history_after h e) es course.1 is.1 (room_next h e course.0 is.0 room)
-
 -- such a creation is any creation that is wanted
 pub issue_weaker : (Which Any : Identity → Type 0) → ((identity : Identity) → Which identity → Any identity) → (e : Event) → IsIssue Which e → IsIssue Any e
 issue_weaker Which Any wider (Creation key identity) is = wider identity is
@@ -121,9 +68,9 @@ goes_weaker host asks all done After Then u v h within kept less =
     (λ es does. does_wider host asks all done es within does) (λ g stands. stands_kept host u v kept g stands) (λ es g stands is. less es g is)
 
 -- what happens to a history that the drives stand with, by a law of histories
-module _ (host : Host) (asks begun done : List Deed) (m : Tale) (h : History) (es : List Event) (happens : Happens (sites_of host) h es begun done m) (room : HasRoom host h) (issues : AreAll (IsIssue (IsOfRun host)) es) where
+module _ (host : Host) (asks begun done : List Deed) (m : Tale) (h : History) (es : List Event) (happens : Happens (sites_of host) h es begun done m) (issues : AreAll (IsIssue (IsOfRun host)) es) where
   pub happened_stands : StandsAt host (history_after_all h es) m
-  happened_stands = record { stands = happens.stands; room = room_after host h es happens.course issues room }
+  happened_stands = happens.stands
 
   pub happened : (After : List Event → History → Type 0) → AllAwake host h es → IsPart begun asks → After es (history_after_all h es) → Goes host asks done After m h
   happened After awake within after = record {

@@ -108,7 +108,7 @@ module _ (host : Host) (sizes : List ℕ) (ready : IsReady host sizes) (memory :
     is_newest = opened_has memory newest (λ n. IsNewestIn n (log_of h.databases key)) opened known.newest
 
     is_log : IsLog host.drives (log_of h.databases key)
-    is_log = (known.stands.stands.databases key (site_of host) (own_site host)).is_log
+    is_log = (known.stands.databases key (site_of host) (own_site host)).is_log
 
     alone : Alone host.drives (MakeStripe volume slice) newest.table table made (log_of h.databases key)
     alone = alone_of (log_of h.databases key) is_log is_newest
@@ -134,7 +134,7 @@ module _ (host : Host) (sizes : List ℕ) (ready : IsReady host sizes) (memory :
 
     -- its log begins
     begun : IsBegun (sites_of host) h key volume 0 map t
-    begun = beginnings_go (sites_of host) h key volume 0 map t (λ w named. absurd (unnamed w named)) empty known.stands.stands where
+    begun = beginnings_go (sites_of host) h key volume 0 map t (λ w named. absurd (unnamed w named)) empty known.stands where
       empty : Follows (record map { blocks = 0 }) (h.volumes key volume) t
       empty = record { reads = λ b x lt. absurd (omega (arith, lt)); leaves = λ image b x is lt. absurd (omega (arith, lt)) }
 
@@ -223,10 +223,7 @@ module _ (host : Host) (sizes : List ℕ) (ready : IsReady host sizes) (memory :
 
     module _ (es : List Event) (g : History) (grows : IsGrown es g) where
       pub grown_stands : StandsAt host g t
-      grown_stands = record {
-        stands = subst (λ (k : History). Stands (sites_of host) k t) (sym grows.is) grows.happens.stands;
-        room = subst (λ (ds : List Database). IfSome (log_of ds key).issued (λ identity. 8208 ≤ host.home.blocks)) (sym grows.databases) known.stands.room;
-      }
+      grown_stands = subst (λ (k : History). Stands (sites_of host) k t) (sym grows.is) grows.happens.stands
 
       -- then the table may be written
       pub ready_grown : (other : Table) → other ≡ table → IsTableReady (sites_of host) g key (site_of host) t other
@@ -237,7 +234,7 @@ module _ (host : Host) (sizes : List ℕ) (ready : IsReady host sizes) (memory :
       })
         where
           by : (number : VolId) (w : Map) → IsMapOf host.drives table number w → IsMapOf host.drives newest.table number w ⊎ (number ≡ volume) → Follows w (g.volumes key number) t
-          by number w lies (inl old) = grown_stands.stands.volumes key number w (subst (λ (ds : List Database). IsNamed (sites_of host) ds key number w) (sym grows.databases) (newest_of w number old))
+          by number w lies (inl old) = grown_stands.volumes key number w (subst (λ (ds : List Database). IsNamed (sites_of host) ds key number w) (sym grows.databases) (newest_of w number old))
           by number w lies (inr same) =
               let here : IsMapOf host.drives table volume w = subst (λ (n : VolId). IsMapOf host.drives table n w) same lies in
               subst (λ (n : VolId). Follows w (g.volumes key n) t) (sym same) (subst (λ (v : Map). Follows v (g.volumes key volume) t) (laid.one volume map w new_run.lies here) grows.follows)

@@ -1,5 +1,5 @@
 -- The refusal of a creation, by where its slice lies and by what is in memory.
-use Rattle.std.proofs.Common.{◌≡◌, Bool, ◌&&◌, not, List, [], ◌∷◌, ◌++◌, Option, refl, sym, ◌∙◌, ap}
+use Rattle.std.proofs.Common.{◌≡◌, ◌+◌, ℕ, Bool, ◌&&◌, not, List, [], ◌∷◌, ◌++◌, Option, refl, sym, ◌∙◌, ap}
 use Rattle.std.specs.Prelude.{is_some, nat_lt}
 use Rattle.std.proofs.lemmas.List.{append-nil}
 use Rattle.mdv_base.specs.Order.{first_refusal, where_so}
@@ -24,11 +24,11 @@ told_of_creation at down opened force small =
 last_holds : (small : Bool) → where_so small TooSmall ≡ where_so small TooSmall ++ []
 last_holds small = sym (append-nil (where_so small TooSmall))
 
-pub creation_is_told : (case : Case) (slice : SliceName) (force : Bool) → refusal_of case (Create slice force) ≡ told_of_creation (slice_at case.host.drives.slices slice) (not case.memory.clean) (is_some case.memory.opened) force (nat_lt case.host.home.blocks 8208)
-creation_is_told case slice force =
+pub creation_is_told : (case : Case) (slice : SliceName) (force : Bool) (blocks : ℕ) → refusal_of case (Create slice force blocks) ≡ told_of_creation (slice_at case.host.drives.slices slice) (not case.memory.clean) (is_some case.memory.opened) force (nat_lt case.host.home.blocks (16 + blocks))
+creation_is_told case slice force blocks =
     let at = slice_at case.host.drives.slices slice in
     let opened = is_some case.memory.opened in
-    let small = nat_lt case.host.home.blocks 8208 in
+    let small = nat_lt case.host.home.blocks (16 + blocks) in
     let causes : List Held =
     record { holds = not (is_some at); refusal = NoSuchSlice }
     ∷ record { holds = is_plain at; refusal = WrongKind }

@@ -1,9 +1,8 @@
 -- What a line leaves in memory and on the drive, where it did what was asked.
 use Rattle.std.proofs.Common.{◌≡◌, ⊎_elim, inl, inr, ◌+◌, ◌-◌, ◌<◌, ◌≤◌, ◌^◌, ℕ, suc, List, [], ◌∷◌, length, slice_index_or, Some, refl, sym, ◌∙◌, ap, subst, arith}
-use Rattle.mdv_engine_law.specs.Below.{DriveBlock, KeptOutside, nowhere, Settling, IsSettled, Everywhere, Tale, last, created_head, created_newest, Newest, IsNewestOf, area_of, ShowsNothing, IsOpened, IsTheReplica, IsAdopted, next_newest, Head, Slot, First, Second, IsSpareSlot, greatest, values_reply, One, Table}
+use Rattle.mdv_engine_law.specs.Below.{DriveBlock, KeptOutside, nowhere, Settling, IsSettled, Everywhere, Tale, last, with_blocks, created_head, created_newest, Newest, IsNewestOf, area_of, ShowsNothing, IsOpened, IsTheReplica, IsAdopted, next_newest, Head, Slot, First, Second, IsSpareSlot, greatest, values_reply, One, Table}
 use Rattle.mdv_shelf.specs.Calls.{Shows}
 use Rattle.mdv_shelf.proofs.Settled.{covered}
-use Rattle.mdv_home.proofs.Places.{whole_place}
 use Rattle.mdv_shelf.proofs.Everywhere.{last_image}
 use Rattle.mdv_engine_law.specs.declared.host.Host.{Host}
 use Rattle.mdv_engine_law.specs.Home.{site_of, identity_of}
@@ -43,13 +42,13 @@ module _ (host : Host) (memory next : Memory) (t u : Tale) where
   pub stays : next ≡ memory → KeptOutside nowhere t u → Stays (kept_at memory t) (kept_at next u)
   stays same kept = record { memory = same; content = same_content t u kept }
 
-  pub created : (table : Table) → 8208 ≤ host.home.blocks → KeptOutside (area_of (site_of host)) t u → next ≡ record memory { opened = Some (created_newest (site_of host) table); begun = memory.begun + 1 } → table.plan.lists ≡ One ((site_of host).at.place ∷ []) → table.plan.volumes ≡ []
-      → Everywhere (λ image. IsNewestOf (site_of host) (on_site (site_of host) image) (created_head (site_of host) (identity_of host memory.begun) table) (created_newest (site_of host) table)) u → IsCreated host (kept_at memory t) (kept_at next u)
-  created table room kept is lists volumes each = record {
-    newest = created_newest (site_of host) table;
-    new = record { blocks = whole_place host.home room; slot = refl; mark = refl; lists = lists; volumes = volumes };
+  pub created : (blocks : ℕ) (table : Table) → KeptOutside (area_of (site_of host)) t u → next ≡ record memory { opened = Some (created_newest blocks table); begun = memory.begun + 1 } → table.plan.lists ≡ One ((with_blocks (site_of host).at blocks).place ∷ []) → table.plan.volumes ≡ []
+      → Everywhere (λ image. IsNewestOf (site_of host) (on_site (site_of host) image) (created_head (site_of host) blocks (identity_of host memory.begun) table) (created_newest blocks table)) u → IsCreated host blocks (kept_at memory t) (kept_at next u)
+  created blocks table kept is lists volumes each = record {
+    newest = created_newest blocks table;
+    new = record { sized = refl; slot = refl; mark = refl; lists = lists; volumes = volumes };
     memory = is;
-    head = created_head (site_of host) (identity_of host memory.begun) table;
+    head = created_head (site_of host) blocks (identity_of host memory.begun) table;
     identity = refl;
     content = each (last u) (last_image u);
     beside = same_beside host t u kept;

@@ -30,7 +30,7 @@ module _ (host : Host) (u v : Tale) (kept : KeptOutside nowhere u v) where
   none_there databases = record { places = λ key site is drive block here there. cc there; volumes = λ key volume v named drive block here there. cc here }
 
   pub stands_kept : (h : History) → StandsAt host h u → StandsAt host h v
-  stands_kept h stands = record { stands = restarts_go.elsewhere (sites_of host) h nowhere u v (none_there h.databases) kept stands.stands; room = stands.room }
+  stands_kept h stands = restarts_go.elsewhere (sites_of host) h nowhere u v (none_there h.databases) kept stands
 
   module _ (memory : Memory) where
     pub knows_kept : Knows host memory u → Knows host memory v

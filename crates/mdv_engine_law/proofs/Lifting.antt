@@ -74,13 +74,13 @@ module _ (host : Host) (asks : List Deed) (Then : List Event → History → Typ
       → GoesFrom (site_of host) Known Which asked After t m → StandsAt host h t → Known (log_of h.databases (key_of host)) → Goes host asks [] Then m h
   lift_log Known Which asked After t m kept mine within h ready then goes stands known =
       let key = key_of host in
-      let one = goes (log_of h.databases key) (stands.stands.databases key (site_of host) (own_site host)).covers known in
-      let is : IsLifted (sites_of host) h key one.es m = databases_go (sites_of host) h key (site_of host) one.es t m (sites_apart host) (own_site host) stands.stands kept one.course one.stands (λ table asks_it. ready one.es one.course one.come.begins table asks_it) in
+      let one = goes (log_of h.databases key) (stands.databases key (site_of host) (own_site host)).covers known in
+      let is : IsLifted (sites_of host) h key one.es m = databases_go (sites_of host) h key (site_of host) one.es t m (sites_apart host) (own_site host) stands kept one.course one.stands (λ table asks_it. ready one.es one.course one.come.begins table asks_it) in
       let events = lifted key (identity_in (current_of h.databases key)) one.es in
       let issues : AreAll (IsIssue (IsOfRun host)) events = lifted_issues (IsOfRun host) key (identity_in (current_of h.databases key)) one.es (issue_wider Which (IsOfRun host) mine one.es one.come.issues) in
       let begun = map (deed_of key) (log.begun_by one.es) in
       let tells = is.happens.tells ∙ ap (map (deed_of key)) one.come.tells in
       let happens : Happens (sites_of host) h events begun [] m = record { course = is.happens.course; begins = is.happens.begins; tells = tells; stands = is.happens.stands } in
-      happened host asks begun [] m h events happens stands.room issues Then (lifted_awake host key (identity_in (current_of h.databases key)) one.es h)
+      happened host asks begun [] m h events happens issues Then (lifted_awake host key (identity_in (current_of h.databases key)) one.es h)
       (part_of_part begun (map (deed_of key) asked) asks (part_mapped (deed_of key) (log.begun_by one.es) asked one.come.begins) within)
-      (then events (history_after_all h events) (happened_stands host asks begun [] m h events happens stands.room issues) is.woken is.up (subst After (sym is.own) one.after))
+      (then events (history_after_all h events) (happened_stands host asks begun [] m h events happens issues) is.woken is.up (subst After (sym is.own) one.after))

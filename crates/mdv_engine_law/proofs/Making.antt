@@ -20,10 +20,10 @@ use Rattle.mdv_engine_law.proofs.Staying.{stays_in_replica}
 abbrev pub Makes : Host → Memory → (Log → Type 0) → Tale → Tale → Type 0
 Makes host memory After t m = ShowsNothing (site_of host) t → GoesMaking (site_of host) (identity_of host memory.begun) After t m
 
--- a creation of this run, on a slice with room, where no database is open and no call failed in the last boot
-module _ (host : Host) (sizes : List ℕ) (ready : IsReady host sizes) (memory : Memory) (room : 8208 ≤ host.home.blocks) (none : memory.opened ≡ None) (clean : memory.clean ≡ true) (t m : Tale) (kept : KeptOutside (area_of (site_of host)) t m) where
+-- a creation of this run, where no database is open and no call failed in the last boot
+module _ (host : Host) (sizes : List ℕ) (ready : IsReady host sizes) (memory : Memory) (none : memory.opened ≡ None) (clean : memory.clean ≡ true) (t m : Tale) (kept : KeptOutside (area_of (site_of host)) t m) where
   mine : (other : Identity) → IsThis (identity_of host memory.begun) other → IsOfRun host other
-  mine other same = subst (λ (i : Identity). IsOfRun host i) (sym same) (record { fresh = refl; room = room })
+  mine other same = subst (λ (i : Identity). IsOfRun host i) (sym same) refl
 
   making : (After : Log → Type 0) (Then : List Event → History → Type 0) → Makes host memory After t m → (h : History) → IsKnown host memory h t → ((es : List Event) (g : History) → StandsAt host g m → g.up (key_of host) ≡ memory.up → After (log_of g.databases (key_of host)) → Then es g)
       → Goes host (Created (key_of host) ∷ []) [] Then m h
@@ -45,15 +45,15 @@ module _ (host : Host) (sizes : List ℕ) (ready : IsReady host sizes) (memory :
       still drive on = subst (λ (drives : Drives). is_in drives drive ≡ true) up on
 
   -- it was made, and its `ok` may be told
-  pub made : (table : Table) (next : Memory) → next.up ≡ memory.up → table.plan.volumes ≡ [] → next.opened ≡ Some (created_newest (site_of host) table) → (ShowsNothing (site_of host) t → IsOpened (site_of host) (created_newest (site_of host) table) m)
-      → Makes host memory (IsCreated (site_of host) (identity_of host memory.begun) table) t m → CarriedTo host (ToDo (Created (key_of host))) memory (Said outcome.Ok) next t m
-  made table next same_up empty opened is goes =
-      let newest : Newest = created_newest (site_of host) table in
+  pub made : (blocks : ℕ) (table : Table) (next : Memory) → next.up ≡ memory.up → table.plan.volumes ≡ [] → next.opened ≡ Some (created_newest blocks table) → (ShowsNothing (site_of host) t → IsOpened (site_of host) (created_newest blocks table) m)
+      → Makes host memory (IsCreated blocks (identity_of host memory.begun) table) t m → CarriedTo host (ToDo (Created (key_of host))) memory (Said outcome.Ok) next t m
+  made blocks table next same_up empty opened is goes =
+      let newest : Newest = created_newest blocks table in
       let knows : Knows host memory t → Knows host next m = λ known. knows_opened host next newest m opened (is (known.nothing none clean)) (freed next same_up (λ drive block unused. unused.plain) known) in
       record {
         done = Created (key_of host) ∷ [];
         acks = refl;
-        goes = λ h known. making (IsCreated (site_of host) (identity_of host memory.begun) table) (λ es g. IsKnownAfter host (Created (key_of host) ∷ []) (Said outcome.Ok) next g m) goes h known (λ es g there up created. (
+        goes = λ h known. making (IsCreated blocks (identity_of host memory.begun) table) (λ es g. IsKnownAfter host (Created (key_of host) ∷ []) (Said outcome.Ok) next g m) goes h known (λ es g there up created. (
           record {
             stands = there;
             newest = of_opened next newest (λ n. IsNewestIn n (log_of g.databases (key_of host))) opened created.newest;

@@ -4,31 +4,31 @@ use Rattle.std.proofs.Math.Bool.{or-true}
 use Rattle.std.proofs.lemmas.List.{append-nil, length-take, take_all, take-append-le, take_min}
 use Rattle.std.proofs.lemmas.List.Elements.{All-append, All-nil, All-cons}
 use Rattle.std.proofs.lemmas.Slice.Eq.{bytes_eq-Decides}
-use Rattle.std.specs.List.{find}
+use Rattle.std.specs.List.{find, list_any}
 use Rattle.std.specs.Option.{is_none}
 use Rattle.std.specs.Prelude.{is_some, nat_lt}
 use Rattle.std.specs.Fmt.{digits, decimal}
-use Rattle.mdv_engine_law.specs.Below.{refusal_text, SliceName, VolId, Refusal, BadLine, NoDatabase, NeedForce, NoSuchVolume, NameTaken, NoSuchSlice, SliceInUse, TooSmall, TooMany, WrongKind, WrongState, ReplicaFull, OutOfRange, IoFault, OutOfMemory, LineTooLong, Down, Change, Newest, Command, Create, Read, Write, Volume, lacks, one_reply, refused, replies_in, said_in, unsaid, with_reply, Deed, MakeStripe}
+use Rattle.mdv_engine_law.specs.Below.{refusal_text, SliceName, VolId, Refusal, BadLine, NoDatabase, NeedForce, NoSuchVolume, NoSuchPool, Named, NameTaken, NoSuchSlice, SliceInUse, TooSmall, TooMany, WrongKind, WrongState, ReplicaFull, OutOfRange, IoFault, OutOfMemory, LineTooLong, Down, Change, Newest, Command, Create, Print, Read, Write, Volume, lacks, one_reply, refused, replies_in, said_in, unsaid, with_reply, Deed, MakeStripe}
 use Rattle.mdv_base.specs.Order.{order, where_so}
 use Rattle.mdv_base.proofs.Order.{first_holds}
 use Rattle.mdv_status.specs.Telling.{Said as SaidBytes}
 use Rattle.mdv_words.specs.declared.command.Command.TheVariants as command
 use Rattle.mdv_status.proofs.Lines.{decimal_lacks}
 use Rattle.mdv_status.proofs.Pieces.{lacks_append, lacks_one, lacks_take}
-use Rattle.mdv_status.proofs.Replies.{entries_are_one_reply, values_are_one_reply, refusals_are_one_reply}
+use Rattle.mdv_status.proofs.Replies.{entries_are_one_reply, prints_are_one_reply, values_are_one_reply, refusals_are_one_reply}
 use Rattle.mdv_engine_law.specs.declared.answer.Answer.{Answer}
 use Rattle.mdv_engine_law.specs.declared.answer.Answer.TheVariants.{Said, Over}
 use Rattle.mdv_engine_law.specs.declared.answer.Ended.TheVariants as ended
 use Rattle.mdv_engine_law.specs.declared.answer.Outcome.TheVariants as outcome
 use Rattle.mdv_engine_law.specs.declared.host.Host.{Host}
 use Rattle.mdv_engine_law.specs.Line.{Ask, Nothing, ToDo, ToSee, deeds, record_room}
-use Rattle.mdv_engine_law.specs.Refusals.{Case, bytes_after, held, held_of_blocks, held_of_change, held_of_read, held_past, has_number, is_plain, refusal_of, size_of}
+use Rattle.mdv_engine_law.specs.Refusals.{Case, bytes_after, held, held_of_blocks, held_of_change, held_of_print, held_of_read, held_past, names_no_volume, names_pool, has_number, is_plain, refusal_of, size_of}
 use Rattle.mdv_name.specs.SliceIndex.{slice_at}
 use Rattle.mdv_table.specs.Change as table
 use Rattle.mdv_table.specs.Change.{is_db}
 use Rattle.mdv_table.specs.Plan.{is_in_use, used_slices}
 use Rattle.mdv_table.specs.Volumes.{has_volume}
-use Rattle.mdv_engine_law.specs.Replies.{Acks, AcksAnswer, AcksBy, AcksFront, AcksIn, IsRefusalFront, IsPlain, IsPlainAnswer, AreEntries, AreValues, IsReply, IsFront, IsAccepted, is_front_of, issuable, issuable_front, issuable_in, issuable_of, issued_by, text_of, refusal_line, ok_line}
+use Rattle.mdv_engine_law.specs.Replies.{Acks, AcksAnswer, AcksBy, AcksFront, AcksIn, IsRefusalFront, IsPlain, IsPlainAnswer, IsReply, IsText, IsFront, IsAccepted, is_front_of, issuable, issuable_front, issuable_in, issuable_of, issued_by, text_of, refusal_line, ok_line}
 use Rattle.mdv_store_law.specs.Part.{IsPart}
 use Rattle.mdv_store_law.proofs.Parts.{part_itself}
 
@@ -125,14 +125,22 @@ unfolding digits
 read_plain opened volume at count =
     All-append IsPlain (held_of_blocks opened volume (at + count)) (where_so (nat_lt 1024 count) TooMany) (blocks_plain opened volume (at + count)) (where_plain (nat_lt 1024 count) TooMany (plainly TooMany refl refl))
 
+print_plain : (opened : Option Newest) (names : List Named) → All IsPlain (held_of_print opened names)
+unfolding digits
+print_plain None names = no_database_plain
+print_plain (Some newest) names =
+    let missing = list_any (names_no_volume newest.table.plan.volumes) names in
+    All-append IsPlain (where_so missing NoSuchVolume) (where_so (list_any names_pool names) NoSuchPool) (where_plain missing NoSuchVolume (plainly NoSuchVolume refl refl)) (where_plain (list_any names_pool names) NoSuchPool (plainly NoSuchPool refl refl))
+
 held_plain : (case : Case) (command : Command) → All IsPlain (held case command)
-held_plain case (Create slice force) =
+held_plain case (Create slice force blocks) =
     let at = slice_at case.host.drives.slices slice in
     let opened = is_some case.memory.opened in
-    creation_plain (not (is_some at)) (is_plain at) (not case.memory.clean) (not opened && not force) opened (nat_lt case.host.home.blocks 8208)
+    creation_plain (not (is_some at)) (is_plain at) (not case.memory.clean) (not opened && not force) opened (nat_lt case.host.home.blocks (16 + blocks))
 held_plain case (command.MakeStripe volume slice) = change_plain case.host case.memory.opened volume slice
 held_plain case (Read volume at count) = read_plain case.memory.opened volume at count
 held_plain case (Write volume at block) = blocks_plain case.memory.opened volume (at + 1)
+held_plain case (Print names) = print_plain case.memory.opened names
 
 -- whatever a command is refused for
 pub refusal_plain : (case : Case) (command : Command) (r : Refusal) → refusal_of case command ≡ Some r → IsPlain r
@@ -143,10 +151,14 @@ pub record Answers (text : List ℕ) : Type 0 where
   pub behind : (rest : List ℕ) → said_in (text ++ rest) ≡ with_reply text (said_in rest)
   pub before : (count : ℕ) → count < length text → said_in (take count text) ≡ unsaid (take count text)
 
--- the text of values or of entries is one reply
-pub values_answer : (text : List ℕ) → AreValues text ⊎ AreEntries text → Answers text
+-- the text of values, of entries or of a print is one reply
+pub values_answer : (text : List ℕ) → IsText text → Answers text
 values_answer text (inl are) = subst Answers (sym are.is) (record { behind = values_are_one_reply.more are.at are.blocks; before = values_are_one_reply.front are.at are.blocks })
-values_answer text (inr are) = subst Answers (sym are.is) (record { behind = entries_are_one_reply.more are.count; before = entries_are_one_reply.front are.count })
+values_answer text (inr (inl are)) = subst Answers (sym are.is) (record { behind = entries_are_one_reply.more are.count; before = entries_are_one_reply.front are.count })
+values_answer text (inr (inr are)) = subst Answers (sym are.is) (record {
+  behind = λ rest. prints_are_one_reply.more are.lines rest are.quiet;
+  before = λ count. prints_are_one_reply.front are.lines count are.quiet;
+})
 
 pub nothing_said : said_in [] ≡ unsaid []
 nothing_said = refusals_are_one_reply.front [] refl
@@ -212,7 +224,7 @@ reply_is text answers = record { alone = alone text answers; behind = answers.be
 pub ok_reply : IsReply ok_line
 ok_reply = reply_is ok_line ok_answers
 
-pub values_are_reply : (text : List ℕ) → AreValues text ⊎ AreEntries text → IsReply text
+pub values_are_reply : (text : List ℕ) → IsText text → IsReply text
 values_are_reply text are = reply_is text (values_answer text are)
 
 pub refusal_reply : (r : Refusal) → IsPlain r → IsReply (refusal_line r)

@@ -106,10 +106,10 @@ module _ (host : Host) (sizes : List ℕ) (ready : IsReady host sizes) (memory :
     done = Saw (key_of host) volume at blocks ∷ [];
     acks = inr (record { blocks = blocks; counted = counted; told = is; seen = refl });
     goes = λ h known.
-        (let read = reads_go (sites_of host) h (key_of host) volume at blocks t (range_of h known) known.stands.stands (runs_stand.copies place.drive there.first there.blocks at (length blocks)) (runs_stand.read place.drive there.first there.blocks at blocks t shown) in
+        (let read = reads_go (sites_of host) h (key_of host) volume at blocks t (range_of h known) known.stands (runs_stand.copies place.drive there.first there.blocks at (length blocks)) (runs_stand.read place.drive there.first there.blocks at blocks t shown) in
         let event : Event = Reads (key_of host) volume at blocks in
-        let stands = happened_stands host [] [] [] t h (event ∷ []) read.happens known.stands.room (tt, tt) in
-        happened host [] [] [] t h (event ∷ []) read.happens known.stands.room (tt, tt) (λ es g. IsKnownAfter host (Saw (key_of host) volume at blocks ∷ []) (Said (outcome.Values text)) memory g t)
+        let stands = happened_stands host [] [] [] t h (event ∷ []) read.happens (tt, tt) in
+        happened host [] [] [] t h (event ∷ []) read.happens (tt, tt) (λ es g. IsKnownAfter host (Saw (key_of host) volume at blocks ∷ []) (Said (outcome.Values text)) memory g t)
         (subst (λ (n : ℕ). AreFound (sites_of host) h (key_of host) volume at n) (sym counted) (are_found h t known), tt) tt (
           known_on host memory h (history_after h event) t stands refl refl (λ other. refl) known,
           read.untold,
@@ -189,28 +189,28 @@ module _ (host : Host) (sizes : List ℕ) (ready : IsReady host sizes) (memory :
     issued_known : IsKnown host memory (history_after h (OfVolume (key_of host) volume (Issues at blocks))) m
     unfolding has_range
     issued_known =
-        let issued = writes_go.issued (sites_of host) h (key_of host) volume at blocks t m own known.stands.stands rewriting in
-        let stands = happened_stands host [] (wrote ∷ []) [] m h (OfVolume (key_of host) volume (Issues at blocks) ∷ []) issued known.stands.room (tt, tt) in
+        let issued = writes_go.issued (sites_of host) h (key_of host) volume at blocks t m own known.stands rewriting in
+        let stands = happened_stands host [] (wrote ∷ []) [] m h (OfVolume (key_of host) volume (Issues at blocks) ∷ []) issued (tt, tt) in
         still (history_after h (OfVolume (key_of host) volume (Issues at blocks))) stands refl refl (λ other. count_kept h (key_of host) volume (Issues at blocks) (λ n. refl) (key_of host) other)
 
     pub issued_by : (After : List Event → History → Type 0) → (IsKnown host memory (history_after h (OfVolume (key_of host) volume (Issues at blocks))) m → After (OfVolume (key_of host) volume (Issues at blocks) ∷ []) (history_after h (OfVolume (key_of host) volume (Issues at blocks))))
         → Goes host (wrote ∷ []) [] After m h
     unfolding has_range
     issued_by After then =
-        let issued = writes_go.issued (sites_of host) h (key_of host) volume at blocks t m own known.stands.stands rewriting in
-        happened host (wrote ∷ []) (wrote ∷ []) [] m h (OfVolume (key_of host) volume (Issues at blocks) ∷ []) issued known.stands.room (tt, tt) After (found, tt) (part_itself (wrote ∷ [])) (then issued_known)
+        let issued = writes_go.issued (sites_of host) h (key_of host) volume at blocks t m own known.stands rewriting in
+        happened host (wrote ∷ []) (wrote ∷ []) [] m h (OfVolume (key_of host) volume (Issues at blocks) ∷ []) issued (tt, tt) After (found, tt) (part_itself (wrote ∷ [])) (then issued_known)
 
     -- they are on the disk
     pub written_by : AllRead (run_map place.drive there.first there.blocks) at blocks m → AllOnDisk (run_map place.drive there.first there.blocks) at (length blocks) m
         → Goes host (wrote ∷ []) [] (λ es g. IsKnownAfter host (wrote ∷ []) (Said outcome.Ok) memory g m) m h
     unfolding has_range
     written_by read on =
-        let done = writes_go.done (sites_of host) h (key_of host) volume at blocks t m own known.stands.stands rewriting read on in
+        let done = writes_go.done (sites_of host) h (key_of host) volume at blocks t m own known.stands rewriting read on in
         let es = write_of (key_of host) volume at blocks in
         let first = history_after h (OfVolume (key_of host) volume (Issues at blocks)) in
         let second = history_after first (OfVolume (key_of host) volume (Answers at blocks)) in
-        let stands = happened_stands host [] (wrote ∷ []) [] m h es done.happens known.stands.room (tt, (tt, (tt, tt))) in
-        happened host (wrote ∷ []) (wrote ∷ []) [] m h es done.happens known.stands.room (tt, (tt, (tt, tt))) (λ es g. IsKnownAfter host (wrote ∷ []) (Said outcome.Ok) memory g m) (found, (tt, (tt, tt))) (part_itself (wrote ∷ [])) (
+        let stands = happened_stands host [] (wrote ∷ []) [] m h es done.happens (tt, (tt, (tt, tt))) in
+        happened host (wrote ∷ []) (wrote ∷ []) [] m h es done.happens (tt, (tt, (tt, tt))) (λ es g. IsKnownAfter host (wrote ∷ []) (Said outcome.Ok) memory g m) (found, (tt, (tt, tt))) (part_itself (wrote ∷ [])) (
           still (history_after_all h es) stands refl refl (λ other.
               count_kept second (key_of host) volume (Flushes at (length blocks)) (λ n. refl) (key_of host) other ∙ count_kept first (key_of host) volume (Answers at blocks) (λ n. refl) (key_of host) other
               ∙ count_kept h (key_of host) volume (Issues at blocks) (λ n. refl) (key_of host) other),

@@ -2,7 +2,7 @@
 use Rattle.std.proofs.Common.{◌⊎◌, inl, inr, ℕ, Bool, true, false}
 use Rattle.std.specs.Bool.{MatchBool}
 use Rattle.mdv_base.proofs.Causes.{IsWithin}
-use Rattle.mdv_engine_law.specs.Below.{Drives, has_drive, Command, Create, Read, Write}
+use Rattle.mdv_engine_law.specs.Below.{Drives, has_drive, Command, Create, Print, Read, Write}
 use Rattle.mdv_words.specs.declared.command.Command.TheVariants as command
 use Rattle.mdv_shelf.specs.Failing.{AreCalm, FailedOn, Outcomes}
 use Rattle.mdv_engine_law.specs.Commands.{MayLose, blamed}
@@ -27,16 +27,18 @@ module _ (failed more : Outcomes) (cause : AreWithin failed more) where
 
   -- what may excuse a command
   pub blamed_more : (host : Host) (memory : Memory) (command : Command) → IsWithin (blamed failed host memory command) (blamed more host memory command)
-  blamed_more host memory (Create slice force) = record { some = on_more host.home.drive.0; none = calm_more }
+  blamed_more host memory (Create slice force blocks) = record { some = on_more host.home.drive.0; none = calm_more }
   blamed_more host memory (command.MakeStripe volume slice) = record { some = on_more host.home.drive.0; none = calm_more }
   blamed_more host memory (Read volume at count) = record { some = λ of. record { place = of.place; there = of.there; failed = on_more of.place.drive of.failed }; none = calm_more }
   blamed_more host memory (Write volume at block) = record { some = λ of. record { place = of.place; there = of.there; failed = on_more of.place.drive of.failed }; none = calm_more }
+  blamed_more host memory (Print names) = record { some = λ of. of; none = calm_more }
 
   pub lose_more : (host : Host) (command : Command) → MayLose failed host command → MayLose more host command
-  lose_more host (Create slice force) on = on_more host.home.drive.0 on
+  lose_more host (Create slice force blocks) on = on_more host.home.drive.0 on
   lose_more host (command.MakeStripe volume slice) on = on_more host.home.drive.0 on
   lose_more host (Read volume at count) on = on
   lose_more host (Write volume at block) on = on
+  lose_more host (Print names) on = on
 
   -- and what a boot says of each drive
   out_more : (drive : ℕ) → (failed drive).none ⊎ (failed drive).some → (more drive).none ⊎ (more drive).some
@@ -55,7 +57,8 @@ module _ (failed more : Outcomes) (cause : AreWithin failed more) where
 
 -- a command loses its place only where a call on the database's drive failed
 pub lose_home : (calls : Outcomes) (host : Host) (command : Command) → MayLose calls host command → (home_calls host calls).some
-lose_home calls host (Create slice force) on = on.here
+lose_home calls host (Create slice force blocks) on = on.here
 lose_home calls host (command.MakeStripe volume slice) on = on.here
 lose_home calls host (Read volume at count) on = absurd on
 lose_home calls host (Write volume at block) on = absurd on
+lose_home calls host (Print names) on = absurd on

@@ -2,7 +2,7 @@
 use Rattle.std.proofs.Common.{inl, inr, ℕ, ◌+◌, ◌-◌, List, [], ◌∷◌, length, slice_index_or, refl, sym, ◌∙◌}
 use Rattle.mdv_map.proofs.Joining.{kept_is_old, old_or_new_more}
 use Rattle.mdv_shelf.proofs.Frame.{kept_outside_more, settled_still}
-use Rattle.mdv_engine_law.specs.Below.{Command, Create, DriveBlock, IsSettled, KeptOutside, Read, Settling, Write, nowhere, area_of, range, Changed, Created, Saw, Tale, Wrote}
+use Rattle.mdv_engine_law.specs.Below.{Command, Create, DriveBlock, IsSettled, KeptOutside, Print, Read, Settling, Write, nowhere, area_of, range, Changed, Created, Saw, Tale, Wrote}
 use Rattle.mdv_words.specs.declared.command.Command.TheVariants.{MakeStripe}
 use Rattle.mdv_engine_law.specs.declared.host.Host.{Host}
 use Rattle.mdv_engine_law.specs.Home.{site_of}
@@ -41,7 +41,8 @@ module _ (host : Host) (memory : Memory) where
 
   -- what a command left that was done
   pub done_still : (command : Command) (t m : Tale) → KeptOutside nowhere t m → LeavesDone host memory command t → LeavesDone host memory command m
-  done_still (Create slice force) t m kept left = tt
+  done_still (Create slice force blocks) t m kept left = tt
   done_still (MakeStripe volume slice) t m kept left = tt
   done_still (Read volume at count) t m kept left = tt
   done_still (Write volume at block) t m kept left = (left.0, left.1, settled_still left.0.drive left.0.block (block ∷ []) t m kept left.2)
+  done_still (Print names) t m kept left = tt

@@ -13,7 +13,8 @@ pub use Rattle.mdv_base.specs.declared.name.VolId.{VolId}
 pub use Rattle.mdv_base.specs.declared.place.Place.{Place}
 pub use Rattle.mdv_base.specs.declared.refusal.Refusal.{Refusal}
 pub use Rattle.mdv_base.specs.declared.refusal.Refusal.TheVariants.{BadLine, IoFault, LineTooLong, NameTaken, NeedForce, NoDatabase, NoSuchSlice}
-pub use Rattle.mdv_base.specs.declared.refusal.Refusal.TheVariants.{NoSuchVolume, OutOfMemory, OutOfRange, ReplicaFull, SliceInUse, TooSmall}
+pub use Rattle.mdv_base.specs.declared.name.Named.{Named}
+pub use Rattle.mdv_base.specs.declared.refusal.Refusal.TheVariants.{NoSuchPool, NoSuchVolume, OutOfMemory, OutOfRange, ReplicaFull, SliceInUse, TooSmall}
 pub use Rattle.mdv_base.specs.declared.refusal.Refusal.TheVariants.{TooMany, WrongKind, WrongState}
 pub use Rattle.mdv_base.specs.declared.state_word.StateWord.{StateWord}
 pub use Rattle.mdv_base.specs.declared.state_word.StateWord.TheVariants.{Down}
@@ -39,8 +40,9 @@ pub use Rattle.mdv_shelf.specs.Calls.{OnReplies, and_then}
 pub use Rattle.mdv_shelf.specs.Moments.{Ends, Grew, Moments}
 pub use Rattle.mdv_shelf.specs.Settle.{IsOldOrNew, IsSettled, IsSynced, Settling}
 pub use Rattle.mdv_shelf.specs.Tale.{Among, Gave, IsImage, MayLeave, Tale, Then, covers, last, told}
-pub use Rattle.mdv_status.specs.Telling.{Said, lacks, left_in, one_reply, refused, replies_in, said_in, unsaid, with_reply}
-pub use Rattle.mdv_status.specs.Values.{block_text, entries_reply, values_reply}
+pub use Rattle.mdv_listing.specs.Listing.{IsOfQuietLines, listing_of}
+pub use Rattle.mdv_status.specs.Telling.{IsQuietLine, Said, lacks, left_in, one_reply, refused, replies_in, said_in, unsaid, with_reply}
+pub use Rattle.mdv_status.specs.Values.{block_text, entries_reply, printed_reply, values_reply}
 pub use Rattle.mdv_store_law.specs.Going.{IsCreated, IsWithNewest, created_head, created_newest}
 pub use Rattle.mdv_store_law.specs.Log.{IsMade, IsNewestTellable, IsThis, Log, NoCreation, Version, is_firm}
 pub use Rattle.mdv_store_law.specs.Site.{HasTable, IsFound, IsNewestOf, IsRecordAt, IsReplica, IsTableAt, Newest, Site, area_of, sized}
@@ -67,5 +69,5 @@ pub use Rattle.mdv_volumes.specs.History.{history_after, history_after_all}
 pub use Rattle.mdv_volumes.specs.HistoryLaws.{AreSitesApart, AreWoken, CanTell, IsUpon}
 pub use Rattle.mdv_volumes.specs.Tables.{ArePlain, IsMapOf, IsSite, Sites}
 pub use Rattle.mdv_words.specs.declared.command.Command.{Command}
-pub use Rattle.mdv_words.specs.declared.command.Command.TheVariants.{Create, Read, Write}
+pub use Rattle.mdv_words.specs.declared.command.Command.TheVariants.{Create, Print, Read, Write}
 pub use Rattle.mdv_words.specs.Line.{Line}

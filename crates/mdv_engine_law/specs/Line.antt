@@ -3,7 +3,7 @@ use Rattle.std.specs.Prelude.{◌≡◌, ◌≢◌, ◌⊎◌, ◌+◌, ◌<◌,
 use Rattle.std.specs.Bool.{MatchBool}
 use Rattle.std.specs.List.{range_with_len}
 use Rattle.mdv_shelf.specs.Everywhere.{Image}
-use Rattle.mdv_engine_law.specs.Below.{Failures, Mark, VolId, Refusal, record_text, Head, First, Second, IsSpareSlot, greatest, other_slot, room_of, shows, Tale, covers, last, MakeStripe, One, Table, Entry, Command, Create, Read, Write, Line, Site, Newest, IsReplica, IsFound, HasTable, IsNewestOf, area_of, adopted_newest, next_newest, no_drives, rewritten, Key, Deed, Created, Changed, Wrote, DriveBlock, DriveNo, Drives, has_drive, IsMapOf, run_map}
+use Rattle.mdv_engine_law.specs.Below.{Failures, Mark, VolId, Refusal, record_text, Head, First, Second, IsSpareSlot, greatest, other_slot, room_of, shows, with_blocks, Tale, covers, last, MakeStripe, One, Table, Entry, Command, Create, Read, Write, Line, Site, Newest, IsReplica, IsFound, HasTable, IsNewestOf, area_of, adopted_newest, next_newest, no_drives, rewritten, Key, Deed, Created, Changed, Wrote, DriveBlock, DriveNo, Drives, has_drive, IsMapOf, run_map}
 use Rattle.mdv_store_law.specs.Adoptable.{IsAdoptable, IsHeaded}
 use Rattle.mdv_words.specs.declared.command.Command.TheVariants as command
 use Rattle.mdv_words.specs.Line as words
@@ -57,18 +57,18 @@ pub record Stays (kept next : Kept) : Type 0 where
   pub memory : next.memory ≡ kept.memory
   pub content : IsSame kept.content next.content
 
--- a database that was just made: the empty table alone, under the mark (1, 0)
-pub record IsNew (host : Host) (newest : Newest) : Type 0 where
-  pub blocks : newest.blocks ≡ 8192
+-- a database that was just made: the empty table alone, under the mark (1, 0), in a replica of so many blocks
+pub record IsNew (host : Host) (blocks : ℕ) (newest : Newest) : Type 0 where
+  pub sized : newest.blocks ≡ blocks
   pub slot : newest.slot ≡ First
   pub mark : newest.mark ≡ record { boot = 1; count = 0 }
-  pub lists : newest.table.plan.lists ≡ One ((site_of host).at.place ∷ [])
+  pub lists : newest.table.plan.lists ≡ One ((with_blocks (site_of host).at blocks).place ∷ [])
   pub volumes : newest.table.plan.volumes ≡ []
 
 -- it was made: the drive has its replica, with the identity of this creation
-pub record IsCreated (host : Host) (kept next : Kept) : Type 0 where
+pub record IsCreated (host : Host) (blocks : ℕ) (kept next : Kept) : Type 0 where
   pub newest : Newest
-  pub new : IsNew host newest
+  pub new : IsNew host blocks newest
   pub memory : next.memory ≡ record kept.memory { opened = Some newest; begun = kept.memory.begun + 1 }
   pub head : Head
   pub identity : head.master.identity ≡ identity_of host kept.memory.begun
@@ -188,10 +188,11 @@ pub data Ask : Type 0 where
 
 -- what a command asks of the host's own database
 abbrev pub asked_by : Host → Command → Ask
-asked_by host (Create slice force) = ToDo (Created (key_of host))
+asked_by host (Create slice force blocks) = ToDo (Created (key_of host))
 asked_by host (command.MakeStripe volume slice) = ToDo (Changed (key_of host) (MakeStripe volume slice))
 asked_by host (Read volume at count) = ToSee (key_of host) volume at count
 asked_by host (Write volume at block) = ToDo (Wrote (key_of host) volume at (block ∷ []))
+asked_by host (command.Print names) = Nothing
 
 -- a boot asks nothing, nor does a block of entries
 abbrev pub asked_by_line : Host → Line → Ask

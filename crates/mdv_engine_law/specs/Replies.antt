@@ -1,11 +1,12 @@
 -- The bytes of replies, how they are told, and what they acknowledge.
-use Rattle.std.specs.Prelude.{◌≡◌, ◌≢◌, ◌⊎◌, ℕ, Bool, true, ◌||◌, List, [], ◌∷◌, ◌++◌, length, take, codes, if◌then◌else◌}
+use Rattle.std.specs.Prelude.{◌≡◌, ◌≢◌, ◌⊎◌, ℕ, Bool, true, ◌||◌, List, [], ◌∷◌, ◌++◌, All, length, take, codes, if◌then◌else◌}
+use Rattle.std.specs.List.{concat}
 use Rattle.std.specs.Str.{bytes_eq}
 use Rattle.mdv_shelf.specs.Calls.{OnDrive}
 use Rattle.mdv_shelf.specs.Shelves.{IsOneCall, MadeCalls}
 use Rattle.mdv_shelf.specs.Story.{NoFewer}
 use Rattle.mdv_shelf.specs.declared.shelf.Shelf.{Ghosts}
-use Rattle.mdv_engine_law.specs.Below.{Failures, refusal_text, Key, VolId, Refusal, IoFault, Deed, Saw, lacks, left_in, one_reply, refused, replies_in, said_in, unsaid, with_reply, entries_reply, values_reply}
+use Rattle.mdv_engine_law.specs.Below.{Failures, refusal_text, Key, VolId, Refusal, IoFault, Deed, Saw, lacks, left_in, one_reply, refused, replies_in, said_in, unsaid, with_reply, IsQuietLine, entries_reply, printed_reply, values_reply}
 use Rattle.mdv_engine_law.specs.declared.answer.Answer.{Answer}
 use Rattle.mdv_engine_law.specs.declared.answer.Answer.TheVariants.{Said, Over}
 use Rattle.mdv_engine_law.specs.declared.answer.Ended.{Ended}
@@ -49,9 +50,19 @@ pub record AreEntries (text : List ℕ) : Type 0 where
   pub count : ℕ
   pub is : text ≡ entries_reply count
 
+-- or that of a table that is printed: these lines, and `ok`
+pub record ArePrinted (text : List ℕ) : Type 0 where
+  pub lines : List (List ℕ)
+  pub quiet : All IsQuietLine lines
+  pub is : text ≡ printed_reply (concat lines)
+
+-- the text of a reply that tells more than `ok`
+abbrev pub IsText : List ℕ → Type 0
+IsText text = AreValues text ⊎ (AreEntries text ⊎ ArePrinted text)
+
 abbrev pub IsPlainOutcome : Outcome → Type 0
 IsPlainOutcome outcome.Ok = Unit {0}
-IsPlainOutcome (outcome.Values text) = AreValues text ⊎ AreEntries text
+IsPlainOutcome (outcome.Values text) = IsText text
 IsPlainOutcome (outcome.Refused refusal) = IsPlain refusal
 
 abbrev pub IsPlainAnswer : Answer → Type 0

@@ -21,15 +21,13 @@ use Rattle.mdv_engine_law.specs.Efforts.{LineCalls, replied_to}
 use Rattle.mdv_engine_law.specs.Line.{Ask, AreBlocksAt, Kept, Nothing, ToDo, ToSee, Memory, IsSame, asked_by, deeds, contents, kept_at}
 use Rattle.mdv_engine_law.specs.Replies.{Acks, AcksAnswer, AcksBy, IsReply, IsFront, IsTold, issuable, issuable_of, issued_by, text_of}
 
--- the drives stand with the history, in which the host's database was made only where there is room for it
-pub record StandsAt (host : Host) (h : History) (m : Tale) : Type 0 where
-  pub stands : history.Stands (sites_of host) h m
-  pub room : IfSome (log_of h.databases (key_of host)).issued (λ identity. 8208 ≤ host.home.blocks)
+-- the drives stand with the history
+abbrev pub StandsAt : Host → History → Tale → Type 0
+StandsAt host h m = history.Stands (sites_of host) h m
 
--- a creation of this run, on a slice that has room for it
-pub record IsOfRun (host : Host) (identity : Identity) : Type 0 where
-  pub fresh : identity.fresh ≡ host.fresh
-  pub room : 8208 ≤ host.home.blocks
+-- a creation of this run
+abbrev pub IsOfRun : Host → Identity → Type 0
+IsOfRun host identity = identity.fresh ≡ host.fresh
 
 -- the events tell these deeds, and begin only deeds that are asked, creations too, in that order and each once
 abbrev pub Does : Host → List Deed → List Deed → List Event → Type 0

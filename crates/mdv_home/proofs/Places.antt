@@ -1,6 +1,5 @@
 -- Slices that share no block have areas apart.
 use Rattle.std.proofs.Common.{slice_index_or, ◌≡◌, ◌≢◌, ◌+◌, ◌-◌, ◌≤◌, ℕ, min, true, sym, ◌∙◌, ap, arith}
-use Rattle.std.proofs.Math.Nat.{min-eq_left}
 use Rattle.std.proofs.lemmas.Bool.Decides.{nat_tests}
 use Rattle.std.proofs.lemmas.List.Elements.{All-contains}
 use Rattle.std.proofs.lemmas.Option.{get_or_from_slice_get, slice_get_within}
@@ -67,10 +66,6 @@ plain_apart table m n a b first second never = areas_apart a b (λ over. never (
 
 pub one_place : OnePlace
 one_place text table name a b is = (sound_geometry text table is).once name a b
-
--- a slice with room for a replica of the default length has a place of that length
-pub whole_place : (h : Home) → 8208 ≤ h.blocks → (place_of h).place.blocks ≡ 8192
-whole_place h room = min-eq_left (omega (arith, room))
 
 -- a home's drive is there, and a slice with room for a replica has a place on it
 pub home_drive : (table : Geometry) (h : Home) → IsHome table h → slice_index_or (sizes_of table) h.drive.0 0 ≡ h.drive_blocks

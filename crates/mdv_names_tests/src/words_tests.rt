@@ -1,4 +1,4 @@
-use mdv_base::{DriveName, SliceName, VolId, ZERO_BLOCK};
+use mdv_base::{Block, DriveName, Named, PoolId, SliceName, VolId, ZERO_BLOCK};
 use mdv_words::*;
 use std::alloc::Global;
 
@@ -15,10 +15,11 @@ const SLICE: SliceName = SliceName {
 enum Asked {
     Boot,
     Tab(&'static [u8]),
-    Create { force: bool },
+    Create { force: bool, blocks: u32 },
     Stripe(u16),
     Read(u64, u64),
     Write(&'static [u8]),
+    Print(&'static [Named]),
 }
 
 const LINES: &[(&[u8], Asked)] = &[
@@ -27,14 +28,62 @@ const LINES: &[(&[u8], Asked)] = &[
     (b"tab\n", Asked::Tab(b"")),
     (b"tab\nd1 1 1 c0t1d2s7\n", Asked::Tab(b"d1 1 1 c0t1d2s7\n")),
     (b"tab\n\n\x80\nboot\n", Asked::Tab(b"\n\x80\nboot\n")),
-    (b"metadb -a c0t1d2s7", Asked::Create { force: false }),
+    (
+        b"metadb -a c0t1d2s7",
+        Asked::Create {
+            force: false,
+            blocks: 8192,
+        },
+    ),
     (
         b" metadb\t-a  /dev/dsk/c0t1d2s7 ",
-        Asked::Create { force: false },
+        Asked::Create {
+            force: false,
+            blocks: 8192,
+        },
     ),
-    (b"metadb -a -f c0t1d2s7", Asked::Create { force: true }),
-    (b"metadb -f -a c0t1d2s7", Asked::Create { force: true }),
-    (b"metadb -fa c0t1d2s7", Asked::Create { force: true }),
+    (
+        b"metadb -a -f c0t1d2s7",
+        Asked::Create {
+            force: true,
+            blocks: 8192,
+        },
+    ),
+    (
+        b"metadb -f -a c0t1d2s7",
+        Asked::Create {
+            force: true,
+            blocks: 8192,
+        },
+    ),
+    (
+        b"metadb -fa c0t1d2s7",
+        Asked::Create {
+            force: true,
+            blocks: 8192,
+        },
+    ),
+    (
+        b"metadb -a -f -l 16 c0t1d2s7",
+        Asked::Create {
+            force: true,
+            blocks: 16,
+        },
+    ),
+    (
+        b"metadb -l 8192 -a c0t1d2s7",
+        Asked::Create {
+            force: false,
+            blocks: 8192,
+        },
+    ),
+    (
+        b"metadb -afl4096 c0t1d2s7",
+        Asked::Create {
+            force: true,
+            blocks: 4096,
+        },
+    ),
     (b"metainit d0 1 1 c0t1d2s7", Asked::Stripe(0)),
     (b"metainit -f d8191 1 1 c0t1d2s7", Asked::Stripe(8191)),
     (
@@ -52,7 +101,18 @@ const LINES: &[(&[u8], Asked)] = &[
         b"write d12  5 aBCdeF9080\t",
         Asked::Write(&[0xab, 0xcd, 0xef, 0x90, 0x80]),
     ),
+    (b"metastat -p", Asked::Print(&[])),
+    (
+        b"metastat -p d7 /dev/md/dsk/d0 hsp001 d7",
+        Asked::Print(&[VOLUME, FIRST, POOL, VOLUME]),
+    ),
 ];
+
+const VOLUME: Named = Named::Volume(VolId(7));
+
+const FIRST: Named = Named::Volume(VolId(0));
+
+const POOL: Named = Named::Pool(PoolId(1));
 
 // Lines of the grammar that aren't built, and such as are in no grammar.
 const BAD: &[&[u8]] = &[
@@ -70,7 +130,9 @@ const BAD: &[&[u8]] = &[
     b"metadb",
     b"metadb -i",
     b"metadb -a -c 1 c0t1d2s7",
-    b"metadb -a -f -l 8192 c0t1d2s7",
+    b"metadb -a -f -l 15 c0t1d2s7",
+    b"metadb -a -f -l 8193 c0t1d2s7",
+    b"metadb -a -f -c 2 -l 64 c0t1d2s7",
     b"metadb -a c0t1d2s7 c0t2d2s7",
     b"metadb -a mddb01",
     b"metadb -d c0t1d2s7",
@@ -108,6 +170,10 @@ const BAD: &[&[u8]] = &[
     b"metahs -e c0t1d2s7",
     b"metahs -i",
     b"metastat",
+    b"metastat d7",
+    b"metastat -s blue -p",
+    b"metastat -p blue/d7",
+    b"metastat -p c0t1d2s7",
     b"metaset",
     b"metaset -s blue -t",
     b"fill d12 0 1 00",
@@ -126,42 +192,53 @@ const BAD: &[&[u8]] = &[
     b"write d12 5 00 00",
 ];
 
-fn writing(bytes: &[u8]) -> Command {
+fn block_of(bytes: &[u8]) -> Block {
     let mut block = ZERO_BLOCK;
     for (place, byte) in block.iter_mut().zip(bytes) {
         *place = *byte;
     }
-    Command::Write {
-        volume: VolId(12),
-        at: 5,
-        block,
+    block
+}
+
+fn is_command(command: &Command, asked: &Asked) -> bool {
+    match (command, asked) {
+        (
+            Command::Create {
+                slice,
+                force,
+                blocks,
+            },
+            Asked::Create {
+                force: forced,
+                blocks: length,
+            },
+        ) => *slice == SLICE && force == forced && blocks == length,
+        (Command::MakeStripe { volume, slice }, Asked::Stripe(number)) => {
+            volume.0 == *number && *slice == SLICE
+        }
+        (Command::Read { volume, at, count }, Asked::Read(from, blocks)) => {
+            volume.0 == 12 && at == from && count == blocks
+        }
+        (Command::Write { volume, at, block }, Asked::Write(bytes)) => {
+            volume.0 == 12 && *at == 5 && *block == block_of(bytes)
+        }
+        (Command::Print { names }, Asked::Print(wanted)) => names.as_slice() == *wanted,
+        _ => false,
     }
 }
 
-fn line(asked: &Asked) -> Line<'static> {
-    match *asked {
-        Asked::Boot => Line::Boot,
-        Asked::Tab(lines) => Line::Tab(lines),
-        Asked::Create { force } => Line::Command(Command::Create {
-            slice: SLICE,
-            force,
-        }),
-        Asked::Stripe(number) => Line::Command(Command::MakeStripe {
-            volume: VolId(number),
-            slice: SLICE,
-        }),
-        Asked::Read(at, count) => Line::Command(Command::Read {
-            volume: VolId(12),
-            at,
-            count,
-        }),
-        Asked::Write(bytes) => Line::Command(writing(bytes)),
+fn is_line(read: &Line<'_>, asked: &Asked) -> bool {
+    match (read, asked) {
+        (Line::Boot, Asked::Boot) => true,
+        (Line::Tab(lines), Asked::Tab(wanted)) => lines == wanted,
+        (Line::Command(command), _) => is_command(command, asked),
+        _ => false,
     }
 }
 
 fn is_read_as(alloc: Global, text: &[u8], asked: &Asked) -> bool {
     match read_line(alloc, text) {
-        Ok(read) => read == line(asked),
+        Ok(read) => is_line(&read, asked),
         Err(_) => false,
     }
 }

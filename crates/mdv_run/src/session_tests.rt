@@ -55,6 +55,16 @@ const RECORD: &[u8] =
 const RECORD_OF_VOLUME: &[u8] =
     b"MDVREC01\0\0\0\x56\x01\x01\0\0\0\x07\0\0\0\x10\0\0\x20\0\0\0\0\0\0\0\0\0\0\x01\0\x05\0\0\0\0\0\x01\0\x01\0\0\0\x20\0\0\0\0\0\0\0\0\0\0\0\0\0\0\0\0\0\0\0\0\x10";
 
+// The same of a replica of 16 blocks.
+const SHORT_MASTER: &[u8] =
+    b"MDVREPL1\x01\x02\x03\x04\x05\x06\x07\x08\0\0\0\0\0\x05alpha\0\0\0\0\0\0\0\0\0\0\0\0\0\0\0\0\0\0\0\0\0\0\0\0\0\0\0\0\0\0\x07\0\0\0\x10\0\0\0\x10\0\x01";
+
+const SHORT_RECORD: &[u8] =
+    b"MDVREC01\0\0\0\x24\x01\x01\0\0\0\x07\0\0\0\x10\0\0\0\x10\0\0\0\0\0\0\0\0\0\0";
+
+const SHORT_RECORD_OF_VOLUME: &[u8] =
+    b"MDVREC01\0\0\0\x56\x01\x01\0\0\0\x07\0\0\0\x10\0\0\0\x10\0\0\0\0\0\0\0\0\0\x01\0\x05\0\0\0\0\0\x01\0\x01\0\0\0\x20\0\0\0\0\0\0\0\0\0\0\0\0\0\0\0\0\0\0\0\0\x10";
+
 const CLOSED: &[u8] = b"MDVGATE1\0\0\0\0\0\0\0\0\0\0\0\0\0\0\0\0\0\0\0\0\0";
 
 const FIRST: &[u8] = b"MDVGATE1\x01\0\0\0\0\0\0\0\x01\0\0\0\0\0\0\0\0\0\0\0\x24";
@@ -210,6 +220,104 @@ fn answers_creations(rt: HostRuntime) -> Result<(), Fail> {
     expect_rows(&rt, small, 9000, &[0], &rows)
 }
 
+// A replica of as many blocks as `-l` says, where the slice has them behind its first 16.
+#[test]
+fn answers_lengths(rt: HostRuntime) -> Result<(), Fail> {
+    let small =
+        "host alpha\ndrive c0t0d0 9000 alpha disk.img\nslice c0t0d0s0 0 16\nslice c0t0d0s7 16 8207 db\n";
+    let rows: [Row; 9] = [
+        ("metadb -a -f -l 15 c0t0d0s7", "refused E1 BadLine"),
+        ("metadb -a -f -l 8193 c0t0d0s7", "refused E1 BadLine"),
+        ("metadb -a -l 8192 c0t0d0s7", "refused E3 NeedForce"),
+        ("metadb -a -f -l 8192 c0t0d0s7", "refused E10 TooSmall"),
+        ("metadb -a -f -l 8191 c0t0d0s7", "ok"),
+        ("metadb -a -f -l 16 c0t0d0s7", "refused E7 SliceInUse"),
+        ("boot", "ok"),
+        ("metainit d0 1 1 c0t0d0s0", "ok"),
+        ("metastat -p", "d0 1 1 c0t0d0s0\nok"),
+    ];
+    expect_rows(&rt, small, 9000, &[], &rows)?;
+    let least =
+        "host alpha\ndrive c0t0d0 48 alpha disk.img\nslice c0t0d0s0 0 16\nslice c0t0d0s7 16 32 db\n";
+    let rows: [Row; 5] = [
+        ("metadb -a -f -l 17 c0t0d0s7", "refused E10 TooSmall"),
+        ("metadb -a -f -l 16 c0t0d0s7", "ok"),
+        ("metainit d8191 1 1 c0t0d0s0", "ok"),
+        ("boot", "ok"),
+        ("metastat -p d8191", "d8191 1 1 c0t0d0s0\nok"),
+    ];
+    expect_rows(&rt, least, 48, &[], &rows)
+}
+
+// A table is printed as md.tab text, whole or by names in their order, behind a boot too. Each refusal in its place: E2, E4, E26.
+#[test]
+fn answers_prints(rt: HostRuntime) -> Result<(), Fail> {
+    let rows: [Row; 15] = [
+        ("metastat -p", "refused E2 NoDatabase"),
+        ("metastat -p d0", "refused E2 NoDatabase"),
+        ("metadb -a -f c0t0d0s7", "ok"),
+        ("metastat -p", "ok"),
+        ("metastat -p d0 hsp001", "refused E4 NoSuchVolume"),
+        ("metainit d10 1 1 c0t0d0s1", "ok"),
+        ("metainit d2 1 1 c0t0d0s0", "ok"),
+        ("metastat -p", "d2 1 1 c0t0d0s0\nd10 1 1 c0t0d0s1\nok"),
+        (
+            "metastat -p d10 d2",
+            "d10 1 1 c0t0d0s1\nd2 1 1 c0t0d0s0\nok",
+        ),
+        ("metastat -p d2 hsp001", "refused E26 NoSuchPool"),
+        ("metastat -p hsp001 d3", "refused E4 NoSuchVolume"),
+        ("metastat", "refused E1 BadLine"),
+        ("metastat -s blue -p", "refused E1 BadLine"),
+        ("boot", "ok"),
+        ("metastat -p d2", "d2 1 1 c0t0d0s0\nok"),
+    ];
+    expect_rows(&rt, WIDE, WIDE_BLOCKS, &[], &rows)
+}
+
+// A replica of 16 blocks has slots of 6, so 3,072 bytes of a table: 60 volumes, and not one more. A table that is too long changes nothing.
+#[test]
+fn answers_tables_that_are_too_long(rt: HostRuntime) -> Result<(), Fail> {
+    let mut table = String::new(rt.alloc());
+    table.push_str("host alpha\n")?;
+    for drive in 0..9 {
+        table.push_str(format!(in rt.alloc();
+            "drive c0t{drive}d0 200 alpha d{drive}.img\n"
+        )?.as_str())?;
+    }
+    table.push_str("slice c0t0d0s7 0 32 db\n")?;
+    let mut script = String::new(rt.alloc());
+    script.push_str("metadb -a -f -l 16 c0t0d0s7\n")?;
+    let mut told = String::new(rt.alloc());
+    told.push_str("ok\n")?;
+    for number in 0..60 {
+        let (drive, slice) = (number / 7, number % 7);
+        let start = 40 + slice * 16;
+        table.push_str(format!(in rt.alloc();
+            "slice c0t{drive}d0s{slice} {start} 16\n"
+        )?.as_str())?;
+        script.push_str(format!(in rt.alloc();
+            "metainit d{number} 1 1 c0t{drive}d0s{slice}\n"
+        )?.as_str())?;
+        told.push_str("ok\n")?;
+    }
+    table.push_str("slice c0t8d0s6 152 16\n")?;
+    script.push_str("metainit d60 1 1 c0t8d0s6\nmetastat -p d60\nboot\nmetastat -p d59\n")?;
+    told.push_str(
+        "refused E17 ReplicaFull 3086 3072\nrefused E4 NoSuchVolume\nok\nd59 1 1 c0t8d0s3\nok\n",
+    )?;
+    let sizes = [200; 9];
+    let mut shelf = MemShelf::new(rt.alloc(), &sizes)?;
+    expect_run(
+        &rt,
+        table.as_str(),
+        &mut shelf,
+        script.as_str(),
+        RunStatus::SomeRefused,
+        told.as_str(),
+    )
+}
+
 // Each refusal in its place: E2, E6, E5, E12, E7. A volume is there behind a boot too.
 #[test]
 fn answers_changes(rt: HostRuntime) -> Result<(), Fail> {
@@ -358,6 +466,29 @@ fn writes_the_blocks_of_a_replica(rt: HostRuntime) -> Result<(), Fail> {
     expect_block(&rt, &mut shelf, 4130, RECORD)?;
     expect_run(&rt, TABLE, &mut shelf, "boot\n", done, "ok\nok\nok\n")?;
     expect_head(&rt, &mut shelf, [MASTER, claim_four, THIRD, FOURTH])?;
+    Ok(())
+}
+
+// A replica of 16 blocks has its slots right behind each other, and no block behind its own is written.
+#[test]
+fn writes_the_blocks_of_a_short_replica(rt: HostRuntime) -> Result<(), Fail> {
+    let mut shelf = MemShelf::new(rt.alloc(), &[BLOCKS])?;
+    let script = "metadb -a -f -l 16 c0t0d0s7\nmetainit d5 1 1 c0t0d0s0\n";
+    let changed = b"MDVGATE1\x01\0\0\0\0\0\0\0\x01\0\0\0\0\0\0\0\x01\0\0\0\x56";
+    for block in 48..64 {
+        put(&mut shelf, block, b"kept")?;
+    }
+    expect_run(&rt, TABLE, &mut shelf, script, RunStatus::Done, "ok\nok\n")?;
+    expect_head(&rt, &mut shelf, [SHORT_MASTER, CLAIM_ONE, FIRST, changed])?;
+    expect_block(&rt, &mut shelf, 36, SHORT_RECORD)?;
+    expect_block(&rt, &mut shelf, 37, b"")?;
+    expect_block(&rt, &mut shelf, 42, SHORT_RECORD_OF_VOLUME)?;
+    for block in 43..48 {
+        expect_block(&rt, &mut shelf, block, b"")?;
+    }
+    for block in 48..64 {
+        expect_block(&rt, &mut shelf, block, b"kept")?;
+    }
     Ok(())
 }
 

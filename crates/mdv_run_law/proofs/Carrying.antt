@@ -3,7 +3,7 @@ use Rattle.std.proofs.Common.{◌≡◌, inl, inr, ℕ, zero, suc, ◌+◌, ◌�
 use Rattle.std.specs.List.{range_with_len}
 use Rattle.mdv_base.specs.DriveSet.{Drives}
 use Rattle.mdv_map.specs.Maps.{DriveBlock}
-use Rattle.mdv_run_law.specs.Below.{Image, VolId, Refusal, BadLine, TooMany, Entry, IsTab, IsSame, entries_reply, values_reply, IsSound, Change, Command, Create, Read, Write, Line, Newest, area_of, next_newest, Answer, Host, site_of, Memory, Kept, IsTurnedDown, CameTo, ComesTo, IsCreated, IsNew, IsCommitted, AreBlocksAt, ArePut, blocks_of}
+use Rattle.mdv_run_law.specs.Below.{Image, VolId, Refusal, BadLine, TooMany, Entry, IsTab, IsSame, entries_reply, listing_of, printed_reply, values_reply, IsSound, Change, Command, Create, Print, Read, Write, Line, Newest, area_of, next_newest, Answer, Host, site_of, Memory, Kept, IsTurnedDown, CameTo, ComesTo, IsCreated, IsNew, IsCommitted, AreBlocksAt, ArePut, blocks_of}
 use Rattle.mdv_words.specs.declared.command.Command.TheVariants as command
 use Rattle.mdv_words.specs.Line as words
 use Rattle.mdv_words.proofs.Lines.{one_line}
@@ -15,7 +15,6 @@ use Rattle.mdv_engine_law.specs.Commands as came
 use Rattle.mdv_engine_law.specs.Commands.{Effect, Fault, GivesUp, IsAllowed, IsTabRefusal, KeepsTab, case_of}
 use Rattle.mdv_shelf.specs.Failing.{Outcomes}
 use Rattle.mdv_engine_law.specs.Refusals.{refusal_of}
-use Rattle.mdv_engine_law.proofs.Allowed.{allowed_room}
 use Rattle.mdv_table.specs.Change.{table_after}
 use Rattle.mdv_table.specs.declared.change.Change.TheVariants.{MakeStripe}
 use Rattle.mdv_run_law.specs.Run.{IsAnswered, IsSaid, IsSameMemory}
@@ -33,9 +32,9 @@ same_blocks c d first (suc count) same =
     cc (here, rest)
 
 -- a database that was just made is one
-one_new : (host : Host) (n m : Newest) → IsNew host n → IsNew host m → n ≡ m
-one_new host n m one other =
-    let blocks = one.blocks ∙ sym other.blocks in
+one_new : (host : Host) (blocks : ℕ) (n m : Newest) → IsNew host blocks n → IsNew host blocks m → n ≡ m
+one_new host asked n m one other =
+    let blocks = one.sized ∙ sym other.sized in
     let slot = one.slot ∙ sym other.slot in
     let mark : n.mark ≡ m.mark = one.mark ∙ sym other.mark in
     let lists = one.lists ∙ sym other.lists in
@@ -49,7 +48,7 @@ module _ (calls : Outcomes) (calm : NeverFailed calls) (host : Host) (sound : Is
     where
       of_memory : Settled host kept → Settled host (record { memory = record kept.memory { entries = entries }; content = kept.content })
       of_memory (bare none found) = bare none found
-      of_memory (held newest opened room head is) = held newest opened room head is
+      of_memory (held newest opened head is) = held newest opened head is
 
   -- what is kept of the two is the same, but for the list of the drives that are up
   module _ (memory : Memory) (up : Drives) (c d : Image) (n m : Kept) (a b : Answer) where
@@ -64,10 +63,11 @@ module _ (calls : Outcomes) (calm : NeverFailed calls) (host : Host) (sound : Is
 
     -- by which nothing is judged
     one_refusal_of : (cmd : Command) → refusal_of (case_of host j) cmd ≡ refusal_of (case_of host k) cmd
-    one_refusal_of (Create slice force) = refl
+    one_refusal_of (Create slice force blocks) = refl
     one_refusal_of (command.MakeStripe volume slice) = refl
     one_refusal_of (Read volume at count) = refl
     one_refusal_of (Write volume at block) = refl
+    one_refusal_of (Print names) = refl
 
     as_there : (volume : VolId) (at count : ℕ) (from : DriveBlock) → AreBlocksAt host memory_too volume at count from → AreBlocksAt host memory volume at count from
     as_there volume at count from is = record { first = is.first; blocks = is.blocks; lies = is.lies; within = is.within; block_is = is.block_is }
@@ -77,46 +77,42 @@ module _ (calls : Outcomes) (calm : NeverFailed calls) (host : Host) (sound : Is
       refused : (r q : Refusal) → r ≡ q → IsTurnedDown r k a n → IsTurnedDown q j b m → One host n m a b
       refused r q one first second = (first.0 ∙ ap refusing one ∙ sym second.0, λ said. stays_same host k j n m same first.1 second.1)
 
-      created : IsCreated host k n → IsCreated host j m → 8208 ≤ host.home.blocks → Same host n m
-      created one other room =
-          let newests = one_new host one.newest other.newest one.new other.new in
+      created : (blocks : ℕ) → IsCreated host blocks k n → IsCreated host blocks j m → Same host n m
+      created blocks one other =
+          let newests = one_new host blocks one.newest other.newest one.new other.new in
           record {
             memory = same_through n.memory (record memory { opened = Some one.newest; begun = memory.begun + 1 }) (record memory_too { opened = Some other.newest; begun = memory.begun + 1 }) m.memory one.memory other.memory
                 (record { opened = ap (λ (x : Newest). Some x) newests; up = same.memory.up; clean = refl; begun = refl; entries = refl });
             beside = λ drive block out. one.beside drive block out ∙ same.beside drive block out ∙ sym (other.beside drive block out);
-            one = held one.newest (ap (λ (x : Memory). x.opened) one.memory) room one.head one.content;
-            other = held other.newest (ap (λ (x : Memory). x.opened) other.memory) room other.head other.content;
+            one = held one.newest (ap (λ (x : Memory). x.opened) one.memory) one.head one.content;
+            other = held other.newest (ap (λ (x : Memory). x.opened) other.memory) other.head other.content;
           }
 
       abbrev changed : Change → Newest → Newest
       changed change newest = next_newest newest (table_after host.drives change newest.table)
 
-      committed : (change : Change) (newest other : Newest) → newest ≡ other → 8208 ≤ host.home.blocks → IsCommitted host newest (table_after host.drives change newest.table) k n → IsCommitted host other (table_after host.drives change other.table) j m → Same host n m
-      committed change newest other is room one two = record {
+      committed : (change : Change) (newest other : Newest) → newest ≡ other → IsCommitted host newest (table_after host.drives change newest.table) k n → IsCommitted host other (table_after host.drives change other.table) j m → Same host n m
+      committed change newest other is one two = record {
         memory = same_through n.memory (record memory { opened = Some (changed change newest) }) (record memory_too { opened = Some (changed change other) }) m.memory one.memory two.memory
             (record { opened = ap (λ (x : Newest). Some (changed change x)) is; up = same.memory.up; clean = refl; begun = refl; entries = refl });
         beside = λ drive block out. one.beside drive block out ∙ same.beside drive block out ∙ sym (two.beside drive block out);
-        one = held (changed change newest) (ap (λ (x : Memory). x.opened) one.memory) room one.head one.content;
-        other = held (changed change other) (ap (λ (x : Memory). x.opened) two.memory) room two.head two.content;
+        one = held (changed change newest) (ap (λ (x : Memory). x.opened) one.memory) one.head one.content;
+        other = held (changed change other) (ap (λ (x : Memory). x.opened) two.memory) two.head two.content;
       }
-
-      room_of_opening : (newest : Newest) → memory.opened ≡ Some newest → Opening host memory → 8208 ≤ host.home.blocks
-      room_of_opening newest opened (shut none) = absurd (never_shut memory.opened newest none opened)
-      room_of_opening newest opened (wide other also is_plan room) = room
 
       there_once : (volume : VolId) (at count : ℕ) (newest : Newest) (opened : memory.opened ≡ Some newest) (opening : Opening host memory) (block other : DriveBlock) → AreBlocksAt host memory volume at count block → AreBlocksAt host memory volume at count other
           → (block ≡ other) × ((k : ℕ) → k < count → area_of (site_of host) other.drive (other.block + k) ≡ false)
       there_once volume at count newest opened (shut none) block other one two = absurd (never_shut memory.opened newest none opened)
-      there_once volume at count newest opened (wide its is is_plan room) block other one two = (
+      there_once volume at count newest opened (wide its is is_plan) block other one two = (
         one_at host sound sees memory volume its is is_plan at count block other one two,
         λ k less. at_beside host sound sees memory volume its is is_plan at count other k two less,
       )
 
       -- both done
       effects : (cmd : Command) → IsAllowed (case_of host k) cmd → Effect host k cmd a n → Effect host j cmd b m → One host n m a b
-      effects (Create slice force) free one two = (one.0 ∙ sym two.0, λ said. created one.1 two.1 (allowed_room (case_of host k) slice force free))
+      effects (Create slice force blocks) free one two = (one.0 ∙ sym two.0, λ said. created blocks one.1 two.1)
       effects (command.MakeStripe volume slice) free (ok, newest, opened, less, one) (ok_too, other, opened_too, less_too, two) =
-          (ok ∙ sym ok_too, λ said. committed (MakeStripe volume slice) newest other (opened_twice memory.opened other newest opened_too opened) (room_of_opening newest opened (opening_of host k same.one)) one two)
+          (ok ∙ sym ok_too, λ said. committed (MakeStripe volume slice) newest other (opened_twice memory.opened other newest opened_too opened) one two)
       effects (Read volume at count) free (from, there, text, stays) (other, there_too, text_too, stays_too) =
           let both = there_once volume at count there.lies.0 there.lies.1 (opening_of host k same.one) from other there (as_there volume at count other there_too) in
           let blocks = ap (λ (x : DriveBlock). blocks_of c x count) both.0 ∙ same_blocks (c other.drive) (d other.drive) other.block count (λ i less. same.beside other.drive (other.block + i) (both.1 i less)) in
@@ -124,28 +120,33 @@ module _ (calls : Outcomes) (calm : NeverFailed calls) (host : Host) (sound : Is
       effects (Write volume at block) free (place, there, ok, kept, put) (other, there_too, ok_too, kept_too, put_too) =
           let both = there_once volume at 1 there.lies.0 there.lies.1 (opening_of host k same.one) place other there (as_there volume at 1 other there_too) in
           (ok ∙ sym ok_too, λ said. put_same host other block (both.1 0 (omega arith)) k j n m same kept kept_too (subst (λ (p : DriveBlock). ArePut p (block ∷ []) c n.content) both.0 put) put_too)
+      effects (Print names) free (newest, opened, text, stays) (other, opened_too, text_too, stays_too) =
+          let same_newest = opened_twice memory.opened other newest opened_too opened in
+          (text ∙ ap (λ (x : Newest). telling (printed_reply (listing_of x.table.plan names))) same_newest ∙ sym text_too, λ said. stays_same host k j n m same stays stays_too)
 
       never_faulted : (cmd : Command) (x y : Kept) → Fault calls host x cmd y → ⊥
-      never_faulted (Create slice force) x y fault = calm host.home.drive.0 fault.0.here
+      never_faulted (Create slice force blocks) x y fault = calm host.home.drive.0 fault.0.here
       never_faulted (command.MakeStripe volume slice) x y fault = fault
       never_faulted (Read volume at count) x y fault = calm fault.0.drive fault.1.here
       never_faulted (Write volume at block) x y fault = calm fault.0.drive fault.1.here
+      never_faulted (Print names) x y fault = fault
 
       -- over for want of numbers alone
       over_is : (cmd : Command) (end : Ended) (x y : Kept) → GivesUp calls host x cmd end y → end ≡ ended.Spent
-      over_is (Create slice force) (ended.Lost active listed) x y is = absurd (calm host.home.drive.0 is.0.here)
-      over_is (Create slice force) ended.Spent x y is = refl
-      over_is (Create slice force) ended.Memory x y is = absurd is
+      over_is (Create slice force blocks) (ended.Lost active listed) x y is = absurd (calm host.home.drive.0 is.0.here)
+      over_is (Create slice force blocks) ended.Spent x y is = refl
+      over_is (Create slice force blocks) ended.Memory x y is = absurd is
       over_is (command.MakeStripe volume slice) (ended.Lost active listed) x y is = absurd (calm host.home.drive.0 is.0.here)
       over_is (command.MakeStripe volume slice) ended.Spent x y is = refl
       over_is (command.MakeStripe volume slice) ended.Memory x y is = absurd is
       over_is (Read volume at count) end x y is = absurd is
       over_is (Write volume at block) end x y is = absurd is
+      over_is (Print names) end x y is = absurd is
 
       never_done : (cmd : Command) (end : Ended) (x y z w : Kept) (answer : Answer) → x.memory.opened ≡ y.memory.opened → GivesUp calls host x cmd end z → Effect host y cmd answer w → ⊥
-      never_done (Create slice force) (ended.Lost active listed) x y z w answer is gives effect = calm host.home.drive.0 gives.0.here
-      never_done (Create slice force) ended.Spent x y z w answer is gives effect = gives
-      never_done (Create slice force) ended.Memory x y z w answer is gives effect = gives
+      never_done (Create slice force blocks) (ended.Lost active listed) x y z w answer is gives effect = calm host.home.drive.0 gives.0.here
+      never_done (Create slice force blocks) ended.Spent x y z w answer is gives effect = gives
+      never_done (Create slice force blocks) ended.Memory x y z w answer is gives effect = gives
       never_done (command.MakeStripe volume slice) (ended.Lost active listed) x y z w answer is gives effect = calm host.home.drive.0 gives.0.here
       never_done (command.MakeStripe volume slice) ended.Spent x y z w answer is (quiet, newest, opened, high, stays) (ok, other, opened_too, less, made) =
           let count = ap (λ (x : Newest). x.mark.count) (opened_twice y.memory.opened newest other (sym is ∙ opened) opened_too) in
@@ -153,6 +154,7 @@ module _ (calls : Outcomes) (calm : NeverFailed calls) (host : Host) (sound : Is
       never_done (command.MakeStripe volume slice) ended.Memory x y z w answer is gives effect = gives
       never_done (Read volume at count) end x y z w answer is gives effect = gives
       never_done (Write volume at block) end x y z w answer is gives effect = gives
+      never_done (Print names) end x y z w answer is gives effect = gives
 
       never : (cmd : Command) (r : Refusal) → refusal_of (case_of host k) cmd ≡ Some r → IsAllowed (case_of host k) cmd → ⊥
       never cmd r is free = absurd (cc (is, free))

@@ -3,7 +3,9 @@ use Rattle.std.proofs.Common.{◌≡◌, inl, inr, ℕ, Bool, List, [], ◌∷�
 use Rattle.std.proofs.lemmas.List.Elements.{Contains-append_right}
 use Rattle.mdv_base.specs.declared.refusal.Refusal.TheVariants.{IoFault}
 use Rattle.mdv_base.proofs.Causes.{rose_of_once, rose_within}
-use Rattle.mdv_run_law.specs.Below.{Image, Refusal, BadLine, OutOfMemory, TooMany, Script, at_end, spent, too_long, line, replies_in, Command, Create, MakeStripe, Read, Write, Boot, Line, Answer, Host, site_of, Kept, CameTo, ComesTo, IsRebooted, adopted, empty, down, lost, wanting, IsPlain, IsPlainAnswer, IsReply, refusal_line}
+use Rattle.mdv_listing.proofs.Lines.{listings_are_lines}
+use Rattle.mdv_status.specs.Values.{printed_reply}
+use Rattle.mdv_run_law.specs.Below.{Image, Refusal, BadLine, OutOfMemory, TooMany, Script, at_end, spent, too_long, line, replies_in, Command, Create, MakeStripe, Print, Read, Write, Boot, Line, Answer, Host, site_of, Kept, CameTo, ComesTo, IsRebooted, adopted, empty, down, lost, wanting, IsPlain, IsPlainAnswer, IsReply, refusal_line}
 use Rattle.mdv_words.specs.Line as words
 use Rattle.mdv_engine_law.specs.declared.answer.Answer.TheVariants.{Said, Over as Ends}
 use Rattle.mdv_engine_law.specs.declared.answer.Ended.{Ended}
@@ -44,10 +46,11 @@ module _ (calls : Outcomes) (host : Host) (kept next : Kept) (answer : Answer) w
   booted_plain (wanting quiet own headed is same) = subst IsPlainAnswer (sym is) tt
 
   effect_plain : (command : Command) → Effect host kept command answer next → IsPlainAnswer answer
-  effect_plain (Create slice force) is = ok_plain is.0
+  effect_plain (Create slice force blocks) is = ok_plain is.0
   effect_plain (MakeStripe volume slice) is = ok_plain is.0
   effect_plain (Read volume at count) is = subst IsPlainAnswer (sym is.2) (inl (record { at = at; blocks = _; is = refl }))
   effect_plain (Write volume at block) is = ok_plain is.2
+  effect_plain (Print names) is = (let are = listings_are_lines is.0.table.plan names in subst IsPlainAnswer (sym is.2) (inr (inr (record { lines = are.lines; quiet = are.quiet; is = ap printed_reply are.joined }))))
 
   came_plain : (command : Command) → CameTo calls host kept command answer next → IsPlainAnswer answer
   came_plain command (came.refused quiet r is left) = refused_plain r (refusal_plain (case_of host kept) command r is) left.0
@@ -62,7 +65,7 @@ module _ (calls : Outcomes) (host : Host) (kept next : Kept) (answer : Answer) w
   tab_plain lines other why = absurd why
 
   keeps_plain : (lines : List ℕ) → KeepsTab calls kept lines answer next → IsPlainAnswer answer
-  keeps_plain lines (came.entered quiet entries tab is memory same) = subst IsPlainAnswer (sym is) (inr (record { count = length entries; is = refl }))
+  keeps_plain lines (came.entered quiet entries tab is memory same) = subst IsPlainAnswer (sym is) (inr (inl (record { count = length entries; is = refl })))
   keeps_plain lines (came.unfit quiet r why left) = refused_plain r (tab_plain lines r why) left.0
   keeps_plain lines (came.unread quiet is left) = refused_plain OutOfMemory memory_plain is
 
@@ -379,8 +382,7 @@ module _ (host : Host) (content : Image) (has : HasHome host content) where
 
   one_start : (n m : Kept) (a b : Answer) → IsSatisfied a → IsSatisfied b → IsRebooted unfailing host (started content) a n → IsRebooted unfailing host (started content) b m → One host n m a b
   one_start n m a b enough enough_too first second =
-      one_boot host has.sound unfailing none_failed (started content) (started content) n m a b (alike_start (started content) n a enough first) refl (λ drive block out. refl)
-      (λ head replica shown. has.room head (replica, shown)) enough enough_too first second
+      one_boot host has.sound unfailing none_failed (started content) (started content) n m a b (alike_start (started content) n a enough first) refl (λ drive block out. refl) enough enough_too first second
 
 pub one_course : OneCourse
 one_course = λ host content has script w v start end from to calm calm_too a b s r k j sated sated_too first second.

@@ -103,10 +103,7 @@ module _ (table : Geometry) (home other : Home) (fresh again : ℕ) (is : IsHome
 
   -- so the drives stand as they stood
   pub stands_elsewhere : (h : History) (t m : Tale) → StaysHome (host_of table other again) t m → StandsAt (host_of table home fresh) h t → StandsAt (host_of table home fresh) h m
-  stands_elsewhere h t m stays stands = record {
-    stands = restarts_go.elsewhere (sites_of (host_of table home fresh)) h (host_area (host_of table other again)) t m (elsewhere h.databases) stays stands.stands;
-    room = stands.room;
-  }
+  stands_elsewhere h t m stays stands = restarts_go.elsewhere (sites_of (host_of table home fresh)) h (host_area (host_of table other again)) t m (elsewhere h.databases) stays stands
 
   -- a block of a volume of a table of the one is none that a run of the other may touch
   pub table_elsewhere : (t : Table) (volume : VolId) (v : Map) → IsMapOf (host_of table home fresh).drives t volume v → AreApart (host_area (host_of table other again)) (area_of_map v)

@@ -1,7 +1,7 @@
 -- Which entries are kept behind a line that isn't `boot`.
 use Rattle.std.proofs.Common.{◌≡◌, inl, inr, ℕ, List, ◌++◌, length, Some, refl, sym, ◌∙◌, ap, subst}
 use Rattle.std.proofs.lemmas.List.{append_cancel_left}
-use Rattle.mdv_run_law.specs.Below.{Refusal, OutOfMemory, IsLine, entries_reply, refusal_line, told, Command, Create, MakeStripe, Read, Write, Tale, Answer, Reply, Host, Memory, Kept, kept_at, CameTo, IsTold, IsReplied, Executed}
+use Rattle.mdv_run_law.specs.Below.{Refusal, OutOfMemory, IsLine, entries_reply, refusal_line, told, Command, Create, MakeStripe, Print, Read, Write, Tale, Answer, Reply, Host, Memory, Kept, kept_at, CameTo, IsTold, IsReplied, Executed}
 use Rattle.mdv_words.specs.Line as words
 use Rattle.mdv_engine_law.specs.declared.answer.Answer.TheVariants.{Said, Over}
 use Rattle.mdv_shelf.specs.Failing.{Outcomes}
@@ -27,22 +27,25 @@ module _ (calls : Outcomes) (host : Host) (kept next : Kept) (answer : Answer) w
   entries_same same = ap (λ (m : Memory). m.entries) same
 
   effect_entries : (command : Command) → Effect host kept command answer next → next.memory.entries ≡ kept.memory.entries
-  effect_entries (Create slice force) is = ap (λ (m : Memory). m.entries) is.1.memory
+  effect_entries (Create slice force blocks) is = ap (λ (m : Memory). m.entries) is.1.memory
   effect_entries (MakeStripe volume slice) is = ap (λ (m : Memory). m.entries) is.4.memory
   effect_entries (Read volume at count) is = entries_same is.3.memory
   effect_entries (Write volume at block) is = entries_same is.3
+  effect_entries (Print names) is = entries_same is.3.memory
 
   fault_entries : (command : Command) → Fault calls host kept command next → next.memory.entries ≡ kept.memory.entries
-  fault_entries (Create slice force) is = ap (λ (m : Memory). m.entries) is.1.memory
+  fault_entries (Create slice force blocks) is = ap (λ (m : Memory). m.entries) is.1.memory
   fault_entries (MakeStripe volume slice) is = absurd is
   fault_entries (Read volume at count) is = entries_same is.3.memory
   fault_entries (Write volume at block) is = entries_same is.3
+  fault_entries (Print names) is = absurd is
 
   wanting_entries : (command : Command) → Wanting host kept command next → next.memory.entries ≡ kept.memory.entries
-  wanting_entries (Create slice force) is = ap (λ (m : Memory). m.entries) is.1.memory
+  wanting_entries (Create slice force blocks) is = ap (λ (m : Memory). m.entries) is.1.memory
   wanting_entries (MakeStripe volume slice) is = entries_same is.1.memory
   wanting_entries (Read volume at count) is = entries_same is.1.memory
   wanting_entries (Write volume at block) is = absurd is
+  wanting_entries (Print names) is = entries_same is.1.memory
 
   came_entries : (command : Command) → CameTo calls host kept command answer next → IsSaid answer → next.memory.entries ≡ kept.memory.entries
   came_entries command (came.refused quiet refusal is left) said = entries_same left.1.memory

@@ -74,7 +74,7 @@ module _ (host : Host) where
   -- the drives have no database, or the one that is open
   pub data Settled (kept : Kept) : Type 0 where
     bare : kept.memory.opened ≡ None → IsFound (site_of host) (on_site (site_of host) kept.content) None → Settled kept
-    held : (newest : Newest) → kept.memory.opened ≡ Some newest → 8208 ≤ host.home.blocks → (head : Head) → IsNewestOf (site_of host) (on_site (site_of host) kept.content) head newest → Settled kept
+    held : (newest : Newest) → kept.memory.opened ≡ Some newest → (head : Head) → IsNewestOf (site_of host) (on_site (site_of host) kept.content) head newest → Settled kept
 
   -- the same is in memory, and in each block that no replica may have
   pub record Same (k j : Kept) : Type 0 where
@@ -89,14 +89,14 @@ module _ (host : Host) where
 
   pub opening_of : (kept : Kept) → Settled kept → Opening host kept.memory
   opening_of kept (bare none found) = shut none
-  opening_of kept (held newest opened room head is) = wide newest opened is.has.is.of_geometry room
+  opening_of kept (held newest opened head is) = wide newest opened is.has.is.of_geometry
 
   -- nothing was done on the drive of the database
   there_settled : (kept next : Kept) → Settled kept → next.memory.opened ≡ kept.memory.opened
       → ((block : ℕ) → (site_of host).at.first ≤ block → block < (site_of host).at.first + (site_of host).at.place.blocks → on_site (site_of host) next.content block ≡ on_site (site_of host) kept.content block) → Settled next
   there_settled kept next (bare none found) opened there = bare (opened ∙ none) (none_there (site_of host) (on_site (site_of host) kept.content) (on_site (site_of host) next.content) there found)
-  there_settled kept next (held newest is_open room head is) opened there =
-      held newest (opened ∙ is_open) room head (newest_there (site_of host) (on_site (site_of host) kept.content) (on_site (site_of host) next.content) head
+  there_settled kept next (held newest is_open head is) opened there =
+      held newest (opened ∙ is_open) head (newest_there (site_of host) (on_site (site_of host) kept.content) (on_site (site_of host) next.content) head
       (same_within (site_of host) (on_site (site_of host) kept.content) (on_site (site_of host) next.content) there (on_site (site_of host) kept.content) head is.replica) newest is)
 
   pub stays_settled : (kept next : Kept) → Settled kept → Stays kept next → Settled next
@@ -113,20 +113,16 @@ module _ (host : Host) where
   module _ (sound : IsSound host.drives) where
     alike_kept : (k j : Kept) → k.memory.opened ≡ j.memory.opened → Settled k → Settled j → Alike (site_of host) sound k.content j.content
     alike_kept k j same (bare none found) (bare also none_too) = neither found none_too
-    alike_kept k j same (bare none found) (held newest opened room head is) = absurd (never_shut j.memory.opened newest (sym same ∙ none) opened)
-    alike_kept k j same (held newest opened room head is) (bare none found) = absurd (never_shut k.memory.opened newest (same ∙ none) opened)
-    alike_kept k j same (held newest opened room head is) (held other also room_too head_too is_too) =
+    alike_kept k j same (bare none found) (held newest opened head is) = absurd (never_shut j.memory.opened newest (sym same ∙ none) opened)
+    alike_kept k j same (held newest opened head is) (bare none found) = absurd (never_shut k.memory.opened newest (same ∙ none) opened)
+    alike_kept k j same (held newest opened head is) (held other also head_too is_too) =
         let newests = opened_twice j.memory.opened newest other (sym same ∙ opened) also in
         alike_opened (site_of host) sound k.content j.content head head_too newest is (subst (λ (n : Newest). IsNewestOf (site_of host) (on_site (site_of host) j.content) head_too n) newests is_too)
-
-    room_kept : (kept : Kept) → Settled kept → (head : Head) → IsReplica (site_of host) (on_site (site_of host) kept.content) head → shows head ≡ true → 8208 ≤ host.home.blocks
-    room_kept kept (bare none found) head replica shown = absurd (found head replica shown)
-    room_kept kept (held newest opened room its_head is) head replica shown = room
 
     -- two boots from blocks that a boot can't tell apart
     module _ (calls : Outcomes) (calm : NeverFailed calls) (k j n m : Kept) (a b : Answer) (alike : Alike (site_of host) sound k.content j.content) (begun : k.memory.begun ≡ j.memory.begun)
         (beside : (drive block : ℕ) → area_of (site_of host) drive block ≡ false → k.content drive block ≡ j.content drive block)
-        (room : (head : Head) → IsReplica (site_of host) (on_site (site_of host) k.content) head → shows head ≡ true → 8208 ≤ host.home.blocks) (sated : IsSatisfied a) (sated_too : IsSatisfied b) where
+        (sated : IsSatisfied a) (sated_too : IsSatisfied b) where
       abbrev its : ℕ → List ℕ
       its = on_site (site_of host) k.content
 
@@ -152,8 +148,8 @@ module _ (host : Host) where
             λ heard. record {
               memory = booted_memory (Some newest) (Some other) up up_too clean clean_too (ap (λ (x : Newest). Some x) newests) by_calls here by_calls_too here_too memory memory_too;
               beside = λ drive block out. is.beside drive block out ∙ beside drive block out ∙ sym (is_too.beside drive block out);
-              one = held newest (ap (λ (x : Memory). x.opened) memory) (room is.head is.replica is.shown) _ is.written;
-              other = held other (ap (λ (x : Memory). x.opened) memory_too) (room is.head is.replica is.shown) _ is_too.written;
+              one = held newest (ap (λ (x : Memory). x.opened) memory) _ is.written;
+              other = held other (ap (λ (x : Memory). x.opened) memory_too) _ is_too.written;
             },
           )
       one_boot (empty quiet up clean ok memory by_calls here none same) (empty quiet_too up_too clean_too also memory_too by_calls_too here_too none_too same_too) = (
@@ -184,7 +180,7 @@ module _ (host : Host) where
     -- a line `boot`
     pub boot_same : (calls : Outcomes) → NeverFailed calls → (k j n m : Kept) (a b : Answer) → Same k j → IsSatisfied a → IsSatisfied b → IsRebooted calls host k a n → IsRebooted calls host j b m → One n m a b
     boot_same calls calm k j n m a b same sated sated_too first second =
-        one_boot calls calm k j n m a b (alike_kept k j same.memory.opened same.one same.other) same.memory.begun same.beside (room_kept k same.one) sated sated_too first second
+        one_boot calls calm k j n m a b (alike_kept k j same.memory.opened same.one same.other) same.memory.begun same.beside sated sated_too first second
 
   -- a write puts the same blocks
   module _ (place : DriveBlock) (block : List ℕ) (beside_home : area_of (site_of host) place.drive (place.block + 0) ≡ false) where

@@ -71,7 +71,7 @@ said_told drives home (run ∷ before) es deed done are (inr said) =
 module _ (drives : Geometry) (home : Home) where
   -- a host that tells its databases by another word stands as well
   stands_fresh : (fresh other : ℕ) (h : History) (m : Tale) → StandsAt (host_of drives home fresh) h m → StandsAt (host_of drives home other) h m
-  stands_fresh fresh other h m is = record { stands = is.stands; room = is.room }
+  stands_fresh fresh other h m is = is
 
   module _ (made : Image) (is_home : IsHome drives home) where
     abbrev host : Host
@@ -96,11 +96,11 @@ module _ (drives : Geometry) (home : Home) where
     -- what is found stands with what was there, and the end of the run
     ends : (h : History) (m next : Tale) → MayBeFound m next → StandsAt host h m → Ends h next
     ends h m next as_it_was stands =
-        let is = restarts_go.ended (sites_of host) h m stands.stands in
-        record { end = Stops ∷ []; between = inl refl; course = both_courses host h (Stops ∷ []) is.course (tt, tt); stands = record { stands = is.stands; room = stands.room } }
+        let is = restarts_go.ended (sites_of host) h m stands in
+        record { end = Stops ∷ []; between = inl refl; course = both_courses host h (Stops ∷ []) is.course (tt, tt); stands = is.stands }
     ends h m next (crashed found left) stands =
-        let is = restarts_go.crashed (sites_of host) h m found left stands.stands in
-        record { end = Stops ∷ Crashes ∷ []; between = inr refl; course = both_courses host h (Stops ∷ Crashes ∷ []) is.course (tt, (tt, tt)); stands = record { stands = is.stands; room = stands.room } }
+        let is = restarts_go.crashed (sites_of host) h m found left stands in
+        record { end = Stops ∷ Crashes ∷ []; between = inr refl; course = both_courses host h (Stops ∷ Crashes ∷ []) is.course (tt, (tt, tt)); stands = is.stands }
 
     -- on new drives no key has a database
     none_there : ((home : Home) → IsHome drives home → IsFound (site_of (host_of drives home 0)) (on_site (site_of (host_of drives home 0)) made) None) → (other : Key) (at : Site) → IsSite (sites_of host) other at → IsFound at (made at.at.drive.0) None
@@ -137,7 +137,7 @@ module _ (drives : Geometry) (home : Home) where
         (ends then m next found (stands_elsewhere drives home other 0 fresh is_home its_home differ then from m moment.home old.stands))
 
     lives : (ran : List Ran) (t : Tale) → Life drives made ran t → IsHistoryOf drives home made ran t
-    lives ran t (new_drives told none) = record { es = []; course = tt; come = refl; stands = record { stands = restarts_go.new_drives (sites_of host) made told (none_there none); room = tt } }
+    lives ran t (new_drives told none) = record { es = []; course = tt; come = refl; stands = restarts_go.new_drives (sites_of host) made told (none_there none) }
     lives ran t (run_on before other fresh from m next script life its_home moment found) = elim (both_ways (bytes_eq other.host home.host)) [
       | inl does ↦ own_run before other fresh from m next script (lives before from life) (one_home drives home other is_home its_home (sym ((bytes_eq-Decides other.host home.host).0 does))) moment found
       | inr never ↦ other_run before other fresh from m next script (lives before from life) its_home (λ same. (let does = (bytes_eq-Decides other.host home.host).1 same in cc (does, never))) moment found
@@ -174,7 +174,7 @@ module _ (drives : Geometry) (home : Home) where
 
       is_found : IsSaid drives home ran (Created key) → IsFound site (on_site site (last t)) None → ⊥
       is_found said none =
-          let stands = is.stands.stands.databases key site (own_site host) in
+          let stands = is.stands.databases key site (own_site host) in
           created_is_acknowledged said (nothing_holds site database (on_site site (last t)) stands.is_log (stands.covers (last t) (last_image t)) none)
 
       -- the changes that the events tell are those of a table that has what is acknowledged, in order
@@ -193,7 +193,7 @@ module _ (drives : Geometry) (home : Home) where
 
       has_changes : (head : Head) (slot : Slot) (mark : Mark) (newest : Table) → IsSound host.drives → IsReplica site (on_site site (last t)) head → IsNewest head slot → HasTable site (on_site site (last t)) head slot mark newest → HasToldChanges drives home made ran t newest
       has_changes head slot mark newest sound its_replica is_newest has =
-          let stands = is.stands.stands.databases key site (own_site host) in
+          let stands = is.stands.databases key site (own_site host) in
           let found = finds_hold site database (on_site site (last t)) head slot mark newest sound stands.is_log (stands.covers (last t) (last_image t)) its_replica is_newest has in
           let changes = found.version.changes in
           let answers = runs_answer drives home ran is.es is.come in
@@ -216,20 +216,11 @@ module _ (drives : Geometry) (home : Home) where
                 (part_changes (database_deeds key (issued_by is.es)) (database_deeds key answers.asked) (part_deeds key (issued_by is.es) answers.asked answers.begins));
           }
 
-      -- the database that is found was made where there is room for it
-      has_room : (head : Head) → IsFound site (on_site site (last t)) (Some head) → 8208 ≤ home.blocks
-      has_room head found = elim ((is.stands.stands.databases key site (own_site host)).covers (last t) (last_image t)) [
-        | nothing not_firm none ↦ absurd (none head found.0 found.1)
-        | replica other agrees ↦
-            let room : IfSome (Some other.master.identity) (λ identity. 8208 ≤ home.blocks) = subst (λ (o : Option Identity). IfSome o (λ identity. 8208 ≤ home.blocks)) agrees.as_issued is.stands.room in
-            room
-      ]
-
       -- each block of a volume reads as the history has it, and writes that were told last
       blocks_are : BlocksAre drives home made ran t
       blocks_are = record {
         history = is;
-        reads = λ volume v named b x lt among. (is.stands.stands.volumes key volume v named).reads b x lt among;
+        reads = λ volume v named b x lt among. (is.stands.volumes key volume v named).reads b x lt among;
         lasts = λ es later place other volume at blocks same. told_writes_last (sites_of host) new_history es later place other volume at blocks (λ k site is_site. empty_is_log site.drives) (subst (IsCourse (sites_of host) new_history) same its_may);
       }
 
@@ -243,7 +234,6 @@ runs_have_home = λ drives home made ran t fresh is_home is. record {
   view = refl;
   own = refl;
   sound = view_is_own.sound drives home.host is.sound;
-  room = has_room drives home made is_home ran t (lives drives home made is_home ran t is.life);
 }
 
 pub database_is_found : DatabaseIsFound

@@ -28,7 +28,7 @@ pub record IsOurs (host : Host) (number : ℕ) (lg : Log) : Type 0 where
 pub shows_made : (host : Host) (number : ℕ) (h : History) (m : Tale) → IsOurs host number (log_of h.databases (key_of host)) → StandsAt host h m → ShowsMade host m
 shows_made host number h m ours stands = record {
   number = number;
-  each = λ image is. elim ((stands.stands.databases (key_of host) (site_of host) (own_site host)).covers image is) [
+  each = λ image is. elim ((stands.databases (key_of host) (site_of host) (own_site host)).covers image is) [
     | nothing not_firm none ↦ absurd (let firm = ours.firm in cc (firm, not_firm))
     | replica head agrees ↦ (head, agrees.replica, agrees.shown, same head.master.identity (sym agrees.as_issued ∙ ours.issued))
   ];
@@ -56,7 +56,7 @@ ours_by : (host : Host) (issued : Option Identity) (identity : Identity) → iss
 ours_by host None identity is of_run = absurd (cc is)
 ours_by host (Some other) identity is of_run =
     let same : other ≡ identity = cc in
-    let fresh : identity.fresh ≡ host.fresh = sym (ap (λ (i : Identity). i.fresh) same) ∙ of_run.fresh in
+    let fresh : identity.fresh ≡ host.fresh = sym (ap (λ (i : Identity). i.fresh) same) ∙ of_run in
     is ∙ (λ i. Some (record { fresh = fresh i; number = identity.number }))
 
 pub empty_is_log : (g : Geometry) → IsLog g empty_log
@@ -78,14 +78,11 @@ brought_up host memory = let itself = key_itself (key_of host) in rw itself refl
 pub began_known : (host : Host) (memory : Memory) (t : Tale) → Knows host memory t → IsBare memory → IsKnown host memory (just_booted host memory) t
 began_known host memory t knows bare = record {
   stands = record {
-    stands = record {
-      databases = λ key site is.
-          subst (λ (s : Site). database.Stands s empty_log t) (sym (its_site host key site is)) (record { is_log = empty_is_log host.drives; covers = nothing_covers (site_of host) empty_log t refl (knows.nothing bare.0 bare.1) });
-      laid = λ key site version is found. absurd (none_found version found);
-      apart = λ key other volume beside v w differ named. absurd (none_found named.version named.found);
-      volumes = λ key volume v named. absurd (none_found named.version named.found);
-    };
-    room = tt;
+    databases = λ key site is.
+        subst (λ (s : Site). database.Stands s empty_log t) (sym (its_site host key site is)) (record { is_log = empty_is_log host.drives; covers = nothing_covers (site_of host) empty_log t refl (knows.nothing bare.0 bare.1) });
+    laid = λ key site version is found. absurd (none_found version found);
+    apart = λ key other volume beside v w differ named. absurd (none_found named.version named.found);
+    volumes = λ key volume v named. absurd (none_found named.version named.found);
   };
   newest = subst (λ (o : Option Newest). IfSome o (λ newest. IsNewestIn newest empty_log)) (sym bare.0) tt;
   up = brought_up host memory;
@@ -111,7 +108,7 @@ made_ours host memory asks told m es course adds has stands =
     let same : after ≡ log.log_after_all empty_log events = databases_live.is (key_of host) (sites_of host) began es may in
     let firm : is_firm after ≡ true = ap is_firm same ∙ told_firm host.drives (log.log_after_all empty_log events) acknowledged.0 is_log acknowledged.1 in
     let issued = subst (λ (lg : Log). IfSome lg.issued (IsOfRun host)) (sym same) (issued_has (IsOfRun host) empty_log events (log_issues (key_of host) (IsOfRun host) (sites_of host) began es may adds.issues) tt) in
-    elim ((stands.stands.databases (key_of host) (site_of host) (own_site host)).covers (last m) (last_image m)) [
+    elim ((stands.databases (key_of host) (site_of host) (own_site host)).covers (last m) (last_image m)) [
       | nothing not_firm none ↦ absurd (cc (firm, not_firm))
       | replica head agrees ↦ (head.master.identity.number, record { issued = ours_by host after.issued head.master.identity agrees.as_issued issued; firm = firm })
     ]

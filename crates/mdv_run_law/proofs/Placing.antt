@@ -6,10 +6,10 @@ use Rattle.mdv_volumes.specs.Tables.{IsMapOf}
 use Rattle.mdv_engine_law.proofs.Beside.{IsRun, lies_plain}
 use Rattle.mdv_run_law.proofs.Extents.{SeesHome, one_place, lies_beside}
 
--- no database is open, or one on these drives, whose home has room for it
+-- no database is open, or one on these drives
 pub data Opening (host : Host) (memory : Memory) : Type 0 where
   shut : memory.opened ≡ None → Opening host memory
-  wide : (newest : Newest) → memory.opened ≡ Some newest → IsPlanOf host.drives newest.table.plan → 8208 ≤ host.home.blocks → Opening host memory
+  wide : (newest : Newest) → memory.opened ≡ Some newest → IsPlanOf host.drives newest.table.plan → Opening host memory
 
 pub opened_twice : (opened : Option Newest) (newest other : Newest) → opened ≡ Some newest → opened ≡ Some other → other ≡ newest
 opened_twice opened newest other one also = cc

@@ -48,7 +48,8 @@ pub use Rattle.mdv_shelf.specs.Calls.{OnDrive, OnReplies, Part}
 pub use Rattle.mdv_shelf.specs.Everywhere.{Everywhere, Image}
 pub use Rattle.mdv_shelf.specs.Tale.{Among, IsImage, MayLeave, Tale, covers, last, told, values}
 pub use Rattle.mdv_status.specs.Telling.{Said, left_in, one_reply, replies_in, said_in, unsaid}
-pub use Rattle.mdv_status.specs.Values.{entries_reply, values_reply}
+pub use Rattle.mdv_listing.specs.Listing.{listing_of}
+pub use Rattle.mdv_status.specs.Values.{entries_reply, printed_reply, values_reply}
 pub use Rattle.mdv_store_law.specs.Laws.{restarted}
 pub use Rattle.mdv_store_law.specs.Log.{AreMade, Extends, IsLog, Log, Version, answered, empty_log, is_firm, with_asked}
 pub use Rattle.mdv_store_law.specs.Site.{HasTable, IsFound, IsNewestOf, IsReplica, Newest, Site, area_of, sized}
@@ -75,4 +76,4 @@ pub use Rattle.mdv_volumes.specs.History.{Acknowledges, Changed, Crashes, Create
 pub use Rattle.mdv_volumes.specs.HistoryLaws.{Lasts, new_history}
 pub use Rattle.mdv_words.specs.Line.{Boot, IsCommand, IsInForm, IsLine, Line, Tab}
 pub use Rattle.mdv_words.specs.declared.command.Command.{Command}
-pub use Rattle.mdv_words.specs.declared.command.Command.TheVariants.{Create, MakeStripe, Read, Write}
+pub use Rattle.mdv_words.specs.declared.command.Command.TheVariants.{Create, MakeStripe, Print, Read, Write}

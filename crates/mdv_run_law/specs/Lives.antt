@@ -94,7 +94,7 @@ pub record IsHistoryOf (drives : Geometry) (home : Home) (made : Image) (ran : L
 abbrev pub LivesStand : Type 0
 LivesStand = (drives : Geometry) (home : Home) (made : Image) (ran : List Ran) (t : Tale) → IsHome drives home → IsLife drives made ran t → IsHistoryOf drives home made ran t
 
--- over every life each run has one course, where nothing fails: a database is found only where the home has room for one
+-- over every life each run has one course, where nothing fails
 abbrev pub RunsHaveHome : Type 0
 RunsHaveHome = (drives : Geometry) (home : Home) (made : Image) (ran : List Ran) (t : Tale) (fresh : ℕ) → IsHome drives home → IsLife drives made ran t → HasHome (host_of drives home fresh) (contents t)
 

@@ -439,14 +439,13 @@ pub record IsSameMemory (a b : Memory) : Type 0 where
 abbrev pub IsSameEnd : Host → Kept → Kept → Type 0
 IsSameEnd host a b = IsSameMemory a.memory b.memory × IsSameBeside (site_of host) b.content a.content
 
--- the host has its home in a table of drives, and sees of it what is its own, which is sound; and a database is found there only where the home has room for one
+-- the host has its home in a table of drives, and sees of it what is its own, which is sound
 pub record HasHome (host : Host) (content : Image) : Type 0 where
   pub table : Geometry
   pub home : IsHome table host.home
   pub view : host.drives ≡ own_view table host.home.host
   pub own : host.own ≡ own_drives table host.home.host
   pub sound : IsSound host.drives
-  pub room : (head : Head) → IsFound (site_of host) (on_site (site_of host) content) (Some head) → 8208 ≤ host.home.blocks
 
 -- where nothing failed and memory was never wanting, the drive's blocks and the script settle what is told, the status, and, where the run isn't
 -- over for want of places or numbers, what is in memory and on the drive at the end

@@ -3,9 +3,10 @@ use Rattle.std.proofs.Common.{◌≡◌, ◌⊎◌, inl, ℕ, ◌+◌, ◌≤◌
 use Rattle.std.proofs.lemmas.Bool.Decides.{nat_tests}
 use Rattle.std.proofs.lemmas.List.Elements.{All-cons, All-nil}
 use Rattle.std.proofs.Math.Nat.{le-max_left}
-use Rattle.mdv_store_law.specs.Below.{IsBelow, Identity, record_text, Closed, Open, Master, Head, PlaceAt, First, boot_of, formatted_head, greatest, gate_text, block_of, IsMark, Image, SameOutside, Leaves, Formats, MayFormat, untouched, blanked, formatted, closed, filled, Formatting, IsFormatted, formatted_blocks, master_of, slot_area, Tale, IsImage, Table}
+use Rattle.mdv_store_law.specs.Below.{IsBelow, Identity, record_text, Closed, Open, Master, Head, PlaceAt, First, boot_of, formatted_head, greatest, gate_text, block_of, IsMark, Image, SameOutside, Leaves, Formats, MayFormat, untouched, blanked, formatted, closed, filled, Formatting, IsFormatted, LiesAt, formatted_blocks, master_of, slot_area, with_blocks, Tale, IsImage, Table}
 use Rattle.mdv_replica.proofs.Leaving.{leaves_formatting, settled_here}
 use Rattle.mdv_replica.proofs.Showing.{head_formatted}
+use Rattle.mdv_replica.specs.Replica.{IsHead}
 use Rattle.mdv_store_law.specs.Going.{Creates, CreationsGo, IsCreated, created_head, created_newest, created_version, first_mark}
 use Rattle.mdv_store_law.specs.Log.{Version, Log, Issued, Writing, Written, IsFirst, is_firm, log_after}
 use Rattle.mdv_store_law.specs.Site.{Site, IsFound, IsNewestOf, IsReplica, IsTableAt}
@@ -20,27 +21,31 @@ use Rattle.mdv_store_law.proofs.Covering.{newest_of, not_firm, nothing_covers}
 outside_slot : (at : PlaceAt) (count : ℕ) → slot_area at First count at.drive.0 (at.first + 3) ≡ false
 outside_slot at count = grind (arith, nat_tests)
 
-module _ (site : Site) where
+module _ (site : Site) (blocks : ℕ) where
+  -- the place with the length of the replica that is made
+  abbrev made_at : PlaceAt
+  made_at = with_blocks site.at blocks
+
   -- while a replica is formatted nothing is found
-  nothing_in : (master : Master) (claim : ℕ) (old new : Image) → MayFormat site.at master claim old new → IsFound site (old site.at.drive.0) None → IsFound site (new site.at.drive.0) None
+  nothing_in : (master : Master) (claim : ℕ) (old new : Image) → MayFormat made_at master claim old new → IsFound site (old site.at.drive.0) None → IsFound site (new site.at.drive.0) None
   nothing_in master claim old new (untouched same) none = subst (λ (c : ℕ → List ℕ). IsFound site c None) (λ i block. sym (same site.at.drive.0 block) i) none
   nothing_in master claim old new (blanked others blank) none = found_none_blank site (new site.at.drive.0) blank
   nothing_in master claim old new (formatted formats) none = found_none_closed site (new site.at.drive.0) (formats.here 2 (omega arith)) (formats.here 3 (omega arith))
 
   module _ (identity : Identity) where
     abbrev master : Master
-    master = master_of site.at site.key identity
+    master = master_of made_at site.key identity
 
-    format_nothing : (t m : Tale) → ShowsNothing site t → Formatting site.at master 1 t m → ShowsNothing site m
+    format_nothing : (t m : Tale) → ShowsNothing site t → Formatting made_at master 1 t m → ShowsNothing site m
     format_nothing t m none formatting image is =
-        let from = leaves_formatting site.at master 1 t m formatting image is in nothing_in master 1 from.0 image from.2 (none from.0 from.1)
+        let from = leaves_formatting made_at master 1 t m formatting image is in nothing_in master 1 from.0 image from.2 (none from.0 from.1)
 
-    format_goes_on : (t m : Tale) → ShowsNothing site t → Formatting site.at master 1 t m → GoesMaking site identity Anything t m
+    format_goes_on : (t m : Tale) → ShowsNothing site t → Formatting made_at master 1 t m → GoesMaking site identity Anything t m
     format_goes_on t m none formatting log covers known =
         record { es = []; course = tt; come = record { tells = refl; issues = tt; begins = tt }; stands = nothing_covers site log m (not_firm site log t covers none) (format_nothing t m none formatting); after = tt }
 
     -- a format that failed began a creation of which nothing is left
-    format_ends_on : (t m : Tale) → ShowsNothing site t → Formatting site.at master 1 t m → GoesMaking site identity (λ log. is_firm log ≡ false) t m
+    format_ends_on : (t m : Tale) → ShowsNothing site t → Formatting made_at master 1 t m → GoesMaking site identity (λ log. is_firm log ≡ false) t m
     format_ends_on t m none formatting log covers known =
         record {
           es = Issued identity ∷ [];
@@ -51,21 +56,39 @@ module _ (site : Site) where
         }
 
     -- once the place is formatted
-    module _ (table : Table) (creates : Creates site identity table) (u : Tale) (is_formatted : IsFormatted site.at master 1 u) where
+    module _ (table : Table) (creates : Creates site blocks identity table) (u : Tale) (is_formatted : IsFormatted made_at master 1 u) where
       abbrev blank_head : Head
-      blank_head = formatted_head site.at site.key identity 1
+      blank_head = formatted_head made_at site.key identity 1
 
       abbrev made_head : Head
-      made_head = created_head site identity table
+      made_head = created_head site blocks identity table
 
       -- whatever a crash leaves then is the formatted replica
-      formats : (image : Image) → IsImage u image → Formats site.at master 1 image image
+      formats : (image : Image) → IsImage u image → Formats made_at master 1 image image
       formats image is = record { elsewhere = λ drive block out. refl; here = settled_here site.at.drive.0 site.at.first (formatted_blocks master 1) u is_formatted image is }
+
+      -- its head, as it is seen at the whole place
+      blank_there : (image : Image) → IsImage u image → IsHead site.at site.size (image site.at.drive.0) blank_head
+      blank_there image is =
+          let lies : LiesAt made_at site.size (master_of made_at site.key identity) =
+          record { slice = refl; start = refl; least = creates.lies.least; most = creates.lies.most; in_place = omega arith; within = creates.lies.within } in
+          let head = head_formatted made_at site.key identity 1 site.size image image creates.form lies (lit< tt) (formats image is) in
+          record {
+            master = head.master;
+            master_block = head.master_block;
+            lies = creates.lies;
+            claim = head.claim;
+            claim_block = head.claim_block;
+            first = head.first;
+            first_block = head.first_block;
+            second = head.second;
+            second_block = head.second_block;
+          }
 
       blank_replica : (image : Image) → IsImage u image → IsReplica site (image site.at.drive.0) blank_head
       blank_replica image is = record {
         readable = record {
-          of_head = head_formatted site.at site.key identity 1 site.size image image creates.form creates.lies (lit< tt) (formats image is);
+          of_head = blank_there image is;
           of_first = tt;
           of_second = tt;
         };
@@ -75,12 +98,12 @@ module _ (site : Site) where
       marked : IsMark first_mark
       marked = record { boot = lit< tt; count = lit< tt }
 
-      made_replica : (old new : Image) → IsImage u old → Takes site.at First first_mark table old new → IsReplica site (new site.at.drive.0) made_head
+      made_replica : (old new : Image) → IsImage u old → Takes made_at First first_mark table old new → IsReplica site (new site.at.drive.0) made_head
       made_replica old new is takes = filled_replica site old new blank_head (blank_replica old is) First first_mark table marked creates.is takes
 
-      shows_new : (old new : Image) → IsImage u old → Takes site.at First first_mark table old new → IsNewestOf site (new site.at.drive.0) made_head (created_newest site table)
+      shows_new : (old new : Image) → IsImage u old → Takes made_at First first_mark table old new → IsNewestOf site (new site.at.drive.0) made_head (created_newest blocks table)
       shows_new old new is takes =
-          newest_of site (new site.at.drive.0) blank_head First first_mark table (made_replica old new is takes) creates.is (text_taken site.at old new First first_mark table takes) refl
+          newest_of site (new site.at.drive.0) blank_head First first_mark table (made_replica old new is takes) creates.is (text_taken made_at old new First first_mark table takes) refl
           (λ other more gate. (let none : Closed ≡ Open other more = gate in absurd (cc (none))))
 
       -- the creation's one table, written or not
@@ -90,13 +113,13 @@ module _ (site : Site) where
       abbrev made_log : Bool → Log
       made_log is_written = record { issued = Some identity; family = made_version is_written ∷ []; acknowledged = None }
 
-      made_agrees : (is_written : Bool) (old new : Image) → IsImage u old → Takes site.at First first_mark table old new → Agrees site (made_log is_written) (new site.at.drive.0) made_head
+      made_agrees : (is_written : Bool) (old new : Image) → IsImage u old → Takes made_at First first_mark table old new → Agrees site (made_log is_written) (new site.at.drive.0) made_head
       made_agrees is_written old new is takes = record {
         replica = made_replica old new is takes;
         shown = refl;
         as_issued = refl;
-        placed = All-cons (λ (v : Version). IsTableAt site.drives site.at.place v.table) (made_version is_written) [] creates.is (All-nil (λ (v : Version). IsTableAt site.drives site.at.place v.table));
-        of_first = record { version = made_version is_written; one_of = contains_first (made_version is_written) []; mark = refl; text = text_taken site.at old new First first_mark table takes };
+        placed = All-cons (λ (v : Version). IsTableAt site.drives made_at.place v.table) (made_version is_written) [] creates.is (All-nil (λ (v : Version). IsTableAt site.drives made_at.place v.table));
+        of_first = record { version = made_version is_written; one_of = contains_first (made_version is_written) []; mark = refl; text = text_taken made_at old new First first_mark table takes };
         of_second = tt;
         covered = All-cons (λ (v : Version). v.is_written ≡ true → (IsBelow first_mark v.mark → ⊥) ⊎ ⊥) (made_version is_written) []
             (λ written. inl (λ below. grind arith)) (All-nil (λ (v : Version). v.is_written ≡ true → (IsBelow first_mark v.mark → ⊥) ⊎ ⊥));
@@ -104,10 +127,10 @@ module _ (site : Site) where
             (le-max_left 1 (max (boot_of (Open first_mark (length (record_text table)))) (boot_of Closed))) (All-nil (λ (v : Version). v.mark.boot ≤ greatest made_head));
       }
 
-      second_closed : (old new : Image) (count : ℕ) → IsImage u old → SameOutside (slot_area site.at First count) old new → new site.at.drive.0 (site.at.first + 3) ≡ block_of (gate_text Closed)
-      second_closed old new count is others = others site.at.drive.0 (site.at.first + 3) (outside_slot site.at count) ∙ (formats old is).here 3 (omega arith)
+      second_closed : (old new : Image) (count : ℕ) → IsImage u old → SameOutside (slot_area made_at First count) old new → new site.at.drive.0 (site.at.first + 3) ≡ block_of (gate_text Closed)
+      second_closed old new count is others = others site.at.drive.0 (site.at.first + 3) (outside_slot made_at count) ∙ (formats old is).here 3 (omega arith)
 
-      in_table : (old new : Image) → IsImage u old → MayTake site.at First first_mark table old new → Holds site (made_log false) (new site.at.drive.0)
+      in_table : (old new : Image) → IsImage u old → MayTake made_at First first_mark table old new → Holds site (made_log false) (new site.at.drive.0)
       in_table old new is takes = elim (takes.fills) [
         | untouched same ↦ nothing refl (found_none_closed site (new site.at.drive.0) (same site.at.drive.0 (site.at.first + 2) ∙ (formats old is).here 2 (omega arith)) (same site.at.drive.0 (site.at.first + 3) ∙ (formats old is).here 3 (omega arith)))
         | closed others shut ↦ nothing refl (found_none_closed site (new site.at.drive.0) shut (second_closed old new (length takes.body) is others))
@@ -115,7 +138,7 @@ module _ (site : Site) where
       ]
 
       -- the replica is there, whatever its slot has
-      still_there : (old new : Image) → IsImage u old → MayTake site.at First first_mark table old new → IsReplicaMade site identity (new site.at.drive.0)
+      still_there : (old new : Image) → IsImage u old → MayTake made_at First first_mark table old new → IsReplicaMade site identity (new site.at.drive.0)
       still_there old new is takes = elim (takes.fills) [
         | untouched same ↦ record { head = blank_head; replica = same_replica site old new blank_head (blank_replica old is) same; as_made = refl }
         | closed others shut ↦ record { head = blank_head; replica = closed_replica site old new blank_head (blank_replica old is) First (length takes.body) takes.is_body.in_slot others shut; as_made = refl }
@@ -125,7 +148,7 @@ module _ (site : Site) where
       is_first : IsFirst (Some identity) [] None [] table
       is_first = record { begun = (identity, refl); none = refl; unasked = refl; unchanged = refl; empty = creates.empty }
 
-      table_goes_on : (t m : Tale) → ShowsNothing site t → Leaves (MayTake site.at First first_mark table) u m → GoesMaking site identity Anything t m
+      table_goes_on : (t m : Tale) → ShowsNothing site t → Leaves (MayTake made_at First first_mark table) u m → GoesMaking site identity Anything t m
       table_goes_on t m none leaves log covers known = record {
         es = Issued identity ∷ Writing first_mark None [] table ∷ [];
         course = (not_firm site log t covers none, ((All-nil (λ v. IsBelow v.mark first_mark), inl is_first), tt));
@@ -134,7 +157,7 @@ module _ (site : Site) where
         after = tt;
       }
 
-      table_ends_on : (t v : Tale) → ShowsNothing site t → Leaves (Takes site.at First first_mark table) u v → GoesMaking site identity (IsCreated site identity table) t v
+      table_ends_on : (t v : Tale) → ShowsNothing site t → Leaves (Takes made_at First first_mark table) u v → GoesMaking site identity (IsCreated blocks identity table) t v
       table_ends_on t v none leaves log covers known = record {
         es = Issued identity ∷ Writing first_mark None [] table ∷ Written ∷ [];
         course = (not_firm site log t covers none, ((All-nil (λ v. IsBelow v.mark first_mark), inl is_first), (tt, tt)));
@@ -153,15 +176,15 @@ module _ (site : Site) where
 
 pub creations_go : CreationsGo
 creations_go = record {
-  nothing = λ site identity t m none formatting. format_nothing site identity t m none formatting;
-  begins = λ site identity t m none formatting. format_goes_on site identity t m none formatting;
-  fails = λ site identity t m none formatting. format_ends_on site identity t m none formatting;
-  goes = λ site identity table t u m creates none is leaves. table_goes_on site identity table creates u is t m none leaves;
-  formatted = λ site identity table u m creates is leaves image of. (let from = leaves image of in still_there site identity table creates u is from.0 image from.1 from.2);
-  shows = λ site identity table u v creates is leaves image of. (let from = leaves image of in shows_new site identity table creates u is from.0 image from.1 from.2);
-  opens = λ site identity table u v creates is leaves. record {
-    head = created_head site identity table;
-    each = λ image of. (let from = leaves image of in shows_new site identity table creates u is from.0 image from.1 from.2);
+  nothing = λ site blocks identity t m none formatting. format_nothing site blocks identity t m none formatting;
+  begins = λ site blocks identity t m none formatting. format_goes_on site blocks identity t m none formatting;
+  fails = λ site blocks identity t m none formatting. format_ends_on site blocks identity t m none formatting;
+  goes = λ site blocks identity table t u m creates none is leaves. table_goes_on site blocks identity table creates u is t m none leaves;
+  formatted = λ site blocks identity table u m creates is leaves image of. (let from = leaves image of in still_there site blocks identity table creates u is from.0 image from.1 from.2);
+  shows = λ site blocks identity table u v creates is leaves image of. (let from = leaves image of in shows_new site blocks identity table creates u is from.0 image from.1 from.2);
+  opens = λ site blocks identity table u v creates is leaves. record {
+    head = created_head site blocks identity table;
+    each = λ image of. (let from = leaves image of in shows_new site blocks identity table creates u is from.0 image from.1 from.2);
   };
-  ends = λ site identity table t u v creates none is leaves. table_ends_on site identity table creates u is t v none leaves;
+  ends = λ site blocks identity table t u v creates none is leaves. table_ends_on site blocks identity table creates u is t v none leaves;
 }

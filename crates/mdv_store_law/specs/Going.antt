@@ -1,5 +1,5 @@
 -- How a log goes on while a boot, a commit or a creation writes.
-use Rattle.std.specs.Prelude.{◌≡◌, ◌+◌, ◌<◌, ◌^◌, true, false, [], length, Option, Some, None}
+use Rattle.std.specs.Prelude.{◌≡◌, ℕ, ◌+◌, ◌<◌, ◌^◌, true, false, [], length, Option, Some, None}
 use Rattle.mdv_store_law.specs.Below.{Identity, Mark, record_text, Open, Head, Slot, First, IsSpareSlot, formatted_head, greatest, other_slot, with_slot, IsMaster, Everywhere, Leaves, Formatting, IsFormatted, LiesAt, master_of, with_blocks, IsSynced, Tale, last, Change, Table, IsSound}
 use Rattle.mdv_store_law.specs.Log.{Version, Log, IsLog, IsMade, IsNewestTellable, NoCreation, asks_of, is_firm}
 use Rattle.mdv_store_law.specs.Site.{Site, sized, IsNewestOf, IsTableAt, Newest}
@@ -53,48 +53,56 @@ pub record CommitsGo : Type 0 where
       → Leaves (Takes (with_blocks site.at newest.blocks) (other_slot newest.slot) (next_mark newest) table) t u
       → GoesFrom site (IsWithNewest site newest) NoCreation (asks_of asked) (λ log. IsNewestIn (next_newest newest table) log × ((change : Change) → asked ≡ Some change → IsNewestTellable log asked)) t u
 
--- what a creation starts from, once nothing is there: a first table, which names the place, for a replica of the whole place
-pub record Creates (site : Site) (identity : Identity) (table : Table) : Type 0 where
-  pub form : IsMaster (master_of site.at site.key identity)
-  pub lies : LiesAt site.at site.size (master_of site.at site.key identity)
-  pub is : IsTableAt site.drives site.at.place table
+-- what a creation starts from, once nothing is there: a first table, which names the place with this length, for a replica of so many blocks of it
+pub record Creates (site : Site) (blocks : ℕ) (identity : Identity) (table : Table) : Type 0 where
+  pub form : IsMaster (master_of (with_blocks site.at blocks) site.key identity)
+  pub lies : LiesAt site.at site.size (master_of (with_blocks site.at blocks) site.key identity)
+  pub is : IsTableAt site.drives (with_blocks site.at blocks).place table
   pub empty : table.plan.volumes ≡ []
 
 abbrev pub first_mark : Mark
 first_mark = record { boot = 1; count = 0 }
 
--- what is known of a database that was made, the head of its replica, and its one version
-abbrev pub created_newest : Site → Table → Newest
-created_newest site table = record { blocks = site.at.place.blocks; slot = First; mark = first_mark; table = table }
+-- what is known of a database that was made with a replica of so many blocks, the head of its replica, and its one version
+abbrev pub created_newest : ℕ → Table → Newest
+created_newest blocks table = record { blocks = blocks; slot = First; mark = first_mark; table = table }
 
-abbrev pub created_head : Site → Identity → Table → Head
-created_head site identity table = with_slot (formatted_head site.at site.key identity 1) First (Open first_mark (length (record_text table)))
+abbrev pub created_head : Site → ℕ → Identity → Table → Head
+created_head site blocks identity table = with_slot (formatted_head (with_blocks site.at blocks) site.key identity 1) First (Open first_mark (length (record_text table)))
 
 abbrev pub created_version : Table → Version
 created_version table = record { mark = first_mark; table = table; changes = []; is_written = true }
 
 -- the log of a database that was made, of which nobody was told
-pub record IsCreated (site : Site) (identity : Identity) (table : Table) (log : Log) : Type 0 where
+pub record IsCreated (blocks : ℕ) (identity : Identity) (table : Table) (log : Log) : Type 0 where
   pub is : log ≡ created_log identity (created_version table)
-  pub newest : IsNewestIn (created_newest site table) log
+  pub newest : IsNewestIn (created_newest blocks table) log
   pub tellable : IsNewestTellable log None
 
 pub record CreationsGo : Type 0 where
   -- while the place is formatted
-  pub nothing : (site : Site) (identity : Identity) (t m : Tale) → ShowsNothing site t → Formatting site.at (master_of site.at site.key identity) 1 t m → ShowsNothing site m
-  pub begins : (site : Site) (identity : Identity) (t m : Tale) → ShowsNothing site t → Formatting site.at (master_of site.at site.key identity) 1 t m → GoesMaking site identity Anything t m
+  pub nothing : (site : Site) (blocks : ℕ) (identity : Identity) (t m : Tale) → ShowsNothing site t
+      → Formatting (with_blocks site.at blocks) (master_of (with_blocks site.at blocks) site.key identity) 1 t m → ShowsNothing site m
+  pub begins : (site : Site) (blocks : ℕ) (identity : Identity) (t m : Tale) → ShowsNothing site t
+      → Formatting (with_blocks site.at blocks) (master_of (with_blocks site.at blocks) site.key identity) 1 t m → GoesMaking site identity Anything t m
   -- where that fails
-  pub fails : (site : Site) (identity : Identity) (t m : Tale) → ShowsNothing site t → Formatting site.at (master_of site.at site.key identity) 1 t m → GoesMaking site identity (λ log. is_firm log ≡ false) t m
+  pub fails : (site : Site) (blocks : ℕ) (identity : Identity) (t m : Tale) → ShowsNothing site t
+      → Formatting (with_blocks site.at blocks) (master_of (with_blocks site.at blocks) site.key identity) 1 t m → GoesMaking site identity (λ log. is_firm log ≡ false) t m
   -- while the table is written
-  pub goes : (site : Site) (identity : Identity) (table : Table) (t u m : Tale) → Creates site identity table → ShowsNothing site t → IsFormatted site.at (master_of site.at site.key identity) 1 u
-      → Leaves (MayTake site.at First first_mark table) u m → GoesMaking site identity Anything t m
+  pub goes : (site : Site) (blocks : ℕ) (identity : Identity) (table : Table) (t u m : Tale) → Creates site blocks identity table → ShowsNothing site t
+      → IsFormatted (with_blocks site.at blocks) (master_of (with_blocks site.at blocks) site.key identity) 1 u
+      → Leaves (MayTake (with_blocks site.at blocks) First first_mark table) u m → GoesMaking site identity Anything t m
   -- the replica is there from then on, whether the table is written or not
-  pub formatted : (site : Site) (identity : Identity) (table : Table) (u m : Tale) → Creates site identity table → IsFormatted site.at (master_of site.at site.key identity) 1 u
-      → Leaves (MayTake site.at First first_mark table) u m → ShowsReplica site identity m
+  pub formatted : (site : Site) (blocks : ℕ) (identity : Identity) (table : Table) (u m : Tale) → Creates site blocks identity table
+      → IsFormatted (with_blocks site.at blocks) (master_of (with_blocks site.at blocks) site.key identity) 1 u
+      → Leaves (MayTake (with_blocks site.at blocks) First first_mark table) u m → ShowsReplica site identity m
   -- in the end
-  pub shows : (site : Site) (identity : Identity) (table : Table) (u v : Tale) → Creates site identity table → IsFormatted site.at (master_of site.at site.key identity) 1 u
-      → Leaves (Takes site.at First first_mark table) u v → Everywhere (λ image. IsNewestOf site (image site.at.drive.0) (created_head site identity table) (created_newest site table)) v
-  pub opens : (site : Site) (identity : Identity) (table : Table) (u v : Tale) → Creates site identity table → IsFormatted site.at (master_of site.at site.key identity) 1 u
-      → Leaves (Takes site.at First first_mark table) u v → IsOpened site (created_newest site table) v
-  pub ends : (site : Site) (identity : Identity) (table : Table) (t u v : Tale) → Creates site identity table → ShowsNothing site t → IsFormatted site.at (master_of site.at site.key identity) 1 u
-      → Leaves (Takes site.at First first_mark table) u v → GoesMaking site identity (IsCreated site identity table) t v
+  pub shows : (site : Site) (blocks : ℕ) (identity : Identity) (table : Table) (u v : Tale) → Creates site blocks identity table
+      → IsFormatted (with_blocks site.at blocks) (master_of (with_blocks site.at blocks) site.key identity) 1 u → Leaves (Takes (with_blocks site.at blocks) First first_mark table) u v
+      → Everywhere (λ image. IsNewestOf site (image site.at.drive.0) (created_head site blocks identity table) (created_newest blocks table)) v
+  pub opens : (site : Site) (blocks : ℕ) (identity : Identity) (table : Table) (u v : Tale) → Creates site blocks identity table
+      → IsFormatted (with_blocks site.at blocks) (master_of (with_blocks site.at blocks) site.key identity) 1 u
+      → Leaves (Takes (with_blocks site.at blocks) First first_mark table) u v → IsOpened site (created_newest blocks table) v
+  pub ends : (site : Site) (blocks : ℕ) (identity : Identity) (table : Table) (t u v : Tale) → Creates site blocks identity table → ShowsNothing site t
+      → IsFormatted (with_blocks site.at blocks) (master_of (with_blocks site.at blocks) site.key identity) 1 u
+      → Leaves (Takes (with_blocks site.at blocks) First first_mark table) u v → GoesMaking site identity (IsCreated blocks identity table) t v

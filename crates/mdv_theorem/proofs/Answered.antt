@@ -19,7 +19,7 @@ use Rattle.mdv_theorem.specs.Exchanges.{Exchange, exchanges, exchanges_of}
 use Rattle.mdv_theorem.specs.Observed.{RunsAnswer}
 use Rattle.mdv_theorem.proofs.Lines.{never_in}
 use Rattle.mdv_theorem.proofs.Steps.{next_plain, next_reply}
-use Rattle.mdv_theorem.proofs.Telling.{entries_are_none, ok_is_none, values_are_none}
+use Rattle.mdv_theorem.proofs.Telling.{entries_are_none, ok_is_none, values_are_none, quiet_is_none}
 
 -- each of these was answered
 abbrev AreAnswered : List Exchange → Type 0
@@ -36,7 +36,8 @@ Counted answer = (IsRefusal (text_of answer) × ((before : Bool) → refused_by 
 counted : (answer : Answer) → IsPlainAnswer answer → IsSaid answer → Counted answer
 counted (Said outcome.Ok) plain said = inr ((λ is. ok_is_none is.0 is.1), λ before. refl)
 counted (Said (outcome.Values text)) (inl are) said = inr ((λ is. values_are_none are.at are.blocks is.0 (sym are.is ∙ is.1)), λ before. refl)
-counted (Said (outcome.Values text)) (inr are) said = inr ((λ is. entries_are_none are.count is.0 (sym are.is ∙ is.1)), λ before. refl)
+counted (Said (outcome.Values text)) (inr (inl are)) said = inr ((λ is. entries_are_none are.count is.0 (sym are.is ∙ is.1)), λ before. refl)
+counted (Said (outcome.Values text)) (inr (inr are)) said = inr ((λ is. quiet_is_none are.lines is.0 are.quiet (sym are.is ∙ is.1)), λ before. refl)
 counted (Said (outcome.Refused refusal)) plain said = inl ((refusal, refl), λ before. refl)
 counted (Ends end) plain said = absurd said
 

@@ -17,7 +17,7 @@ use Rattle.mdv_engine_law.specs.Replies.{refusal_line, text_of}
 use Rattle.mdv_engine_law.specs.declared.answer.Answer.{Answer}
 use Rattle.mdv_engine_law.specs.declared.answer.Answer.TheVariants.{Over}
 use Rattle.mdv_name.specs.SliceIndex.{slice_at}
-use Rattle.mdv_run_law.specs.Below.{Command, Create, Host, Line, MakeStripe, NoSuchSlice, OutOfMemory, OutOfRange, Read, Refusal, ReplicaFull, SliceInUse, SliceName, VolId, Volume, Write, WrongKind}
+use Rattle.mdv_run_law.specs.Below.{Command, Create, Host, Line, MakeStripe, NoSuchSlice, OutOfMemory, OutOfRange, Print, Read, Refusal, ReplicaFull, SliceInUse, SliceName, VolId, Volume, Write, WrongKind}
 use Rattle.mdv_run_law.specs.Run.{IsAnswered, IsSaid}
 use Rattle.mdv_store_law.specs.Site.{Newest}
 use Rattle.mdv_table.specs.Change as table
@@ -28,7 +28,7 @@ use Rattle.mdv_table.specs.declared.change.Change.TheVariants as change
 use Rattle.mdv_words.proofs.Lines.{one_line}
 use Rattle.mdv_words.specs.Line.{Exec, IsLine}
 use Rattle.mdv_theorem.specs.Exchanges.{IsOn}
-use Rattle.mdv_theorem.proofs.Telling.{ok_is_none, one_number, values_are_none}
+use Rattle.mdv_theorem.proofs.Telling.{ok_is_none, one_number, values_are_none, listing_is_none}
 
 -- it is neither NoDatabase nor NoSuchVolume
 abbrev IsAsideNumber : ℕ → Type 0
@@ -73,22 +73,24 @@ module _ (case : Case) (newest : Newest) (opened : case.memory.opened ≡ Some n
   blocks_aside other end on = subst (λ (n : VolId). All IsAside (held_of_blocks (Some newest) n end)) (sym on) (past_aside (find (has_number volume) newest.table.plan.volumes) of end found)
 
   held_aside : (command : Command) → IsOn volume command → All IsAside (held case command)
-  held_aside (Create slice force) on = absurd on
+  held_aside (Create slice force blocks) on = absurd on
   held_aside (MakeStripe other slice) on = by_opened (λ o. held_of_change case.host o (change.MakeStripe other slice)) (change_aside case.host newest other slice)
   held_aside (Read other at count) on =
       by_opened (λ o. held_of_read o other at count)
       (All-append IsAside (held_of_blocks (Some newest) other (at + count)) (where_so (nat_lt 1024 count) TooMany) (blocks_aside other (at + count) on) (where_all IsAside (nat_lt 1024 count) TooMany (omega arith)))
   held_aside (Write other at block) on = by_opened (λ o. held_of_blocks o other (at + 1)) (blocks_aside other (at + 1) on)
+  held_aside (Print names) on = absurd on
 
   pub refused_aside : (command : Command) (r : Refusal) → IsOn volume command → refusal_of case command ≡ Some r → IsAside r
   refused_aside command r on is = first_holds IsAside order (held case command) r (held_aside command on) is
 
 -- what is done is told by no refusal
 done_untold : (host : Host) (kept next : Kept) (command : Command) (answer : Answer) (r : Refusal) → Effect host kept command answer next → text_of answer ≡ refusal_line r → ⊥
-done_untold host kept next (Create slice force) answer r effect told = ok_is_none r (sym (ap text_of effect.0) ∙ told)
+done_untold host kept next (Create slice force blocks) answer r effect told = ok_is_none r (sym (ap text_of effect.0) ∙ told)
 done_untold host kept next (MakeStripe volume slice) answer r effect told = ok_is_none r (sym (ap text_of effect.0) ∙ told)
 done_untold host kept next (Read volume at count) answer r effect told = values_are_none at _ r (sym (ap text_of effect.2) ∙ told)
 done_untold host kept next (Write volume at block) answer r effect told = ok_is_none r (sym (ap text_of effect.2) ∙ told)
+done_untold host kept next (Print names) answer r (newest, opened, text, same) told = listing_is_none newest.table.plan names r (sym (ap text_of text) ∙ told)
 
 -- what a line that spells a command comes to
 pub data Commanded (calls : Outcomes) (host : Host) (kept : Kept) (command : Command) (answer : Answer) (next : Kept) : Type 0 where

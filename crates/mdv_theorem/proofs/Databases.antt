@@ -1,29 +1,31 @@
 -- A database that a line showed stays: it is open behind any further lines of the host, and none of them is told that there is none, or that one was made.
 use Rattle.std.proofs.Common.{◌≡◌, inl, inr, ℕ, Bool, not, ◌&&◌, ◌+◌, List, [], ◌++◌, Option, Some, None, All, Contains, refl, sym, ◌∙◌, ap, subst, arith}
 use Rattle.std.proofs.lemmas.List.Elements.{All-append, All-cons, All-nil, Contains-append_cases}
-use Rattle.std.specs.List.{find}
+use Rattle.std.specs.List.{find, list_any}
 use Rattle.std.specs.Option.{is_some}
 use Rattle.std.specs.Prelude.{nat_lt}
 use Rattle.mdv_base.specs.Order.{order, where_so}
 use Rattle.mdv_base.specs.Refusal.{number_of}
-use Rattle.mdv_base.specs.declared.refusal.Refusal.TheVariants.{NeedForce, NoDatabase, TooMany, TooSmall, WrongState}
+use Rattle.mdv_base.specs.declared.refusal.Refusal.TheVariants.{NeedForce, NoDatabase, NoSuchPool, TooMany, TooSmall, WrongState}
 use Rattle.mdv_base.specs.declared.state_word.StateWord.TheVariants.{Down}
 use Rattle.mdv_base.proofs.Order.{first_holds}
 use Rattle.mdv_engine_law.specs.Commands.{case_of}
 use Rattle.mdv_engine_law.specs.Line.{Kept, Memory}
-use Rattle.mdv_engine_law.specs.Refusals.{Case, has_number, held_of_blocks, held_of_change, held_of_creation, held_of_read, held_past, is_plain, refusal_of, size_of}
+use Rattle.mdv_engine_law.specs.Refusals.{Case, has_number, held_of_blocks, held_of_change, held_of_creation, held_of_print, held_of_read, held_past, is_plain, names_no_volume, names_pool, refusal_of, size_of}
 use Rattle.mdv_engine_law.specs.Replies.{ok_line, refusal_line, text_of}
 use Rattle.mdv_engine_law.proofs.Allowed.{allowed_none}
 use Rattle.mdv_home.specs.Home.{IsHome}
 use Rattle.mdv_home.specs.declared.geometry.Home.{Home}
+use Rattle.mdv_base.specs.declared.name.Named.{Named}
 use Rattle.mdv_name.specs.SliceIndex.{slice_at}
 use Rattle.mdv_name.specs.declared.geometry.Geometry.{Geometry}
 use Rattle.mdv_port.specs.Script.{Script}
-use Rattle.mdv_run_law.specs.Below.{Command, Create, Host, IsSound, MakeStripe, Newest, NoSuchSlice, NoSuchVolume, OutOfRange, Read, Refusal, SliceInUse, SliceName, VolId, Volume, Write, WrongKind}
+use Rattle.mdv_run_law.specs.Below.{Command, Create, Host, IsSound, MakeStripe, Newest, NoSuchSlice, NoSuchVolume, OutOfRange, Print, Read, Refusal, SliceInUse, SliceName, VolId, Volume, Write, WrongKind}
 use Rattle.mdv_run_law.specs.Lives.{Ran, host_of}
 use Rattle.mdv_table.specs.declared.change.Change.TheVariants as change
 use Rattle.mdv_theorem.specs.Exchanges.{Asks, Exchange, IsGranted, IsTold, ShowsThere, exchanges_by}
 use Rattle.mdv_theorem.specs.Observed.{DatabasesStay}
+use Rattle.mdv_theorem.specs.Words.{NeedsDatabase}
 use Rattle.mdv_theorem.specs.Running.{HasAnswered, Running}
 use Rattle.mdv_theorem.proofs.Aside.{IsAside, change_aside, commanded, told_as, where_all}
 use Rattle.mdv_theorem.proofs.Found.{created_found}
@@ -66,12 +68,18 @@ module _ (case : Case) (newest : Newest) (opened : case.memory.opened ≡ Some n
   read_else volume at count =
       All-append IsElse (held_of_blocks (Some newest) volume (at + count)) (where_so (nat_lt 1024 count) TooMany) (blocks_else volume (at + count)) (where_all IsElse (nat_lt 1024 count) TooMany (omega arith))
 
+  print_else : (names : List Named) → All IsElse (held_of_print (Some newest) names)
+  print_else names =
+      let missing = list_any (names_no_volume newest.table.plan.volumes) names in
+      let pools = list_any names_pool names in
+      All-append IsElse (where_so missing NoSuchVolume) (where_so pools NoSuchPool) (where_all IsElse missing NoSuchVolume (omega arith)) (where_all IsElse pools NoSuchPool (omega arith))
+
   refused_else : (command : Command) (r : Refusal) → refusal_of case command ≡ Some r → IsElse r
-  refused_else (Create slice force) r is =
+  refused_else (Create slice force blocks) r is =
       let found = slice_at case.host.drives.slices slice in
       let there = is_some case.memory.opened in
-      first_holds IsElse order (held_of_creation case slice force) r
-      (creation_else (not (is_some found)) (is_plain found) (not case.memory.clean) (not there && not force) there (nat_lt case.host.home.blocks 8208)) is
+      first_holds IsElse order (held_of_creation case slice force blocks) r
+      (creation_else (not (is_some found)) (is_plain found) (not case.memory.clean) (not there && not force) there (nat_lt case.host.home.blocks (16 + blocks))) is
   refused_else (MakeStripe volume slice) r is =
       let make = change.MakeStripe volume slice in
       (first_holds IsAside order (held_of_change case.host case.memory.opened make) r
@@ -80,6 +88,7 @@ module _ (case : Case) (newest : Newest) (opened : case.memory.opened ≡ Some n
       first_holds IsElse order (held_of_read case.memory.opened volume at count) r (subst (λ (o : Option Newest). All IsElse (held_of_read o volume at count)) (sym opened) (read_else volume at count)) is
   refused_else (Write volume at block) r is =
       first_holds IsElse order (held_of_blocks case.memory.opened volume (at + 1)) r (subst (λ (o : Option Newest). All IsElse (held_of_blocks o volume (at + 1))) (sym opened) (blocks_else volume (at + 1))) is
+  refused_else (Print names) r is = first_holds IsElse order (held_of_print case.memory.opened names) r (subst (λ (o : Option Newest). All IsElse (held_of_print o names)) (sym opened) (print_else names)) is
 
 -- a database is open
 abbrev IsOpen : Kept → Type 0
@@ -89,11 +98,11 @@ module _ (drives : Geometry) (home : Home) (before : List Ran) (script : Script)
   abbrev host : Host
   host = host_of drives home run.fresh
 
-  module _ (here : List Exchange) (one : Exchange) (at : Reached run here one) (made : Exchange) (slice : SliceName) (force : Bool) (asks : Asks made (Create slice force)) (told : IsTold made ok_line) where
+  module _ (here : List Exchange) (one : Exchange) (at : Reached run here one) (made : Exchange) (slice : SliceName) (force : Bool) (blocks : ℕ) (asks : Asks made (Create slice force blocks)) (told : IsTold made ok_line) where
     -- created by an earlier run, the database is found by the boot and stays open
     created_before : Contains (exchanges_by home before) made → IsOpen at.kept
     created_before has =
-        let found = created_found drives home run.made before run.t.tale sound is_home (lived_life drives run.made before run.t.tale run.life) made slice force has asks told in
+        let found = created_found drives home run.made before run.t.tale sound is_home (lived_life drives run.made before run.t.tale run.life) made slice force blocks has asks told in
         let its = found_open drives home before script sound is_home run here one at (λ table. Unit {0}) (λ old new volume named after is. tt) calm
         (record { found = found; each = λ head slot mark table replica newest is. tt }) in
         (its.newest, its.opened)
@@ -102,7 +111,7 @@ module _ (drives : Geometry) (home : Home) (before : List Ran) (script : Script)
     created_here : (front rest : List Exchange) → Passed drives home before script sound is_home run here one at front rest made → IsOpen at.kept
     created_here front rest way =
         let step = way.step in
-        let done = granted_done host step.calls step.kept step.mid made step.answer step.comes step.said step.told (Create slice force) asks told in
+        let done = granted_done host step.calls step.kept step.mid made step.answer step.comes step.said step.told (Create slice force blocks) asks told in
         let new = done.1.1 in
         let opened : step.mid.memory.opened ≡ Some new.newest = ap (λ (m : Memory). m.opened) new.memory in
         opened_steps host (its_sound drives home before script sound is_home run) (its_home drives home before script sound is_home run) (Failed run) calm step.mid at.kept rest new.newest
@@ -122,11 +131,12 @@ module _ (drives : Geometry) (home : Home) (before : List Ran) (script : Script)
     by_volume : (volume : VolId) → ShowsThere volume shown → IsOpen at.kept
     by_volume volume shows = let its = it_stays drives home before script sound is_home run here one at calm shown volume has shows in (its.newest, its.opened)
 
-    shown_open : (command : Command) → Asks shown command → IsGranted shown command → IsOpen at.kept
-    shown_open (Create slice force) asks granted = stays_open here one at shown slice force asks granted has
-    shown_open (MakeStripe volume slice) asks granted = by_volume volume (record { command = MakeStripe volume slice; asks = asks; on = refl; granted = granted })
-    shown_open (Read volume at_block count) asks granted = by_volume volume (record { command = Read volume at_block count; asks = asks; on = refl; granted = granted })
-    shown_open (Write volume at_block block) asks granted = by_volume volume (record { command = Write volume at_block block; asks = asks; on = refl; granted = granted })
+    shown_open : (command : Command) → NeedsDatabase command → Asks shown command → IsGranted shown command → IsOpen at.kept
+    shown_open (Create slice force blocks) needs asks granted = stays_open here one at shown slice force blocks asks granted has
+    shown_open (MakeStripe volume slice) needs asks granted = by_volume volume (record { command = MakeStripe volume slice; asks = asks; on = refl; granted = granted })
+    shown_open (Read volume at_block count) needs asks granted = by_volume volume (record { command = Read volume at_block count; asks = asks; on = refl; granted = granted })
+    shown_open (Write volume at_block block) needs asks granted = by_volume volume (record { command = Write volume at_block block; asks = asks; on = refl; granted = granted })
+    shown_open (Print names) needs asks granted = absurd needs
 
 pub databases_stay : DatabasesStay
 databases_stay drives home before script is_home run calm one earlier command answered has asks =
@@ -135,15 +145,15 @@ databases_stay drives home before script is_home run calm one earlier command an
     let its_host = host_of drives home run.fresh in (
       λ told.
           let at = reached run answered.here answered.later one (refusal_line NoDatabase) answered.is told in
-          let there = shown_open drives home before script sound is_home run calm answered.here one at has.shown among has.command has.asks has.granted in
+          let there = shown_open drives home before script sound is_home run calm answered.here one at has.shown among has.command has.needs has.asks has.granted in
           let other : IsElse NoDatabase = told_as IsElseNumber (omega arith) (omega arith) at.calls its_host at.kept at.next command (refused_else (case_of its_host at.kept) there.0 there.1 command) at.answer at.said NoDatabase
           (told_once one (text_of at.answer) (refusal_line NoDatabase) at.told told) (commanded at.calls its_host at.kept at.next one.text command at.answer asks at.comes) in
           other refl,
-      λ slice force is told.
+      λ slice force blocks is told.
           let at = reached run answered.here answered.later one ok_line answered.is told in
-          let there = shown_open drives home before script sound is_home run calm answered.here one at has.shown among has.command has.asks has.granted in
-          let free = (granted_done its_host at.calls at.kept at.next one at.answer at.comes at.said at.told (Create slice force) (subst (Asks one) is asks) told).0 in
-          let none : at.kept.memory.opened ≡ None = allowed_none (case_of its_host at.kept) slice force free in
+          let there = shown_open drives home before script sound is_home run calm answered.here one at has.shown among has.command has.needs has.asks has.granted in
+          let free = (granted_done its_host at.calls at.kept at.next one at.answer at.comes at.said at.told (Create slice force blocks) (subst (Asks one) is asks) told).0 in
+          let none : at.kept.memory.opened ≡ None = allowed_none (case_of its_host at.kept) slice force blocks free in
           let some = there.1 in
           cc (none, some),
     )

@@ -21,7 +21,7 @@ use Rattle.mdv_run_law.specs.declared.status.RunStatus.{RunStatus}
 use Rattle.mdv_words.specs.Line as words
 use Rattle.mdv_words.specs.Line.{Line}
 use Rattle.mdv_words.specs.declared.command.Command.{Command}
-use Rattle.mdv_words.specs.declared.command.Command.TheVariants.{Create, Read, Write}
+use Rattle.mdv_words.specs.declared.command.Command.TheVariants.{Create, Print, Read, Write}
 use Rattle.mdv_words.specs.declared.command.Command.TheVariants as command
 use Rattle.mdv_theorem.specs.Observed.{MayEnd, RunsEnd}
 
@@ -51,20 +51,22 @@ module _ (calls : Outcomes) (host : Host) (kept next : Kept) (answer : Answer) w
   booted_end (boot.wanting quiet own headed is same) = subst IsEnd (sym is) tt
 
   effect_end : (cmd : Command) → Effect host kept cmd answer next → IsEnd answer
-  effect_end (Create slice force) is = ok_end is.0
+  effect_end (Create slice force blocks) is = ok_end is.0
   effect_end (command.MakeStripe volume slice) is = ok_end is.0
   effect_end (Read volume at count) is = subst IsEnd (sym is.2) tt
   effect_end (Write volume at block) is = ok_end is.2
+  effect_end (Print names) is = subst IsEnd (sym is.2) tt
 
   gives_end : (cmd : Command) (end : Ended) → GivesUp calls host kept cmd end next → IsEnd (Ends end)
-  gives_end (Create slice force) (stop.Lost active listed) gives = gives.0.here
-  gives_end (Create slice force) stop.Spent gives = tt
-  gives_end (Create slice force) stop.Memory gives = tt
+  gives_end (Create slice force blocks) (stop.Lost active listed) gives = gives.0.here
+  gives_end (Create slice force blocks) stop.Spent gives = tt
+  gives_end (Create slice force blocks) stop.Memory gives = tt
   gives_end (command.MakeStripe volume slice) (stop.Lost active listed) gives = gives.0.here
   gives_end (command.MakeStripe volume slice) stop.Spent gives = tt
   gives_end (command.MakeStripe volume slice) stop.Memory gives = tt
   gives_end (Read volume at count) end gives = absurd gives
   gives_end (Write volume at block) end gives = absurd gives
+  gives_end (Print names) end gives = absurd gives
 
   came_end : (cmd : Command) → CameTo calls host kept cmd answer next → IsEnd answer
   came_end cmd (came.refused quiet r is left) = refused_end r left.0

@@ -125,7 +125,7 @@ module _ (drives : Geometry) (home : Home) (made : Image) (before : List Ran) (t
   its_sound = view_is_own.sound drives home.host sound
 
   stands : Stands place database t
-  stands = its.history.stands.stands.databases own_key place (own_site own)
+  stands = its.history.stands.databases own_key place (own_site own)
 
   holds : Holds place database held
   holds = stands.covers (last t) (last_image t)
@@ -301,8 +301,8 @@ module _ (drives : Geometry) (home : Home) (made : Image) (before : List Ran) (t
       (Contains-append_right (told_by answered.first) (told_by (answered.own ++ answered.later)) deed behind)
 
   -- A database whose creation was told is found.
-  pub created_found : (one : Exchange) (slice : SliceName) (force : Bool) → Contains (exchanges_by home before) one → Asks one (command.Create slice force) → IsTold one ok_line → IsFound place held None → ⊥
-  created_found one slice force has asks told = told_found None (log_told None (deed_among one (command.Create slice force) (Created own_key) refl has asks told))
+  pub created_found : (one : Exchange) (slice : SliceName) (force : Bool) (blocks : ℕ) → Contains (exchanges_by home before) one → Asks one (command.Create slice force blocks) → IsTold one ok_line → IsFound place held None → ⊥
+  created_found one slice force blocks has asks told = told_found None (log_told None (deed_among one (command.Create slice force blocks) (Created own_key) refl has asks told))
 
   -- So is a volume whose making was told, on the slice that was named.
   pub stripe_found : (one : Exchange) (volume : VolId) (slice : SliceName) → Contains (exchanges_by home before) one → Asks one (command.MakeStripe volume slice) → IsTold one ok_line → IsFoundWith drives home t (HasStripe own.drives volume slice)
@@ -318,8 +318,9 @@ module _ (drives : Geometry) (home : Home) (made : Image) (before : List Ran) (t
 
   -- A volume that was shown to be there is found: there is a database, and each table that may be found of it has the volume.
   pub shown_found : (one : Exchange) (volume : VolId) (spelled : Command) → Contains (exchanges_by home before) one → Asks one spelled → IsOn volume spelled → IsGranted one spelled → IsFoundWith drives home t (HasMap volume)
-  shown_found one volume (command.Create slice force) has asks on granted = absurd on
+  shown_found one volume (command.Create slice force blocks) has asks on granted = absurd on
   shown_found one volume (command.MakeStripe other slice) has asks on granted = subst (λ (n : VolId). IsFoundWith drives home t (HasMap n)) on (made_found one other slice has asks granted)
   shown_found one volume (command.Read other at count) has asks on granted =
       subst (λ (n : VolId). IsFoundWith drives home t (HasMap n)) on (read_found one other at count (values_reply granted.0 granted.1) has asks granted.2 (values_want granted.0 granted.1) (λ is. values_are_none granted.0 granted.1 is.0 is.1))
   shown_found one volume (command.Write other at block) has asks on granted = subst (λ (n : VolId). IsFoundWith drives home t (HasMap n)) on (write_found one other at block has asks granted)
+  shown_found one volume (command.Print names) has asks on granted = absurd on

@@ -85,10 +85,10 @@ module _ (drives : Geometry) (home : Home) (table : Table) where
       (lasting_all own.drives Has grows_stay (log_of h.databases key) (log_events_of key es) (databases_live.may key (site_of own) (sites_of own) h es (own_site own) may) are)
 
   pub stands_own : (fresh : ℕ) (h : History) (t : Tale) → StandsAt (host_of drives home fresh) h t → StandsAt own h t
-  stands_own fresh h t is = record { stands = is.stands; room = is.room }
+  stands_own fresh h t is = is
 
   pub stands_as : (fresh : ℕ) (h : History) (t : Tale) → StandsAt own h t → StandsAt (host_of drives home fresh) h t
-  stands_as fresh h t is = record { stands = is.stands; room = is.room }
+  stands_as fresh h t is = is
 
   -- what is open is the newest table, whose write was answered
   pub open_lasts : (fresh : ℕ) (memory : Memory) (h : History) (t : Tale) (newest : Newest) → IsKnown (host_of drives home fresh) memory h t → memory.opened ≡ Some newest → newest.table ≡ table → LastsKnown fresh memory t
@@ -97,7 +97,7 @@ module _ (drives : Geometry) (home : Home) (table : Table) where
       record {
         history = h;
         known = known;
-        lasting = lasting_at own.drives Has (log_of h.databases key) is.version is.older (known.stands.stands.databases key (site_of own) (own_site own)).is_log is.family is.written
+        lasting = lasting_at own.drives Has (log_of h.databases key) is.version is.older (known.stands.databases key (site_of own) (own_site own)).is_log is.family is.written
             (λ volume v lies. subst (λ (b : Table). IsMapOf own.drives b volume v) (sym (is.table ∙ same)) lies);
       }
 
@@ -131,17 +131,17 @@ module _ (drives : Geometry) (home : Home) (table : Table) where
   -- what is found of a moment as the next run starts
   pub lasts_between : (m next : Tale) → MayBeFound m next → Lasts m → Lasts next
   lasts_between m next as_it_was is =
-      let ends = restarts_go.ended (sites_of own) is.history m is.stands.stands in
+      let ends = restarts_go.ended (sites_of own) is.history m is.stands in
       record {
         history = history_after_all is.history (Stops ∷ []);
-        stands = record { stands = ends.stands; room = is.stands.room };
+        stands = ends.stands;
         lasting = is.lasting;
       }
   lasts_between m next (crashed found left) is =
-      let ends = restarts_go.crashed (sites_of own) is.history m found left is.stands.stands in
+      let ends = restarts_go.crashed (sites_of own) is.history m found left is.stands in
       record {
         history = history_after_all is.history (Stops ∷ Crashes ∷ []);
-        stands = record { stands = ends.stands; room = is.stands.room };
+        stands = ends.stands;
         lasting = is.lasting;
       }
 
@@ -179,7 +179,7 @@ module _ (drives : Geometry) (home : Home) (table : Table) where
     database = log_of is.history.databases key
 
     its_stands : Stands (site_of own) database t
-    its_stands = is.stands.stands.databases key (site_of own) (own_site own)
+    its_stands = is.stands.databases key (site_of own) (own_site own)
 
     holds : Holds (site_of own) database held
     holds = its_stands.covers (last t) (last_image t)

@@ -35,13 +35,13 @@ use Rattle.mdv_volumes.proofs.Tables.{tables_lie}
 use Rattle.mdv_words.specs.Line as words
 use Rattle.mdv_words.specs.Line.{IsLine, Line}
 use Rattle.mdv_words.specs.declared.command.Command.{Command}
-use Rattle.mdv_words.specs.declared.command.Command.TheVariants.{Create, Read, Write}
+use Rattle.mdv_words.specs.declared.command.Command.TheVariants.{Create, Print, Read, Write}
 use Rattle.mdv_words.specs.declared.command.Command.TheVariants as command
 use Rattle.mdv_theorem.specs.Exchanges.{Asks, Exchange, IsTold, MayBeWritten, MayHaveBegun}
 use Rattle.mdv_theorem.proofs.Agreeing.{own_sound, sees_home}
 use Rattle.mdv_theorem.proofs.Steps.{told_once}
 use Rattle.mdv_theorem.proofs.Tables.{Grows}
-use Rattle.mdv_theorem.proofs.Telling.{entries_are_none, is_fault, ok_is_none, one_number, values_are_none}
+use Rattle.mdv_theorem.proofs.Telling.{entries_are_none, is_fault, ok_is_none, one_number, quiet_is_none, values_are_none}
 
 -- a refusal for another cause than a failed call, or that one
 quiet_or_fault : (r : Refusal) → IsQuiet (Said (outcome.Refused r)) ⊎ (r ≡ IoFault)
@@ -52,7 +52,8 @@ quiet_or_fault _ = inl tt
 pub begun_or_quiet : (one : Exchange) (answer : Answer) → IsPlainAnswer answer → IsSaid answer → IsTold one (text_of answer) → MayHaveBegun one ⊎ IsQuiet answer
 begun_or_quiet one (Said outcome.Ok) plain said told = inl (λ refusal refused. absurd (ok_is_none refusal (told_once one ok_line (refusal_line refusal) told refused)))
 begun_or_quiet one (Said (outcome.Values text)) (inl are) said told = inl (λ refusal refused. absurd (values_are_none are.at are.blocks refusal (sym are.is ∙ told_once one text (refusal_line refusal) told refused)))
-begun_or_quiet one (Said (outcome.Values text)) (inr are) said told = inl (λ refusal refused. absurd (entries_are_none are.count refusal (sym are.is ∙ told_once one text (refusal_line refusal) told refused)))
+begun_or_quiet one (Said (outcome.Values text)) (inr (inl are)) said told = inl (λ refusal refused. absurd (entries_are_none are.count refusal (sym are.is ∙ told_once one text (refusal_line refusal) told refused)))
+begun_or_quiet one (Said (outcome.Values text)) (inr (inr are)) said told = inl (λ refusal refused. absurd (quiet_is_none are.lines refusal are.quiet (sym are.is ∙ told_once one text (refusal_line refusal) told refused)))
 begun_or_quiet one (Said (outcome.Refused r)) plain said told = ⊎_elim (λ quiet. inr quiet) (λ fault. inl (λ refusal refused. (
     let same = told_once one (refusal_line IoFault) (refusal_line refusal) (subst (λ (q : Refusal). IsTold one (refusal_line q)) fault told) refused in
     is_fault refusal (sym (one_number IoFault refusal same))
@@ -163,11 +164,12 @@ module _ (drives : Geometry) (home : Home) where
         contains_one e = contains_first e []
 
       pub command_leaves : (spelled : Command) → Asks one spelled → MayHaveBegun one → WritesOnly its_host (asked_by its_host spelled) memory t u → AreLeft (one ∷ []) t u
-      command_leaves (Create slice force) asks begun wrote = home_leaves (one ∷ []) t u wrote
+      command_leaves (Create slice force blocks) asks begun wrote = home_leaves (one ∷ []) t u wrote
       command_leaves (command.MakeStripe other slice) asks begun wrote = home_leaves (one ∷ []) t u wrote
       command_leaves (Read other at count) asks begun wrote = none_leaves (one ∷ []) t u wrote
       command_leaves (Write other at new) asks begun (inl kept) = none_leaves (one ∷ []) t u kept
       command_leaves (Write other at new) asks begun (inr (place, there, put)) = put_leaves other at new asks begun place there put
+      command_leaves (Print names) asks begun wrote = home_leaves (one ∷ []) t u wrote
 
       spelled_leaves : (spelled : Line) → IsLine one.text spelled → MayHaveBegun one → LineWrites its_host spelled memory t u → AreLeft (one ∷ []) t u
       spelled_leaves words.Boot is begun wrote = home_leaves (one ∷ []) t u wrote

@@ -142,10 +142,11 @@ module _ (drives : Geometry) (home : Home) where
     same_ask : (spelled : Line) → asked_by_line its spelled ≡ asked_by_line host spelled
     same_ask Boot = refl
     same_ask (Tab lines) = refl
-    same_ask (Exec (command.Create slice force)) = refl
+    same_ask (Exec (command.Create slice force blocks)) = refl
     same_ask (Exec (command.MakeStripe volume slice)) = refl
     same_ask (Exec (command.Read volume at count)) = refl
     same_ask (Exec (command.Write volume at block)) = refl
+    same_ask (Exec (command.Print names)) = refl
 
     same_asks : (text : List ℕ) (ask : Ask) → AsksWords its text ask → AsksWords host text ask
     same_asks text ask (inl none) = inl none

@@ -41,10 +41,11 @@ module _ (host : Host) where
   spelled_begins : (one : Exchange) (spelled : Line) → IsLine one.text spelled → MayHaveBegun one → (deed : Deed) → Contains (deeds (asked_by_line host spelled)) deed → MayBegin deed one
   spelled_begins one Boot is begun deed has = absurd (never_in deed has)
   spelled_begins one (Tab lines) is begun deed has = absurd (never_in deed has)
-  spelled_begins one (Exec (command.Create slice force)) is begun deed has = subst (λ (d : Deed). MayBegin d one) (the_only _ deed has) tt
+  spelled_begins one (Exec (command.Create slice force blocks)) is begun deed has = subst (λ (d : Deed). MayBegin d one) (the_only _ deed has) tt
   spelled_begins one (Exec (command.MakeStripe volume slice)) is begun deed has = subst (λ (d : Deed). MayBegin d one) (the_only _ deed has) (record { asks = is; begun = begun })
   spelled_begins one (Exec (command.Read volume at count)) is begun deed has = absurd (never_in deed has)
   spelled_begins one (Exec (command.Write volume at block)) is begun deed has = subst (λ (d : Deed). MayBegin d one) (the_only _ deed has) (block, refl, record { asks = is; begun = begun })
+  spelled_begins one (Exec (command.Print names)) is begun deed has = absurd (never_in deed has)
 
   words_begin : (one : Exchange) (ask : Ask) → AsksWords host one.text ask → MayHaveBegun one → (deed : Deed) → Contains (deeds ask) deed → MayBegin deed one
   words_begin one ask (inl none) begun deed has = absurd (never_in deed (subst (λ (a : Ask). Contains (deeds a) deed) none.1 has))

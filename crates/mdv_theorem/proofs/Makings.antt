@@ -92,7 +92,7 @@ module _ (drives : Geometry) (home : Home) (made : Image) (before : List Ran) (t
   -- each of its versions is a table that its changes made
   version_made : (v : Version) → Contains its_database.family v → AreMade own.drives v.changes v.table
   version_made v one_of =
-      let is_log = ((its drives home made before t sound is_home life).history.stands.stands.databases its_key _ (own_site own)).is_log in
+      let is_log = ((its drives home made before t sound is_home life).history.stands.databases its_key _ (own_site own)).is_log in
       All-contains (λ (w : Version). AreMade own.drives w.changes w.table) its_database.family v is_log.made one_of
 
   -- Each volume of a table that is found was made by a line of these runs, or may have been; and it is on the slice that the line names.

@@ -59,7 +59,7 @@ use Rattle.mdv_words.proofs.Lines.{one_line}
 use Rattle.mdv_words.specs.Line as words
 use Rattle.mdv_words.specs.Line.{IsLine, Line}
 use Rattle.mdv_words.specs.declared.command.Command.{Command}
-use Rattle.mdv_words.specs.declared.command.Command.TheVariants.{Create, Read, Write}
+use Rattle.mdv_words.specs.declared.command.Command.TheVariants.{Create, Print, Read, Write}
 use Rattle.mdv_words.specs.declared.command.Command.TheVariants as command
 use Rattle.mdv_theorem.specs.Exchanges.{Asks, Exchange, IsGranted, IsOn, IsTold, ShowsThere}
 use Rattle.mdv_theorem.proofs.Steps.{Steps, no_step, one_step, skipped, told_once}
@@ -188,8 +188,8 @@ module _ (host : Host) (sound : IsSound host.drives) (sees : SeesHome host) wher
     open_boot (boot.spent quiet own over used same) said = absurd (let never : ⊥ = subst IsSaid over said in never)
     open_boot (boot.wanting quiet own headed over same) said = absurd (let never : ⊥ = subst IsSaid over said in never)
 
-    never_created : (slice : SliceName) (force : Bool) → IsAllowed (case_of host kept) (Create slice force) → ⊥
-    never_created slice force free = never_shut kept.memory.opened newest (allowed_none (case_of host kept) slice force free) opened
+    never_created : (slice : SliceName) (force : Bool) (blocks : ℕ) → IsAllowed (case_of host kept) (Create slice force blocks) → ⊥
+    never_created slice force blocks free = never_shut kept.memory.opened newest (allowed_none (case_of host kept) slice force blocks free) opened
 
     wrote : (volume : VolId) (at : ℕ) (block : List ℕ) (place : DriveBlock) → IsLine text (words.Exec (Write volume at block)) → AreBlocksAt host kept.memory volume at 1 place → next.memory ≡ kept.memory → MayBePut place (block ∷ []) kept.content next.content
         → (answer ≡ accepted) ⊎ (answer ≡ refusing IoFault) → Line_of
@@ -206,22 +206,25 @@ module _ (host : Host) (sound : IsSound host.drives) (sees : SeesHome host) wher
         (subst (λ (n : Newest). IsLater host.drives text answer newest.table (table_after host.drives (MakeStripe volume slice) n.table)) (sym same) later) made.beside
 
     open_done : (cmd : Command) → IsLine text (words.Exec cmd) → IsAllowed (case_of host kept) cmd → Effect host kept cmd answer next → Line_of
-    open_done (Create slice force) spelled free effect = absurd (never_created slice force free)
+    open_done (Create slice force blocks) spelled free effect = absurd (never_created slice force blocks free)
     open_done (command.MakeStripe volume slice) spelled free (ok, its, also, less, made) = committed volume slice its (opened_twice kept.memory.opened newest its opened also) spelled ok free made
     open_done (Read volume at count) spelled free effect = stays effect.3
     open_done (Write volume at block) spelled free (place, there, ok, memory, put) = wrote volume at block place spelled there memory (may_be_put place (block ∷ []) kept.content next.content put) (inl ok)
+    open_done (Print names) spelled free effect = stays effect.3
 
     open_faulted : (cmd : Command) → IsLine text (words.Exec cmd) → IsAllowed (case_of host kept) cmd → answer ≡ refusing IoFault → Fault calls host kept cmd next → Line_of
-    open_faulted (Create slice force) spelled free told fault = absurd (never_created slice force free)
+    open_faulted (Create slice force blocks) spelled free told fault = absurd (never_created slice force blocks free)
     open_faulted (command.MakeStripe volume slice) spelled free told fault = absurd fault
     open_faulted (Read volume at count) spelled free told fault = stays fault.3
     open_faulted (Write volume at block) spelled free told (place, failed, there, memory, put) = wrote volume at block place spelled there memory put (inr told)
+    open_faulted (Print names) spelled free told fault = absurd fault
 
     open_wanting : (cmd : Command) → Wanting host kept cmd next → Line_of
-    open_wanting (Create slice force) wants = absurd (never_created slice force wants.0)
+    open_wanting (Create slice force blocks) wants = absurd (never_created slice force blocks wants.0)
     open_wanting (command.MakeStripe volume slice) wants = stays wants.1
     open_wanting (Read volume at count) wants = stays wants.1
     open_wanting (Write volume at block) wants = absurd wants
+    open_wanting (Print names) wants = stays wants.1
 
     open_came : (cmd : Command) → IsLine text (words.Exec cmd) → CameTo calls host kept cmd answer next → IsSaid answer → Line_of
     open_came cmd spelled (came.refused quiet r why left) said = stays left.1
@@ -254,23 +257,26 @@ module _ (host : Host) (sound : IsSound host.drives) (sees : SeesHome host) wher
     idles same = idle (ap (λ (m : Memory). m.opened) same.memory ∙ none) (ap (λ (m : Memory). m.clean) same.memory) same.content
 
     shut_done : (cmd : Command) → IsAllowed (case_of host kept) cmd → Effect host kept cmd answer next → Shut_line
-    shut_done (Create slice force) free (ok, made) = let now : next.memory.opened ≡ Some made.newest = ap (λ (m : Memory). m.opened) made.memory in created (allowed_clean (case_of host kept) slice force free) (open_on made.newest now made.head made.content)
+    shut_done (Create slice force blocks) free (ok, made) = let now : next.memory.opened ≡ Some made.newest = ap (λ (m : Memory). m.opened) made.memory in created (allowed_clean (case_of host kept) slice force blocks free) (open_on made.newest now made.head made.content)
         ((λ n is. subst (λ (x : Newest). x.table.plan.volumes ≡ []) (opened_twice next.memory.opened n made.newest is now) made.new.volumes), (λ gone. absurd (never_shut next.memory.opened made.newest gone now)))
     shut_done (command.MakeStripe volume slice) free (ok, its, opened, less, made) = absurd (never_shut kept.memory.opened its none opened)
     shut_done (Read volume at count) free (from, there, told, same) = idles same
     shut_done (Write volume at block) free (place, there, ok, memory, put) = absurd (never_shut kept.memory.opened there.lies.0 none there.lies.1)
+    shut_done (Print names) free (its, opened, told, same) = absurd (never_shut kept.memory.opened its none opened)
 
     shut_faulted : (cmd : Command) → IsAllowed (case_of host kept) cmd → Fault calls host kept cmd next → Shut_line
-    shut_faulted (Create slice force) free (failed, unmade) = let gone : next.memory.opened ≡ None = ap (λ (m : Memory). m.opened) unmade.memory ∙ none in created (allowed_clean (case_of host kept) slice force free) (shut gone) ((λ n is. absurd (never_shut next.memory.opened n gone is)), (λ still. unmade.content))
+    shut_faulted (Create slice force blocks) free (failed, unmade) = let gone : next.memory.opened ≡ None = ap (λ (m : Memory). m.opened) unmade.memory ∙ none in created (allowed_clean (case_of host kept) slice force blocks free) (shut gone) ((λ n is. absurd (never_shut next.memory.opened n gone is)), (λ still. unmade.content))
     shut_faulted (command.MakeStripe volume slice) free fault = absurd fault
     shut_faulted (Read volume at count) free fault = idles fault.3
     shut_faulted (Write volume at block) free (place, failed, there, memory, put) = absurd (never_shut kept.memory.opened there.lies.0 none there.lies.1)
+    shut_faulted (Print names) free fault = absurd fault
 
     shut_wanting : (cmd : Command) → Wanting host kept cmd next → Shut_line
-    shut_wanting (Create slice force) (free, unbegun) = idle (ap (λ (m : Memory). m.opened) unbegun.memory ∙ none) (ap (λ (m : Memory). m.clean) unbegun.memory) unbegun.content
+    shut_wanting (Create slice force blocks) (free, unbegun) = idle (ap (λ (m : Memory). m.opened) unbegun.memory ∙ none) (ap (λ (m : Memory). m.clean) unbegun.memory) unbegun.content
     shut_wanting (command.MakeStripe volume slice) wants = idles wants.1
     shut_wanting (Read volume at count) wants = idles wants.1
     shut_wanting (Write volume at block) wants = absurd wants
+    shut_wanting (Print names) wants = idles wants.1
 
     shut_came : (cmd : Command) → CameTo calls host kept cmd answer next → IsSaid answer → Shut_line
     shut_came cmd (came.refused quiet r why left) said = idles left.1
@@ -454,10 +460,11 @@ there_of host volume kept drive first count (open_on its also head is) (newest, 
 
 -- what was told of a command that was granted is no refusal
 pub granted_is_none : (one : Exchange) (cmd : Command) (r : Refusal) → IsGranted one cmd → IsTold one (refusal_line r) → ⊥
-granted_is_none one (Create slice force) r granted told = ok_is_none r (told_once one ok_line (refusal_line r) granted told)
+granted_is_none one (Create slice force blocks) r granted told = ok_is_none r (told_once one ok_line (refusal_line r) granted told)
 granted_is_none one (command.MakeStripe volume slice) r granted told = ok_is_none r (told_once one ok_line (refusal_line r) granted told)
 granted_is_none one (Read volume at count) r (from, blocks, values) told = values_are_none from blocks r (told_once one (values_reply from blocks) (refusal_line r) values told)
 granted_is_none one (Write volume at block) r granted told = ok_is_none r (told_once one ok_line (refusal_line r) granted told)
+granted_is_none one (Print names) r (reply, said, other) told = other r (told_once one reply (refusal_line r) said told)
 
 module _ (host : Host) (calls : Outcomes) (kept next : Kept) (one : Exchange) (answer : Answer) (comes : IsAnswered calls host kept one.text answer next) (said : IsSaid answer) (told : IsTold one (text_of answer)) where
   unrefusing : (cmd : Command) (r : Refusal) → IsGranted one cmd → answer ≡ refusing r → ⊥
@@ -498,10 +505,11 @@ module _ (host : Host) (calls : Outcomes) (kept next : Kept) (one : Exchange) (a
         (next_newest its (table_after host.drives (MakeStripe other slice) its.table), ap (λ (m : Memory). m.opened) made.memory, subst (λ (v : Map). IsMapOf host.drives (table_after host.drives (MakeStripe other slice) its.table) other v) run.3 lies.1)
 
     on_there : (cmd : Command) → IsOn volume cmd → IsAllowed (case_of host kept) cmd × Effect host kept cmd answer next → HasThere host volume next
-    on_there (Create slice force) on done = absurd on
+    on_there (Create slice force blocks) on done = absurd on
     on_there (command.MakeStripe other slice) on (free, (ok, its, opened, less, made)) = made_there other slice its on free opened made
     on_there (Read other at count) on (free, (from, there, values, stays)) = has_volume other from.drive there.first there.blocks on (moved other from.drive there.first there.blocks stays.memory there.lies)
     on_there (Write other at block) on (free, (place, there, ok, memory, put)) = has_volume other place.drive there.first there.blocks on (moved other place.drive there.first there.blocks memory there.lies)
+    on_there (Print names) on done = absurd on
 
     -- behind a line that shows it to be there the volume is in the open table
     pub shown_there : ShowsThere volume one → HasThere host volume next

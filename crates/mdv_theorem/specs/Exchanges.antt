@@ -13,7 +13,7 @@ use Rattle.mdv_status.specs.Telling.{replies_in}
 use Rattle.mdv_status.specs.Values.{significant, values_reply}
 use Rattle.mdv_words.specs.Line.{Exec, IsLine}
 use Rattle.mdv_words.specs.declared.command.Command.{Command}
-use Rattle.mdv_words.specs.declared.command.Command.TheVariants.{Create, MakeStripe, Read, Write}
+use Rattle.mdv_words.specs.declared.command.Command.TheVariants.{Create, MakeStripe, Print, Read, Write}
 
 -- a line, and the whole reply to it, where one was told
 pub record Exchange : Type 0 where
@@ -48,14 +48,16 @@ IsTold one reply = one.reply ≡ Some reply
 
 -- the command makes the volume, reads it or writes it
 abbrev pub IsOn : VolId → Command → Type 0
-IsOn volume (Create slice force) = ⊥
+IsOn volume (Create slice force blocks) = ⊥
 IsOn volume (MakeStripe other slice) = other ≡ volume
 IsOn volume (Read other at count) = other ≡ volume
 IsOn volume (Write other at block) = other ≡ volume
+IsOn volume (Print names) = ⊥
 
--- it was told to be done: by `ok`, or of a read by values and `ok` behind them
+-- it was told to be done: by `ok`, of a read by values and `ok` behind them, and of a print by what is no refusal
 abbrev pub IsGranted : Exchange → Command → Type 0
 IsGranted one (Read volume at count) = (from : ℕ) × (blocks : List (List ℕ)) × IsTold one (values_reply from blocks)
+IsGranted one (Print names) = (reply : List ℕ) × IsTold one reply × ((refusal : Refusal) → reply ≡ refusal_line refusal → ⊥)
 IsGranted one command = IsTold one ok_line
 
 -- it was told of the volume that it was made, or read, or written: so it is there

@@ -65,7 +65,7 @@ abbrev pub DatabasesStay : Type 0
 DatabasesStay =
     (drives : Geometry) (home : Home) (before : List Ran) (script : Script) → IsHome drives home → (run : Running drives home before script) → HasAnswered run home.drive
     → (one : Exchange) (earlier : List Exchange) (command : Command) → Answered run one earlier → HasDatabase earlier → Asks one command
-    → (IsTold one (refusal_line NoDatabase) → ⊥) × ((slice : SliceName) (force : Bool) → command ≡ Create slice force → IsTold one ok_line → ⊥)
+    → (IsTold one (refusal_line NoDatabase) → ⊥) × ((slice : SliceName) (force : Bool) (blocks : ℕ) → command ≡ Create slice force blocks → IsTold one ok_line → ⊥)
 
 -- where lines show a volume to be there, none behind them on it is told that it isn't, or that there is no database, as long as the database's drive answers
 abbrev pub VolumesStay : Type 0

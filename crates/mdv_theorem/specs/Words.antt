@@ -11,15 +11,16 @@ use Rattle.mdv_name.specs.declared.geometry.Geometry.{Geometry}
 use Rattle.mdv_name.specs.declared.slice_lines.SliceAt.{SliceAt}
 use Rattle.mdv_shelf.specs.Everywhere.{Image}
 use Rattle.mdv_words.specs.declared.command.Command.{Command}
-use Rattle.mdv_words.specs.declared.command.Command.TheVariants.{Create, MakeStripe, Read, Write}
+use Rattle.mdv_words.specs.declared.command.Command.TheVariants.{Create, MakeStripe, Print, Read, Write}
 use Rattle.mdv_theorem.specs.Exchanges.{Asks, Exchange, IsGranted, IsSameBlock, IsTold, MayBeMade, MayBeWritten, MayHaveBegun, ShowsThere}
 
 -- the command takes the volume away: none does so far
 abbrev pub TakesAway : VolId → Command → Type 0
-TakesAway volume (Create slice force) = ⊥
+TakesAway volume (Create slice force blocks) = ⊥
 TakesAway volume (MakeStripe other slice) = ⊥
 TakesAway volume (Read other at count) = ⊥
 TakesAway volume (Write other at block) = ⊥
+TakesAway volume (Print names) = ⊥
 
 -- the line may have taken the volume away
 pub record MayTakeAway (volume : VolId) (one : Exchange) : Type 0 where
@@ -43,10 +44,11 @@ HasBegun volume lines = IsThere volume lines
 
 -- the command takes the database away: none does so far
 abbrev pub TakesDatabase : Command → Type 0
-TakesDatabase (Create slice force) = ⊥
+TakesDatabase (Create slice force blocks) = ⊥
 TakesDatabase (MakeStripe volume slice) = ⊥
 TakesDatabase (Read volume at count) = ⊥
 TakesDatabase (Write volume at block) = ⊥
+TakesDatabase (Print names) = ⊥
 
 -- the line may have taken the database away
 pub record MayTakeDatabase (one : Exchange) : Type 0 where
@@ -55,12 +57,13 @@ pub record MayTakeDatabase (one : Exchange) : Type 0 where
   pub takes : TakesDatabase command
   pub begun : MayHaveBegun one
 
--- the command is done with a database alone, or makes one: each does so far
+-- the command is done with a database alone, or makes one: each does so far but a print, of which no more is said here than of its refusals
 abbrev pub NeedsDatabase : Command → Type 0
-NeedsDatabase (Create slice force) = Unit {0}
+NeedsDatabase (Create slice force blocks) = Unit {0}
 NeedsDatabase (MakeStripe volume slice) = Unit {0}
 NeedsDatabase (Read volume at count) = Unit {0}
 NeedsDatabase (Write volume at block) = Unit {0}
+NeedsDatabase (Print names) = ⊥
 
 -- one of these lines made a database, or was done with one, as it was told, and none behind it may have taken it away
 pub record HasDatabase (lines : List Exchange) : Type 0 where

@@ -1,6 +1,7 @@
 -- What an item of a script is, which is one line or a `tab` block: `boot`, a block's lines, or a line that is built.
-use Rattle.std.specs.Prelude.{◌≡◌, ◌<◌, ◌≤◌, ℕ, Bool, Option, None, Some, List, [], ◌∷◌, ◌++◌, codes}
+use Rattle.std.specs.Prelude.{◌≡◌, ◌<◌, ◌≤◌, ℕ, Bool, true, Option, None, Some, List, [], ◌∷◌, ◌++◌, codes}
 use Rattle.mdv_base.specs.declared.drive.SliceName.{SliceName}
+use Rattle.mdv_base.specs.declared.name.Named.{Named}
 use Rattle.mdv_base.specs.declared.name.PoolId.{PoolId}
 use Rattle.mdv_base.specs.declared.name.VolId.{VolId}
 use Rattle.mdv_name.specs.declared.volume.VolName.{VolName}
@@ -15,7 +16,7 @@ use Rattle.mdv_grammar.specs.declared.line.Line.TheVariants as grammar
 use Rattle.mdv_grammar.specs.declared.line.WordsFault.{WordsFault}
 use Rattle.mdv_grammar.specs.declared.line.WordsFault.TheVariants.{BadLine, Memory}
 use Rattle.mdv_words.specs.declared.command.Command.{Command}
-use Rattle.mdv_words.specs.declared.command.Command.TheVariants.{Create, MakeStripe, Read, Write}
+use Rattle.mdv_words.specs.declared.command.Command.TheVariants.{Create, MakeStripe, Print, Read, Write}
 use Rattle.mdv_words.specs.declared.line.Line.{Line as ReadLine}
 use Rattle.mdv_words.specs.declared.line.Line.TheVariants as read
 
@@ -39,9 +40,14 @@ tab_text lines = codes "tab" ++ 10 ∷ lines
 abbrev pub IsAlone : List ℕ → Type 0
 IsAlone text = (lines : List ℕ) → text ≡ tab_text lines → ⊥
 
--- one slice, with no number of replicas and no length
+-- the blocks of a replica for which none are given
+abbrev pub blocks_or_default : Option ℕ → ℕ
+blocks_or_default None = 8192
+blocks_or_default (Some blocks) = blocks
+
+-- one slice, with no number of replicas
 abbrev pub creation_of : List SliceName → Option ℕ → Option ℕ → Bool → Option Command
-creation_of (slice ∷ []) None None force = Some (Create slice force)
+creation_of (slice ∷ []) None blocks force = Some (Create slice force (blocks_or_default blocks))
 creation_of slices count blocks force = None
 
 -- a row of one slice, with no interlace
@@ -64,13 +70,19 @@ abbrev pub on_local : Option (List ℕ) → Command → Option Command
 on_local None command = Some command
 on_local (Some set) command = None
 
--- The commands that are built, among all that a line may ask: `metadb -a [-f] SLICE`, `metainit [-f] dN 1 1 SLICE`, whose `-f` changes nothing, `read`
--- and `write`.
+-- of the local database, as md.tab text
+abbrev pub print_of : Option (List ℕ) → List Named → Bool → Option Command
+print_of None names true = Some (Print names)
+print_of set names printed = None
+
+-- The commands that are built, among all that a line may ask: `metadb -a [-f] [-l BLOCKS] SLICE`, `metainit [-f] dN 1 1 SLICE`, whose `-f` changes nothing,
+-- `read`, `write`, and `metastat -p [NAME ..]`.
 abbrev pub built_of : Wanted → Option Command
 built_of (wanted.AddReplicas slices options force) = creation_of slices options.count options.blocks force
 built_of (wanted.Make (Stripe name rows spares) force) = stripe_of name rows spares
 built_of (wanted.Read volume at count) = on_local volume.set (Read volume.volume at count)
 built_of (wanted.Write volume at block) = on_local volume.set (Write volume.volume at block)
+built_of (wanted.Status set names printed) = print_of set names printed
 built_of _ = None
 
 -- the line asks for a command that is built
@@ -89,9 +101,14 @@ abbrev pub IsFaultOf : List ℕ → WordsFault → Type 0
 IsFaultOf text BadLine = (line : Line) → IsLine text line → ⊥
 IsFaultOf text Memory = Unit {0}
 
+-- blocks that a replica may have
+abbrev pub IsLength : ℕ → Type 0
+IsLength blocks = (16 ≤ blocks) × (blocks ≤ 8192)
+
 -- what each command of a line keeps
 abbrev pub IsInForm : Command → Type 0
-IsInForm (Create slice force) = Unit {0}
+IsInForm (Create slice force blocks) = IsLength blocks
 IsInForm (MakeStripe volume slice) = volume.0 < 8192
 IsInForm (Read volume at count) = 1 ≤ count
 IsInForm (Write volume at block) = Unit {0}
+IsInForm (Print names) = Unit {0}

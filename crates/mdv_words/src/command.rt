@@ -1,19 +1,24 @@
 ghost use Rattle.std.specs.Prelude.{◌≡◌};
-ghost use Rattle.mdv_words.specs.Line.{creation_of, slice_of_row, stripe_of, on_local, built_of};
+ghost use Rattle.mdv_words.specs.Line.{blocks_or_default, creation_of, print_of, slice_of_row, stripe_of, on_local, built_of};
 
-use mdv_base::{Block, PoolId, SliceName, VolId};
+use mdv_base::{Block, Name, Named, PoolId, SliceName, VolId};
 use mdv_command::Command as Asked;
 use mdv_name::VolName;
-use mdv_parts::{Component, ReplicaOptions};
+use mdv_parts::{Component, Items, ReplicaOptions};
 use mdv_tab::{Entry, Row};
 
+// How many blocks a replica has that no `-l` is given for.
+const DEFAULT_BLOCKS: u32 = 8192;
+
 /// What a line asks an engine for.
-#[derive(Clone, Copy, Debug, PartialEq, Eq)]
+#[derive(Drop)]
 pub enum Command {
-    /// `metadb -a SLICE`, or with `-f`
+    /// `metadb -a SLICE`, or with `-f`, or with `-l BLOCKS`
     Create {
         slice: SliceName,
         force: bool,
+        /// Blocks of the replica, 16 to 8192.
+        blocks: u32,
     },
     /// `metainit dN 1 1 SLICE`, or with `-f`
     MakeStripe {
@@ -32,6 +37,19 @@ pub enum Command {
         at: u64,
         block: Block,
     },
+    /// `metastat -p`, or with names: these volumes and pools of the local database alone
+    Print {
+        names: Items<Named>,
+    },
+}
+
+fn blocks_of(options: &ReplicaOptions) -> u32
+    ensures { result ≡ blocks_or_default options.now.blocks }
+{
+    match options.blocks {
+        Some(blocks) => u32::from(blocks),
+        None => DEFAULT_BLOCKS,
+    }
 }
 
 fn creation(slices: &[SliceName], options: &ReplicaOptions, force: bool) -> Option<Command>
@@ -40,12 +58,13 @@ fn creation(slices: &[SliceName], options: &ReplicaOptions, force: bool) -> Opti
     let [slice] = slices else {
         return None;
     };
-    if options.count.is_some() || options.blocks.is_some() {
+    if options.count.is_some() {
         return None;
     }
     Some(Command::Create {
         slice: *slice,
         force,
+        blocks: blocks_of(options),
     })
 }
 
@@ -88,36 +107,52 @@ fn local(volume: &VolName, command: Command) -> Option<Command>
     }
 }
 
+// As md.tab text, of the local database.
+fn print(set: Option<Name>, names: Items<Named>, printed: bool) -> Option<Command>
+    ensures { result ≡ print_of set names printed }
+{
+    if printed && set.is_none() {
+        Some(Command::Print { names })
+    } else {
+        None
+    }
+}
+
 // What is built of all that a line may ask.
-pub(crate) fn built(asked: &Asked) -> Option<Command>
-    ensures { result ≡ built_of asked.now }
+pub(crate) fn built(asked: Asked) -> Option<Command>
+    ensures { result ≡ built_of asked }
 {
     match asked {
         Asked::AddReplicas {
             slices,
             options,
             force,
-        } => creation(slices.as_slice(), options, *force),
+        } => creation(slices.as_slice(), &options, force),
         Asked::Make {
             entry: Entry::Stripe { name, rows, spares },
             ..
-        } => stripe(name, rows.as_slice(), spares),
+        } => stripe(&name, rows.as_slice(), &spares),
         Asked::Read { volume, at, count } => local(
-            volume,
+            &volume,
             Command::Read {
                 volume: volume.volume,
-                at: *at,
-                count: *count,
+                at,
+                count,
             },
         ),
         Asked::Write { volume, at, block } => local(
-            volume,
+            &volume,
             Command::Write {
                 volume: volume.volume,
-                at: *at,
-                block: *block,
+                at,
+                block,
             },
         ),
+        Asked::Status {
+            set,
+            names,
+            printed,
+        } => print(set, names, printed),
         _ => None,
     }
 }

@@ -8,7 +8,7 @@ use std::alloc::Global;
 const TAB: &[u8] = b"tab\n";
 
 /// An item of a script. The host boots itself; an engine carries the others out.
-#[derive(Clone, Copy, Debug, PartialEq, Eq)]
+#[derive(Drop)]
 pub enum Line<'a> {
     /// `boot`
     Boot,
@@ -32,7 +32,7 @@ fn read_alone(alloc: Global, text: &[u8]) -> Result<Line<'static>, WordsFault>
 {
     match mdv_grammar::read_line(alloc, text)? {
         Asked::Boot => Ok(Line::Boot),
-        Asked::Command(asked) => match built(&asked) {
+        Asked::Command(asked) => match built(asked) {
             Some(command) => Ok(Line::Command(command)),
             None => Err(WordsFault::BadLine),
         },

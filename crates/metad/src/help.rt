@@ -18,7 +18,8 @@ HOST is one of the hosts H, and its own drives are those whose lines have its na
 there are. FILE is an image of BLOCKS * 512 bytes, or a block device of that length; make an
 image, say, with truncate -s 8388608 disk0.img for 16384 blocks. Of the slices on the host's
 own drives one is marked db: there a state database may lie, from block START of the drive on;
-it needs 8208 blocks. Others are for volumes, and share no block with it. The table may have
+it needs 8208 blocks, or 16 and those that -l gives. Others are for volumes, and share no block
+with it. The table may have
 other hosts too, drives with the word shared for H, and lines mediator H BLOCKS FILE: a run
 opens none of those files. So runs of different hosts may go on at the same time.
 
@@ -33,15 +34,18 @@ system has in memory, takes the image out of drives.failed, and starts this prog
 
 The host boots. Then SCRIPT is read, on standard input, with a command on each line:
 
-    metadb -a -f c0t0d0s7    makes a state database; its first replica needs the -f
+    metadb -a -f c0t0d0s7    makes a state database; its first replica needs the -f;
+                             -l BLOCKS, 16 to 8192, makes it shorter than 8192 blocks
     metainit d0 1 1 c0t0d0s0 makes the volume d0 of all blocks of a slice
     write d0 5 ab            writes block 5 of d0: bytes in hexadecimal, and zeros behind
     read d0 5 1              tells 1 block of d0, from block 5 on; at most 1024 at a time
+    metastat -p              tells all volumes as lines of an md.tab, or those named behind it
     boot                     boots the host anew, as at the start
 
 Each line is answered on standard output by a line ok, or refused with a number and a
 name, as refused E7 SliceInUse. A read tells a line for each block before its ok: the number,
-and the bytes up to the last that isn't zero, or - for a block of zeros.
+and the bytes up to the last that isn't zero, or - for a block of zeros. A metastat -p tells
+a line for each volume before its ok.
 
 Exit status: 0 Done, 1 SomeRefused, 2 Usage, 3 NoQuorum, 4 Panic, 5 ReadFault, 6 WriteFault,
 7 NoMemory, 8 TwoDatabases, 9 ScriptTooLong, 10 NumbersSpent. From 2 on standard error tells the name,

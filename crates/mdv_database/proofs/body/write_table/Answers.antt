@@ -32,6 +32,7 @@ pub returns-clause-end : goal.returns-clause-end
 returns-clause-end g c =
     ends_both _ _ (WriteEnds c.args.at c.args.slot c.args.mark c.args.table.now) _ _
     (λ t u one written. record {
+      quiet = quiet_slot c.args.at c.args.slot c.args.mark c.lay-bytes.result _ t u c.requires.placed.least (omega (arith, length-take c.blocks_for.result c.as_chunks.result.0.now)) one;
       written = taken c.args.at c.args.slot c.args.mark c.args.table.now c.lay-bytes.result _ (is_body g (goal.at.returns-clause-end g c).After-write_slot) t u one written;
       synced = written.gate_settled.synced;
     })

@@ -43,23 +43,23 @@ returns-in-Err-clause-answer g c = (search rules, fits g (goal.at.returns-in-Err
 pub returns-in-Ok-clause-moments : goal.returns-in-Ok-clause-moments
 returns-in-Ok-clause-moments g c =
     let before = (goal.at.returns-in-Ok-clause-moments g c).After-rewrite in
-    adopt_moments c.args.at (g.S.Shelf.sizes c.args.shelf.now) c.args.found (fits g before) c.requires.in_hand.spare c.requires.in_hand.form.of_place.in_place _ _ c.at_length.ensures (drawn_is g before) _ _ c.rewrite.ensures.moments
+    adopt_moments c.args.at (g.S.Shelf.sizes c.args.shelf.now) c.args.found (fits g before) c.requires.in_hand.spare _ _ c.at_length.ensures (drawn_is g before) _ _ c.rewrite.ensures.moments
 
 pub returns-in-Err-clause-moments : goal.returns-in-Err-clause-moments
 returns-in-Err-clause-moments g c =
     let before = (goal.at.returns-in-Err-clause-moments g c).After-rewrite in
-    adopt_moments c.args.at (g.S.Shelf.sizes c.args.shelf.now) c.args.found (fits g before) c.requires.in_hand.spare c.requires.in_hand.form.of_place.in_place _ _ c.at_length.ensures (drawn_is g before) _ _ c.rewrite.ensures.moments
+    adopt_moments c.args.at (g.S.Shelf.sizes c.args.shelf.now) c.args.found (fits g before) c.requires.in_hand.spare _ _ c.at_length.ensures (drawn_is g before) _ _ c.rewrite.ensures.moments
 
 pub returns-in-Ok-clause-end : goal.returns-in-Ok-clause-end
 unfolding newest
 returns-in-Ok-clause-end g c =
     let before = (goal.at.returns-in-Ok-clause-end g c).After-rewrite in
-    adopt_ends c.args.at (g.S.Shelf.sizes c.args.shelf.now) c.args.found (fits g before) c.requires.in_hand.spare c.requires.in_hand.form.of_place.in_place _ _ c.at_length.ensures (drawn_is g before) (newest g before) (newest_is g before) _ _ c.in-Ok.ensures.end
+    adopt_ends c.args.at (g.S.Shelf.sizes c.args.shelf.now) c.args.found (fits g before) c.requires.in_hand.spare _ _ c.at_length.ensures (drawn_is g before) (newest g before) (newest_is g before) _ _ c.in-Ok.ensures.end
 
 pub returns-in-Err-clause-end : goal.returns-in-Err-clause-end
 returns-in-Err-clause-end g c =
     let before = (goal.at.returns-in-Err-clause-end g c).After-rewrite in
-    adopt_lost c.args.at (g.S.Shelf.sizes c.args.shelf.now) c.args.found (fits g before) c.requires.in_hand.spare c.requires.in_hand.form.of_place.in_place _ _ c.at_length.ensures (drawn_is g before) _ _ c.rewrite.ensures.moments
+    adopt_lost c.args.at (g.S.Shelf.sizes c.args.shelf.now) c.args.found (fits g before) c.requires.in_hand.spare _ _ c.at_length.ensures (drawn_is g before) _ _ c.rewrite.ensures.moments
 
 pub returns-then-number-ge-NUMBER_LIMIT-clause-moments : goal.returns-then-number-ge-NUMBER_LIMIT-clause-moments
 returns-then-number-ge-NUMBER_LIMIT-clause-moments g c = adopt_still c.args.at (g.S.Shelf.sizes c.args.shelf.now) c.args.found _

@@ -60,7 +60,7 @@ pub returns-in-Ok-Some-clause-moments : goal.returns-in-Ok-Some-clause-moments
 returns-in-Ok-Some-clause-moments g c =
     let adopting = rw c.look.ensures.kept.keeps.same_sizes at c.adopt.ensures.moments in
     let moments : Moments (AdoptMoment c.args.at (g.S.Shelf.sizes c.args.shelf.now) c.in-Ok-Some.found) (g.S.Shelf.tale c.args.shelf.now) (g.S.Shelf.tale c.adopt.new.shelf) = rw c.look.ensures.reads.same at adopting in
-    adopted_moments c.args.drives.now c.args.key.now c.args.at (g.S.Shelf.sizes c.args.shelf.now) c.in-Ok-Some.found _ _ c.requires.sound (gave g (goal.at.returns-in-Ok-Some-clause-moments g c).In-Ok-Some) moments
+    adopted_moments c.args.drives.now c.args.key.now c.args.at (g.S.Shelf.sizes c.args.shelf.now) c.in-Ok-Some.found (there g (goal.at.returns-in-Ok-Some-clause-moments g c).In-Ok-Some).in_hand.form.of_place.in_place _ _ c.requires.sound (gave g (goal.at.returns-in-Ok-Some-clause-moments g c).In-Ok-Some) moments
 
 pub returns-in-Ok-Some-clause-end : goal.returns-in-Ok-Some-clause-end
 returns-in-Ok-Some-clause-end g c =

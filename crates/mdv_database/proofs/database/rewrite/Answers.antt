@@ -58,7 +58,7 @@ returns-clause-moments g c = both g (goal.at.returns-clause-moments g c).After-w
 pub returns-clause-end : goal.returns-clause-end
 returns-clause-end g c =
     ends_more (λ t u. IsQuiet c.args.at t u × Leaves (Claims c.args.at c.args.mark.boot) t u) _ (RewriteEnds c.args.at c.args.slot c.args.mark c.args.table.now) _ _ _
-    (λ t u v first second. record { rewritten = rewritten c.args.at c.args.slot c.args.mark c.args.table.now t u v first.1 second.written; synced = second.synced })
+    (λ t u v first second. record { quiet = quiet_more c.args.at t u v first.0 second.quiet; rewritten = rewritten c.args.at c.args.slot c.args.mark c.args.table.now t u v first.1 second.written; synced = second.synced })
     (claimed g (goal.at.returns-clause-end g c).In_ok-write_claim) c.in_ok-write.ensures.end
 
 pub returns-in_err-write_claim-clause-counted : goal.returns-in_err-write_claim-clause-counted

@@ -5,7 +5,9 @@ use Rattle.mdv_replica.specs.declared.replica.PlaceAt.{PlaceAt}
 use Rattle.mdv_shelf.specs.Drives.{AreDrives}
 use Rattle.mdv_home.specs.Drives.{own_drives, sizes_of}
 use Rattle.mdv_home.proofs.Owning.{drives_are_own, own_lie}
-use Rattle.mdv_database.specs.Database.{IsOnDrive}
+use Rattle.mdv_shelf.specs.MemShelf.{shelf_sizes}
+use Rattle.mdv_home.specs.Home.{place_of}
+use Rattle.mdv_database.specs.Database.{IfAdopted, IsLaid, IsOnDrive}
 use Rattle.mdv_database_tests.proofs.Homes.{on_drive, small}
 use Rattle.mdv_database_tests.proofs.ground.boots.Goals as goal
 use Rattle.mdv_database_tests.proofs.ground.boots.Goals.{After-as_slice}
@@ -34,3 +36,8 @@ pub boot-requires-clause-one_of : goal.boot-requires-clause-one_of
 boot-requires-clause-one_of c =
     subst (λ (own : List DriveNo). Contains own c.place_at.result.drive) (sym (own_is (goal.at.boot-requires-clause-one_of c).After-as_slice))
     (subst (λ (at : PlaceAt). Contains (own_drives c.args.table.now c.args.home.now.host) at.drive) (sym c.place_at.ensures) (drives_are_own.home c.args.table.now c.args.home.now c.requires.table.home))
+
+pub returns-clause-laid : goal.returns-clause-laid
+returns-clause-laid c =
+    subst (λ (sizes : List ℕ). IfAdopted c.boot.result.end (λ newest. IsLaid sizes (place_of c.args.home.now) newest.blocks)) c.requires.sizes
+    (subst (λ (at : PlaceAt). IfAdopted c.boot.result.end (λ newest. IsLaid (shelf_sizes c.args.shelf.now) at newest.blocks)) c.place_at.ensures c.boot.ensures.answer.place.laid)

@@ -8,5 +8,5 @@ returns-in_err-read_line-clause-fault c =
     let told = err_from_is_err_and c.from_residual.result c.from_residual.ensures.1 in
     rw (told.1, told.2) (not_asked _ _ c.requires c.in_err-read_line.ensures.fault)
 
-pub returns-in-Command-clause-fault : goal.returns-in-Command-clause-fault
-returns-in-Command-clause-fault c = not_built _ _ c.requires (rw c.in-Command.is at c.in_ok-read_line.ensures.value) (sym c.in-None.ensures)
+pub returns-in-None-clause-fault : goal.returns-in-None-clause-fault
+returns-in-None-clause-fault c = not_built _ _ c.requires (rw c.in-Command.is at c.in_ok-read_line.ensures.value) (sym c.in-None.ensures)

@@ -13,7 +13,6 @@ next g c = record {
   of_slot = c.other_slot-slot.ensures ∙ ap (λ (n : Newest). other_slot n.slot) c.self.view_is;
   of_mark = ap (λ (n : Newest). next_mark n) c.self.view_is;
   fits = let below : c.self.inside.mark.count + 1 < 2 ^ 63 = omega arith in subst (λ (n : Newest). n.mark.count + 1 < 2 ^ 63) c.self.view_is below;
-  in_place = c.requires.in_place;
 }
 
 pub returns-in-Ok-clause-moments : goal.returns-in-Ok-clause-moments

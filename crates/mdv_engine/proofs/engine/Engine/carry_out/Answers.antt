@@ -1,3 +1,13 @@
+use Rattle.std.proofs.Common.{List, refl, subst, sym}
+use Rattle.mdv_base.specs.declared.name.Named.{Named}
+use Rattle.mdv_words.specs.declared.command.Command.{Command}
+use Rattle.mdv_engine_law.specs.declared.answer.Answer.TheVariants.{Said}
+use Rattle.mdv_engine.specs.Counts.{IsCommandCounted}
+use Rattle.mdv_engine.specs.Printing.{HasPrinted}
+use Rattle.mdv_engine_law.specs.Line.{Nothing}
+use Rattle.mdv_shelf.specs.Shelves.{DriveFailures}
+use Rattle.mdv_engine.proofs.Blocks.{moments_still}
+use Rattle.mdv_engine.proofs.Printing.{print_answer, print_counted, print_ends}
 use Rattle.mdv_engine.proofs.engine.Engine.carry_out.Goals as goal
 
 pub returns-in-Create-clause-end : goal.returns-in-Create-clause-end
@@ -35,3 +45,22 @@ returns-in-Read-clause-answer g c = rw (c.in-Read.is) c.read.ensures.answer
 
 pub returns-in-Write-clause-answer : goal.returns-in-Write-clause-answer
 returns-in-Write-clause-answer g c = rw (c.in-Write.is) c.write.ensures.answer
+
+pub returns-in-Print-clause-moments : goal.returns-in-Print-clause-moments
+returns-in-Print-clause-moments g c = rw (c.in-Print.is) (moments_still c.args.self.now.host Nothing c.args.self.now.state _ _ refl)
+
+pub returns-in-Print-clause-end : goal.returns-in-Print-clause-end
+returns-in-Print-clause-end g c =
+    let has = subst (λ (names : List Named). HasPrinted c.args.self.now.state names c.print.result) c.as_slice.ensures c.print.ensures in
+    rw (c.in-Print.is) (print_ends c.args.self.now c.in-Print.names c.print.result has (DriveFailures g.S.Shelf c.args.shelf.now c.args.shelf.now) (λ drive. refl) _)
+
+pub returns-in-Print-clause-answer : goal.returns-in-Print-clause-answer
+returns-in-Print-clause-answer g c =
+    let has = subst (λ (names : List Named). HasPrinted c.args.self.now.state names c.print.result) c.as_slice.ensures c.print.ensures in
+    rw (c.in-Print.is) (print_answer c.args.self.now c.in-Print.names c.print.result has (DriveFailures g.S.Shelf c.args.shelf.now c.args.shelf.now) (λ drive. refl) c.requires.well)
+
+pub returns-in-Print-clause-counted : goal.returns-in-Print-clause-counted
+returns-in-Print-clause-counted g c =
+    let has = subst (λ (names : List Named). HasPrinted c.args.self.now.state names c.print.result) c.as_slice.ensures c.print.ensures in
+    subst (λ (x : Command). IsCommandCounted g.S.Shelf.tale g.S.Shelf.calls g.S.Shelf.written c.args.shelf.now c.args.shelf.now x (Said c.print.result) c.args.self.now.state.opened) (sym c.in-Print.is)
+    (print_counted g.S.Shelf.tale g.S.Shelf.calls g.S.Shelf.written c.args.shelf.now c.in-Print.names c.args.self.now.state c.print.result has c.args.self.now.state.opened)

@@ -45,7 +45,7 @@ returns-clause-moments g c = λ change is.
     let at_is : c.place_at-at.result ≡ place_of host.home = c.place_at-at.ensures ∙ ap (λ (e : Engine). place_of e.host.home) c.self.view_is in
     let opened : memory.opened ≡ Some db = ap (λ (e : Engine). e.state.opened) (sym c.self.view_is) ∙ c.in-Some.is in
     let placed = opened_has memory db (λ (n : Newest). IsTableOf host n.blocks c.args.next) opened c.requires.placed in
-    changing_moments host _ c.requires.ready _ at_is memory change c.args.next db opened (next_of host memory change c.args.next db opened is) placed _ _ (commit_quiet _ _ _ _ _ _ c.commit.ensures.moments) (commit_goes _ _ _ _ _ _ host.drives (Local host.home.host) (Some change) c.commit.ensures.moments)
+    changing_moments host _ c.requires.ready _ at_is memory change c.args.next db opened (next_of host memory change c.args.next db opened is) placed _ _ (commit_quiet _ _ _ _ _ _ (laid_open host _ c.requires.ready _ at_is _ c.args.next placed).in_place c.commit.ensures.moments) (commit_goes _ _ _ _ _ _ host.drives (Local host.home.host) (Some change) c.commit.ensures.moments)
 
 pub returns-clause-end : goal.returns-clause-end
 returns-clause-end g c = λ volume slice is.
@@ -63,14 +63,14 @@ returns-clause-end g c = λ volume slice is.
     elim c.match-commit.branch [
       | in-Ok w ↦
           end_as host memory volume slice _ _ accepted _ w.result-is _ _ (opened_as _ memory same _ _ w.in-Ok.ensures.answer.1) _
-          (committed_answer host _ c.requires.ready _ at_is memory volume slice next db opened chosen placed _ _ (commit_quiet _ _ _ _ _ _ c.commit.ensures.moments) w.in-Ok.ensures.answer.2.in_room _ (calm_on g.S.Shelf _ _ c.place_at-at.result.drive.0 c.commit.ensures.kept w.in-Ok.ensures.answer.0) w.in-Ok.ensures.answer.2.countable (commit_opened _ _ _ _ _ _ host.drives (Local host.home.host) (Some change) w.in-Ok.ensures.end))
-          (committed_carried host _ c.requires.ready _ at_is memory change next db opened chosen placed _ _ (commit_quiet _ _ _ _ _ _ c.commit.ensures.moments) (commit_opened _ _ _ _ _ _ host.drives (Local host.home.host) (Some change) w.in-Ok.ensures.end) (commit_goes_to _ _ _ _ _ _ host.drives (Local host.home.host) (Some change) w.in-Ok.ensures.end))
+          (committed_answer host _ c.requires.ready _ at_is memory volume slice next db opened chosen placed _ _ (commit_quiet _ _ _ _ _ _ (laid_open host _ c.requires.ready _ at_is _ c.args.next placed).in_place c.commit.ensures.moments) w.in-Ok.ensures.answer.2.in_room _ (calm_on g.S.Shelf _ _ c.place_at-at.result.drive.0 c.commit.ensures.kept w.in-Ok.ensures.answer.0) w.in-Ok.ensures.answer.2.countable (commit_opened _ _ _ _ _ _ host.drives (Local host.home.host) (Some change) w.in-Ok.ensures.end))
+          (committed_carried host _ c.requires.ready _ at_is memory change next db opened chosen placed _ _ (commit_quiet _ _ _ _ _ _ (laid_open host _ c.requires.ready _ at_is _ c.args.next placed).in_place c.commit.ensures.moments) (commit_opened _ _ _ _ _ _ host.drives (Local host.home.host) (Some change) w.in-Ok.ensures.end) (commit_goes_to _ _ _ _ _ _ host.drives (Local host.home.host) (Some change) w.in-Ok.ensures.end))
       | in-Err-Lost w ↦
           let failed = subst (HasCommitCause (DriveFailures g.S.Shelf c.args.shelf.now c.commit.new.shelf c.place_at-at.result.drive.0) db next) w.in-Err-Lost.field-0-is w.in-Err-Lost.ensures.answer.1 in
           let rose = failed_at g.S.Shelf _ _ c.place_at-at.result _ at_is c.commit.ensures.kept failed.0 in
           end_as host memory volume slice _ _ (Over (ended.Lost 0 1)) _ w.result-is memory _ (opened_still _ memory same _ db w.in-Err-Lost.ensures.answer.0 opened) _
-          (lost_answer host _ c.requires.ready _ at_is memory volume slice next db opened chosen placed _ _ (commit_quiet _ _ _ _ _ _ c.commit.ensures.moments) failed.1.in_room _ memory rose)
-          (lost_carried host _ c.requires.ready _ at_is memory change next db opened chosen placed _ _ (commit_quiet _ _ _ _ _ _ c.commit.ensures.moments) memory stays)
+          (lost_answer host _ c.requires.ready _ at_is memory volume slice next db opened chosen placed _ _ (commit_quiet _ _ _ _ _ _ (laid_open host _ c.requires.ready _ at_is _ c.args.next placed).in_place c.commit.ensures.moments) failed.1.in_room _ memory rose)
+          (lost_carried host _ c.requires.ready _ at_is memory change next db opened chosen placed _ _ (commit_quiet _ _ _ _ _ _ (laid_open host _ c.requires.ready _ at_is _ c.args.next placed).in_place c.commit.ensures.moments) memory stays)
       | in-Err-TooLong w ↦
           let nothing = ap g.S.Shelf.tale (rw w.in-Err-TooLong.field-0-is at w.in-Err-TooLong.ensures.counted) in
           let long = subst (HasCommitCause (DriveFailures g.S.Shelf c.args.shelf.now c.commit.new.shelf c.place_at-at.result.drive.0) db next) w.in-Err-TooLong.field-0-is w.in-Err-TooLong.ensures.answer.1 in
