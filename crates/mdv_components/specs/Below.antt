@@ -26,4 +26,4 @@ pub use Rattle.mdv_plan.specs.declared.volume.Component.{Component}
 pub use Rattle.mdv_plan.specs.declared.volume.Row.{Row}
 pub use Rattle.mdv_plan.specs.declared.volume.Volume.{Volume as OneVolume}
 pub use Rattle.mdv_plan.specs.declared.volume.VolumeKind.{VolumeKind}
-pub use Rattle.mdv_plan.specs.declared.volume.VolumeKind.TheVariants.{Stripe, Raid, Soft}
+pub use Rattle.mdv_plan.specs.declared.volume.VolumeKind.TheVariants.{Stripe, Mirror, Raid, Soft}

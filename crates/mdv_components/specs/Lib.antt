@@ -4,4 +4,5 @@ pub mod Causes
 pub mod Ordered
 pub mod Raids
 pub mod Room
+pub mod Softs
 pub mod Stripes

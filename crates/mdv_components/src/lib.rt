@@ -7,6 +7,7 @@ mod bases;
 mod cause;
 mod raids;
 mod room;
+mod softs;
 mod stripes;
 
 pub use asked::{MAX_NAMES, RaidAsked, RowAsked};
@@ -17,6 +18,7 @@ pub use bases::{
 pub use cause::{Carried, Cause, causes_stand_in_order};
 pub use raids::{PREWRITE_BLOCKS, raid_on, raid_status, refuse_raid};
 pub use room::{first_block, okay_parts, room_of, soft_blocks_of, start_of};
+pub use softs::{has_soft, has_soft_in};
 pub use stripes::{
     is_bad_row, is_empty_row, is_too_small, refuse_stripe, row_on, stripe_on, stripe_status,
 };
