@@ -1,6 +1,6 @@
 -- One submirror more: what refuses it, and what changes.
-use Rattle.std.specs.Prelude.{ℕ, Bool, true, false, not, ◌==◌, ◌||◌, nat_lt, List, [], ◌∷◌, ◌++◌, length, Option, None, Some, if◌then◌else◌}
-use Rattle.mdv_submirrors.specs.Below.{VolId, Plan, Cause, NoSuchVolume, WrongKind, TooMany, HasParent, TooSmall, OneVolume, VolumeKind, Mirror, Status, VolumeStatus, KindStatus, MirrorKind, Resyncing, Whole, volume_of, has_parent}
+use Rattle.std.specs.Prelude.{ℕ, Bool, true, false, not, ◌==◌, ◌&&◌, ◌||◌, nat_lt, List, [], ◌∷◌, ◌++◌, length, Option, None, Some, if◌then◌else◌}
+use Rattle.mdv_submirrors.specs.Below.{VolId, Plan, Cause, NoSuchVolume, WrongKind, TooMany, HasParent, Nested, TooSmall, OneVolume, VolumeKind, Mirror, Status, VolumeStatus, KindStatus, MirrorKind, Resyncing, Whole, volume_of, has_parent, has_soft_in}
 use Rattle.mdv_submirrors.specs.Joining.{joined, status_at}
 use Rattle.mdv_submirrors.specs.Sizes.{blocks_of, is_no_volume, is_no_stripe}
 
@@ -38,12 +38,17 @@ size_at (Some v) = kind_size v.kind
 abbrev pub size_of : Plan → VolId → ℕ
 size_of p v = size_at (volume_of p v)
 
--- what refuses it: the mirror has four already, or the stripe is smaller than the mirror
+-- soft partitions lie on the mirror, and the stripe has one as a component
+abbrev pub is_nesting : Plan → VolId → VolId → Bool
+is_nesting p m v = has_soft_in p v && has_parent p m
+
+-- what refuses it: the mirror has four already, or the stripe would bring a soft partition below others, or is smaller than the mirror
 abbrev pub attach_condition : Plan → VolId → VolId → Cause → Bool
 attach_condition p m v NoSuchVolume = is_no_volume p m || is_no_volume p v
 attach_condition p m v WrongKind = is_no_mirror p m || is_no_stripe p v
 attach_condition p m v TooMany = nat_lt 3 (length (subs_of p m))
 attach_condition p m v HasParent = has_parent p v
+attach_condition p m v Nested = is_nesting p m v
 attach_condition p m v TooSmall = nat_lt (blocks_of p v) (size_of p m)
 attach_condition p m v _ = false
 

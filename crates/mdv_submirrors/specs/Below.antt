@@ -1,8 +1,9 @@
 -- The words of the crates below in which this crate speaks, so that a file of it needs one line of import.
 pub use Rattle.mdv_base.specs.declared.name.VolId.{VolId}
 pub use Rattle.mdv_components.specs.Bases.{volume_of}
+pub use Rattle.mdv_components.specs.Softs.{has_soft_in}
 pub use Rattle.mdv_components.specs.declared.cause.Cause.{Cause}
-pub use Rattle.mdv_components.specs.declared.cause.Cause.TheVariants.{NoSuchVolume, NameTaken, WrongKind, TooFew, TooMany, HasParent, TooSmall}
+pub use Rattle.mdv_components.specs.declared.cause.Cause.TheVariants.{NoSuchVolume, NameTaken, WrongKind, TooFew, TooMany, HasParent, Nested, TooSmall}
 pub use Rattle.mdv_keys.specs.Keys.{replaced}
 pub use Rattle.mdv_plan.specs.Parents.{has_parent}
 pub use Rattle.mdv_plan.specs.declared.plan.Plan.{Plan}

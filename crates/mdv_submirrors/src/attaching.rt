@@ -1,7 +1,7 @@
 //! One submirror more: what refuses it, and what changes.
 ghost use Rattle.std.specs.Prelude.{◌≡◌, ◌≤◌, ◌<◌, ◌∷◌, ◌++◌, [], IfOk, length};
 ghost use Rattle.mdv_components.specs.Causes.{first_of, order};
-ghost use Rattle.mdv_submirrors.specs.Attaching.{attach_condition, is_mirror as spec_is_mirror, is_no_mirror as spec_is_no_mirror, kind_subs as spec_kind_subs, subs_of as spec_subs_of};
+ghost use Rattle.mdv_submirrors.specs.Attaching.{attach_condition, is_nesting as spec_is_nesting, is_mirror as spec_is_mirror, is_no_mirror as spec_is_no_mirror, kind_subs as spec_kind_subs, subs_of as spec_subs_of};
 ghost use Rattle.mdv_submirrors.specs.Attaching.{kind_size as spec_kind_size, size_of as spec_size_of, kind_with as spec_kind_with, with_sub as spec_with_sub, flags_with as spec_flags_with};
 ghost use Rattle.mdv_submirrors.specs.Attaching.{flagged as spec_flagged, with_flag as spec_with_flag, attach_states as spec_attach_states};
 ghost use Rattle.std.specs.Option.{option_map};
@@ -10,7 +10,7 @@ ghost use Rattle.mdv_submirrors.specs.Below.{volume_of};
 use crate::joining::{joined, status_at};
 use crate::sizes::{blocks_of, is_no_stripe, is_no_volume};
 use mdv_base::VolId;
-use mdv_components::{Cause, volume_of};
+use mdv_components::{Cause, has_soft_in, volume_of};
 use mdv_plan::{
     Copied, KindStatus, Listed, MAX_SUBMIRRORS, Mirror, MirrorStatus, Plan, Resync, State, Status,
     Volume, VolumeKind, VolumeStatus,
@@ -33,10 +33,20 @@ pub fn refuse_attach(plan: &Plan, mirror: VolId, sub: VolId) -> Option<Cause>
     if plan.has_parent(sub) {
         return Some(Cause::HasParent);
     }
+    if is_nesting(plan, mirror, sub) {
+        return Some(Cause::Nested);
+    }
     if blocks_of(plan, sub) < size_of(plan, mirror) {
         return Some(Cause::TooSmall);
     }
     None
+}
+
+// Whether soft partitions lie on the mirror, and the stripe has one as a component, which is looked up first.
+fn is_nesting(plan: &Plan, mirror: VolId, sub: VolId) -> bool
+    ensures { result ≡ spec_is_nesting plan.now mirror sub }
+{
+    has_soft_in(plan, sub) && plan.has_parent(mirror)
 }
 
 fn is_mirror(kind: &VolumeKind) -> bool
