@@ -1,8 +1,8 @@
 -- What stands against a base on which soft partitions shall lie.
-use Rattle.std.specs.Prelude.{ℕ, Bool, true, false, not, ◌||◌, List, Option, None, Some}
+use Rattle.std.specs.Prelude.{ℕ, Bool, true, false, ◌||◌, List, Option, None, Some}
 use Rattle.std.specs.List.{list_any}
-use Rattle.mdv_softs.specs.Below.{VolId, Geometry, Plan, Status, VolumeStatus, KindStatus, RaidKind, RaidState, Okay, Initializing, Keeping, Base, Slice, Volume, OneVolume, VolumeKind, Component, Row, Stripe, Mirror, Raid, Soft}
-use Rattle.mdv_softs.specs.Below.{SliceUse, SomeExtents, Carried, InitializingWord, is_slice, volume_of, is_taken, clashes, meets_db, status_at}
+use Rattle.mdv_softs.specs.Below.{VolId, Geometry, Plan, Status, VolumeStatus, KindStatus, RaidKind, RaidState, Okay, Initializing, Keeping, Base, Slice, Volume, OneVolume, VolumeKind, Mirror}
+use Rattle.mdv_softs.specs.Below.{SliceUse, SomeExtents, Carried, InitializingWord, volume_of, is_taken, clashes, has_soft, has_soft_in, meets_db, status_at}
 use Rattle.mdv_softs.specs.declared.room.Room.{Room}
 use Rattle.mdv_softs.specs.declared.room.Room.TheVariants.{TooMany, Only, Unfit}
 
@@ -35,28 +35,7 @@ abbrev pub is_volume_taken : Plan → Base → Bool
 is_volume_taken p (Slice s) = false
 is_volume_taken p (Volume v) = is_taken p v
 
--- a component that isn't a slice is a soft partition
-abbrev pub is_on_soft : Component → Bool
-is_on_soft c = not (is_slice c.on)
-
-abbrev pub is_row_on_soft : Row → Bool
-is_row_on_soft row = list_any is_on_soft row.components
-
--- it is a soft partition, or has one as a component
-abbrev pub has_soft : VolumeKind → Bool
-has_soft (Stripe s) = list_any is_row_on_soft s.rows
-has_soft (Mirror m) = false
-has_soft (Raid r) = list_any is_on_soft r.columns
-has_soft (Soft s) = true
-
-abbrev pub has_soft_at : Option OneVolume → Bool
-has_soft_at None = false
-has_soft_at (Some v) = has_soft v.kind
-
-abbrev pub has_soft_in : Plan → VolId → Bool
-has_soft_in p v = has_soft_at (volume_of p v)
-
--- or one of its submirrors has
+-- it is a soft partition, or has one as a component, or a submirror of it has
 abbrev pub contains_soft : Plan → VolumeKind → Bool
 contains_soft p (Mirror m) = list_any (has_soft_in p) m.submirrors
 contains_soft p kind = has_soft kind

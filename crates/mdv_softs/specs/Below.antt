@@ -3,9 +3,10 @@ pub use Rattle.mdv_base.specs.declared.drive.DriveNo.{DriveNo}
 pub use Rattle.mdv_base.specs.declared.name.VolId.{VolId}
 pub use Rattle.mdv_base.specs.declared.refusal.Refusal.{Refusal}
 pub use Rattle.mdv_base.specs.declared.state_word.StateWord.TheVariants.{Okay as OkayWord, Initializing as InitializingWord}
-pub use Rattle.mdv_components.specs.Bases.{is_foreign, is_missing, is_slice, volume_of}
+pub use Rattle.mdv_components.specs.Bases.{is_foreign, is_missing, volume_of}
 pub use Rattle.mdv_components.specs.Causes.{first_of, order, told}
 pub use Rattle.mdv_components.specs.Room.{start_of}
+pub use Rattle.mdv_components.specs.Softs.{has_soft, has_soft_in}
 pub use Rattle.mdv_components.specs.declared.cause.Carried.{Carried}
 pub use Rattle.mdv_components.specs.declared.cause.Cause.{Cause}
 pub use Rattle.mdv_components.specs.declared.cause.Cause.TheVariants.{NoSuchVolume, NoSuchSlice, NameTaken, WrongKind, WrongState, TooMany, SliceInUse, HasParent, Nested, TooSmall, NoSpace}
@@ -33,9 +34,7 @@ pub use Rattle.mdv_plan.specs.declared.table.Table.{Table}
 pub use Rattle.mdv_plan.specs.declared.uses.SliceUse.{SliceUse}
 pub use Rattle.mdv_plan.specs.declared.volume.Base.{Base}
 pub use Rattle.mdv_plan.specs.declared.volume.Base.TheVariants.{Slice, Volume}
-pub use Rattle.mdv_plan.specs.declared.volume.Component.{Component}
 pub use Rattle.mdv_plan.specs.declared.volume.Raid.{Raid as OneRaid}
-pub use Rattle.mdv_plan.specs.declared.volume.Row.{Row}
 pub use Rattle.mdv_plan.specs.declared.volume.Soft.{Soft as OneSoft}
 pub use Rattle.mdv_plan.specs.declared.volume.Volume.{Volume as OneVolume}
 pub use Rattle.mdv_plan.specs.declared.volume.VolumeKind.{VolumeKind}

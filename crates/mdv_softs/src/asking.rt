@@ -4,16 +4,14 @@ ghost use Rattle.std.specs.List.{list_any};
 ghost use Rattle.mdv_plan.specs.Slices.{IsSound};
 ghost use Rattle.mdv_softs.specs.Asking.{is_being_made as spec_is_being_made, is_kind_being_made as spec_is_kind_being_made, is_initializing as spec_is_initializing};
 ghost use Rattle.mdv_softs.specs.Asking.{is_slice_in_use as spec_is_slice_in_use, is_volume_taken as spec_is_volume_taken, is_nested as spec_is_nested};
-ghost use Rattle.mdv_softs.specs.Asking.{is_on_soft as spec_is_on_soft, is_row_on_soft as spec_is_row_on_soft, has_soft as spec_has_soft, has_soft_in as spec_has_soft_in};
+ghost use Rattle.mdv_softs.specs.Below.{has_soft_in as spec_has_soft_in};
 ghost use Rattle.mdv_softs.specs.Asking.{contains_soft as spec_contains_soft, is_too_many as spec_is_too_many, is_short as spec_is_short, is_unfit as spec_is_unfit, carried_of as spec_carried_of};
 
 use crate::room::Room;
 use mdv_base::{StateWord, VolId};
-use mdv_components::{Carried, volume_of};
+use mdv_components::{Carried, has_soft, has_soft_in, volume_of};
 use mdv_name::Geometry;
-use mdv_plan::{
-    Asked, Base, Component, KindStatus, Plan, RaidState, Row, Status, Uses, VolumeKind, meets_db,
-};
+use mdv_plan::{Asked, Base, KindStatus, Plan, RaidState, Status, Uses, VolumeKind, meets_db};
 use mdv_submirrors::status_at;
 
 fn is_being_made(state: RaidState) -> bool
@@ -65,48 +63,6 @@ pub(crate) fn is_volume_taken(plan: &Plan, base: Base) -> bool
     match base {
         Base::Slice(_) => false,
         Base::Volume(volume) => plan.is_taken(volume),
-    }
-}
-
-fn is_on_soft(component: &Component) -> bool
-    ensures { result ≡ spec_is_on_soft component.now }
-{
-    match component.on {
-        Base::Slice(_) => false,
-        Base::Volume(_) => true,
-    }
-}
-
-fn has_one_on_soft(components: &[Component]) -> bool
-    ensures { result ≡ list_any spec_is_on_soft components.now }
-{
-    components.iter().any(|component| is_on_soft(component))
-}
-
-fn has_row_on_soft(rows: &[Row]) -> bool
-    ensures { result ≡ list_any spec_is_row_on_soft rows.now }
-{
-    rows.iter()
-        .any(|row| has_one_on_soft(row.components.as_slice()))
-}
-
-fn has_soft(kind: &VolumeKind) -> bool
-    ensures { result ≡ spec_has_soft kind.now }
-{
-    match kind {
-        VolumeKind::Stripe(stripe) => has_row_on_soft(stripe.rows.as_slice()),
-        VolumeKind::Mirror(_) => false,
-        VolumeKind::Raid(raid) => has_one_on_soft(raid.columns.as_slice()),
-        VolumeKind::Soft(_) => true,
-    }
-}
-
-fn has_soft_in(plan: &Plan, volume: VolId) -> bool
-    ensures { result ≡ spec_has_soft_in plan.now volume }
-{
-    match volume_of(plan, volume) {
-        Some(volume) => has_soft(&volume.kind),
-        None => false,
     }
 }
 
