@@ -1,1 +1,2 @@
+mod Lying
 mod Using

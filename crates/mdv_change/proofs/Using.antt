@@ -9,7 +9,7 @@ use Rattle.mdv_keys.proofs.Any.{any_and, any_filter, any_never, any_or, any_same
 use Rattle.mdv_keys.proofs.Marking.{found_small, or_false}
 use Rattle.mdv_keys.proofs.Users.{pool_used_is, used_is}
 use Rattle.mdv_keys.specs.Marks.{AreMarks, AreMarked, below_unmarked, number_of, pools_unmarked}
-use Rattle.mdv_change.specs.Below.{Cause, OneVolume, Plan, Pool, PoolId, VolId, first_of, names_pool, names_volume, order, pool_key, pool_of, volume_of}
+use Rattle.mdv_change.specs.Below.{Cause, OneVolume, Plan, Pool, PoolId, Table, VolId, first_of, names_pool, names_volume, order, pool_key, pool_of, volume_of}
 use Rattle.mdv_change.specs.Clear.{clear_condition, is_left_with, is_named, is_no_pool, is_no_volume}
 use Rattle.mdv_change.specs.Levels.{below_of, falls, falls_by, is_used_beside, uses_beside, with_level, with_levels}
 
@@ -117,10 +117,10 @@ abbrev later : List Cause
 later = NoSuchPool ∷ latest
 
 -- the first cause, of volumes that aren't there or else of pools
-pub told_volume : (p : Plan) (volumes all : List VolId) (pools : List PoolId) → list_any (is_no_volume p) all ≡ list_any (is_no_volume p) volumes → list_any (is_no_volume p) volumes ≡ true → first_of (clear_condition p all pools) order ≡ Some NoSuchVolume
-told_volume p volumes all pools same missing = ap (λ (b : Bool). cond b (Some NoSuchVolume) (first_of (clear_condition p all pools) later)) (same ∙ missing)
+pub told_volume : (t : Table) (volumes all : List VolId) (pools : List PoolId) → list_any (is_no_volume t.plan) all ≡ list_any (is_no_volume t.plan) volumes → list_any (is_no_volume t.plan) volumes ≡ true → first_of (clear_condition t all pools) order ≡ Some NoSuchVolume
+told_volume t volumes all pools same missing = ap (λ (b : Bool). cond b (Some NoSuchVolume) (first_of (clear_condition t all pools) later)) (same ∙ missing)
 
-pub told_pool : (p : Plan) (volumes all : List VolId) (pools : List PoolId) → list_any (is_no_volume p) all ≡ list_any (is_no_volume p) volumes → list_any (is_no_volume p) volumes ≡ false → list_any (is_no_pool p) pools ≡ true → first_of (clear_condition p all pools) order ≡ Some NoSuchPool
-told_pool p volumes all pools same there missing =
-    ap (λ (b : Bool). cond b (Some NoSuchVolume) (first_of (clear_condition p all pools) later)) (same ∙ there)
-    ∙ ap (λ (b : Bool). cond b (Some NoSuchPool) (first_of (clear_condition p all pools) latest)) missing
+pub told_pool : (t : Table) (volumes all : List VolId) (pools : List PoolId) → list_any (is_no_volume t.plan) all ≡ list_any (is_no_volume t.plan) volumes → list_any (is_no_volume t.plan) volumes ≡ false → list_any (is_no_pool t.plan) pools ≡ true → first_of (clear_condition t all pools) order ≡ Some NoSuchPool
+told_pool t volumes all pools same there missing =
+    ap (λ (b : Bool). cond b (Some NoSuchVolume) (first_of (clear_condition t all pools) later)) (same ∙ there)
+    ∙ ap (λ (b : Bool). cond b (Some NoSuchPool) (first_of (clear_condition t all pools) latest)) missing

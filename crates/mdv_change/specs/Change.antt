@@ -39,8 +39,8 @@ condition g drives t (AddSparesToAll slices) = all_condition g drives t.plan sli
 condition g drives t (DeleteSpares pools slices) = delete_condition g drives t pools slices
 condition g drives t (ReplaceSpare pools old new) = replace_condition g drives t pools old new
 condition g drives t (EnableSpares slices) = enable_condition g drives t.status.spares slices
-condition g drives t (Clear volumes pools) = clear_condition t.plan volumes pools
-condition g drives t (ClearBelow volumes pools) = clear_condition t.plan (with_levels t.plan volumes) pools
+condition g drives t (Clear volumes pools) = clear_condition t volumes pools
+condition g drives t (ClearBelow volumes pools) = clear_condition t (with_levels t.plan volumes) pools
 condition g drives t ClearAll = λ cause. false
 
 -- a state that is told

@@ -1,9 +1,9 @@
 -- The clearing of volumes and pools: what refuses it, and what is left.
-use Rattle.std.specs.Prelude.{ℕ, Bool, false, not, ◌==◌, ◌&&◌, ◌||◌, List, [], ◌∷◌, map, Option, None, Some, is_some, if◌then◌else◌}
+use Rattle.std.specs.Prelude.{ℕ, Bool, false, not, ◌==◌, ◌&&◌, ◌||◌, List, [], ◌∷◌, map, Option, None, Some, is_some, nat_eq, if◌then◌else◌}
 use Rattle.std.specs.List.{find, fold, flat_map, list_any}
 use Rattle.mdv_change.specs.Below.{VolId, PoolId, SliceName, Plan, Pool, Spare, Status, Table, OneVolume, VolumeKind, VolumeStatus, KindStatus, PartStatus, SpareStatus, SpareUse}
 use Rattle.mdv_change.specs.Below.{volume_of, pool_of, names_volume, names_pool, pool_key, same_slice, slice_code, volume_key, changed, kept, Cause}
-use Rattle.mdv_components.specs.declared.cause.Cause.TheVariants.{NoSuchVolume, NoSuchPool, HasParent}
+use Rattle.mdv_components.specs.declared.cause.Cause.TheVariants.{NoSuchVolume, NoSuchPool, HasParent, SpareInUse}
 use Rattle.mdv_plan.specs.declared.status.KindStatus.TheVariants.{Stripe, Mirror, Raid, Soft}
 use Rattle.mdv_plan.specs.declared.status.SpareState.TheVariants.{Available}
 
@@ -26,13 +26,6 @@ uses_one volumes pools kind = list_any (λ v. names_volume v kind) volumes || li
 -- it stays, and uses what goes
 abbrev pub is_left_with : List VolId → List PoolId → OneVolume → Bool
 is_left_with volumes pools w = not (is_named volumes w.number) && uses_one volumes pools w.kind
-
--- what refuses the clearing; a use by a volume that goes too doesn't count
-abbrev pub clear_condition : Plan → List VolId → List PoolId → Cause → Bool
-clear_condition p volumes pools NoSuchVolume = list_any (is_no_volume p) volumes
-clear_condition p volumes pools NoSuchPool = list_any (is_no_pool p) pools
-clear_condition p volumes pools HasParent = list_any (is_left_with volumes pools) p.volumes
-clear_condition p volumes pools _ = false
 
 abbrev pub spare_used : Option SpareUse → List SliceName
 spare_used None = []
@@ -91,6 +84,25 @@ lost_of p pools q = lost_in p pools (pool_of p q)
 -- the spares of the pools that go which no other pool has, each by its number
 abbrev pub lost_spares : Plan → List PoolId → List ℕ
 lost_spares p pools = flat_map (lost_of p pools) pools
+
+-- the component lies on a spare of one of these numbers
+abbrev pub is_among : List ℕ → SliceName → Bool
+is_among keys s = list_any (nat_eq (slice_code s)) keys
+
+abbrev pub lies_on : List ℕ → PartStatus → Bool
+lies_on keys part = list_any (is_among keys) (part_spare part)
+
+-- the volume stays, and a component of it lies on one of these spares
+abbrev pub is_left_on : List VolId → List ℕ → VolumeStatus → Bool
+is_left_on volumes keys s = not (is_named volumes s.number) && list_any (lies_on keys) (parts_of s.kind)
+
+-- what refuses the clearing; a use by a volume that goes too doesn't count
+abbrev pub clear_condition : Table → List VolId → List PoolId → Cause → Bool
+clear_condition t volumes pools NoSuchVolume = list_any (is_no_volume t.plan) volumes
+clear_condition t volumes pools NoSuchPool = list_any (is_no_pool t.plan) pools
+clear_condition t volumes pools HasParent = list_any (is_left_with volumes pools) t.plan.volumes
+clear_condition t volumes pools SpareInUse = list_any (is_left_on volumes (lost_spares t.plan pools)) t.status.volumes
+clear_condition t volumes pools _ = false
 
 -- The volumes and pools are gone, and their states with them. A spare that a component of theirs had is Available again, and one that no pool has
 -- any more has no state.

@@ -3,3 +3,4 @@ pub mod Below
 pub mod Change
 pub mod Clear
 pub mod Levels
+pub mod Seats

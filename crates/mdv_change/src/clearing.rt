@@ -1,5 +1,5 @@
 //! The clearing of volumes and pools: what refuses it, and what is left.
-ghost use Rattle.std.specs.Prelude.{◌≡◌, ◌++◌, false, slice_index_or, IfOk, OnOk, OnErr};
+ghost use Rattle.std.specs.Prelude.{◌≡◌, ◌++◌, false, slice_index_or, None, Some, IfErr, IfOk, OnOk, OnErr};
 ghost use Rattle.std.specs.List.{flat_map, list_any};
 ghost use Rattle.mdv_change.specs.Below.{first_of, order};
 ghost use Rattle.mdv_change.specs.Clear.{clear_condition, is_no_volume as spec_is_no_volume, is_no_pool as spec_is_no_pool};
@@ -9,6 +9,7 @@ ghost use Rattle.mdv_change.specs.Clear.{has_spare as spec_has_spare, is_kept_wi
 ghost use Rattle.mdv_change.specs.Clear.{lost_spare as spec_lost_spare, lost_of as spec_lost_of, lost_spares as spec_lost_spares, spares_under as spec_spares_under};
 ghost use Rattle.mdv_change.specs.Clear.{cleared, emptied};
 
+use crate::seats::has_left_on;
 use mdv_base::{PoolId, SliceName, VolId};
 use mdv_components::{Cause, pool_of, volume_of};
 use mdv_keys::{
@@ -21,25 +22,32 @@ use mdv_plan::{
 };
 use std::alloc::{AllocError, Global};
 
-/// The first cause for which the volumes and pools can't be cleared.
-pub(crate) fn refuse_clear(
+/// The spares that go with the pools, by their numbers, or the first cause for which volumes and pools can't be cleared.
+pub(crate) fn judge_clear(
     alloc: Global,
-    plan: &Plan,
+    table: &Table,
     volumes: &[VolId],
     pools: &[PoolId],
-) -> Result<Option<Cause>, AllocError>
-    ensures { IfOk result (λ cause. cause ≡ first_of (clear_condition plan.now volumes.now pools.now) order) }
+) -> Result<Result<Vec<u32>, Cause>, AllocError>
+    ensures free { IfOk result (λ judged. IfOk judged (λ lost. first_of (clear_condition table.now volumes.now pools.now) order ≡ None)) }
+    ensures lost { IfOk result (λ judged. IfOk judged (λ lost. lost.items ≡ spec_lost_spares table.now.plan pools.now)) }
+    ensures cause { IfOk result (λ judged. IfErr judged (λ cause. first_of (clear_condition table.now volumes.now pools.now) order ≡ Some cause)) }
 {
+    let plan = &table.plan;
     if has_no_volume(plan, volumes) {
-        return Ok(Some(Cause::NoSuchVolume));
+        return Ok(Err(Cause::NoSuchVolume));
     }
     if has_no_pool(plan, pools) {
-        return Ok(Some(Cause::NoSuchPool));
+        return Ok(Err(Cause::NoSuchPool));
     }
     if has_user(alloc, plan, volumes, pools)? {
-        return Ok(Some(Cause::HasParent));
+        return Ok(Err(Cause::HasParent));
     }
-    Ok(None)
+    let lost = lost_spares(alloc, plan, pools)?;
+    if has_left_on(alloc, &table.status, volumes, lost.as_slice())? {
+        return Ok(Err(Cause::SpareInUse));
+    }
+    Ok(Ok(lost))
 }
 
 fn is_no_volume(plan: &Plan, volume: VolId) -> bool
@@ -103,25 +111,26 @@ fn has_user(
     Ok(has_marked(&used, volumes) || has_marked_pool(&used_pools, pools))
 }
 
-/// Takes out the volumes and pools, with their states.
+/// Takes out the volumes and pools, with their states. The numbers are of the spares that go with the pools.
 pub(crate) fn clear(
     alloc: Global,
     table: &mut Table,
     volumes: &[VolId],
     pools: &[PoolId],
+    lost: &[u32],
 ) -> Result<(), AllocError>
+    requires { lost.now ≡ spec_lost_spares table.old.plan pools.now }
     ensures ok { OnOk result (table.new ≡ cleared volumes.now pools.now table.old) }
     ensures err { OnErr result (table.new ≡ table.old) }
 {
     let named = volumes_marked(alloc, volumes)?;
     let named_pools = pools_marked(alloc, pools)?;
     let used = used_spares(alloc, &table.status, volumes)?;
-    let lost = lost_spares(alloc, &table.plan, pools)?;
     remove_marked(&mut table.plan.volumes, &named);
     remove_marked(&mut table.plan.pools, &named_pools);
     remove_marked(&mut table.status.volumes, &named);
     give_back(&mut table.status.spares, used.as_slice());
-    remove_all(&mut table.status.spares, lost.as_slice());
+    remove_all(&mut table.status.spares, lost);
     Ok(())
 }
 
@@ -137,7 +146,7 @@ pub(crate) fn clear_all(alloc: Global, table: &mut Table)
     };
 }
 
-fn parts_of(kind: &KindStatus) -> &[PartStatus]
+pub(crate) fn parts_of(kind: &KindStatus) -> &[PartStatus]
     ensures { result.now ≡ spec_parts_of kind.now }
 {
     match kind {
@@ -182,7 +191,7 @@ fn used_spares(
     Ok(slices)
 }
 
-fn available(slice: SliceName) -> SpareStatus
+pub(crate) fn available(slice: SliceName) -> SpareStatus
     ensures { result ≡ spec_available slice }
 {
     SpareStatus {

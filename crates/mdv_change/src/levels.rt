@@ -9,7 +9,7 @@ use crate::clearing::{has_no_pool, has_no_volume};
 use mdv_base::{PoolId, VolId};
 use mdv_components::{Cause, volume_of};
 use mdv_keys::{VolumeMarks, used_beside, volumes_marked};
-use mdv_plan::{Plan, add_named};
+use mdv_plan::{Plan, Table, add_named};
 use std::alloc::{AllocError, Global};
 
 fn add_below(list: &mut Vec<VolId>, plan: &Plan, volume: VolId) -> Result<(), AllocError>
@@ -93,9 +93,10 @@ pub(crate) fn with_levels(
 }
 
 /// The first cause that look-ups of the names give against a clearing of the volumes, of all below them, and of the pools.
-pub(crate) fn refuse_names(plan: &Plan, volumes: &[VolId], pools: &[PoolId]) -> Option<Cause>
-    ensures { IfSome result (λ cause. first_of (clear_condition plan.now (spec_with_levels plan.now volumes.now) pools.now) order ≡ Some cause) }
+pub(crate) fn refuse_names(table: &Table, volumes: &[VolId], pools: &[PoolId]) -> Option<Cause>
+    ensures { IfSome result (λ cause. first_of (clear_condition table.now (spec_with_levels table.now.plan volumes.now) pools.now) order ≡ Some cause) }
 {
+    let plan = &table.plan;
     if has_no_volume(plan, volumes) {
         return Some(Cause::NoSuchVolume);
     }

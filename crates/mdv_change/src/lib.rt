@@ -8,6 +8,7 @@ mod making;
 mod mirroring;
 mod pooling;
 mod replacing;
+mod seats;
 
 pub use change::Change;
 pub use making::{ApplyFault, apply};

@@ -8,7 +8,7 @@ ghost use Rattle.mdv_change.specs.Below.{DriveNo, Geometry};
 ghost use Rattle.mdv_change.specs.Change.{refusal_of, with_changed, with_volume};
 
 use crate::change::Change;
-use crate::clearing::{clear, clear_all, refuse_clear};
+use crate::clearing::{clear, clear_all, judge_clear};
 use crate::levels::{refuse_names, with_levels};
 use crate::mirroring::{detach, take_offline, take_online};
 use crate::pooling::{add_spares_to_all, delete_spares, enable_spares, replace_spare};
@@ -331,11 +331,13 @@ fn clear_named(
 ) -> Result<(), ApplyFault>
     ensures { (g : Geometry) (drives : List DriveNo) → IsApplied g drives (clear_change volumes.now pools.now) table.old table.new result }
 {
-    if let Some(cause) = refuse_clear(alloc, &table.plan, volumes, pools)? {
-        return Err(ApplyFault::Refused(cause.refusal(Carried::nothing())));
+    match judge_clear(alloc, table, volumes, pools)? {
+        Ok(lost) => {
+            clear(alloc, table, volumes, pools, lost.as_slice())?;
+            Ok(())
+        }
+        Err(cause) => Err(ApplyFault::Refused(cause.refusal(Carried::nothing()))),
     }
-    clear(alloc, table, volumes, pools)?;
-    Ok(())
 }
 
 fn clear_below(
@@ -346,15 +348,17 @@ fn clear_below(
 ) -> Result<(), ApplyFault>
     ensures { (g : Geometry) (drives : List DriveNo) → IsApplied g drives (below_change volumes.now pools.now) table.old table.new result }
 {
-    if let Some(cause) = refuse_names(&table.plan, volumes, pools) {
+    if let Some(cause) = refuse_names(table, volumes, pools) {
         return Err(ApplyFault::Refused(cause.refusal(Carried::nothing())));
     }
     let all = with_levels(alloc, &table.plan, volumes)?;
-    if let Some(cause) = refuse_clear(alloc, &table.plan, all.as_slice(), pools)? {
-        return Err(ApplyFault::Refused(cause.refusal(Carried::nothing())));
+    match judge_clear(alloc, table, all.as_slice(), pools)? {
+        Ok(lost) => {
+            clear(alloc, table, all.as_slice(), pools, lost.as_slice())?;
+            Ok(())
+        }
+        Err(cause) => Err(ApplyFault::Refused(cause.refusal(Carried::nothing()))),
     }
-    clear(alloc, table, all.as_slice(), pools)?;
-    Ok(())
 }
 
 // The volume and its states, or neither.

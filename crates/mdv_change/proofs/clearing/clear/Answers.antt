@@ -14,7 +14,7 @@ returns-clause-ok c =
     let volumes : c.remove_marked.new.values ≡ kept (λ (w : OneVolume). w.number.0) (map volume_key vs) old.plan.volumes = c.remove_marked.ensures (map volume_key vs) named in
     let pools : c.remove_marked-2.new.values ≡ kept (λ (q : Pool). q.number.0) (map pool_key qs) old.plan.pools = c.remove_marked-2.ensures (map pool_key qs) named_pools in
     let states : c.remove_marked-3.new.values ≡ kept (λ (w : VolumeStatus). w.number.0) (map volume_key vs) old.status.volumes = c.remove_marked-3.ensures (map volume_key vs) named in
-    let spares : c.remove_all.new.values ≡ kept spare_key (lost_spares old.plan qs) (given_back old.status.spares (used_spares old.status vs)) = cc (c.remove_all.ensures, c.give_back.ensures, c.as_slice.ensures.value, c.as_slice-2.ensures.value, c.in_ok-used.ensures, c.in_ok-lost.ensures) in
+    let spares : c.remove_all.new.values ≡ kept spare_key (lost_spares old.plan qs) (given_back old.status.spares (used_spares old.status vs)) = cc (c.remove_all.ensures, c.give_back.ensures, c.as_slice.ensures.value, c.in_ok-used.ensures, c.requires) in
     λ i. record {
       plan = record { lists = old.plan.lists; set = old.plan.set; pending = old.plan.pending; pools = pools i; volumes = volumes i };
       status = record { volumes = states i; spares = spares i };
