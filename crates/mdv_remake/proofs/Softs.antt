@@ -7,6 +7,7 @@ use Rattle.std.proofs.lemmas.Bool.{cases_Bool, cond-true, cond-false, or_parts, 
 use Rattle.std.proofs.lemmas.List.Elements.{All-filter, All-head, All-tail}
 use Rattle.mdv_components.specs.Bases.{volume_of}
 use Rattle.mdv_components.specs.Room.{start_of}
+use Rattle.mdv_components.specs.Softs.{has_soft_at, has_soft_in}
 use Rattle.mdv_components.specs.declared.cause.Cause.{Cause}
 use Rattle.mdv_components.specs.declared.cause.Cause.TheVariants.{NoSuchVolume, NoSuchPool, NoSuchSlice, NameTaken, WrongKind, WrongState, LastCopy, TooFew, TooMany, BadInterlace, SliceInUse, HasParent, Nested, SpareInUse, TooSmall, NoSpace}
 use Rattle.mdv_extent.specs.Extents.{lie_apart}
@@ -15,7 +16,7 @@ use Rattle.mdv_plan.specs.Slices.{clashes, clashes_with, meets_db, slice_at}
 use Rattle.mdv_plan.specs.Uses.{runs_on, same_base, uses_of, volume_runs}
 use Rattle.mdv_plan.specs.declared.clash.Asked.TheVariants.{Extents as SomeExtents}
 use Rattle.mdv_plan.specs.declared.status.Status.{Status}
-use Rattle.mdv_softs.specs.Asking.{contains_soft, contains_soft_at, has_soft_at, has_soft_in, is_initializing, is_nested, is_short, is_slice_in_use, is_too_many, is_unfit, is_volume_taken}
+use Rattle.mdv_softs.specs.Asking.{contains_soft, contains_soft_at, is_initializing, is_nested, is_short, is_slice_in_use, is_too_many, is_unfit, is_volume_taken}
 use Rattle.mdv_softs.specs.Making.{soft_condition}
 use Rattle.mdv_softs.specs.Room.{blocks_behind, fits_on, given_room, kind_start, size_on, start_in, start_on, volume_blocks}
 use Rattle.mdv_softs.specs.declared.making.SoftAsked.{SoftAsked}
