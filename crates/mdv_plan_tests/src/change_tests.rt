@@ -86,6 +86,30 @@ const SUBMIRRORS: &[Line] = &[
     Is(Submirrors(VOL1, 1, 1, 19792)),
 ];
 
+// A soft partition below others is 16, a submirror that is too small 10. The first stripe has 1000 blocks, the second 2000 of
+// a soft partition, the third 900 of one, the last 19792.
+const SUBMIRRORS_BELOW_SOFTS: &[Line] = &[
+    Told(Stripe(10, &[Slice(S0)], None), 0),
+    Told(Mirror(0, &[VOL10]), 0),
+    Told(MakeSoft(6, Volume(VOL0), 10), 0),
+    Told(MakeSoft(5, Slice(S3), 2000), 0),
+    Told(Stripe(20, &[Volume(VOL5)], None), 0),
+    Told(Attach(VOL0, VOL20), 16),
+    Is(StripeState(VOL20, OKAY)),
+    Is(Submirrors(VOL0, 1, 1, 1000)),
+    Told(MakeSoft(9, Slice(S3), 900), 0),
+    Told(Stripe(30, &[Volume(VOL9)], None), 0),
+    Told(Attach(VOL0, VOL30), 16),
+    Told(Stripe(40, &[Slice(S7)], None), 0),
+    Told(Attach(VOL0, VOL40), 0),
+    Told(Clear(&[VOL6], &[]), 0),
+    Told(Attach(VOL0, VOL30), 10),
+    Told(Attach(VOL0, VOL20), 0),
+    Is(StripeState(VOL20, WHOLE)),
+    Is(Submirrors(VOL0, 3, 3, 1000)),
+    Told(MakeSoft(6, Volume(VOL0), 10), 16),
+];
+
 // No such volume is 4, a volume of another kind 12, the last copy of a block 14. The mirror has 990 blocks.
 const DETACHED: &[Line] = &[
     Told(Stripe(10, &[Slice(S0)], None), 0),
@@ -304,6 +328,26 @@ const CLEARED: &[Line] = &[
     Is(Pools(0)),
 ];
 
+// A spare in use is 27. The volume takes its spares from no pool, and two pools have the one on which it lies.
+const SPARES_STAY: &[Line] = &[
+    Told(NewPool(1, &[S7]), 0),
+    Told(NewPool(2, &[S4, S7]), 0),
+    Told(Raid(5, &[Slice(S0), Slice(S1), Slice(S3)], None), 0),
+    OnSpare(5, S7),
+    InUse(S7),
+    Told(Clear(&[], &[HSP1, HSP2]), 27),
+    Is(SpareStates(2, 1)),
+    Is(Pools(2)),
+    Told(Clear(&[], &[HSP1]), 0),
+    Told(Clear(&[], &[HSP2]), 27),
+    Is(SpareStates(2, 1)),
+    Is(Pools(1)),
+    Told(Clear(&[VOL5], &[HSP2]), 0),
+    Is(SpareStates(0, 0)),
+    Is(Volumes(0, 0)),
+    Is(Pools(0)),
+];
+
 // No such slice is 6, a spare that isn't in the pool, or isn't Broken, 13, no such pool 26, a spare in use 27.
 const SPARES_LEAVE: &[Line] = &[
     Told(NewPool(1, &[S0, S1]), 0),
@@ -428,6 +472,7 @@ fn mirrors_are_made(rt: HostRuntime) -> Result<(), Fail> {
 #[test]
 fn submirrors_are_attached(rt: HostRuntime) -> Result<(), Fail> {
     assert_eq!(rt; first_wrong(rt.alloc(), SUBMIRRORS)?, None);
+    assert_eq!(rt; first_wrong(rt.alloc(), SUBMIRRORS_BELOW_SOFTS)?, None);
     Ok(())
 }
 
@@ -489,6 +534,7 @@ fn a_spare_keeps_its_state(rt: HostRuntime) -> Result<(), Fail> {
 #[test]
 fn volumes_and_pools_are_cleared(rt: HostRuntime) -> Result<(), Fail> {
     assert_eq!(rt; first_wrong(rt.alloc(), CLEARED)?, None);
+    assert_eq!(rt; first_wrong(rt.alloc(), SPARES_STAY)?, None);
     Ok(())
 }
 
