@@ -3,16 +3,18 @@ use Rattle.std.proofs.Common.{◌≡◌, inl, inr, ℕ, Bool, true, false, List,
 use Rattle.std.proofs.lemmas.List.Elements.{All-append, All-cons, All-nil}
 use Rattle.std.specs.List.{find}
 use Rattle.std.specs.Option.{is_none}
-use Rattle.std.specs.Prelude.{nat_lt}
+use Rattle.std.specs.Prelude.{nat_lt, not, ◌||◌, ◌∷◌}
 use Rattle.mdv_base.specs.Order.{order, where_so}
 use Rattle.mdv_base.specs.Refusal.{number_of}
-use Rattle.mdv_base.specs.declared.refusal.Refusal.TheVariants.{IoFault, NameTaken, TooMany}
+use Rattle.mdv_base.specs.declared.name.Named.{Named}
+use Rattle.mdv_base.specs.declared.name.Named.TheVariants as named
+use Rattle.mdv_base.specs.declared.refusal.Refusal.TheVariants.{IoFault, NameTaken, NoSuchPool, NoSuchVolume, TooMany}
 use Rattle.mdv_base.proofs.Order.{first_holds}
 use Rattle.mdv_engine_law.specs.Answers.{refusing}
 use Rattle.mdv_engine_law.specs.Commands.{CameTo, ComesTo, Effect, case_of, refused, wanting, done, faulted, over}
 use Rattle.mdv_shelf.specs.Failing.{Outcomes}
 use Rattle.mdv_engine_law.specs.Line.{Kept, record_room}
-use Rattle.mdv_engine_law.specs.Refusals.{Case, bytes_after, has_number, held, held_of_blocks, held_of_change, held_of_read, held_past, refusal_of, size_of}
+use Rattle.mdv_engine_law.specs.Refusals.{Case, bytes_after, has_number, held, held_of_blocks, held_of_change, held_of_read, held_of_names, held_of_print, held_past, refusal_of, size_of}
 use Rattle.mdv_engine_law.specs.Replies.{refusal_line, text_of}
 use Rattle.mdv_engine_law.specs.declared.answer.Answer.{Answer}
 use Rattle.mdv_engine_law.specs.declared.answer.Answer.TheVariants.{Over}
@@ -23,11 +25,12 @@ use Rattle.mdv_store_law.specs.Site.{Newest}
 use Rattle.mdv_table.specs.Change as table
 use Rattle.mdv_table.specs.Change.{is_db}
 use Rattle.mdv_table.specs.Plan.{is_in_use, used_slices}
-use Rattle.mdv_table.specs.Volumes.{has_volume}
+use Rattle.mdv_table.specs.Volumes.{HasVolume, has_volume}
+use Rattle.mdv_table.proofs.Deciding.{has_volume-true}
 use Rattle.mdv_table.specs.declared.change.Change.TheVariants as change
 use Rattle.mdv_words.proofs.Lines.{one_line}
 use Rattle.mdv_words.specs.Line.{Exec, IsLine}
-use Rattle.mdv_theorem.specs.Exchanges.{IsOn}
+use Rattle.mdv_theorem.specs.Exchanges.{IsAbout}
 use Rattle.mdv_theorem.proofs.Telling.{ok_is_none, one_number, values_are_none, listing_is_none}
 
 -- it is neither NoDatabase nor NoSuchVolume
@@ -64,7 +67,8 @@ change_aside host newest volume slice =
 past_aside : (found : Option Volume) (of : Volume) (end : ℕ) → found ≡ Some of → All IsAside (held_past found end)
 past_aside found of end is = subst (λ (o : Option Volume). All IsAside (held_past o end)) (sym is) (where_all IsAside (nat_lt (size_of of.kind) end) OutOfRange (omega arith))
 
-module _ (case : Case) (newest : Newest) (opened : case.memory.opened ≡ Some newest) (volume : VolId) (of : Volume) (found : find (has_number volume) newest.table.plan.volumes ≡ Some of) where
+module _ (case : Case) (newest : Newest) (opened : case.memory.opened ≡ Some newest) (volume : VolId) (of : Volume) (found : find (has_number volume) newest.table.plan.volumes ≡ Some of)
+    (has : HasVolume newest.table.plan.volumes volume of) where
   -- with this database open
   by_opened : (causes : Option Newest → List Refusal) → All IsAside (causes (Some newest)) → All IsAside (causes case.memory.opened)
   by_opened causes is = subst (λ (o : Option Newest). All IsAside (causes o)) (sym opened) is
@@ -72,16 +76,23 @@ module _ (case : Case) (newest : Newest) (opened : case.memory.opened ≡ Some n
   blocks_aside : (other : VolId) (end : ℕ) → other ≡ volume → All IsAside (held_of_blocks (Some newest) other end)
   blocks_aside other end on = subst (λ (n : VolId). All IsAside (held_of_blocks (Some newest) n end)) (sym on) (past_aside (find (has_number volume) newest.table.plan.volumes) of end found)
 
-  held_aside : (command : Command) → IsOn volume command → All IsAside (held case command)
+  -- of a print of the volume alone
+  print_aside : (names : List Named) → names ≡ named.Volume volume ∷ [] → All IsAside (held_of_names newest.table.plan.volumes names)
+  print_aside names alone =
+      let there : has_volume newest.table.plan.volumes volume ≡ true = (has_volume-true newest.table.plan.volumes volume).1 (of, has) in
+      subst (λ (l : List Named). All IsAside (held_of_names newest.table.plan.volumes l)) (sym alone)
+      (subst (λ (b : Bool). All IsAside (where_so (not b || false) NoSuchVolume ++ where_so false NoSuchPool)) (sym there) (All-nil IsAside))
+
+  held_aside : (command : Command) → IsAbout volume command → All IsAside (held case command)
   held_aside (Create slice force blocks) on = absurd on
   held_aside (MakeStripe other slice) on = by_opened (λ o. held_of_change case.host o (change.MakeStripe other slice)) (change_aside case.host newest other slice)
   held_aside (Read other at count) on =
       by_opened (λ o. held_of_read o other at count)
       (All-append IsAside (held_of_blocks (Some newest) other (at + count)) (where_so (nat_lt 1024 count) TooMany) (blocks_aside other (at + count) on) (where_all IsAside (nat_lt 1024 count) TooMany (omega arith)))
   held_aside (Write other at block) on = by_opened (λ o. held_of_blocks o other (at + 1)) (blocks_aside other (at + 1) on)
-  held_aside (Print names) on = absurd on
+  held_aside (Print names) alone = by_opened (λ o. held_of_print o names) (print_aside names alone)
 
-  pub refused_aside : (command : Command) (r : Refusal) → IsOn volume command → refusal_of case command ≡ Some r → IsAside r
+  pub refused_aside : (command : Command) (r : Refusal) → IsAbout volume command → refusal_of case command ≡ Some r → IsAside r
   refused_aside command r on is = first_holds IsAside order (held case command) r (held_aside command on) is
 
 -- what is done is told by no refusal
@@ -120,7 +131,7 @@ module _ (Q : ℕ → Type 0) (of_fault : Q 23) (of_want : Q 24) (calls : Outcom
   told_as (unread is) = by_refusal OutOfMemory is of_want
 
 -- where this is kept the volume is in the open table: so a line on it is refused for neither of the two
-pub told_aside : (calls : Outcomes) (host : Host) (kept next : Kept) (newest : Newest) → kept.memory.opened ≡ Some newest → (volume : VolId) (of : Volume) → find (has_number volume) newest.table.plan.volumes ≡ Some of → (command : Command) → IsOn volume command
+pub told_aside : (calls : Outcomes) (host : Host) (kept next : Kept) (newest : Newest) → kept.memory.opened ≡ Some newest → (volume : VolId) (of : Volume) → find (has_number volume) newest.table.plan.volumes ≡ Some of → HasVolume newest.table.plan.volumes volume of → (command : Command) → IsAbout volume command
     → (answer : Answer) → IsSaid answer → (r : Refusal) → text_of answer ≡ refusal_line r → Commanded calls host kept command answer next → IsAside r
-told_aside calls host kept next newest opened volume of found command on answer said r told is =
-    told_as IsAsideNumber (omega arith) (omega arith) calls host kept next command (λ s why. refused_aside (case_of host kept) newest opened volume of found command s on why) answer said r told is
+told_aside calls host kept next newest opened volume of found has command on answer said r told is =
+    told_as IsAsideNumber (omega arith) (omega arith) calls host kept next command (λ s why. refused_aside (case_of host kept) newest opened volume of found has command s on why) answer said r told is

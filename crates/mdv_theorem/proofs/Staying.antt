@@ -128,6 +128,6 @@ volumes_stay drives home before script is_home run calm one earlier volume comma
     let among = subst (λ (l : List Exchange). Contains l is_there.shown) (sym is_there.parts ∙ answered.behind) (cut_has is_there.before is_there.behind is_there.shown) in
     let there = it_stays drives home before script sound is_home run answered.here one at calm is_there.shown volume among is_there.shows in
     let its_host = host_of drives home run.fresh in
-    let aside : IsAside refusal = told_aside at.calls its_host at.kept at.next there.newest there.opened volume there.so.1.of (number_finds its_host volume at.kept there) command on at.answer at.said refusal
+    let aside : IsAside refusal = told_aside at.calls its_host at.kept at.next there.newest there.opened volume there.so.1.of (number_finds its_host volume at.kept there) there.so.1.has command on at.answer at.said refusal
     (told_once one (text_of at.answer) (refusal_line refusal) at.told told) (commanded at.calls its_host at.kept at.next one.text command at.answer asks at.comes) in
     (λ no_database. aside.0 (ap number_of no_database), λ no_volume. aside.1 (ap number_of no_volume))

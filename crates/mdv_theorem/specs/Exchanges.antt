@@ -2,6 +2,7 @@
 use Rattle.std.specs.Prelude.{◌≡◌, ◌+◌, ◌<◌, ℕ, List, [], ◌∷◌, ◌++◌, length, slice_index_or, Option, None, Some, if◌then◌else◌}
 use Rattle.std.specs.Str.{bytes_eq}
 use Rattle.mdv_base.specs.declared.drive.SliceName.{SliceName}
+use Rattle.mdv_base.specs.declared.name.Named.TheVariants as named
 use Rattle.mdv_base.specs.declared.name.VolId.{VolId}
 use Rattle.mdv_base.specs.declared.refusal.Refusal.{Refusal}
 use Rattle.mdv_base.specs.declared.refusal.Refusal.TheVariants.{IoFault}
@@ -53,6 +54,14 @@ IsOn volume (MakeStripe other slice) = other ≡ volume
 IsOn volume (Read other at count) = other ≡ volume
 IsOn volume (Write other at block) = other ≡ volume
 IsOn volume (Print names) = ⊥
+
+-- the command makes the volume, reads it or writes it, or prints it and nothing else
+abbrev pub IsAbout : VolId → Command → Type 0
+IsAbout volume (Create slice force blocks) = ⊥
+IsAbout volume (MakeStripe other slice) = other ≡ volume
+IsAbout volume (Read other at count) = other ≡ volume
+IsAbout volume (Write other at block) = other ≡ volume
+IsAbout volume (Print names) = names ≡ named.Volume volume ∷ []
 
 -- it was told to be done: by `ok`, of a read by values and `ok` behind them, and of a print by what is no refusal
 abbrev pub IsGranted : Exchange → Command → Type 0

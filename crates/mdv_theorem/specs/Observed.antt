@@ -23,7 +23,7 @@ use Rattle.mdv_status.specs.Telling.{replies_in}
 use Rattle.mdv_status.specs.Values.{values_reply}
 use Rattle.mdv_words.specs.declared.command.Command.{Command}
 use Rattle.mdv_words.specs.declared.command.Command.TheVariants.{Create, Read}
-use Rattle.mdv_theorem.specs.Exchanges.{Asks, Exchange, IsAcknowledged, IsOn, IsTold, TellsBlock, exchanges_by, exchanges_of}
+use Rattle.mdv_theorem.specs.Exchanges.{Asks, Exchange, IsAbout, IsAcknowledged, IsTold, TellsBlock, exchanges_by, exchanges_of}
 use Rattle.mdv_theorem.specs.Running.{HasAnswered, Running, Runs, WentOn, exchanges_now, ran_on}
 use Rattle.mdv_theorem.specs.Words.{HasBegun, HasDatabase, HeldAtFirst, IsOrWasWritten, IsThere, MayLie}
 
@@ -67,12 +67,12 @@ DatabasesStay =
     → (one : Exchange) (earlier : List Exchange) (command : Command) → Answered run one earlier → HasDatabase earlier → Asks one command
     → (IsTold one (refusal_line NoDatabase) → ⊥) × ((slice : SliceName) (force : Bool) (blocks : ℕ) → command ≡ Create slice force blocks → IsTold one ok_line → ⊥)
 
--- where lines show a volume to be there, none behind them on it is told that it isn't, or that there is no database, as long as the database's drive answers
+-- where lines show a volume to be there, none behind them on it, or that prints it alone, is told that it isn't, or that there is no database, as long as the database's drive answers
 abbrev pub VolumesStay : Type 0
 VolumesStay =
     (drives : Geometry) (home : Home) (before : List Ran) (script : Script) → IsHome drives home → (run : Running drives home before script) → HasAnswered run home.drive
     → (one : Exchange) (earlier : List Exchange) (volume : VolId) (command : Command)
-    → Answered run one earlier → IsThere volume earlier → Asks one command → IsOn volume command
+    → Answered run one earlier → IsThere volume earlier → Asks one command → IsAbout volume command
     → (refusal : Refusal) → IsTold one (refusal_line refusal) → (refusal ≡ NoDatabase → ⊥) × (refusal ≡ NoSuchVolume → ⊥)
 
 -- The volume keeps its copies of its first so many blocks in this run: each slice of the host that isn't marked `db`, and on which it may lie by these lines, has so many, on a
