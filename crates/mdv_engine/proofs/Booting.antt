@@ -23,6 +23,8 @@ use Rattle.mdv_engine_law.specs.declared.answer.Answer.TheVariants.{Over}
 use Rattle.mdv_engine_law.specs.declared.answer.Ended.{Ended}
 use Rattle.mdv_engine_law.specs.declared.answer.Ended.TheVariants as ended
 use Rattle.mdv_engine_law.proofs.Booting.{boot_moment, booted_adopted, booted_none, booting_empty, booting_still}
+use Rattle.mdv_engine_law.proofs.Within.{kept_by_both}
+use Rattle.mdv_engine_law.specs.Home.{replica_area}
 use Rattle.mdv_engine_law.proofs.Keeping.{rewritten_newest, same_beside, same_content}
 use Rattle.mdv_engine.specs.Ends.{IsBootEnd}
 use Rattle.mdv_engine_law.specs.Replies.{HasEndCause}
@@ -131,10 +133,13 @@ module _ (host : Host) (calls : Outcomes) (still : (drive : DriveNo) → (Contai
         abbrev memory : Memory
         memory = booted_with (Some newest) answer.up answer.clean begun
 
+        within : KeptOutside (replica_area (site_of host) newest.blocks) t u
+        within = kept_by_both (site_of host) t u newest.blocks kept (subst (λ (x : BootEnd). IfAdopted x (λ n. IsQuiet (with_blocks (site_of host).at n.blocks) t u)) so ends.place.within).outside
+
         rewritten : IsRewritten (site_of host) (contents t) (contents u) newest
         rewritten =
             let drawn = as_booted (found.Adopted newest) so in
-            rewritten_newest host (unbooted begun) memory t u newest drawn.head (other_slot newest.slot) newest.table kept drawn.tie drawn.the drawn.fits
+            rewritten_newest host (unbooted begun) memory t u newest drawn.head (other_slot newest.slot) newest.table within drawn.tie drawn.the drawn.fits
             (subst (λ (x : BootEnd). IfAdopted x (λ n. IsAdopted (site_of host) (last t host.home.drive.0) n u)) so ends.place.adopted)
 
         pub adopted_end : IsBootEnd calls made host (unbooted begun) accepted memory t u
@@ -190,7 +195,7 @@ module _ (host : Host) (calls : Outcomes) (still : (drive : DriveNo) → (Contai
 
       pub lost_end : answer.end ≡ found.Lost → IsBootEnd calls made host (unbooted begun) (Over (ended.Lost 0 1)) (unbooted begun) t u
       lost_end so = record {
-        rebooted = lost (as_caused found.Lost so) own_calls (as_booted found.Lost so).1 refl (same_beside host t u kept);
+        rebooted = lost (as_caused found.Lost so) own_calls (as_booted found.Lost so).1 refl (same_beside (area_of (site_of host)) t u kept);
         booted = λ ok. absurd (cc (ok));
         synced = λ ok. absurd (cc (ok));
         effort = effort_of true (Over (ended.Lost 0 1)) (unbooted begun) (λ ok. absurd (cc (ok))) (λ so. absurd (cc (so))) (as_counted found.Lost so);

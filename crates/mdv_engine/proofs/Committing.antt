@@ -23,7 +23,9 @@ use Rattle.mdv_engine_law.specs.Line.{IsCommitted as CommittedTo}
 use Rattle.mdv_engine_law.specs.Refusals.{bytes_after, change_refusal}
 use Rattle.mdv_engine_law.proofs.Refusing.{opened_has}
 use Rattle.mdv_engine.specs.Engine.{HasChangeCause, IsNextTable, IsTableOf, IsWell}
-use Rattle.mdv_engine.proofs.Sites.{here, told_site, quiet_here}
+use Rattle.mdv_engine.proofs.Sites.{IsQuietIn, here, replica_here, told_site}
+use Rattle.mdv_engine_law.proofs.Within.{opened_kept}
+use Rattle.mdv_engine_law.specs.Home.{opened_area, replica_area}
 
 -- the lists of a table stay where a change makes another of it
 made_lists : (g : Geometry) (change : Change) (t : Table) → (table_after g change t).plan.lists ≡ t.plan.lists
@@ -120,7 +122,7 @@ is_made host newest change next is = ((is.allowed, ap (λ (t : Table). t.plan) i
 
 -- whichever change it is
 module _ (host : Host) (sizes : List ℕ) (ready : IsReady host sizes) (memory : Memory) (newest : Newest) (opened : memory.opened ≡ Some newest) (next : Table) (placed : IsTableOf host newest.blocks next) (t m : Tale)
-    (kept : KeptOutside (area_of (site_of host)) t m) where
+    (kept : KeptOutside (replica_area (site_of host) newest.blocks) t m) where
   moment_of : (change : Change) → IsMade host.drives (Some change) newest.table next → told m ≡ told t → Commits host newest change Anything t m → CarryMoment host (ToDo (Changed (key_of host) change)) memory t m
   moment_of (MakeStripe volume slice) made quiet goes = changing_moment host sizes ready memory newest opened volume slice next made placed t m kept quiet goes
 
@@ -157,11 +159,11 @@ module _ (host : Host) (sizes : List ℕ) (ready : IsReady host sizes) (at : Pla
       let went = commits (IsCommitted newest (Some change) next) t m goes now log covers known in
       record { es = went.es; course = went.course; come = went.come; stands = went.stands; after = (went.after.is_newest, λ other same. went.after.tellable other same) }
 
-  module _ (a b : Option Tale) (quiet : Moments (IsQuiet at) a b) where
+  module _ (a b : Option Tale) (quiet : Moments (IsQuietIn at newest.blocks) a b) where
     pub changing_moments : Moments (Goes Anything) a b → Moments (CarryMoment host (ToDo (Changed (key_of host) change)) memory) a b
     changing_moments goes = moments_weaker _ (CarryMoment host (ToDo (Changed (key_of host) change)) memory) a b
-        (λ t m both. moment_of host sizes ready memory newest opened next placed t m (quiet_here host sizes ready at at_is t m both.0) change (is_made host newest change next changed_is) both.0.quiet (commits Anything t m both.1))
-        (moments_both (IsQuiet at) (Goes Anything) a b quiet goes)
+        (λ t m both. moment_of host sizes ready memory newest opened next placed t m (replica_here host sizes ready at at_is newest.blocks t m both.0) change (is_made host newest change next changed_is) both.0.0.quiet (commits Anything t m both.1))
+        (moments_both (IsQuietIn at newest.blocks) (Goes Anything) a b quiet goes)
 
     abbrev pub Opens : Tale → Tale → Type 0
     Opens t u = MayCommit site newest (Some change) next t → IsOpened site (next_newest newest next) u
@@ -173,17 +175,17 @@ module _ (host : Host) (sizes : List ℕ) (ready : IsReady host sizes) (at : Pla
     pub committed_carried : Ends Opens a b → Ends (Goes (IsCommitted newest (Some change) next)) a b → Ends (CarriedTo host (ToDo (Changed (key_of host) change)) memory accepted with_next) a b
     committed_carried opens goes =
         ends_both _ _ _ a b
-        (λ t u q two. done_of host sizes ready memory newest opened next placed t u (quiet_here host sizes ready at at_is t u q) change (is_made host newest change next changed_is)
+        (λ t u q two. done_of host sizes ready memory newest opened next placed t u (replica_here host sizes ready at at_is newest.blocks t u q) change (is_made host newest change next changed_is)
         (λ now. to_host (λ s. MayCommit s newest (Some change) next t → IsOpened s (next_newest newest next) u) two.0 (may t now)) (commits_to t u two.1))
-        (moments_end (IsQuiet at) a b quiet)
+        (moments_end (IsQuietIn at newest.blocks) a b quiet)
         (ends_both Opens (Goes (IsCommitted newest (Some change) next)) (λ t u. Opens t u × Goes (IsCommitted newest (Some change) next) t u) a b (λ t u o g. (o, g)) opens goes)
 
     -- a call on the drive failed
     pub lost_carried : (after : Memory) → Moments (Goes Anything) a b → Ends (CarriedTo host (ToDo (Changed (key_of host) change)) memory (Over (ended.Lost 0 1)) after) a b
     lost_carried after goes =
-        ends_both (IsQuiet at) (Goes Anything) (CarriedTo host (ToDo (Changed (key_of host) change)) memory (Over (ended.Lost 0 1)) after) a b
-        (λ t u q g. lost_of host sizes ready memory newest opened next placed t u (quiet_here host sizes ready at at_is t u q) change (is_made host newest change next changed_is) after (commits Anything t u g))
-        (moments_end (IsQuiet at) a b quiet) (moments_end (Goes Anything) a b goes)
+        ends_both (IsQuietIn at newest.blocks) (Goes Anything) (CarriedTo host (ToDo (Changed (key_of host) change)) memory (Over (ended.Lost 0 1)) after) a b
+        (λ t u q g. lost_of host sizes ready memory newest opened next placed t u (replica_here host sizes ready at at_is newest.blocks t u q) change (is_made host newest change next changed_is) after (commits Anything t u g))
+        (moments_end (IsQuietIn at newest.blocks) a b quiet) (moments_end (Goes Anything) a b goes)
 
 -- what the making of a stripe comes to
 module _ (host : Host) (sizes : List ℕ) (ready : IsReady host sizes) (at : PlaceAt) (at_is : at ≡ place_of host.home) (memory : Memory) (volume : VolId) (slice : SliceName) (next : Table)
@@ -204,7 +206,7 @@ module _ (host : Host) (sizes : List ℕ) (ready : IsReady host sizes) (at : Pla
   free fits = of_open host memory.opened newest stripe None opened (change_free host newest stripe changed_is.allowed (let same = length_is in omega arith))
 
   -- it was committed
-  module _ (a b : Option Tale) (quiet : Moments (IsQuiet at) a b) (fits : length (record_text next) ≤ record_room newest) where
+  module _ (a b : Option Tale) (quiet : Moments (IsQuietIn at newest.blocks) a b) (fits : length (record_text next) ≤ record_room newest) where
     abbrev OpensHere : Tale → Tale → Type 0
     OpensHere = Opens host sizes ready at at_is memory stripe next newest opened changed_is placed a b quiet
 
@@ -212,20 +214,27 @@ module _ (host : Host) (sizes : List ℕ) (ready : IsReady host sizes) (at : Pla
     opens_so = opens_here host sizes ready at at_is memory stripe next newest opened changed_is placed a b quiet
 
     pub committed_answer : (calls : Outcomes) → AreCalm calls → newest.mark.count + 1 < 2 ^ 63 → Ends OpensHere a b → Ends (Comes calls accepted after_it) a b
-    committed_answer calls calm less opens = ends_both (IsQuiet at) OpensHere (Comes calls accepted after_it) a b
+    committed_answer calls calm less opens = ends_both (IsQuietIn at newest.blocks) OpensHere (Comes calls accepted after_it) a b
         (λ t u q o. λ known. came.done calm (free fits) (
           refl,
           newest,
           opened,
           less,
-          subst (λ (table : Table). CommittedTo host newest table (kept_at memory t) (kept_at after_it u)) changed_is.is (committed host memory after_it t u newest next (quiet_here host sizes ready at at_is t u q) refl (opens_so t u o known)),
+          subst (λ (table : Table). CommittedTo host newest table (kept_at memory t) (kept_at after_it u)) changed_is.is (committed host memory after_it t u newest next (replica_here host sizes ready at at_is newest.blocks t u q) refl (opens_so t u o known)),
         ))
-        (moments_end (IsQuiet at) a b quiet) opens
+        (moments_end (IsQuietIn at newest.blocks) a b quiet) opens
 
     -- a call on the drive failed
     pub lost_answer : (calls : Outcomes) (after : Memory) → FailedOn host.home.drive.0 calls → Ends (Comes calls (Over (ended.Lost 0 1)) after) a b
     lost_answer calls after so t start =
-        (let end = moments_end (IsQuiet at) a b quiet t start in (end.0, end.1, λ known. came.over (ended.Lost 0 1) (free fits) refl (so, refl, refl, same_beside host t end.0 (quiet_here host sizes ready at at_is t end.0 end.2))))
+        (let end = moments_end (IsQuietIn at newest.blocks) a b quiet t start in (
+          end.0,
+          end.1,
+          λ known. came.over (ended.Lost 0 1) (free fits) refl (
+            record { failed = so; active_is = refl; listed_is = refl },
+            same_beside (opened_area (site_of host) memory.opened) t end.0 (opened_kept (site_of host) t end.0 memory.opened newest opened (replica_here host sizes ready at at_is newest.blocks t end.0 end.2)),
+          ),
+        ))
 
   -- nothing was done: the text is too long, or the count would reach its limit
   module _ (a b : Option Tale) (same : b ≡ a) where

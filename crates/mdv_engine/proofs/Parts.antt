@@ -5,6 +5,7 @@ use Rattle.mdv_store_law.specs.Going.{created_head}
 use Rattle.mdv_store_law.specs.Standing.{ShowsReplica}
 use Rattle.mdv_shelf.proofs.Moments.{moments_weaker}
 use Rattle.mdv_database.proofs.Quiet.{quiet_sized}
+use Rattle.mdv_engine.proofs.Sites.{IsQuietIn}
 use Rattle.mdv_database.specs.Database.{IsCreatedTo, site_of}
 use Rattle.mdv_database.specs.Commit.{CommitMoment, CommitDone}
 use Rattle.mdv_database.specs.Create.{CreateMoment, CreateEnds}
@@ -19,8 +20,8 @@ module _ (at : PlaceAt) (blocks : ℕ) (key : Key) (sizes : List ℕ) (identity 
   abbrev there : Geometry → Site
   there drives = site_of drives key at sizes
 
-  pub create_quiet : blocks ≤ at.place.blocks → Moments (CreateMoment at blocks key sizes identity) a b → Moments (IsQuiet at) a b
-  create_quiet within moments = moments_weaker (CreateMoment at blocks key sizes identity) (IsQuiet at) a b (λ t m is. quiet_sized at blocks t m within is.quiet) moments
+  pub create_quiet : blocks ≤ at.place.blocks → Moments (CreateMoment at blocks key sizes identity) a b → Moments (IsQuietIn at blocks) a b
+  create_quiet within moments = moments_weaker (CreateMoment at blocks key sizes identity) (IsQuietIn at blocks) a b (λ t m is. (quiet_sized at blocks t m within is.quiet, is.quiet)) moments
 
   pub create_goes : Moments (CreateMoment at blocks key sizes identity) a b → (drives : Geometry) → IsPlaceOf drives (with_blocks at blocks).place → Moments (λ t m. ShowsNothing (there drives) t → GoesMaking (there drives) identity Anything t m) a b
   create_goes moments drives has =
@@ -49,8 +50,8 @@ module _ (at : PlaceAt) (blocks : ℕ) (key : Key) (sizes : List ℕ) (identity 
 
 -- a commit
 module _ (at : PlaceAt) (sizes : List ℕ) (newest : Newest) (next : Table) (a b : Option Tale) where
-  pub commit_quiet : newest.blocks ≤ at.place.blocks → Moments (CommitMoment at sizes newest next) a b → Moments (IsQuiet at) a b
-  commit_quiet within moments = moments_weaker (CommitMoment at sizes newest next) (IsQuiet at) a b (λ t m is. quiet_sized at newest.blocks t m within is.quiet) moments
+  pub commit_quiet : newest.blocks ≤ at.place.blocks → Moments (CommitMoment at sizes newest next) a b → Moments (IsQuietIn at newest.blocks) a b
+  commit_quiet within moments = moments_weaker (CommitMoment at sizes newest next) (IsQuietIn at newest.blocks) a b (λ t m is. (quiet_sized at newest.blocks t m within is.quiet, is.quiet)) moments
 
   module _ (drives : Geometry) (key : Key) (asked : Option Change) where
     abbrev here : Site

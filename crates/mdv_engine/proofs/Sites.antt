@@ -8,8 +8,14 @@ use Rattle.mdv_engine.specs.Below.{Local, Place, line_of, place_of, SliceAt, Pla
 use Rattle.mdv_database.specs.Database as database
 use Rattle.std.proofs.lemmas.Option.{slice_get_within}
 use Rattle.mdv_engine_law.proofs.Lifting.{site_here}
+use Rattle.mdv_engine_law.proofs.Within.{kept_by_both}
+use Rattle.mdv_engine_law.specs.Home.{replica_area}
 use Rattle.mdv_engine_law.proofs.Ready.{home_seen, home_size, size_is}
 use Rattle.mdv_engine.specs.Engine.{IsTableOf}
+
+-- nothing is told, and nothing done outside the place, nor outside so many blocks there
+abbrev pub IsQuietIn : PlaceAt → ℕ → Tale → Tale → Type 0
+IsQuietIn at blocks t m = IsQuiet at t m × IsQuiet (with_blocks at blocks) t m
 
 -- a replica of so many blocks is no longer than the place, where the home's slice has room for it
 pub fits_place : (at : PlaceAt) (h : Home) (blocks : ℕ) → at ≡ place_of h → IsLength blocks → 16 + blocks ≤ h.blocks → blocks ≤ at.place.blocks
@@ -77,3 +83,7 @@ module _ (host : Host) (sizes : List ℕ) (ready : IsReady host sizes) (at : Pla
   -- nothing is done outside the replica's blocks
   pub quiet_here : (t m : Tale) → IsQuiet at t m → KeptOutside (area_of (site_of host)) t m
   quiet_here t m quiet = (subst (λ (p : PlaceAt). IsQuiet p t m) at_is quiet).outside
+
+  -- nor outside those of a replica of so many
+  pub replica_here : (blocks : ℕ) (t m : Tale) → IsQuietIn at blocks t m → KeptOutside (replica_area (site_of host) blocks) t m
+  replica_here blocks t m quiet = kept_by_both (site_of host) t m blocks (quiet_here t m quiet.0) (subst (λ (p : PlaceAt). IsQuiet (with_blocks p blocks) t m) at_is quiet.1).outside

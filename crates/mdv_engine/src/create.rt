@@ -1,13 +1,12 @@
 ghost use Rattle.std.specs.Prelude.{◌≡◌, ◌<◌, ◌≤◌, ◌+◌, ◌^◌, Bool, true, None};
 ghost use Rattle.mdv_base.specs.declared.drive.SliceName.{SliceName};
 ghost use Rattle.mdv_words.specs.declared.command.Command.TheVariants.{Create};
-ghost use Rattle.mdv_volumes.specs.History.{Created};
 ghost use Rattle.mdv_engine.specs.Counts.{IsCommandCounted};
 ghost use Rattle.mdv_words.specs.Line.{IsLength};
 ghost use Rattle.mdv_engine.specs.Engine.{IsWell, case_at};
 ghost use Rattle.mdv_shelf.specs.Shelves.{AtEachTale, AtEnd, DriveFailures};
 ghost use Rattle.mdv_engine_law.specs.Home.{IsReady, key_of};
-ghost use Rattle.mdv_engine_law.specs.Line.{ToDo};
+ghost use Rattle.mdv_engine_law.specs.Line.{ToMake};
 ghost use Rattle.mdv_engine_law.specs.Refusals.{refusal_of};
 ghost use Rattle.mdv_table.specs.Slices.{IsSound};
 ghost use Rattle.mdv_engine_law.specs.Standing.{CarryMoment};
@@ -36,7 +35,7 @@ impl Engine {
         requires form { IsLength blocks }
         requires well { IsWell self.old.host self.old.state }
         requires begun { self.old.state.begun + 1 < 2 ^ 32 }
-        ensures moments { AtEachTale S.Shelf (CarryMoment self.old.host (ToDo (Created (key_of self.old.host))) self.old.state) shelf.old shelf.new }
+        ensures moments { AtEachTale S.Shelf (CarryMoment self.old.host (ToMake (key_of self.old.host) blocks) self.old.state) shelf.old shelf.new }
         ensures end { AtEnd S.Shelf (CommandEnd (DriveFailures S.Shelf shelf.old shelf.new) self.old (Create slice force blocks) result self.new) shelf.old shelf.new }
         ensures answer { HasAnswered (DriveFailures S.Shelf shelf.old shelf.new) (Create slice force blocks) self.old result self.new }
         ensures counted { IsCommandCounted S.tale S.calls S.written shelf.old shelf.new (Create slice force blocks) result self.new.state.opened }
@@ -83,7 +82,7 @@ impl Engine {
         requires room { 16 + blocks ≤ self.old.host.home.blocks }
         requires none { self.old.state.opened ≡ None }
         requires clean { self.old.state.clean ≡ true }
-        ensures moments { AtEachTale S.Shelf (CarryMoment self.old.host (ToDo (Created (key_of self.old.host))) self.old.state) shelf.old shelf.new }
+        ensures moments { AtEachTale S.Shelf (CarryMoment self.old.host (ToMake (key_of self.old.host) blocks) self.old.state) shelf.old shelf.new }
         ensures end { CreationEnds S.Shelf shelf.old shelf.new self.old blocks result self.new }
         ensures answer { (slice : SliceName) (force : Bool) → HasAnswered (DriveFailures S.Shelf shelf.old shelf.new) (Create slice force blocks) self.old result self.new }
         ensures counted { (slice : SliceName) (force : Bool) → IsCommandCounted S.tale S.calls S.written shelf.old shelf.new (Create slice force blocks) result self.new.state.opened }

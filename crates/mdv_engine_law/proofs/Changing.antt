@@ -10,7 +10,7 @@ use Rattle.mdv_engine_law.specs.declared.answer.Answer.TheVariants.{Said, Over}
 use Rattle.mdv_engine_law.specs.declared.answer.Ended.TheVariants as ended
 use Rattle.mdv_engine_law.specs.declared.answer.Outcome.TheVariants as outcome
 use Rattle.mdv_engine_law.specs.declared.host.Host.{Host}
-use Rattle.mdv_engine_law.specs.Home.{IsReady, key_of, site_of}
+use Rattle.mdv_engine_law.specs.Home.{IsReady, key_of, replica_area, site_of}
 use Rattle.mdv_engine_law.specs.Line.{Memory, ToDo}
 use Rattle.mdv_engine_law.specs.Standing.{StandsAt, Goes, IsUnused, Reached, Knows, IsKnown, IsKnownAfter, CarryMoment, CarriedTo, is_up}
 use Rattle.mdv_store_law.proofs.Parts.{part_itself}
@@ -21,6 +21,7 @@ use Rattle.mdv_engine_law.proofs.Refusing.{of_opened, opened_has, knows_opened}
 use Rattle.mdv_engine_law.proofs.Sites.{own_site}
 use Rattle.mdv_engine_law.proofs.Staying.{stays_in_replica}
 use Rattle.mdv_engine_law.proofs.Unused.{free_kept}
+use Rattle.mdv_engine_law.proofs.Within.{opened_kept, replica_in_place}
 
 -- the newest table of the log is the next one, and the `ok` of its change may be told
 abbrev pub IsCommittedTo : Newest → Change → Table → Log → Type 0
@@ -32,7 +33,10 @@ Commits host newest change After t m = IsOpened (site_of host) newest t → Goes
 
 -- a change of the open database, and the table that it makes
 module _ (host : Host) (sizes : List ℕ) (ready : IsReady host sizes) (memory : Memory) (newest : Newest) (opened : memory.opened ≡ Some newest) (volume : VolId) (slice : SliceName) (table : Table)
-    (made : IsMade host.drives (Some (MakeStripe volume slice)) newest.table table) (placed : IsTableAt host.drives (with_blocks (site_of host).at newest.blocks).place table) (t m : Tale) (kept : KeptOutside (area_of (site_of host)) t m) where
+    (made : IsMade host.drives (Some (MakeStripe volume slice)) newest.table table) (placed : IsTableAt host.drives (with_blocks (site_of host).at newest.blocks).place table) (t m : Tale) (within : KeptOutside (replica_area (site_of host) newest.blocks) t m) where
+  kept : KeptOutside (area_of (site_of host)) t m
+  kept = replica_in_place (site_of host) t m newest.blocks within
+
   abbrev change : Change
   change = MakeStripe volume slice
 
@@ -62,7 +66,7 @@ module _ (host : Host) (sizes : List ℕ) (ready : IsReady host sizes) (memory :
           (λ fs k there is. subst (λ (w : List Event). Goes host (Changed (key_of host) change ∷ []) [] (λ more x. Then (w ++ more) x) m k) (sym is.0) (subst (λ (x : History). Goes host (Changed (key_of host) change ∷ []) [] (λ more y. Then (es ++ more) y) m x) (sym is.1) went))
 
   pub changing_moment : told m ≡ told t → Commits host newest change Anything t m → CarryMoment host (ToDo (Changed (key_of host) change)) memory t m
-  changing_moment quiet goes = record { home = stays_in_replica host t m kept; within = kept; quiet = quiet; goes = λ h known. changing Anything Reached goes h known (λ es g there up woken is. tt) }
+  changing_moment quiet goes = record { home = stays_in_replica host t m kept; within = opened_kept (site_of host) t m memory.opened newest opened within; quiet = quiet; goes = λ h known. changing Anything Reached goes h known (λ es g there up woken is. tt) }
 
   -- it was committed, and its `ok` may be told
   pub changed : (next : Memory) → next.up ≡ memory.up → next.opened ≡ Some (next_newest newest table) → (IsOpened (site_of host) newest t → IsOpened (site_of host) (next_newest newest table) m)

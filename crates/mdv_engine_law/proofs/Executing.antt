@@ -15,7 +15,7 @@ use Rattle.mdv_engine_law.specs.declared.answer.Reply.{Reply}
 use Rattle.mdv_engine_law.specs.declared.answer.Reply.TheVariants as reply
 use Rattle.mdv_engine_law.specs.declared.host.Host.{Host}
 use Rattle.mdv_engine_law.specs.Commands as came
-use Rattle.mdv_engine_law.specs.Commands.{CameTo, ComesTo, Fault, GivesUp, KeepsTab}
+use Rattle.mdv_engine_law.specs.Commands.{CameTo, ComesTo, Fault, GivesUp, IsLostPlace, KeepsTab}
 use Rattle.mdv_shelf.specs.Failing.{Outcomes}
 use Rattle.mdv_engine_law.specs.Line.{Memory, Kept, home_calls, kept_at, contents, IsRebooted, adopted, empty, down, lost, spent, wanting}
 use Rattle.mdv_engine_law.specs.Replies.{IsTold, HasAnswerCause, HasCommandCause, IsReplyTo, reply_at, reply_to}
@@ -44,11 +44,14 @@ module _ (failed more : Outcomes) (cause : AreWithin failed more) (host : Host) 
   rebooted_more (spent calm own is used same) = spent (home.none calm) (own_more failed more cause host own) is used same
   rebooted_more (wanting calm own headed is same) = wanting (home.none calm) (own_more failed more cause host own) headed is same
 
+  lost_more : (active listed : ℕ) → IsLostPlace failed host active listed → IsLostPlace more host active listed
+  lost_more active listed is = record { failed = on_more failed more cause host.home.drive.0 is.failed; active_is = is.active_is; listed_is = is.listed_is }
+
   gives_up_more : (command : Command) (end : Ended) → GivesUp failed host kept command end next → GivesUp more host kept command end next
-  gives_up_more (Create slice force blocks) (ended.Lost active listed) is = (on_more failed more cause host.home.drive.0 is.0, is.1, is.2, is.3, is.4)
+  gives_up_more (Create slice force blocks) (ended.Lost active listed) is = (lost_more active listed is.0, is.1)
   gives_up_more (Create slice force blocks) ended.Spent is = absurd is
   gives_up_more (Create slice force blocks) ended.Memory is = absurd is
-  gives_up_more (MakeStripe volume slice) (ended.Lost active listed) is = (on_more failed more cause host.home.drive.0 is.0, is.1, is.2, is.3)
+  gives_up_more (MakeStripe volume slice) (ended.Lost active listed) is = (lost_more active listed is.0, is.1)
   gives_up_more (MakeStripe volume slice) ended.Spent is = (calm_more failed more cause is.0, is.1, is.2, is.3, is.4)
   gives_up_more (MakeStripe volume slice) ended.Memory is = absurd is
   gives_up_more (Read volume at count) end is = absurd is

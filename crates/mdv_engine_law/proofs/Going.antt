@@ -1,19 +1,15 @@
 -- How what goes on is joined, told of less, and taken from what the history's laws say.
-use Rattle.std.proofs.Common.{◌≡◌, ◌≤◌, false, true, List, [], ◌∷◌, ◌++◌, IfSome, Option, inl, inr, refl, sym, subst}
-use Rattle.mdv_engine_law.specs.Below.{Acknowledges, Boots, Crashes, Creation, Database, Identity, KeptOutside, Key, Log, nowhere, OfVolume, Reads, Shows, Stops, Tale, History, Deed, Event, OfDatabase, Happens, IsCourse, MayHappen, history_after, history_after_all, IsIssue, log_of}
-use Rattle.mdv_shelf.proofs.Blocks.{both_ways}
-use Rattle.mdv_store_law.specs.Log as log
+use Rattle.std.proofs.Common.{List, [], ◌∷◌, ◌++◌, refl, sym, subst}
+use Rattle.mdv_engine_law.specs.Below.{Acknowledges, Boots, Crashes, Creation, Identity, KeptOutside, nowhere, OfVolume, Reads, Shows, Stops, Tale, History, Deed, Event, OfDatabase, Happens, IsCourse, history_after, history_after_all, IsIssue}
 use Rattle.mdv_store_law.specs.Part.{IsPart}
-use Rattle.mdv_volumes.specs.Databases.{is_current, log_in, same_key, with_creation, with_event}
-use Rattle.mdv_volumes.specs.Happening.{IsLater, begins, tells}
-use Rattle.mdv_volumes.proofs.Databases.{creation_elsewhere, creation_here, key_is, key_itself}
+use Rattle.mdv_volumes.specs.Happening.{begins, tells}
 use Rattle.mdv_store_law.specs.Machine.{AreAll}
 use Rattle.mdv_store_law.specs.Machine as machine
 use Rattle.mdv_store_law.proofs.Machine.{adds_more, adds_weaker}
 use Rattle.mdv_store_law.proofs.Machine.{goes_more as machine_more, goes_weaker as machine_weaker}
 use Rattle.mdv_engine_law.specs.Awake.{Happening, IsAwakeAt}
 use Rattle.mdv_engine_law.specs.declared.host.Host.{Host}
-use Rattle.mdv_engine_law.specs.Home.{key_of, sites_of}
+use Rattle.mdv_engine_law.specs.Home.{sites_of}
 use Rattle.mdv_engine_law.specs.Standing.{StandsAt, IsOfRun, Does, Goes}
 use Rattle.mdv_engine_law.proofs.Knowing.{stands_kept}
 

@@ -1,5 +1,5 @@
 -- A volume that a change makes begins with one value in each block, and then its table may be written.
-use Rattle.std.proofs.Common.{◌≡◌, ◌⊎◌, inl, inr, ◌+◌, ◌<◌, ◌≤◌, ℕ, true, false, List, [], ◌∷◌, Option, Some, IfSome, refl, sym, ◌∙◌, ap, subst, arith}
+use Rattle.std.proofs.Common.{◌≡◌, ◌⊎◌, inl, inr, ◌+◌, ◌<◌, ℕ, true, false, List, [], ◌∷◌, Option, Some, IfSome, refl, sym, ◌∙◌, ap, subst, arith}
 use Rattle.mdv_engine_law.specs.Below.{Among, AreWoken, Begins, Event, Happens, History, IsMapOf, IsNamed, IsNewestIn, IsTableAt, Key, Log, MakeStripe, Map, MayLeave, Newest, OfVolume, Site, SliceName, Table, Tale, Version, VolId, VolumeKind, Base, Woke, area_of_map, history_after, history_after_all, last, log_of, next_newest, run_map, with_blocks}
 use Rattle.mdv_map.proofs.Covering.{areas_cover}
 use Rattle.mdv_map.specs.Logs.{Follows, VolumeLog, opening}

@@ -1,11 +1,11 @@
 -- What a line leaves in memory and on the drive, where it did what was asked.
-use Rattle.std.proofs.Common.{◌≡◌, ⊎_elim, inl, inr, ◌+◌, ◌-◌, ◌<◌, ◌≤◌, ◌^◌, ℕ, suc, List, [], ◌∷◌, length, slice_index_or, Some, refl, sym, ◌∙◌, ap, subst, arith}
-use Rattle.mdv_engine_law.specs.Below.{DriveBlock, KeptOutside, nowhere, Settling, IsSettled, Everywhere, Tale, last, with_blocks, created_head, created_newest, Newest, IsNewestOf, area_of, ShowsNothing, IsOpened, IsTheReplica, IsAdopted, next_newest, Head, Slot, First, Second, IsSpareSlot, greatest, values_reply, One, Table}
+use Rattle.std.proofs.Common.{◌≡◌, ⊎_elim, inl, inr, ◌+◌, ◌-◌, ◌<◌, ◌^◌, ℕ, suc, List, [], ◌∷◌, length, slice_index_or, Some, refl, sym, ◌∙◌, ap, subst, arith}
+use Rattle.mdv_engine_law.specs.Below.{Area, DriveBlock, KeptOutside, nowhere, Settling, IsSettled, Everywhere, Tale, last, with_blocks, created_head, created_newest, Newest, IsNewestOf, ShowsNothing, IsOpened, IsTheReplica, IsAdopted, next_newest, Head, Slot, First, Second, IsSpareSlot, greatest, values_reply, One, Table}
 use Rattle.mdv_shelf.specs.Calls.{Shows}
 use Rattle.mdv_shelf.proofs.Settled.{covered}
 use Rattle.mdv_shelf.proofs.Everywhere.{last_image}
 use Rattle.mdv_engine_law.specs.declared.host.Host.{Host}
-use Rattle.mdv_engine_law.specs.Home.{site_of, identity_of}
+use Rattle.mdv_engine_law.specs.Home.{replica_area, site_of, identity_of}
 use Rattle.mdv_engine_law.specs.Line.{Memory, IsSame, IsSameBeside, Stays, IsCreated, IsUncreated, IsCommitted, IsRewritten, ArePut, MayBePut, blocks_of, contents, kept_at, on_site}
 
 -- these blocks are what a read gives
@@ -34,15 +34,15 @@ module _ (t u : Tale) where
       elsewhere = λ drive b out. (settling.outside drive b out).last;
     }
 
--- no block outside a replica's changed
-pub same_beside : (host : Host) (t u : Tale) → KeptOutside (area_of (site_of host)) t u → IsSameBeside (site_of host) (contents t) (contents u)
-same_beside host t u kept drive block out = (kept drive block out).last
+-- no block outside the area changed
+pub same_beside : (area : Area) (t u : Tale) → KeptOutside area t u → IsSameBeside area (contents t) (contents u)
+same_beside area t u kept drive block out = (kept drive block out).last
 
 module _ (host : Host) (memory next : Memory) (t u : Tale) where
   pub stays : next ≡ memory → KeptOutside nowhere t u → Stays (kept_at memory t) (kept_at next u)
   stays same kept = record { memory = same; content = same_content t u kept }
 
-  pub created : (blocks : ℕ) (table : Table) → KeptOutside (area_of (site_of host)) t u → next ≡ record memory { opened = Some (created_newest blocks table); begun = memory.begun + 1 } → table.plan.lists ≡ One ((with_blocks (site_of host).at blocks).place ∷ []) → table.plan.volumes ≡ []
+  pub created : (blocks : ℕ) (table : Table) → KeptOutside (replica_area (site_of host) blocks) t u → next ≡ record memory { opened = Some (created_newest blocks table); begun = memory.begun + 1 } → table.plan.lists ≡ One ((with_blocks (site_of host).at blocks).place ∷ []) → table.plan.volumes ≡ []
       → Everywhere (λ image. IsNewestOf (site_of host) (on_site (site_of host) image) (created_head (site_of host) blocks (identity_of host memory.begun) table) (created_newest blocks table)) u → IsCreated host blocks (kept_at memory t) (kept_at next u)
   created blocks table kept is lists volumes each = record {
     newest = created_newest blocks table;
@@ -51,17 +51,17 @@ module _ (host : Host) (memory next : Memory) (t u : Tale) where
     head = created_head (site_of host) blocks (identity_of host memory.begun) table;
     identity = refl;
     content = each (last u) (last_image u);
-    beside = same_beside host t u kept;
+    beside = same_beside (replica_area (site_of host) blocks) t u kept;
   }
 
-  pub uncreated : KeptOutside (area_of (site_of host)) t u → next ≡ record memory { begun = memory.begun + 1 } → ShowsNothing (site_of host) u → IsUncreated host (kept_at memory t) (kept_at next u)
-  uncreated kept is nothing = record { memory = is; content = nothing (last u) (last_image u); beside = same_beside host t u kept }
+  pub uncreated : (blocks : ℕ) → KeptOutside (replica_area (site_of host) blocks) t u → next ≡ record memory { begun = memory.begun + 1 } → ShowsNothing (site_of host) u → IsUncreated host blocks (kept_at memory t) (kept_at next u)
+  uncreated blocks kept is nothing = record { memory = is; content = nothing (last u) (last_image u); beside = same_beside (replica_area (site_of host) blocks) t u kept }
 
-  pub committed : (newest : Newest) (table : Table) → KeptOutside (area_of (site_of host)) t u → next ≡ record memory { opened = Some (next_newest newest table) } → IsOpened (site_of host) (next_newest newest table) u → IsCommitted host newest table (kept_at memory t) (kept_at next u)
-  committed newest table kept is opened = record { memory = is; head = opened.head; content = opened.each (last u) (last_image u); beside = same_beside host t u kept }
+  pub committed : (newest : Newest) (table : Table) → KeptOutside (replica_area (site_of host) newest.blocks) t u → next ≡ record memory { opened = Some (next_newest newest table) } → IsOpened (site_of host) (next_newest newest table) u → IsCommitted host newest table (kept_at memory t) (kept_at next u)
+  committed newest table kept is opened = record { memory = is; head = opened.head; content = opened.each (last u) (last_image u); beside = same_beside (replica_area (site_of host) newest.blocks) t u kept }
 
   -- a boot adopted the one replica that was there, and its next number is one
-  pub rewritten_newest : (newest : Newest) (head : Head) (slot : Slot) (table : Table) → KeptOutside (area_of (site_of host)) t u → (newest.slot ≡ Second → IsSpareSlot head First → ⊥) → IsTheReplica (site_of host) (on_site (site_of host) (contents t)) head slot table → greatest head + 1 < 2 ^ 63 → IsAdopted (site_of host) (on_site (site_of host) (contents t)) newest u
+  pub rewritten_newest : (newest : Newest) (head : Head) (slot : Slot) (table : Table) → KeptOutside (replica_area (site_of host) newest.blocks) t u → (newest.slot ≡ Second → IsSpareSlot head First → ⊥) → IsTheReplica (site_of host) (on_site (site_of host) (contents t)) head slot table → greatest head + 1 < 2 ^ 63 → IsAdopted (site_of host) (on_site (site_of host) (contents t)) newest u
       → IsRewritten (site_of host) (contents t) (contents u) newest
   rewritten_newest newest head slot table kept tie the fits is = record {
     head = is.head;
@@ -74,7 +74,7 @@ module _ (host : Host) (memory next : Memory) (t u : Tale) where
     is = is.is;
     fits = subst (λ (h : Head). greatest h + 1 < 2 ^ 63) (sym (the.only is.head is.replica)) fits;
     written = is.each (last u) (last_image u);
-    beside = same_beside host t u kept;
+    beside = same_beside (replica_area (site_of host) newest.blocks) t u kept;
   }
 
 -- a read told what is there

@@ -16,6 +16,7 @@ pub mod Ready
 pub mod Refusing
 pub mod Beside
 pub mod Unused
+pub mod Within
 pub mod Asking
 pub mod Booting
 pub mod Making

@@ -21,7 +21,7 @@ use Rattle.mdv_engine_law.specs.declared.answer.Answer.TheVariants.{Said, Over}
 use Rattle.mdv_engine_law.specs.declared.answer.Ended.TheVariants as ended
 use Rattle.mdv_engine_law.specs.declared.answer.Outcome.TheVariants as outcome
 use Rattle.mdv_engine_law.specs.declared.host.Host.{Host}
-use Rattle.mdv_engine_law.specs.Line.{Ask, Nothing, ToDo, ToSee, deeds, record_room}
+use Rattle.mdv_engine_law.specs.Line.{Ask, Nothing, ToBoot, ToDo, ToMake, ToSee, deeds, record_room}
 use Rattle.mdv_engine_law.specs.Refusals.{Case, bytes_after, held, held_of_blocks, held_of_change, held_of_print, held_of_read, held_past, names_no_volume, names_pool, has_number, is_plain, refusal_of, size_of}
 use Rattle.mdv_name.specs.SliceIndex.{slice_at}
 use Rattle.mdv_table.specs.Change as table
@@ -237,6 +237,8 @@ module _ (ask : Ask) where
   refusal_front bytes is = by ask where
     by : (a : Ask) → AcksFront a bytes []
     by Nothing = refl
+    by ToBoot = refl
+    by (ToMake key blocks) = refl
     by (ToDo deed) = refl
     by (ToSee key volume at count) = inl (is, refl)
 
@@ -264,6 +266,8 @@ module _ (ask : Ask) where
   refusal_acks r = by ask where
     by : (a : Ask) → AcksBy a (refusal_line r) []
     by Nothing = refl
+    by ToBoot = refl
+    by (ToMake key blocks) = refl
     by (ToDo deed) = refl
     by (ToSee key volume at count) = inl ((r, refl), refl)
 
@@ -346,6 +350,8 @@ module _ (ask : Ask) where
   accepted_front answer on done reply acks (b ∷ bytes) size is = by ask acks where
     by : (a : Ask) → AcksBy a reply done → (told : List Deed) × AcksFront a (b ∷ bytes) told × TellsAll answer done told
     by Nothing acks = ([], refl, inl refl)
+    by ToBoot acks = ([], refl, inl refl)
+    by (ToMake key blocks) acks = ([], refl, inl refl)
     by (ToDo deed) acks = ([], refl, inl refl)
     by (ToSee key volume at count) (inl (refusal, none)) = ([], inl ((refusal.0, size, is ∙ ap (take size) refusal.1), refl), inl refl)
     by (ToSee key volume at count) (inr tells) = (done, inr (record { some = λ empty. absurd (cc (empty)); reply = reply; size = size; front = is; tells = tells }), inr (on, refl))

@@ -15,7 +15,7 @@ use Rattle.mdv_engine_law.specs.declared.answer.Outcome.{Outcome}
 use Rattle.mdv_engine_law.specs.declared.answer.Reply.{Reply}
 use Rattle.mdv_engine_law.specs.declared.host.Host.{Host}
 use Rattle.mdv_engine_law.specs.Home.{key_of}
-use Rattle.mdv_engine_law.specs.Line.{Ask, Nothing, ToDo, ToSee, deeds, Memory}
+use Rattle.mdv_engine_law.specs.Line.{Ask, Nothing, ToBoot, ToDo, ToMake, ToSee, deeds, Memory}
 use Rattle.mdv_engine_law.specs.Replies.{AcksAnswer, AcksBy, IsPlain, IsPlainAnswer, IsPlainOutcome, outcome_text, IsAccepted, IsReply, IsReplied, IsLost, issuable, issuable_of, issued_by, ok_line, refusal_line, text_of}
 use Rattle.mdv_engine_law.specs.Standing.{Goes, IsBare, Reached, Knows, IsKnown, CarryMoment, CarriedTo, CanTellAll, IsKnownAfter, TellMoment, TurnMoment, Turned, OnlyReplied}
 use Rattle.mdv_engine_law.proofs.Going.{goes_none, goes_more, goes_weaker}
@@ -30,13 +30,19 @@ use Rattle.mdv_engine_law.proofs.Plain.{front_of, nothing_said, nothing_acked, n
 pub never_among : (deeds : List Deed) (deed : Deed) → deeds ≡ [] → Contains deeds deed → ⊥
 never_among deeds deed none has = absurd (let in_none : Contains [] deed = subst (λ (l : List Deed). Contains l deed) none has in omega (arith, in_none.1))
 
--- a reply by which a creation is acknowledged is one to a line that asks it
-pub created_by : (key : Key) (ask : Ask) (reply : List ℕ) (done : List Deed) → AcksBy ask reply done → Contains done (Created key) → Contains (deeds ask) (Created key)
-created_by key Nothing reply done acks has = absurd (never_among done (Created key) acks has)
-created_by key (ToDo deed) reply done acks has = by (bytes_eq reply ok_line) (subst (λ (l : List Deed). Contains l (Created key)) acks has) where
+-- what an `ok` acknowledges
+of_ok : (key : Key) (deed : Deed) (reply : List ℕ) (done : List Deed) → done ≡ (if bytes_eq reply ok_line then deed ∷ [] else []) → Contains done (Created key) → Contains (deed ∷ []) (Created key)
+of_ok key deed reply done acks has = by (bytes_eq reply ok_line) (subst (λ (l : List Deed). Contains l (Created key)) acks has) where
   by : (x : Bool) → Contains (if x then deed ∷ [] else []) (Created key) → Contains (deed ∷ []) (Created key)
   by true is = is
   by false is = absurd (never_among [] (Created key) refl is)
+
+-- a reply by which a creation is acknowledged is one to a line that asks it
+pub created_by : (key : Key) (ask : Ask) (reply : List ℕ) (done : List Deed) → AcksBy ask reply done → Contains done (Created key) → Contains (deeds ask) (Created key)
+created_by key Nothing reply done acks has = absurd (never_among done (Created key) acks has)
+created_by key ToBoot reply done acks has = absurd (never_among done (Created key) acks has)
+created_by key (ToMake other blocks) reply done acks has = of_ok key (Created other) reply done acks has
+created_by key (ToDo deed) reply done acks has = of_ok key deed reply done acks has
 created_by key (ToSee other volume at count) reply done (inl (refused, none)) has = absurd (never_among done (Created key) none has)
 created_by key (ToSee other volume at count) reply done (inr tells) has = elim (first_or_behind (Saw other volume at tells.blocks) (Created key) [] (subst (λ (l : List Deed). Contains l (Created key)) tells.seen has)) [
   | inl same ↦ absurd (cc (same))

@@ -14,7 +14,7 @@ use Rattle.mdv_engine_law.specs.declared.answer.Ended.TheVariants as ended
 use Rattle.mdv_engine_law.specs.declared.host.Host.{Host}
 use Rattle.mdv_engine_law.specs.Answers.{accepted, refusing, telling}
 use Rattle.mdv_shelf.specs.Failing.{AreCalm, FailedOn, Outcomes}
-use Rattle.mdv_engine_law.specs.Home.{site_of, identity_of}
+use Rattle.mdv_engine_law.specs.Home.{opened_area, replica_area, site_of, identity_of}
 use Rattle.mdv_engine_law.specs.Line.{Kept, Memory, IsSameBeside, Stays, IsCreated, IsUncreated, IsUnbegun, IsCommitted, IsSame, AreBlocksAt, ArePut, MayBePut, IsRebooted, IsTurnedDown, blocks_of, on_site}
 use Rattle.mdv_engine_law.specs.Refusals.{Case, IsUnopposed, refusal_of}
 
@@ -70,9 +70,10 @@ MaySpend (Read volume at count) = ⊥
 MaySpend (Write volume at block) = ⊥
 MaySpend (command.Print names) = ⊥
 
--- What is left where a call on a drive failed and the line tells it: the drive of the database, or that of the blocks. A change that can't be committed ends the run instead.
+-- What is left where a call on a drive failed and the line tells it: the drive of the database, or that of the blocks. A change that can't be
+-- committed ends the run instead.
 abbrev pub Fault : Outcomes → Host → Kept → Command → Kept → Type 0
-Fault calls host kept (Create slice force blocks) next = FailedOn host.home.drive.0 calls × IsUncreated host kept next
+Fault calls host kept (Create slice force blocks) next = FailedOn host.home.drive.0 calls × IsUncreated host blocks kept next
 Fault calls host kept (command.MakeStripe volume slice) next = ⊥
 Fault calls host kept (Read volume at count) next = (place : DriveBlock) × FailedOn place.drive calls × AreBlocksAt host kept.memory volume at count place × Stays kept next
 Fault calls host kept (Write volume at block) next = (place : DriveBlock) × FailedOn place.drive calls × AreBlocksAt host kept.memory volume at 1 place × (next.memory ≡ kept.memory) × MayBePut place (block ∷ []) kept.content next.content
@@ -86,11 +87,23 @@ Wanting host kept (Read volume at count) next = IsAllowed (case_of host kept) (R
 Wanting host kept (Write volume at block) next = ⊥
 Wanting host kept (command.Print names) next = IsAllowed (case_of host kept) (command.Print names) × Stays kept next
 
--- Why the run is over with a command: the one place is lost, whose new replica is there where a creation's format was answered, and each block that no
--- replica may have reads as it did; or the count would reach its limit, and nothing was done.
+-- the one place is lost, since a call on its drive failed
+pub record IsLostPlace (calls : Outcomes) (host : Host) (active listed : ℕ) : Type 0 where
+  pub failed : FailedOn host.home.drive.0 calls
+  pub active_is : active ≡ 0
+  pub listed_is : listed ≡ 1
+
+-- A creation that gives up leaves its replica there, whose format was answered, and each block outside that is as it was.
+pub record LeavesReplica (host : Host) (blocks : ℕ) (kept next : Kept) : Type 0 where
+  pub made : IsReplicaMade (site_of host) (identity_of host kept.memory.begun) (on_site (site_of host) next.content)
+  pub beside : IsSameBeside (replica_area (site_of host) blocks) kept.content next.content
+
+-- Why the run is over with a command: the one place is lost, whose new replica is there where a creation's format was answered, and each block outside the
+-- replica, the one to be made or the one that is open, reads as it did; or the count would reach its limit, and nothing was done.
 abbrev pub GivesUp : Outcomes → Host → Kept → Command → Ended → Kept → Type 0
-GivesUp calls host kept (Create slice force blocks) (ended.Lost active listed) next = FailedOn host.home.drive.0 calls × (active ≡ 0) × (listed ≡ 1) × IsReplicaMade (site_of host) (identity_of host kept.memory.begun) (on_site (site_of host) next.content) × IsSameBeside (site_of host) kept.content next.content
-GivesUp calls host kept (command.MakeStripe volume slice) (ended.Lost active listed) next = FailedOn host.home.drive.0 calls × (active ≡ 0) × (listed ≡ 1) × IsSameBeside (site_of host) kept.content next.content
+GivesUp calls host kept (Create slice force blocks) (ended.Lost active listed) next = IsLostPlace calls host active listed × LeavesReplica host blocks kept next
+GivesUp calls host kept (command.MakeStripe volume slice) (ended.Lost active listed) next =
+    IsLostPlace calls host active listed × IsSameBeside (opened_area (site_of host) kept.memory.opened) kept.content next.content
 GivesUp calls host kept (command.MakeStripe volume slice) ended.Spent next = AreCalm calls × (newest : Newest) × (kept.memory.opened ≡ Some newest) × (2 ^ 63 ≤ newest.mark.count + 1) × Stays kept next
 GivesUp calls host kept command end next = ⊥
 

@@ -1,7 +1,7 @@
 -- A host: what it sees of the table of drives, where its database lies, and the blocks that its run may touch.
-use Rattle.std.specs.Prelude.{◌≡◌, ◌<◌, ◌^◌, ℕ, not, ◌&&◌, List, Some, None, if◌then◌else◌}
+use Rattle.std.specs.Prelude.{◌≡◌, ◌<◌, ◌^◌, ℕ, not, ◌&&◌, List, Option, Some, None, if◌then◌else◌}
 use Rattle.std.specs.List.{list_any}
-use Rattle.mdv_engine_law.specs.Below.{Geometry, Identity, Key, Local, Sites, same_key, IsHomeTable, IsSmall, own_drives, own_view, place_of, sizes_of, Site, area_of, SliceLine, Area, joined, KeptOutside, Tale, covers, IsSound}
+use Rattle.mdv_engine_law.specs.Below.{Geometry, Identity, Key, Local, Sites, same_key, IsHomeTable, IsSmall, own_drives, own_view, place_of, sizes_of, Newest, Site, area_of, SliceLine, Area, joined, nowhere, range, KeptOutside, Tale, covers, IsSound}
 use Rattle.mdv_engine_law.specs.declared.host.Host.{Host}
 
 -- the key of the host's own database
@@ -15,6 +15,15 @@ site_of host = record { drives = host.drives; key = key_of host; at = place_of h
 -- where each key has a database: no other has one yet
 abbrev pub sites_of : Host → Sites
 sites_of host key = if same_key key (key_of host) then Some (site_of host) else None
+
+-- the blocks of its place that a replica of so many blocks has
+abbrev pub replica_area : Site → ℕ → Area
+replica_area site blocks drive block = area_of site drive block && range site.at.drive.0 site.at.first blocks drive block
+
+-- those of the replica that is open, and none where no database is
+abbrev pub opened_area : Site → Option Newest → Area
+opened_area site (Some newest) = replica_area site newest.blocks
+opened_area site None = nowhere
 
 -- the blocks of the slices that aren't set aside for replicas, of those that the host sees
 abbrev pub plain_area : List SliceLine → Area

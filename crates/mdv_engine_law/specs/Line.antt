@@ -3,7 +3,7 @@ use Rattle.std.specs.Prelude.{◌≡◌, ◌≢◌, ◌⊎◌, ◌+◌, ◌<◌,
 use Rattle.std.specs.Bool.{MatchBool}
 use Rattle.std.specs.List.{range_with_len}
 use Rattle.mdv_shelf.specs.Everywhere.{Image}
-use Rattle.mdv_engine_law.specs.Below.{Failures, Mark, VolId, Refusal, record_text, Head, First, Second, IsSpareSlot, greatest, other_slot, room_of, shows, with_blocks, Tale, covers, last, MakeStripe, One, Table, Entry, Command, Create, Read, Write, Line, Site, Newest, IsReplica, IsFound, HasTable, IsNewestOf, area_of, adopted_newest, next_newest, no_drives, rewritten, Key, Deed, Created, Changed, Wrote, DriveBlock, DriveNo, Drives, has_drive, IsMapOf, run_map}
+use Rattle.mdv_engine_law.specs.Below.{Failures, Mark, VolId, Refusal, record_text, Head, First, Second, IsSpareSlot, greatest, other_slot, room_of, shows, with_blocks, Tale, covers, last, MakeStripe, One, Table, Entry, Command, Create, Read, Write, Line, Site, Newest, IsReplica, IsFound, HasTable, IsNewestOf, area_of, adopted_newest, next_newest, no_drives, rewritten, Key, Deed, Created, Changed, Wrote, DriveBlock, DriveNo, Drives, has_drive, IsMapOf, run_map, Area}
 use Rattle.mdv_store_law.specs.Adoptable.{IsAdoptable, IsHeaded}
 use Rattle.mdv_words.specs.declared.command.Command.TheVariants as command
 use Rattle.mdv_words.specs.Line as words
@@ -13,7 +13,7 @@ use Rattle.mdv_engine_law.specs.declared.answer.Ended.TheVariants as ended
 use Rattle.mdv_engine_law.specs.declared.host.Host.{Host}
 use Rattle.mdv_engine_law.specs.Answers.{accepted, refusing}
 use Rattle.mdv_shelf.specs.Failing.{AreCalm, Outcomes}
-use Rattle.mdv_engine_law.specs.Home.{key_of, site_of, identity_of}
+use Rattle.mdv_engine_law.specs.Home.{key_of, replica_area, site_of, identity_of}
 
 -- what an engine keeps in memory: the open database, which drives the last boot brought up and whether no call failed in it, how many
 -- creations the run has begun, and the entries of the last `tab` block that was kept since that boot
@@ -48,9 +48,9 @@ unbooted begun = record { opened = None; up = no_drives; clean = false; begun = 
 abbrev pub IsSame : Image → Image → Type 0
 IsSame old new = (drive block : ℕ) → new drive block ≡ old drive block
 
--- each block that no replica may have is as it was
-abbrev pub IsSameBeside : Site → Image → Image → Type 0
-IsSameBeside site old new = (drive block : ℕ) → area_of site drive block ≡ false → new drive block ≡ old drive block
+-- each block outside the area is as it was
+abbrev pub IsSameBeside : Area → Image → Image → Type 0
+IsSameBeside area old new = (drive block : ℕ) → area drive block ≡ false → new drive block ≡ old drive block
 
 -- all is as it was
 pub record Stays (kept next : Kept) : Type 0 where
@@ -65,7 +65,7 @@ pub record IsNew (host : Host) (blocks : ℕ) (newest : Newest) : Type 0 where
   pub lists : newest.table.plan.lists ≡ One ((with_blocks (site_of host).at blocks).place ∷ [])
   pub volumes : newest.table.plan.volumes ≡ []
 
--- it was made: the drive has its replica, with the identity of this creation
+-- it was made: the drive has its replica, with the identity of this creation, and each block outside that is as it was
 pub record IsCreated (host : Host) (blocks : ℕ) (kept next : Kept) : Type 0 where
   pub newest : Newest
   pub new : IsNew host blocks newest
@@ -73,13 +73,13 @@ pub record IsCreated (host : Host) (blocks : ℕ) (kept next : Kept) : Type 0 wh
   pub head : Head
   pub identity : head.master.identity ≡ identity_of host kept.memory.begun
   pub content : IsNewestOf (site_of host) (on_site (site_of host) next.content) head newest
-  pub beside : IsSameBeside (site_of host) kept.content next.content
+  pub beside : IsSameBeside (replica_area (site_of host) blocks) kept.content next.content
 
--- its format failed: the drive has no replica that shows a table
-pub record IsUncreated (host : Host) (kept next : Kept) : Type 0 where
+-- its format failed: the drive has no replica that shows a table, and each block outside the one to be made is as it was
+pub record IsUncreated (host : Host) (blocks : ℕ) (kept next : Kept) : Type 0 where
   pub memory : next.memory ≡ record kept.memory { begun = kept.memory.begun + 1 }
   pub content : IsFound (site_of host) (on_site (site_of host) next.content) None
-  pub beside : IsSameBeside (site_of host) kept.content next.content
+  pub beside : IsSameBeside (replica_area (site_of host) blocks) kept.content next.content
 
 -- Memory was wanting, before anything was done on the drive. A creation is counted as begun nevertheless.
 pub record IsUnbegun (kept next : Kept) : Type 0 where
@@ -90,12 +90,12 @@ pub record IsUnbegun (kept next : Kept) : Type 0 where
 abbrev pub record_room : Newest → ℕ
 record_room newest = room_of newest.blocks
 
--- the next table is committed: memory and the drive have it as the newest one, under the next count
+-- the next table is committed: memory and the drive have it as the newest one, under the next count, and each block outside the replica is as it was
 pub record IsCommitted (host : Host) (newest : Newest) (next_table : Table) (kept next : Kept) : Type 0 where
   pub memory : next.memory ≡ record kept.memory { opened = Some (next_newest newest next_table) }
   pub head : Head
   pub content : IsNewestOf (site_of host) (on_site (site_of host) next.content) head (next_newest newest next_table)
-  pub beside : IsSameBeside (site_of host) kept.content next.content
+  pub beside : IsSameBeside (replica_area (site_of host) newest.blocks) kept.content next.content
 
 -- so many blocks of a drive, from this one on
 abbrev pub blocks_of : Image → DriveBlock → ℕ → List (List ℕ)
@@ -123,7 +123,8 @@ pub record MayBePut (from : DriveBlock) (blocks : List (List ℕ)) (old new : Im
   pub here : (k : ℕ) → k < length blocks → (new from.drive (from.block + k) ≡ old from.drive (from.block + k)) ⊎ (new from.drive (from.block + k) ≡ slice_index_or blocks k [])
   pub elsewhere : (drive b : ℕ) → covers from.drive from.block (length blocks) drive b ≡ false → new drive b ≡ old drive b
 
--- A replica that a boot found, and wrote anew under one more than the greatest number there; it wrote the first slot, where either might be.
+-- A replica that a boot found, and wrote anew under one more than the greatest number there; it wrote the first slot, where either
+-- might be, and no block outside the replica.
 pub record IsRewritten (site : Site) (old new : Image) (newest : Newest) : Type 0 where
   pub head : Head
   pub replica : IsReplica site (on_site site old) head
@@ -135,7 +136,7 @@ pub record IsRewritten (site : Site) (old new : Image) (newest : Newest) : Type 
   pub is : newest ≡ adopted_newest head newest.slot newest.table
   pub fits : greatest head + 1 < 2 ^ 63
   pub written : IsNewestOf site (on_site site new) (rewritten head newest.slot (greatest head + 1) (length (record_text newest.table))) newest
-  pub beside : IsSameBeside site old new
+  pub beside : IsSameBeside (replica_area site newest.blocks) old new
 
 -- a readable replica with a table, whose next number would reach the limit
 pub record IsUsedUp (site : Site) (content : Image) : Type 0 where
@@ -172,7 +173,8 @@ pub data IsRebooted (calls : Outcomes) (host : Host) (kept : Kept) (answer : Ans
   empty : (home_calls host calls).none → (up : Drives) (clean : Bool) → answer ≡ accepted → next.memory ≡ booted_with None up clean kept.memory.begun → IsUpBy calls host up clean → has_drive up host.home.drive ≡ true
       → IsFound (site_of host) (on_site (site_of host) kept.content) None → IsSame kept.content next.content → IsRebooted calls host kept answer next
   down : (home_calls host calls).some → (up : Drives) → answer ≡ accepted → next.memory ≡ booted_with None up false kept.memory.begun → IsUpBy calls host up false → IsSame kept.content next.content → IsRebooted calls host kept answer next
-  lost : (home_calls host calls).some → AreOwnCalls host calls → IsAdoptable (site_of host) (on_site (site_of host) kept.content) → answer ≡ Over (ended.Lost 0 1) → IsSameBeside (site_of host) kept.content next.content → IsRebooted calls host kept answer next
+  lost : (home_calls host calls).some → AreOwnCalls host calls → IsAdoptable (site_of host) (on_site (site_of host) kept.content) → answer ≡ Over (ended.Lost 0 1)
+      → IsSameBeside (area_of (site_of host)) kept.content next.content → IsRebooted calls host kept answer next
   spent : (home_calls host calls).none → AreOwnCalls host calls → answer ≡ Over ended.Spent → IsUsedUp (site_of host) kept.content → IsSame kept.content next.content → IsRebooted calls host kept answer next
   wanting : (home_calls host calls).none → AreOwnCalls host calls → IsHeaded (site_of host) (on_site (site_of host) kept.content) → answer ≡ Over ended.Memory → IsSame kept.content next.content → IsRebooted calls host kept answer next
 
@@ -180,28 +182,33 @@ pub data IsRebooted (calls : Outcomes) (host : Host) (kept : Kept) (answer : Ans
 abbrev pub IsTurnedDown : Refusal → Kept → Answer → Kept → Type 0
 IsTurnedDown refusal kept answer next = (answer ≡ refusing refusal) × Stays kept next
 
--- what a line asks: nothing that its `ok` acknowledges; a deed; or what so many blocks of a volume hold, from that one on
+-- what a line asks: nothing; a boot, by which nothing is acknowledged; a database with a replica of so many blocks; another deed; or what so many blocks of a
+-- volume hold, from that one on
 pub data Ask : Type 0 where
   Nothing : Ask
+  ToBoot : Ask
+  ToMake : Key → ℕ → Ask
   ToDo : Deed → Ask
   ToSee : Key → VolId → ℕ → ℕ → Ask
 
 -- what a command asks of the host's own database
 abbrev pub asked_by : Host → Command → Ask
-asked_by host (Create slice force blocks) = ToDo (Created (key_of host))
+asked_by host (Create slice force blocks) = ToMake (key_of host) blocks
 asked_by host (command.MakeStripe volume slice) = ToDo (Changed (key_of host) (MakeStripe volume slice))
 asked_by host (Read volume at count) = ToSee (key_of host) volume at count
 asked_by host (Write volume at block) = ToDo (Wrote (key_of host) volume at (block ∷ []))
 asked_by host (command.Print names) = Nothing
 
--- a boot asks nothing, nor does a block of entries
+-- and what a line asks: a block of entries nothing
 abbrev pub asked_by_line : Host → Line → Ask
-asked_by_line host words.Boot = Nothing
+asked_by_line host words.Boot = ToBoot
 asked_by_line host (words.Tab lines) = Nothing
 asked_by_line host (words.Exec command) = asked_by host command
 
 -- the deeds that it may begin
 abbrev pub deeds : Ask → List Deed
 deeds Nothing = []
+deeds ToBoot = []
+deeds (ToMake key blocks) = Created key ∷ []
 deeds (ToDo deed) = deed ∷ []
 deeds (ToSee key volume at count) = []

@@ -6,7 +6,7 @@ use Rattle.mdv_shelf.specs.Calls.{OnDrive}
 use Rattle.mdv_shelf.specs.Shelves.{IsOneCall, MadeCalls}
 use Rattle.mdv_shelf.specs.Story.{NoFewer}
 use Rattle.mdv_shelf.specs.declared.shelf.Shelf.{Ghosts}
-use Rattle.mdv_engine_law.specs.Below.{Failures, refusal_text, Key, VolId, Refusal, IoFault, Deed, Saw, lacks, left_in, one_reply, refused, replies_in, said_in, unsaid, with_reply, IsQuietLine, entries_reply, printed_reply, values_reply}
+use Rattle.mdv_engine_law.specs.Below.{Failures, refusal_text, Key, VolId, Refusal, IoFault, Created, Deed, Saw, lacks, left_in, one_reply, refused, replies_in, said_in, unsaid, with_reply, IsQuietLine, entries_reply, printed_reply, values_reply}
 use Rattle.mdv_engine_law.specs.declared.answer.Answer.{Answer}
 use Rattle.mdv_engine_law.specs.declared.answer.Answer.TheVariants.{Said, Over}
 use Rattle.mdv_engine_law.specs.declared.answer.Ended.{Ended}
@@ -14,7 +14,7 @@ use Rattle.mdv_engine_law.specs.declared.answer.Ended.TheVariants as ended
 use Rattle.mdv_engine_law.specs.declared.answer.Outcome.{Outcome}
 use Rattle.mdv_engine_law.specs.declared.answer.Outcome.TheVariants as outcome
 use Rattle.mdv_engine_law.specs.declared.answer.Reply.{Reply}
-use Rattle.mdv_engine_law.specs.Line.{Ask, Nothing, ToDo, ToSee, deeds}
+use Rattle.mdv_engine_law.specs.Line.{Ask, Nothing, ToBoot, ToDo, ToMake, ToSee, deeds}
 use Rattle.mdv_engine_law.specs.declared.answer.Reply.TheVariants as reply
 
 abbrev pub refusal_line : Refusal → List ℕ
@@ -92,6 +92,8 @@ pub record TellsValues (key : Key) (volume : VolId) (at count : ℕ) (reply : Li
 -- What a reply acknowledges to a line that asks this: `ok` the deed, and a reply to a read the values that it tells.
 abbrev pub AcksBy : Ask → List ℕ → List Deed → Type 0
 AcksBy Nothing reply done = done ≡ []
+AcksBy ToBoot reply done = done ≡ []
+AcksBy (ToMake key blocks) reply done = done ≡ (if bytes_eq reply ok_line then Created key ∷ [] else [])
 AcksBy (ToDo deed) reply done = done ≡ (if bytes_eq reply ok_line then deed ∷ [] else [])
 AcksBy (ToSee key volume at count) reply done = (IsRefusal reply × (done ≡ [])) ⊎ TellsValues key volume at count reply done
 
@@ -110,6 +112,8 @@ IsRefusalFront bytes = (refusal : Refusal) × (count : ℕ) × (bytes ≡ take c
 -- what a front of a reply acknowledges that isn't whole: of a read the values of the reply, from its first byte on, and else nothing
 abbrev pub AcksFront : Ask → List ℕ → List Deed → Type 0
 AcksFront Nothing bytes done = done ≡ []
+AcksFront ToBoot bytes done = done ≡ []
+AcksFront (ToMake key blocks) bytes done = done ≡ []
 AcksFront (ToDo deed) bytes done = done ≡ []
 AcksFront (ToSee key volume at count) bytes done = (IsRefusalFront bytes × (done ≡ [])) ⊎ TellsFront key volume at count bytes done
 

@@ -1,8 +1,7 @@
 -- How the drives stand with their history at each moment of a line.
-use Rattle.std.specs.Prelude.{◌≡◌, ◌⊎◌, ℕ, Bool, ◌-◌, ◌≤◌, true, false, List, [], ◌∷◌, ◌++◌, length, slice_index_or, take, None, IfSome, Contains}
-use Rattle.mdv_engine_law.specs.Below.{Command, Write, DriveBlock, DriveNo, Drives, has_drive, Identity, IsOldOrNew, IsSettled, KeptOutside, covers, nowhere, range, Wrote, Tale, told, MayLeave, last, Line, area_of, VolId, Map, IsMapOf, area_of_map, ShowsNothing, IsOpened, IsNewestIn, History, Deed, Created, Event, history_after, log_of, Adds, AreWoken, CanTell}
+use Rattle.std.specs.Prelude.{◌≡◌, ◌⊎◌, ℕ, Bool, ◌-◌, true, false, List, [], ◌∷◌, ◌++◌, length, slice_index_or, take, None, IfSome, Contains}
+use Rattle.mdv_engine_law.specs.Below.{Command, Write, DriveBlock, DriveNo, Drives, has_drive, Identity, IsOldOrNew, IsSettled, KeptOutside, covers, nowhere, range, Wrote, Tale, told, MayLeave, last, Line, area_of, Changed, VolId, Map, IsMapOf, area_of_map, ShowsNothing, IsOpened, IsNewestIn, History, Deed, Created, Event, history_after, log_of, Adds, AreWoken, CanTell}
 use Rattle.mdv_store_law.specs.Machine as machine
-use Rattle.mdv_words.specs.Line as words
 use Rattle.mdv_shelf.specs.Calls.{OnDrive}
 use Rattle.mdv_shelf.specs.Made.{Made}
 use Rattle.mdv_shelf.specs.Story.{FailuresBy, Moment}
@@ -15,10 +14,10 @@ use Rattle.mdv_engine_law.specs.declared.host.Host.{Host}
 use Rattle.mdv_engine_law.specs.Answers.{IsQuiet}
 use Rattle.mdv_engine_law.specs.Awake.{Happening, HasBooted, is_in}
 use Rattle.mdv_shelf.specs.Failing.{Outcomes}
-use Rattle.mdv_engine_law.specs.Home.{StaysHome, key_of, plain_area, site_of, sites_of}
+use Rattle.mdv_engine_law.specs.Home.{StaysHome, key_of, opened_area, plain_area, replica_area, site_of, sites_of}
 use Rattle.mdv_engine_law.specs.Commands.{ComesTo}
 use Rattle.mdv_engine_law.specs.Efforts.{LineCalls, replied_to}
-use Rattle.mdv_engine_law.specs.Line.{Ask, AreBlocksAt, Kept, Nothing, ToDo, ToSee, Memory, IsSame, asked_by, deeds, contents, kept_at}
+use Rattle.mdv_engine_law.specs.Line.{Ask, AreBlocksAt, Kept, Nothing, ToBoot, ToDo, ToMake, ToSee, Memory, IsSame, asked_by_line, deeds, contents, kept_at}
 use Rattle.mdv_engine_law.specs.Replies.{Acks, AcksAnswer, AcksBy, IsReply, IsFront, IsTold, issuable, issuable_of, issued_by, text_of}
 
 -- the drives stand with the history
@@ -104,19 +103,20 @@ pub record ArePutBy (place : DriveBlock) (blocks : List (List ℕ)) (t m : Tale)
   pub inside : (block : ℕ) → covers place.drive place.block (length blocks) place.drive block ≡ true → IsOldOrNew t m place.drive block (slice_index_or blocks (block - place.block) [])
   pub outside : KeptOutside (range place.drive place.block (length blocks)) t m
 
--- The blocks that a line which asks this may write, and all others are kept: a boot, a creation and a change those of the replica, a write its own, each of
--- which is old or new, and a read none.
+-- The blocks that a line which asks this may write, and all others are kept: a boot those that a replica may have, a creation those of the
+-- replica that it makes, a change those of the one that is open, a write its own, each of which is old or new, and any other line none.
 abbrev pub WritesOnly : Host → Ask → Memory → Tale → Tale → Type 0
-WritesOnly host Nothing memory t m = KeptOutside (area_of (site_of host)) t m
+WritesOnly host Nothing memory t m = KeptOutside nowhere t m
+WritesOnly host ToBoot memory t m = KeptOutside (area_of (site_of host)) t m
+WritesOnly host (ToMake key blocks) memory t m = KeptOutside (replica_area (site_of host) blocks) t m
+WritesOnly host (ToDo (Changed key change)) memory t m = KeptOutside (opened_area (site_of host) memory.opened) t m
 WritesOnly host (ToDo (Wrote key volume at blocks)) memory t m = KeptOutside nowhere t m ⊎ ((place : DriveBlock) × AreBlocksAt host memory volume at (length blocks) place × ArePutBy place blocks t m)
-WritesOnly host (ToDo other) memory t m = KeptOutside (area_of (site_of host)) t m
+WritesOnly host (ToDo other) memory t m = KeptOutside nowhere t m
 WritesOnly host (ToSee key volume at count) memory t m = KeptOutside nowhere t m
 
--- and those that a line may write, or a block of entries, which makes no call on the drive
+-- and those that a line may write, by what it asks
 abbrev pub LineWrites : Host → Line → Memory → Tale → Tale → Type 0
-LineWrites host words.Boot memory t m = WritesOnly host Nothing memory t m
-LineWrites host (words.Tab lines) memory t m = KeptOutside nowhere t m
-LineWrites host (words.Exec command) memory t m = WritesOnly host (asked_by host command) memory t m
+LineWrites host line memory t m = WritesOnly host (asked_by_line host line) memory t m
 
 -- what a command leaves that was told `ok`: of a write its block on the disk, with all that the drive was given before
 abbrev pub LeavesDone : Host → Memory → Command → Tale → Type 0

@@ -122,14 +122,14 @@ turn_home host ask old a b moments t u is_t is_u =
     let end = moments_end (TurnMoment host ask old) a b moments t is_t in
     subst (StaysHome host t) (some_is b end.0 u end.1 is_u) end.2.home
 
--- what a line writes by each of its moments that asks nothing: at most the replica's blocks
-pub asks_none : (host : Host) (old : Memory) (Writes : Tale → Tale → Type 0) → ((s m : Tale) → KeptOutside (area_of (site_of host)) s m → Writes s m) → (a b : Option Tale) → Moments (TurnMoment host Nothing old) a b → Moments Writes a b
+-- a line that asks nothing writes nothing by each of its moments
+pub asks_none : (host : Host) (old : Memory) (Writes : Tale → Tale → Type 0) → ((s m : Tale) → KeptOutside nowhere s m → Writes s m) → (a b : Option Tale) → Moments (TurnMoment host Nothing old) a b → Moments Writes a b
 asks_none host old Writes within a b moments = moments_weaker (TurnMoment host Nothing old) Writes a b (λ s m turn. within s m turn.within) moments
 
 -- and one that is a command: its own
 pub command_works : (engine : Engine) (text : List ℕ) (command : Command) → IsLine text (words.Exec command) → (a b : Option Tale) → Moments (TurnMoment engine.host (asked_by engine.host command) engine.state) a b → Moments (IsWorkOf engine text) a b
 command_works engine text command is a b moments =
-    moments_weaker (TurnMoment engine.host (asked_by engine.host command) engine.state) (IsWorkOf engine text) a b (λ s m turn more. inr (text, more, refl, command, is, turn.within)) moments
+    moments_weaker (TurnMoment engine.host (asked_by engine.host command) engine.state) (IsWorkOf engine text) a b (λ s m turn more. inr (text, more, refl, words.Exec command, is, turn.within)) moments
 
 -- the same of a line, told and written otherwise
 module _ {B : Type 0} (shelf : Shelf B) (host : Host) (replied uncut Tells More : Type 0) (Writes Works : Tale → Tale → Type 0) (old new : B) where

@@ -19,7 +19,7 @@ use Rattle.mdv_shelf.proofs.Frame.{kept_outside_same}
 use Rattle.mdv_shelf.proofs.Made.{by_efforts}
 use Rattle.mdv_engine_law.specs.Efforts.{BootCalls}
 use Rattle.mdv_engine_law.specs.Home.{site_of}
-use Rattle.mdv_shelf.specs.Area.{KeptOutside}
+use Rattle.mdv_shelf.specs.Area.{KeptOutside, nowhere}
 use Rattle.mdv_store_law.specs.Site.{area_of}
 use Rattle.mdv_run_law.specs.Run.{FromTo}
 use Rattle.mdv_engine_law.specs.Line.{contents}
@@ -60,7 +60,7 @@ module _ (host : Host) (start : Point) (first : Memory) (script : Script) where
       behind = λ x is_x. ([], here ∙ is_x);
       ran = λ x y is_x is_y. subst (λ (z : Story). RanTo host script first first script (tale_of x) (tale_of z)) (some_is start.story x y is_x is_y) (ran_start host script first (tale_of x));
       work = λ x is_x. subst (λ (z : Story). AtWork host (outset s) (tale_of z) (tale_of s)) (some_is start.story s x is is_x)
-          (record { moment = lines_start host script first (tale_of s); writes = inl (kept_outside_same (area_of (site_of host)) (tale_of s)) });
+          (record { moment = lines_start host script first (tale_of s); writes = inl (kept_outside_same nowhere (tale_of s)) });
       front = inl refl;
     };
   }

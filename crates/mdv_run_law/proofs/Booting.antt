@@ -1,7 +1,7 @@
 -- A boot, as a line of the script and as the start of a run.
-use Rattle.std.proofs.Common.{◌≡◌, inl, inr, ℕ, List, [], ◌++◌, Some, Contains, refl, sym, ◌∙◌, ap, subst, arith}
+use Rattle.std.proofs.Common.{◌≡◌, inl, inr, ℕ, List, [], ◌∷◌, ◌++◌, Some, Contains, refl, sym, ◌∙◌, ap, subst, arith}
 use Rattle.std.proofs.lemmas.List.{append-nil}
-use Rattle.mdv_run_law.specs.Below.{Drives, Entry, Script, line, ok_line, Tale, told, Said, left_in, replies_in, Boot, IsLine, History, Deed, Created, Event, history_after, history_after_all, Happening, HasBooted, Host, key_of, site_of, Nothing, Memory, issuable, issuable_of, StandsAt, IsKnown, BootMoment, BootedTo, TurnMoment, Turned}
+use Rattle.mdv_run_law.specs.Below.{Drives, Entry, Script, line, ok_line, Tale, told, Said, left_in, replies_in, Boot, IsLine, History, Deed, Created, Event, history_after, history_after_all, Happening, HasBooted, Host, key_of, site_of, Nothing, ToBoot, Memory, Acks, AcksIn, issuable, issuable_in, issuable_of, StandsAt, IsKnown, BootMoment, BootedTo, TurnMoment, Turned}
 use Rattle.mdv_store_law.proofs.Machine.{after_more, course_more}
 use Rattle.mdv_engine_law.proofs.Booting.{booted_first, booting_still}
 use Rattle.mdv_engine_law.proofs.Plain.{nothing_answers, nothing_said, nothing_acked, nothing_issuable}
@@ -21,8 +21,21 @@ module _ (host : Host) where
   never : (done : List Deed) → done ≡ [] → Contains done (Created (key_of host)) → ⊥
   never done none has = absurd (let in_none : Contains [] (Created (key_of host)) = subst (λ (l : List Deed). Contains l (Created (key_of host))) none has in omega (arith, in_none.1))
 
+  -- a boot acknowledges what a line does that asks nothing, and lets begin no more
+  boot_acks : (bytes : List ℕ) (done : List Deed) → Acks Nothing bytes done → Acks ToBoot bytes done
+  boot_acks bytes done acks = by (replies_in bytes) acks where
+    by : (replies : List (List ℕ)) → AcksIn Nothing replies (left_in bytes) done → AcksIn ToBoot replies (left_in bytes) done
+    by [] acks = acks
+    by (reply ∷ more) acks = acks
+
+  boot_lets : (bytes : List ℕ) → issuable_of Nothing bytes ≡ issuable_of ToBoot bytes
+  boot_lets bytes = by (replies_in bytes) where
+    by : (replies : List (List ℕ)) → issuable_in Nothing replies (left_in bytes) ≡ issuable_in ToBoot replies (left_in bytes)
+    by [] = refl
+    by (reply ∷ more) = refl
+
   -- while the host boots nothing is told
-  pub boot_turn : (old : Memory) (t m : Tale) → BootMoment host t m → TurnMoment host Nothing old t m
+  pub boot_turn : (old : Memory) (t m : Tale) → BootMoment host t m → TurnMoment host ToBoot old t m
   boot_turn old t m moment = record {
     home = stays_in_replica host t m moment.kept;
     within = moment.kept;
@@ -30,11 +43,11 @@ module _ (host : Host) where
     is_told = moment.quiet ∙ sym (append-nil (told t));
     front = inl nothing_said;
     done = [];
-    acks = nothing_acked Nothing;
+    acks = nothing_acked ToBoot;
     free = λ has. absurd (never [] refl has);
     goes = λ h known.
         let went = moment.goes h known.stands in
-        subst (λ (may : List Deed). turn.Goes host may [] turn.Reached m h) (sym (nothing_issuable Nothing)) (record { es = went.es; course = went.course; come = went.come; stands = went.stands; after = tt });
+        subst (λ (may : List Deed). turn.Goes host may [] turn.Reached m h) (sym (nothing_issuable ToBoot)) (record { es = went.es; course = went.course; come = went.come; stands = went.stands; after = tt });
   }
 
   module _ (old new : Memory) (t u : Tale) (booted : BootedTo host new t u) where
@@ -50,41 +63,45 @@ module _ (host : Host) where
         ))
 
     -- while the `ok` of a line `boot` is told
-    pub booted_turn : (m : Tale) → TurnMoment host Nothing new u m → TurnMoment host Nothing old t m
+    boot_goes : (m : Tale) (moment : TurnMoment host Nothing new u m) (g : History) → IsKnown host new g u → turn.Goes host (issuable_of ToBoot moment.bytes) moment.done turn.Reached m g
+    boot_goes m moment g known = subst (λ (may : List Deed). turn.Goes host may moment.done turn.Reached m g) (boot_lets moment.bytes) (moment.goes g known)
+
+    pub booted_turn : (m : Tale) → TurnMoment host Nothing new u m → TurnMoment host ToBoot old t m
     booted_turn m moment =
         let none = none_acked moment.bytes moment.done moment.acks in
         record {
           home = stays_more host t u m (stays_in_replica host t u booted.kept) moment.home;
-          within = kept_outside_more (area_of (site_of host)) t u m booted.kept moment.within;
+          within = kept_outside_more (area_of (site_of host)) t u m booted.kept (λ drive block out. moment.within drive block refl);
           bytes = moment.bytes;
           is_told = told_both m moment.bytes moment.is_told;
           front = moment.front;
           done = moment.done;
-          acks = moment.acks;
+          acks = boot_acks moment.bytes moment.done moment.acks;
           free = λ has. absurd (never moment.done none has);
           goes = λ h known.
-              let both = booted_both moment.done (issuable_of Nothing moment.bytes) turn.Reached m h known.stands (λ g known. moment.goes g known) in
+              let both = booted_both moment.done (issuable_of ToBoot moment.bytes) turn.Reached m h known.stands (λ g known. boot_goes m moment g known) in
               record { es = both.es; course = both.course; come = both.come; stands = both.stands; after = tt };
         }
 
     -- of the line itself too
     pub booted_line : (text : List ℕ) (more : Script) → IsLine text Boot → (m : Tale) → TurnMoment host Nothing new u m → LinesMoment host (line text more) old t m
     booted_line text more is m moment =
-        let asks : AsksBy host text moment.bytes Nothing = inl (inr (Boot, is, refl)) in
+        let asks : AsksBy host text moment.bytes ToBoot = inl (inr (Boot, is, refl)) in
+        let acks = boot_acks moment.bytes moment.done moment.acks in
         record {
           bytes = moment.bytes;
           is_told = told_both m moment.bytes moment.is_told;
           home = stays_more host t u m (stays_in_replica host t u booted.kept) moment.home;
-          made = λ known told. absurd (never moment.done (none_acked moment.bytes moment.done moment.acks) (front_told host text Nothing more moment.bytes asks moment.front moment.done moment.acks told));
+          made = λ known told. absurd (never moment.done (none_acked moment.bytes moment.done moment.acks) (front_told host text ToBoot more moment.bytes asks moment.front moment.done acks told));
           goes = λ h known.
-              let both = booted_both moment.done (issuable_of Nothing moment.bytes) turn.Reached m h known.stands (λ g known. moment.goes g known) in
-              record { es = both.es; course = both.course; come = front_come host text Nothing more old moment.bytes asks moment.front moment.done moment.acks both.es both.come (λ boot ok. (new.up, both.after.0)); stands = both.stands; after = tt };
+              let both = booted_both moment.done (issuable_of ToBoot moment.bytes) turn.Reached m h known.stands (λ g known. boot_goes m moment g known) in
+              record { es = both.es; course = both.course; come = front_come host text ToBoot more old moment.bytes asks moment.front moment.done acks both.es both.come (λ boot ok. (new.up, both.after.0)); stands = both.stands; after = tt };
         }
 
     -- and once it is
     pub booted_ran : (text : List ℕ) (more : Script) → IsLine text Boot → new.entries ≡ [] → (v : Tale) → (turned : Turned host Nothing new new u v) → StaysHome host u v → turned.bytes ≡ ok_line → RanTo host (line text more) old new more t v
     booted_ran text more is fresh v turned home ok =
-        let asks : AsksBy host text turned.bytes Nothing = inl (inr (Boot, is, refl)) in
+        let asks : AsksBy host text turned.bytes ToBoot = inl (inr (Boot, is, refl)) in
         record {
           bytes = turned.bytes;
           is_told = told_both v turned.bytes turned.is_told;
@@ -92,13 +109,13 @@ module _ (host : Host) where
           left_is = ap (behind (line text more)) (only_reply turned.bytes turned.reply) ∙ behind_none more;
           home = stays_more host t u v (stays_in_replica host t u booted.kept) home;
           knows = λ known. turned.knows booted.knows;
-          made = λ known told. absurd (never turned.done turned.acks (reply_told host text Nothing more turned.bytes asks turned.reply turned.done turned.acks told));
+          made = λ known told. absurd (never turned.done turned.acks (reply_told host text ToBoot more turned.bytes asks turned.reply turned.done turned.acks told));
           goes = λ h known.
-              let both = booted_both turned.done (issuable Nothing turned.bytes) (λ es after. IsKnown host new after v) v h known.stands (λ g known. turned.goes g known) in
+              let both = booted_both turned.done (issuable ToBoot turned.bytes) (λ es after. IsKnown host new after v) v h known.stands (λ g known. turned.goes g known) in
               record {
                 es = both.es;
                 course = both.course;
-                come = reply_come host text Nothing more old new turned.bytes asks turned.reply turned.done turned.acks both.es both.come (λ boot ok. (new.up, both.after.0)) (inl (is, ok, fresh));
+                come = reply_come host text ToBoot more old new turned.bytes asks turned.reply turned.done turned.acks both.es both.come (λ boot ok. (new.up, both.after.0)) (inl (is, ok, fresh));
                 stands = both.stands;
                 after = both.after.1.1;
               };
@@ -109,15 +126,15 @@ module _ (host : Host) where
   unfolding boot_turn
   boot_line text more is old t m moment =
       let turned = boot_turn old t m moment in
-      let asks : AsksBy host text [] Nothing = inl (inr (Boot, is, refl)) in
+      let asks : AsksBy host text [] ToBoot = inl (inr (Boot, is, refl)) in
       record {
         bytes = [];
         is_told = turned.is_told;
         home = turned.home;
-        made = λ known told. absurd (never [] refl (front_told host text Nothing more [] asks turned.front [] turned.acks told));
+        made = λ known told. absurd (never [] refl (front_told host text ToBoot more [] asks turned.front [] turned.acks told));
         goes = λ h known.
             let went = turned.goes h known in
-            record { es = went.es; course = went.course; come = front_come host text Nothing more old [] asks turned.front [] turned.acks went.es went.come (λ boot ok. absurd (no_bytes ok)); stands = went.stands; after = tt };
+            record { es = went.es; course = went.course; come = front_come host text ToBoot more old [] asks turned.front [] turned.acks went.es went.come (λ boot ok. absurd (no_bytes ok)); stands = went.stands; after = tt };
       }
     where
       no_bytes : [] ≡ ok_line → ⊥

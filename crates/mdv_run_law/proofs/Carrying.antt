@@ -22,6 +22,7 @@ use Rattle.mdv_tab.proofs.OneTab.{one_tab, never_bad, never_either, never_many}
 use Rattle.mdv_run_law.proofs.Extents.{SeesHome}
 use Rattle.mdv_run_law.proofs.Keeping.{IsSatisfied, NeverFailed, Settled, bare, held, stays_settled, Same, One, opening_of, same_through, stays_same, boot_same, put_same}
 use Rattle.mdv_run_law.proofs.Placing.{Opening, shut, wide, opened_twice, never_shut, one_at, at_beside}
+use Rattle.mdv_engine_law.proofs.Within.{outside_replica}
 
 -- blocks that are the same one by one
 same_blocks : (c d : ℕ → List ℕ) (first count : ℕ) → ((k : ℕ) → k < count → c (first + k) ≡ d (first + k)) → map c (range_with_len first count) ≡ map d (range_with_len first count)
@@ -83,7 +84,7 @@ module _ (calls : Outcomes) (calm : NeverFailed calls) (host : Host) (sound : Is
           record {
             memory = same_through n.memory (record memory { opened = Some one.newest; begun = memory.begun + 1 }) (record memory_too { opened = Some other.newest; begun = memory.begun + 1 }) m.memory one.memory other.memory
                 (record { opened = ap (λ (x : Newest). Some x) newests; up = same.memory.up; clean = refl; begun = refl; entries = refl });
-            beside = λ drive block out. one.beside drive block out ∙ same.beside drive block out ∙ sym (other.beside drive block out);
+            beside = λ drive block out. (let short = outside_replica (site_of host) blocks drive block out in one.beside drive block short ∙ same.beside drive block out ∙ sym (other.beside drive block short));
             one = held one.newest (ap (λ (x : Memory). x.opened) one.memory) one.head one.content;
             other = held other.newest (ap (λ (x : Memory). x.opened) other.memory) other.head other.content;
           }
@@ -95,7 +96,8 @@ module _ (calls : Outcomes) (calm : NeverFailed calls) (host : Host) (sound : Is
       committed change newest other is one two = record {
         memory = same_through n.memory (record memory { opened = Some (changed change newest) }) (record memory_too { opened = Some (changed change other) }) m.memory one.memory two.memory
             (record { opened = ap (λ (x : Newest). Some (changed change x)) is; up = same.memory.up; clean = refl; begun = refl; entries = refl });
-        beside = λ drive block out. one.beside drive block out ∙ same.beside drive block out ∙ sym (two.beside drive block out);
+        beside = λ drive block out.
+            one.beside drive block (outside_replica (site_of host) newest.blocks drive block out) ∙ same.beside drive block out ∙ sym (two.beside drive block (outside_replica (site_of host) other.blocks drive block out));
         one = held (changed change newest) (ap (λ (x : Memory). x.opened) one.memory) one.head one.content;
         other = held (changed change other) (ap (λ (x : Memory). x.opened) two.memory) two.head two.content;
       }
@@ -133,10 +135,10 @@ module _ (calls : Outcomes) (calm : NeverFailed calls) (host : Host) (sound : Is
 
       -- over for want of numbers alone
       over_is : (cmd : Command) (end : Ended) (x y : Kept) → GivesUp calls host x cmd end y → end ≡ ended.Spent
-      over_is (Create slice force blocks) (ended.Lost active listed) x y is = absurd (calm host.home.drive.0 is.0.here)
+      over_is (Create slice force blocks) (ended.Lost active listed) x y is = absurd (calm host.home.drive.0 is.0.failed.here)
       over_is (Create slice force blocks) ended.Spent x y is = refl
       over_is (Create slice force blocks) ended.Memory x y is = absurd is
-      over_is (command.MakeStripe volume slice) (ended.Lost active listed) x y is = absurd (calm host.home.drive.0 is.0.here)
+      over_is (command.MakeStripe volume slice) (ended.Lost active listed) x y is = absurd (calm host.home.drive.0 is.0.failed.here)
       over_is (command.MakeStripe volume slice) ended.Spent x y is = refl
       over_is (command.MakeStripe volume slice) ended.Memory x y is = absurd is
       over_is (Read volume at count) end x y is = absurd is
@@ -144,10 +146,10 @@ module _ (calls : Outcomes) (calm : NeverFailed calls) (host : Host) (sound : Is
       over_is (Print names) end x y is = absurd is
 
       never_done : (cmd : Command) (end : Ended) (x y z w : Kept) (answer : Answer) → x.memory.opened ≡ y.memory.opened → GivesUp calls host x cmd end z → Effect host y cmd answer w → ⊥
-      never_done (Create slice force blocks) (ended.Lost active listed) x y z w answer is gives effect = calm host.home.drive.0 gives.0.here
+      never_done (Create slice force blocks) (ended.Lost active listed) x y z w answer is gives effect = calm host.home.drive.0 gives.0.failed.here
       never_done (Create slice force blocks) ended.Spent x y z w answer is gives effect = gives
       never_done (Create slice force blocks) ended.Memory x y z w answer is gives effect = gives
-      never_done (command.MakeStripe volume slice) (ended.Lost active listed) x y z w answer is gives effect = calm host.home.drive.0 gives.0.here
+      never_done (command.MakeStripe volume slice) (ended.Lost active listed) x y z w answer is gives effect = calm host.home.drive.0 gives.0.failed.here
       never_done (command.MakeStripe volume slice) ended.Spent x y z w answer is (quiet, newest, opened, high, stays) (ok, other, opened_too, less, made) =
           let count = ap (λ (x : Newest). x.mark.count) (opened_twice y.memory.opened newest other (sym is ∙ opened) opened_too) in
           absurd (omega (arith, count, high, less))

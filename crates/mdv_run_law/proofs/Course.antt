@@ -208,7 +208,7 @@ end_satisfied failed calm answer next told status last with sated = record {
 }
 
 -- two runs in which nothing failed
-module _ (host : Host) (content : Image) (has : HasHome host content) where
+module _ (host : Host) (content : Image) (has : HasHome host) where
   sees : SeesHome host
   sees = record { table = has.table; home = has.home; view = has.view }
 

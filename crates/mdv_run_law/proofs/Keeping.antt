@@ -20,6 +20,7 @@ use Rattle.mdv_engine_law.specs.Line.{IsUpBy, booted_with, spent}
 use Rattle.mdv_run_law.specs.Run.{IsSaid, IsSameMemory}
 use Rattle.mdv_run_law.proofs.Again.{Alike, neither, alike_opened, never_found, never_lost, same_number, same_adopted}
 use Rattle.mdv_run_law.proofs.Placing.{Opening, shut, wide, opened_twice, never_shut}
+use Rattle.mdv_engine_law.proofs.Within.{outside_replica}
 
 -- an answer that tells nothing of a want of memory
 pub record IsSatisfied (answer : Answer) : Type 0 where
@@ -147,7 +148,8 @@ module _ (host : Host) where
             ok ∙ sym also,
             λ heard. record {
               memory = booted_memory (Some newest) (Some other) up up_too clean clean_too (ap (λ (x : Newest). Some x) newests) by_calls here by_calls_too here_too memory memory_too;
-              beside = λ drive block out. is.beside drive block out ∙ beside drive block out ∙ sym (is_too.beside drive block out);
+              beside = λ drive block out.
+                  is.beside drive block (outside_replica (site_of host) newest.blocks drive block out) ∙ beside drive block out ∙ sym (is_too.beside drive block (outside_replica (site_of host) other.blocks drive block out));
               one = held newest (ap (λ (x : Memory). x.opened) memory) _ is.written;
               other = held other (ap (λ (x : Memory). x.opened) memory_too) _ is_too.written;
             },

@@ -94,9 +94,9 @@ pub record IsHistoryOf (drives : Geometry) (home : Home) (made : Image) (ran : L
 abbrev pub LivesStand : Type 0
 LivesStand = (drives : Geometry) (home : Home) (made : Image) (ran : List Ran) (t : Tale) → IsHome drives home → IsLife drives made ran t → IsHistoryOf drives home made ran t
 
--- over every life each run has one course, where nothing fails
+-- the host has its home, whatever was run
 abbrev pub RunsHaveHome : Type 0
-RunsHaveHome = (drives : Geometry) (home : Home) (made : Image) (ran : List Ran) (t : Tale) (fresh : ℕ) → IsHome drives home → IsLife drives made ran t → HasHome (host_of drives home fresh) (contents t)
+RunsHaveHome = (drives : Geometry) (home : Home) (made : Image) (ran : List Ran) (t : Tale) (fresh : ℕ) → IsHome drives home → IsLife drives made ran t → HasHome (host_of drives home fresh)
 
 -- A table of volumes that is one of a history of these runs, made by the changes that the history has for it, the newest first. Lines of these runs asked them,
 -- in their order and each once, and what was told of each of these lines is `ok`, or that a call failed, or a front of one of these, as nothing told is; and

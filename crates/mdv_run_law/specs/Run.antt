@@ -437,10 +437,10 @@ pub record IsSameMemory (a b : Memory) : Type 0 where
 
 -- two ends with the same in memory and in each block that no replica may have
 abbrev pub IsSameEnd : Host → Kept → Kept → Type 0
-IsSameEnd host a b = IsSameMemory a.memory b.memory × IsSameBeside (site_of host) b.content a.content
+IsSameEnd host a b = IsSameMemory a.memory b.memory × IsSameBeside (area_of (site_of host)) b.content a.content
 
 -- the host has its home in a table of drives, and sees of it what is its own, which is sound
-pub record HasHome (host : Host) (content : Image) : Type 0 where
+pub record HasHome (host : Host) : Type 0 where
   pub table : Geometry
   pub home : IsHome table host.home
   pub view : host.drives ≡ own_view table host.home.host
@@ -451,5 +451,5 @@ pub record HasHome (host : Host) (content : Image) : Type 0 where
 -- over for want of places or numbers, what is in memory and on the drive at the end
 abbrev pub OneCourse : Type 0
 OneCourse =
-    (host : Host) (content : Image) → HasHome host content → (script : Script) (first second : Stretch) (start end from to : Counts) → IsUndisturbed start end → IsUndisturbed from to
+    (host : Host) (content : Image) → HasHome host → (script : Script) (first second : Stretch) (start end from to : Counts) → IsUndisturbed start end → IsUndisturbed from to
     → (a b : List ℕ) (s r : RunStatus) (k j : Kept) → IsSated a s → IsSated b r → IsRun host first start end content script a s k → IsRun host second from to content script b r j → (a ≡ b) × (s ≡ r) × ((IsLostStatus s → ⊥) → IsSameEnd host k j)

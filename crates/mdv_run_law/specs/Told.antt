@@ -3,23 +3,21 @@ use Rattle.std.specs.Prelude.{◌≡◌, ◌⊎◌, ℕ, List, [], ◌++◌, Som
 use Rattle.mdv_engine_law.specs.Answers.{accepted}
 use Rattle.mdv_engine_law.specs.Efforts.{BootCalls}
 use Rattle.mdv_shelf.specs.Failing.{Outcomes}
-use Rattle.mdv_engine_law.specs.Line.{Memory, asked_by}
-use Rattle.mdv_engine_law.specs.Standing.{BootedTo, WritesOnly}
+use Rattle.mdv_engine_law.specs.Line.{Memory}
+use Rattle.mdv_engine_law.specs.Standing.{BootedTo, LineWrites}
 use Rattle.mdv_run_law.specs.Below.{Host, IsLine, IsRebooted, Kept, Script, Tale, contents, line, site_of, told}
 use Rattle.mdv_run_law.specs.Run.{AreSynced, At, Counts, FromTo, IsNextFront, IsPoint, LinesTold, Progress, RoseCalmly, StoryGoesOn, Stretch, behind_boot, drive_failures, started}
 use Rattle.mdv_run_law.specs.Standing.{LinesMoment, RanTo}
-use Rattle.mdv_shelf.specs.Area.{KeptOutside}
+use Rattle.mdv_shelf.specs.Area.{KeptOutside, nowhere}
 use Rattle.mdv_shelf.specs.Made.{made_between}
 use Rattle.mdv_shelf.specs.Story.{Moment, Story, tale_of}
 use Rattle.mdv_store_law.specs.Site.{area_of}
-use Rattle.mdv_words.specs.Line.{Exec}
-use Rattle.mdv_words.specs.declared.command.Command.{Command}
+use Rattle.mdv_words.specs.Line.{Line}
 
--- The blocks that the next line may write where this is in memory, and all others are kept: those of the replica, or, where it is a command that writes others, its own.
+-- The blocks that the next line may write where this is in memory, and all others are kept: none, or those that it may write by what it asks.
 abbrev pub WorkWrites : Host → Memory → Script → Tale → Tale → Type 0
 WorkWrites host memory script s m =
-    KeptOutside (area_of (site_of host)) s m
-    ⊎ ((text : List ℕ) × (more : Script) × (script ≡ line text more) × (command : Command) × IsLine text (Exec command) × WritesOnly host (asked_by host command) memory s m)
+    KeptOutside nowhere s m ⊎ ((text : List ℕ) × (more : Script) × (script ≡ line text more) × (spelled : Line) × IsLine text spelled × LineWrites host spelled memory s m)
 
 -- a moment of the line in work, behind a place between two lines: each history that is known there goes on by its events, and it wrote no block but those that it may
 pub record AtWork (host : Host) (at : At) (s m : Tale) : Type 0 where
@@ -57,8 +55,9 @@ pub record RunToldBy (host : Host) (stretch : Stretch) (start : Counts) (t : Tal
   pub leads : (s : Story) → by.story ≡ Some s → HasBroughtUp host (drive_failures start booted) kept.memory t (tale_of s)
   pub lines : LinesToldBy host stretch (behind_boot booted by kept script) told m
 
--- By a moment of a run that began at t nothing was told, and nothing done but on the replica's blocks, while it boots; or what the script asks for was told, as far as it had come: values
--- that were told are those of blocks as the lines before left them, by the relation of lines alone. It says so too of a run that was stopped there.
+-- By a moment of a run that began at t nothing was told, and nothing done but on the blocks that a replica may have, while it boots; or what the
+-- script asks for was told, as far as it had come: values that were told are those of blocks as the lines before left them, by the relation of
+-- lines alone. It says so too of a run that was stopped there.
 pub record IsToldBy (host : Host) (stretch : Stretch) (start : Counts) (script : Script) (t m : Moment) : Type 0 where
   pub bytes : List ℕ
   pub is_told : told m.tale ≡ told t.tale ++ bytes

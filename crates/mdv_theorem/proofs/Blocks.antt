@@ -141,7 +141,7 @@ module _ (drives : Geometry) (home : Home) (made : Image) (before : List Ran) (t
 
     its_told : IsToldAt deed line.own
     its_told =
-        let tells = deed_told drives home made before t sound is_home life write (Write volume number old) deed line.own refl acknowledged.asks replied in
+        let tells = deed_told drives home made before t sound is_home life write (Write volume number old) deed line.own (λ done acks. acks) acknowledged.asks replied in
         told_at deed line.own tt (subst (λ (l : List Deed). Contains l deed) (sym tells) (contains_first deed []))
 
     -- where it was told, what came before, and behind

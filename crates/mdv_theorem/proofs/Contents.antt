@@ -39,6 +39,7 @@ use Rattle.mdv_theorem.specs.Exchanges.{Exchange, IsAcknowledged, IsSameBlock, I
 use Rattle.mdv_theorem.proofs.Steps.{Steps, no_step, one_step, skipped, told_once}
 use Rattle.mdv_theorem.proofs.Tables.{never_clean, IsCarried, Keeps, Offers, OpenLine, ShutLine, booted, created, falls, fell, granted_done, idle, keeps_line, keeps_steps, map_carried, off, open_line, rests, shut_line, up, writes}
 use Rattle.mdv_theorem.proofs.Telling.{is_fault, ok_is_none, one_number}
+use Rattle.mdv_engine_law.proofs.Within.{outside_replica}
 
 -- a write that was told ok, or that a call failed, may have begun
 may_have_begun : (one : Exchange) (answer : Answer) → IsTold one (text_of answer) → (answer ≡ accepted) ⊎ (answer ≡ refusing IoFault) → MayHaveBegun one
@@ -121,7 +122,7 @@ module _ (host : Host) (sound : IsSound host.drives) (sees : SeesHome host) (vol
 
   -- what a boot leaves
   boot_left : (calls : Outcomes) (answer : Answer) (kept next : Kept) → area_of (site_of host) drive (first + b) ≡ false → IsRebooted calls host kept answer next → IsSaid answer → IsKept kept next
-  boot_left calls answer kept next out (boot.adopted quiet later on clean ok memory by_calls here rewrites) said = rewrites.beside drive (first + b) out
+  boot_left calls answer kept next out (boot.adopted quiet later on clean ok memory by_calls here rewrites) said = rewrites.beside drive (first + b) (outside_replica (site_of host) later.blocks drive (first + b) out)
   boot_left calls answer kept next out (boot.empty quiet on clean ok memory by_calls here none same) said = same drive (first + b)
   boot_left calls answer kept next out (boot.down so on ok memory by_calls same) said = same drive (first + b)
   boot_left calls answer kept next out (boot.lost so own found panic left) said = left drive (first + b) out
@@ -131,7 +132,7 @@ module _ (host : Host) (sound : IsSound host.drives) (sees : SeesHome host) (vol
   pub first_left : (calls : Outcomes) (answer : Answer) (kept next : Kept) → Offers host Lies kept.content → IsRebooted calls host kept answer next → IsSaid answer → next.content drive (first + b) ≡ kept.content drive (first + b)
   first_left calls answer kept next offers (boot.adopted quiet later on clean ok memory by_calls here rewrites) said =
       let lies = offers.each rewrites.head (other_slot later.slot) rewrites.mark later.table rewrites.replica (newest_stays.beside rewrites.head later.slot rewrites.spare rewrites.shown) rewrites.has in
-      rewrites.beside drive (first + b) (lies_out later.table rewrites.has.is.of_geometry lies)
+      rewrites.beside drive (first + b) (outside_replica (site_of host) later.blocks drive (first + b) (lies_out later.table rewrites.has.is.of_geometry lies))
   first_left calls answer kept next offers (boot.empty quiet on clean ok memory by_calls here none same) said = same drive (first + b)
   first_left calls answer kept next offers (boot.down so on ok memory by_calls same) said = same drive (first + b)
   first_left calls answer kept next offers (boot.lost so own found panic left) said = absurd (let never : ⊥ = subst IsSaid panic said in never)

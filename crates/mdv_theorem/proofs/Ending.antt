@@ -58,10 +58,10 @@ module _ (calls : Outcomes) (host : Host) (kept next : Kept) (answer : Answer) w
   effect_end (Print names) is = subst IsEnd (sym is.2) tt
 
   gives_end : (cmd : Command) (end : Ended) → GivesUp calls host kept cmd end next → IsEnd (Ends end)
-  gives_end (Create slice force blocks) (stop.Lost active listed) gives = gives.0.here
+  gives_end (Create slice force blocks) (stop.Lost active listed) gives = gives.0.failed.here
   gives_end (Create slice force blocks) stop.Spent gives = tt
   gives_end (Create slice force blocks) stop.Memory gives = tt
-  gives_end (command.MakeStripe volume slice) (stop.Lost active listed) gives = gives.0.here
+  gives_end (command.MakeStripe volume slice) (stop.Lost active listed) gives = gives.0.failed.here
   gives_end (command.MakeStripe volume slice) stop.Spent gives = tt
   gives_end (command.MakeStripe volume slice) stop.Memory gives = tt
   gives_end (Read volume at count) end gives = absurd gives

@@ -190,10 +190,14 @@ module _ (drives : Geometry) (home : Home) (made : Image) (before : List Ran) (t
   pub ok_sated : IsWanting ok_line → ⊥
   ok_sated wanting = no_ok ok_line wanting ((bytes_eq-Decides ok_line ok_line).1 refl)
 
+  -- what the `ok` of a command acknowledges is that deed
+  abbrev IsAckedAs : Command → Deed → Type 0
+  IsAckedAs spelled deed = (done : List Deed) → AcksBy (asked_by own spelled) ok_line done → AcksBy (ToDo deed) ok_line done
+
   -- `ok` told the deed that it asked
-  pub deed_told : (one : Exchange) (spelled : Command) (deed : Deed) (here : List Event) → asked_by own spelled ≡ ToDo deed → Asks one spelled → AreReplied drives home one.text ok_line here → told_by here ≡ deed ∷ []
+  pub deed_told : (one : Exchange) (spelled : Command) (deed : Deed) (here : List Event) → IsAckedAs spelled deed → Asks one spelled → AreReplied drives home one.text ok_line here → told_by here ≡ deed ∷ []
   deed_told one spelled deed here is asks are =
-      let acks : AcksBy (ToDo deed) ok_line are.done = subst (λ (a : Ask). AcksBy a ok_line are.done) (asked_at one ok_line spelled here asks ok_sated are ∙ is) are.acks in
+      let acks : AcksBy (ToDo deed) ok_line are.done = is are.done (subst (λ (a : Ask). AcksBy a ok_line are.done) (asked_at one ok_line spelled here asks ok_sated are) are.acks) in
       are.tells ∙ acks ∙ ap (λ (ok : Bool). if ok then deed ∷ [] else []) ((bytes_eq-Decides ok_line ok_line).1 refl)
 
   abbrev HasMap : VolId → Table → Type 0
@@ -209,7 +213,7 @@ module _ (drives : Geometry) (home : Home) (made : Image) (before : List Ran) (t
   write_found one volume at block has asks told =
       let deed = Wrote own_key volume at (block ∷ []) in
       let answered = replied_at one ok_line has told in
-      let tells = deed_told one (command.Write volume at block) deed answered.own refl asks answered.replied in
+      let tells = deed_told one (command.Write volume at block) deed answered.own (λ done acks. acks) asks answered.replied in
       let its_told = told_at deed answered.own tt (subst (λ (l : List Deed). Contains l deed) (sym tells) (contains_first deed [])) in
       let event = Acknowledges its_told.place own_key volume at (block ∷ []) in
       let first = answered.first ++ its_told.at.first in
@@ -291,7 +295,7 @@ module _ (drives : Geometry) (home : Home) (made : Image) (before : List Ran) (t
       )
 
   -- a deed that a line of these runs asked, and was told `ok` for, was told
-  deed_among : (one : Exchange) (spelled : Command) (deed : Deed) → asked_by own spelled ≡ ToDo deed → Contains (exchanges_by home before) one → Asks one spelled → IsTold one ok_line → Contains (told_by es) deed
+  deed_among : (one : Exchange) (spelled : Command) (deed : Deed) → IsAckedAs spelled deed → Contains (exchanges_by home before) one → Asks one spelled → IsTold one ok_line → Contains (told_by es) deed
   deed_among one spelled deed is has asks told =
       let answered = replied_at one ok_line has told in
       let tells_it = deed_told one spelled deed answered.own is asks answered.replied in
@@ -302,13 +306,13 @@ module _ (drives : Geometry) (home : Home) (made : Image) (before : List Ran) (t
 
   -- A database whose creation was told is found.
   pub created_found : (one : Exchange) (slice : SliceName) (force : Bool) (blocks : ℕ) → Contains (exchanges_by home before) one → Asks one (command.Create slice force blocks) → IsTold one ok_line → IsFound place held None → ⊥
-  created_found one slice force blocks has asks told = told_found None (log_told None (deed_among one (command.Create slice force blocks) (Created own_key) refl has asks told))
+  created_found one slice force blocks has asks told = told_found None (log_told None (deed_among one (command.Create slice force blocks) (Created own_key) (λ done acks. acks) has asks told))
 
   -- So is a volume whose making was told, on the slice that was named.
   pub stripe_found : (one : Exchange) (volume : VolId) (slice : SliceName) → Contains (exchanges_by home before) one → Asks one (command.MakeStripe volume slice) → IsTold one ok_line → IsFoundWith drives home t (HasStripe own.drives volume slice)
   stripe_found one volume slice has asks told =
       let change = MakeStripe volume slice in
-      let found = change_found change (deed_among one (command.MakeStripe volume slice) (Changed own_key change) refl has asks told) in
+      let found = change_found change (deed_among one (command.MakeStripe volume slice) (Changed own_key change) (λ done acks. acks) has asks told) in
       (found.0, λ table is. (let made = found.1 table is in made_has own.drives made.0 table volume slice made.1 made.2))
 
   made_found : (one : Exchange) (volume : VolId) (slice : SliceName) → Contains (exchanges_by home before) one → Asks one (command.MakeStripe volume slice) → IsTold one ok_line → IsFoundWith drives home t (HasMap volume)

@@ -42,6 +42,7 @@ use Rattle.mdv_theorem.proofs.Agreeing.{own_sound, sees_home}
 use Rattle.mdv_theorem.proofs.Steps.{told_once}
 use Rattle.mdv_theorem.proofs.Tables.{Grows}
 use Rattle.mdv_theorem.proofs.Telling.{entries_are_none, is_fault, ok_is_none, one_number, quiet_is_none, values_are_none}
+use Rattle.mdv_engine_law.proofs.Within.{opened_in_place, replica_in_place}
 
 -- a refusal for another cause than a failed call, or that one
 quiet_or_fault : (r : Refusal) → IsQuiet (Said (outcome.Refused r)) ⊎ (r ≡ IoFault)
@@ -164,12 +165,12 @@ module _ (drives : Geometry) (home : Home) where
         contains_one e = contains_first e []
 
       pub command_leaves : (spelled : Command) → Asks one spelled → MayHaveBegun one → WritesOnly its_host (asked_by its_host spelled) memory t u → AreLeft (one ∷ []) t u
-      command_leaves (Create slice force blocks) asks begun wrote = home_leaves (one ∷ []) t u wrote
-      command_leaves (command.MakeStripe other slice) asks begun wrote = home_leaves (one ∷ []) t u wrote
+      command_leaves (Create slice force blocks) asks begun wrote = home_leaves (one ∷ []) t u (replica_in_place (site_of own) t u blocks wrote)
+      command_leaves (command.MakeStripe other slice) asks begun wrote = home_leaves (one ∷ []) t u (opened_in_place (site_of own) t u memory.opened wrote)
       command_leaves (Read other at count) asks begun wrote = none_leaves (one ∷ []) t u wrote
       command_leaves (Write other at new) asks begun (inl kept) = none_leaves (one ∷ []) t u kept
       command_leaves (Write other at new) asks begun (inr (place, there, put)) = put_leaves other at new asks begun place there put
-      command_leaves (Print names) asks begun wrote = home_leaves (one ∷ []) t u wrote
+      command_leaves (Print names) asks begun wrote = none_leaves (one ∷ []) t u wrote
 
       spelled_leaves : (spelled : Line) → IsLine one.text spelled → MayHaveBegun one → LineWrites its_host spelled memory t u → AreLeft (one ∷ []) t u
       spelled_leaves words.Boot is begun wrote = home_leaves (one ∷ []) t u wrote

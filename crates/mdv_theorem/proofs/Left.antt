@@ -26,6 +26,7 @@ use Rattle.mdv_store_law.specs.Site.{Newest}
 use Rattle.mdv_table.specs.Slices.{IsSound}
 use Rattle.mdv_table.specs.declared.table.Table.{Table}
 use Rattle.mdv_volumes.specs.History.{History}
+use Rattle.mdv_words.specs.Line as words
 use Rattle.mdv_words.specs.Line.{Exec, IsLine}
 use Rattle.mdv_words.specs.declared.command.Command.{Command}
 use Rattle.mdv_theorem.specs.Exchanges.{Exchange, MayHaveBegun, exchanges, exchanges_of}
@@ -217,8 +218,10 @@ module _ (drives : Geometry) (home : Home) (sound : IsSound drives) (is_home : I
         work_told (inr told) = front_leaves told
 
       pub work_leaves : WorkWrites host at.kept.memory at.script (tale_of s) m.tale → AreLeft (exchanges_of at.script rest) (tale_of s) m.tale
-      work_leaves (inl kept) = home_leaves drives home sound is_home final volume number spot (exchanges_of at.script rest) (tale_of s) m.tale kept
-      work_leaves (inr (text, more, same, spelled, asks, wrote)) = work_told text more same spelled asks wrote front
+      work_leaves (inl kept) = none_leaves drives home sound is_home final volume number spot (exchanges_of at.script rest) (tale_of s) m.tale kept
+      work_leaves (inr (text, more, same, words.Boot, is, wrote)) = home_leaves drives home sound is_home final volume number spot (exchanges_of at.script rest) (tale_of s) m.tale wrote
+      work_leaves (inr (text, more, same, words.Tab lines, is, wrote)) = none_leaves drives home sound is_home final volume number spot (exchanges_of at.script rest) (tale_of s) m.tale wrote
+      work_leaves (inr (text, more, same, Exec spelled, asks, wrote)) = work_told text more same spelled asks wrote front
 
     -- what lasts at the moment has no volume but those of that table
     module _ (m : Moment) (into : (table : Table) → Lasts drives home table m.tale → Grows (own drives home).drives table final) where

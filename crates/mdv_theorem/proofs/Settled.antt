@@ -36,6 +36,7 @@ use Rattle.mdv_words.specs.declared.command.Command.{Command}
 use Rattle.mdv_words.specs.declared.command.Command.TheVariants.{Create, MakeStripe, Print, Read, Write}
 use Rattle.mdv_theorem.proofs.Aside.{Commanded, came as came_so, commanded, unread}
 use Rattle.mdv_theorem.proofs.Tables.{Stands, open_on, shut}
+use Rattle.mdv_engine_law.proofs.Within.{outside_opened, outside_replica}
 
 -- a write that is refused before anything is done is refused for another cause than a failed call
 where_quiet : (holds : Bool) (r : Refusal) → IsQuiet (refusing r) → All (λ s. IsQuiet (refusing s)) (where_so holds r)
@@ -100,10 +101,10 @@ module _ (host : Host) (sound : IsSound host.drives) (drive b : ℕ) (out : area
         by (unread is) = refuses OutOfMemory is tt
 
     command_settled : (command : Command) → IsLine text (words.Exec command) → WritesOnly host (asked_by host command) kept.memory t u → IsSettledAt u
-    command_settled (Create slice force blocks) spelled writes = still_settled t u (writes drive b out) settled
-    command_settled (MakeStripe volume slice) spelled writes = still_settled t u (writes drive b out) settled
+    command_settled (Create slice force blocks) spelled writes = still_settled t u (writes drive b (outside_replica (site_of host) blocks drive b out)) settled
+    command_settled (MakeStripe volume slice) spelled writes = still_settled t u (writes drive b (outside_opened (site_of host) kept.memory.opened drive b out)) settled
     command_settled (Read volume at count) spelled writes = still_settled t u (writes drive b refl) settled
-    command_settled (Print names) spelled writes = still_settled t u (writes drive b out) settled
+    command_settled (Print names) spelled writes = still_settled t u (writes drive b refl) settled
     command_settled (Write volume at block) spelled (inl none) = still_settled t u (none drive b refl) settled
     command_settled (Write volume at block) spelled (inr (place, there, put)) = elim (both_ways (covers place.drive place.block 1 drive b)) [
       | inl here ↦ wrote_settled volume at block spelled place there (sym (put_at place.drive place.block drive b here).0)

@@ -64,6 +64,7 @@ use Rattle.mdv_words.specs.declared.command.Command.TheVariants as command
 use Rattle.mdv_theorem.specs.Exchanges.{Asks, Exchange, IsGranted, IsOn, IsTold, ShowsThere}
 use Rattle.mdv_theorem.proofs.Steps.{Steps, no_step, one_step, skipped, told_once}
 use Rattle.mdv_theorem.proofs.Telling.{ok_is_none, values_are_none}
+use Rattle.mdv_engine_law.proofs.Within.{outside_replica}
 
 -- the table has each volume of the other, with the same map
 abbrev pub Grows : Geometry → Table → Table → Type 0
@@ -123,7 +124,7 @@ unrefused host newest change is = unheld (table.held host.drives newest.table.pl
 -- What a line comes to where a database is open: it stays open, with its table or a later one, and nothing is done but to its replica; a block of a volume was written, or may have been;
 -- or no database is open any more, for a call on its drive failed in a boot.
 pub data OpenLine (host : Host) (calls : Outcomes) (text : List ℕ) (answer : Answer) (newest : Newest) (kept next : Kept) : Type 0 where
-  rests : (later : Newest) → next.memory.opened ≡ Some later → (head : Head) → IsNewestOf (site_of host) (on_site (site_of host) next.content) head later → IsLater host.drives text answer newest.table later.table → IsSameBeside (site_of host) kept.content next.content
+  rests : (later : Newest) → next.memory.opened ≡ Some later → (head : Head) → IsNewestOf (site_of host) (on_site (site_of host) next.content) head later → IsLater host.drives text answer newest.table later.table → IsSameBeside (area_of (site_of host)) kept.content next.content
       → OpenLine host calls text answer newest kept next
   writes : (volume : VolId) (at : ℕ) (block : List ℕ) → IsLine text (words.Exec (Write volume at block)) → next.memory ≡ kept.memory → (place : DriveBlock) → AreBlocksAt host kept.memory volume at 1 place → MayBePut place (block ∷ []) kept.content next.content
       → (head : Head) → IsNewestOf (site_of host) (on_site (site_of host) next.content) head newest → (answer ≡ accepted) ⊎ (answer ≡ refusing IoFault) → OpenLine host calls text answer newest kept next
@@ -181,7 +182,8 @@ module _ (host : Host) (sound : IsSound host.drives) (sees : SeesHome host) wher
     open_boot : IsRebooted calls host kept answer next → IsSaid answer → Line_of
     open_boot (boot.adopted quiet later on clean ok memory by_calls here rewrites) said =
         let same = again_rewritten (site_of host) sound kept.content head newest is next.content later rewrites in
-        rests later (ap (λ (m : Memory). m.opened) memory) _ rewrites.written (inl (ap (λ (n : Newest). n.table) same)) rewrites.beside
+        rests later (ap (λ (m : Memory). m.opened) memory) _ rewrites.written (inl (ap (λ (n : Newest). n.table) same))
+        (λ drive block out. rewrites.beside drive block (outside_replica (site_of host) later.blocks drive block out))
     open_boot (boot.empty quiet on clean ok memory by_calls here none same) said = absurd (none head is.replica (its_shown (site_of host) sound kept.content head newest is))
     open_boot (boot.down so on ok memory by_calls same) said = falls so (ap (λ (m : Memory). m.opened) memory) (ap (λ (m : Memory). m.clean) memory) same
     open_boot (boot.lost so own found panic left) said = absurd (let never : ⊥ = subst IsSaid panic said in never)
@@ -203,7 +205,8 @@ module _ (host : Host) (sound : IsSound host.drives) (sees : SeesHome host) wher
         let after : IsAfter host.drives (MakeStripe volume slice) newest.table.plan (table_after host.drives (MakeStripe volume slice) newest.table).plan = (unrefused host newest (MakeStripe volume slice) unheld, refl) in
         let later : IsLater host.drives text answer newest.table (table_after host.drives (MakeStripe volume slice) newest.table) = inr (volume, slice, spelled, ok, after) in
         rests (next_newest its (table_after host.drives (MakeStripe volume slice) its.table)) (ap (λ (m : Memory). m.opened) made.memory) made.head made.content
-        (subst (λ (n : Newest). IsLater host.drives text answer newest.table (table_after host.drives (MakeStripe volume slice) n.table)) (sym same) later) made.beside
+        (subst (λ (n : Newest). IsLater host.drives text answer newest.table (table_after host.drives (MakeStripe volume slice) n.table)) (sym same) later)
+        (λ drive block out. made.beside drive block (outside_replica (site_of host) its.blocks drive block out))
 
     open_done : (cmd : Command) → IsLine text (words.Exec cmd) → IsAllowed (case_of host kept) cmd → Effect host kept cmd answer next → Line_of
     open_done (Create slice force blocks) spelled free effect = absurd (never_created slice force blocks free)

@@ -2,13 +2,13 @@ use Rattle.mdv_run.proofs.Counting.{boot_calls, opened_took, over_calls}
 use Rattle.mdv_run.specs.Calls.{OpenedTook}
 use Rattle.mdv_engine_law.specs.declared.answer.Outcome.TheVariants as outcome
 use Rattle.std.proofs.Common.{◌≡◌, ◌≤◌, ◌+◌, ℕ, List, [], inl, inr, Option, refl, sym, ◌∙◌, ap, subst, arith}
-use Rattle.mdv_engine_law.specs.Line.{Nothing}
+use Rattle.mdv_engine_law.specs.Line.{Nothing, ToBoot}
 use Rattle.std.proofs.lemmas.List.{append-nil}
 use Rattle.mdv_shelf.specs.Shelves.{DriveFailures, GivingFailed}
 use Rattle.mdv_run.specs.Below.{IsLine, LinesMoment, Memory, Script, line, OnReplies, Moments, Ends, told, Boot, Host, StaysHome, BootMoment, BootedTo, TurnMoment, Engine, IsWell, Knows, IsRebooted, Tale, kept_at}
 use Rattle.mdv_run.specs.Promise.{IsWorkOf, LineEnd}
 use Rattle.mdv_engine_law.specs.Line.{home_calls}
-use Rattle.mdv_run.proofs.Answering.{asks_none, loud_ok, same_within, uncut_replied, line_executed, accepted_ok, accepted_turned, ended_reply, reply_more, told_reply, turn_writes}
+use Rattle.mdv_run.proofs.Answering.{loud_ok, same_within, uncut_replied, line_executed, accepted_ok, accepted_turned, ended_reply, reply_more, told_reply, turn_writes}
 use Rattle.std.specs.Option.{option_map}
 use Rattle.mdv_shelf.specs.Shelves.{AtEachMoment}
 use Rattle.mdv_shelf.specs.Story.{OfTales, Story, tale_of}
@@ -38,14 +38,14 @@ use Rattle.mdv_shelf.proofs.Among.{in_time_of_among}
 use Rattle.mdv_run.proofs.Keeping.{in_time_replied, replies_apart}
 use Rattle.mdv_run.proofs.session.boot_anew.Goals as goal
 
--- no block was written but the replica's
+-- no block was written but those that a replica may have
 abbrev BootWorks : Engine → Tale → Tale → Type 0
 BootWorks engine s m = (text : List ℕ) → IsLine text Boot → IsWorkOf engine text s m
 
 -- a boot, and then the telling of it
 module _ (host other : Host) (same : other ≡ host) (old new : Memory) (a b c : Option Tale) (boots : Moments (BootMoment host) a b) (booted : Ends (BootedTo host new) a b) (turns : Moments (TurnMoment other Nothing new) b c) where
-  both_turns : Moments (TurnMoment host Nothing old) a c
-  both_turns = moments_after (BootMoment host) (BootedTo host new) (TurnMoment other Nothing new) (TurnMoment host Nothing old) a b c (λ t m moment. boot_turn host old t m moment)
+  both_turns : Moments (TurnMoment host ToBoot old) a c
+  both_turns = moments_after (BootMoment host) (BootedTo host new) (TurnMoment other Nothing new) (TurnMoment host ToBoot old) a b c (λ t m moment. boot_turn host old t m moment)
       (λ t u m up turn. booted_turn host old new t u up m (subst (λ (h : Host). TurnMoment h Nothing new u m) same turn)) boots booted turns
 
   both_lines : (text : List ℕ) (more : Script) → IsLine text Boot → Moments (LinesMoment host (line text more) old) a c
@@ -79,7 +79,7 @@ returns-in-Ok-clause-end g c = λ text boots.
             (calm_before _ _ _ (c.reboot.ensures.kept.others OnReplies (replies_apart c.args.engine.now.host.own))).some
             (ap told (some_is _ up.0 quiet.0 up.1 quiet.1) ∙ quiet.2.quiet) up.2.rebooted end.2
             (boot_too (DriveFailures g.B.Shelf c.args.bench.now c.reboot.new.shelf) (DriveFailures g.B.Shelf c.args.bench.now c.reboot.new.shelf) (same_within (DriveFailures g.B.Shelf c.args.bench.now c.reboot.new.shelf)) (made_of g.B.Shelf c.args.bench.now c.reboot.new.shelf) (and_more 1 made) (with_more g.B.Shelf.calls g.B.Shelf.written _ _ _ 1 c.accept.ensures.counted.once) host accepted new (contents t) up.2.effort))
-            (turn_writes host Nothing old _ _ (both_turns host c.reboot.new.self.host c.in-Ok.ensures.answer.host old new _ _ _ c.reboot.ensures.moments (λ s start. (let there = c.in-Ok.ensures.end s start in (there.0, there.1, there.2.booted refl))) c.accept.ensures.moments.each) t end.0 is end.1)
+            (turn_writes host ToBoot old _ _ (both_turns host c.reboot.new.self.host c.in-Ok.ensures.answer.host old new _ _ _ c.reboot.ensures.moments (λ s start. (let there = c.in-Ok.ensures.end s start in (there.0, there.1, there.2.booted refl))) c.accept.ensures.moments.each) t end.0 is end.1)
             (λ quiet. absurd (loud_ok _ c.accept.result c.accept.ensures.answer.cause quiet)) (λ ok command same. absurd (cc (same)))
             (λ ok same drive own calm. synced_still drive.0 up.0 end.0 (λ block. end.2.kept drive.0 block refl) (up.2.synced refl drive own (λ once. calm ((within_calm _ _ _ (c.accept.ensures.answer.calm drive.0)).some once))));
         ran = λ on more. booted_ran host old new t up.0 (up.2.booted refl) text more boots c.in-Ok.ensures.answer.fresh end.0 (accepted_turned host new _ c.accept.result up.0 end.0 end.2 on) (stays_still host up.0 end.0 end.2.kept) (accepted_ok host new _ c.accept.result up.0 end.0 end.2 on);
@@ -98,7 +98,7 @@ returns-in-Ok-clause-stays g c =
       given = λ uncut. c.accept.ensures.counted.given (uncut_replied _ outcome.Ok c.accept.result c.accept.ensures.answer.cause uncut) ∙ c.reboot.ensures.kept.others OnReplies (replies_apart c.args.engine.now.host.own);
       told = λ on. told_behind g.B.Shelf g.met.B.Shelf.telling _ _ _ c.reboot.ensures.kept.goes quiet (c.accept.ensures.counted.told on);
       rests = rests_behind g.B.Shelf g.met.B.Shelf.telling _ _ _ c.reboot.ensures.kept.goes quiet c.accept.ensures.moments.rests;
-      writes = asks_none host old (BootWorks c.args.engine.now) (λ s m within text boots more. inl within) _ _
+      writes = moments_weaker (TurnMoment host ToBoot old) (BootWorks c.args.engine.now) _ _ (λ s m turn text boots more. inr (text, more, refl, Boot, boots, turn.within))
           (both_turns host c.reboot.new.self.host c.in-Ok.ensures.answer.host old new _ _ _ c.reboot.ensures.moments (λ s start. (let there = c.in-Ok.ensures.end s start in (there.0, there.1, there.2.booted refl))) c.accept.ensures.moments.each);
       tells = λ text boots. each_joined (OfTales (λ t m. told m ≡ told t)) (AnswerFront host accepted new) (LineFront host text old) _ _ _ _ _ _
           (λ s u v first mid last turn there ahead m here within knows. inl here)
@@ -146,7 +146,7 @@ returns-in-Err-clause-stays g c = record {
   told = λ on. absurd (never_ended c.in-Err.end (subst IsReplied c.reply_at.ensures on));
   given = λ uncut. c.reboot.ensures.kept.others OnReplies (replies_apart c.args.engine.now.host.own);
   rests = rests_quiet g.B.Shelf g.met.B.Shelf.telling _ _ c.reboot.ensures.kept.goes (moments_weaker (BootMoment c.args.engine.now.host) (λ t m. told m ≡ told t) _ _ (λ t m moment. moment.quiet) c.reboot.ensures.moments);
-  writes = moments_weaker (BootMoment c.args.engine.now.host) (BootWorks c.args.engine.now) _ _ (λ s m moment text boots more. inl moment.kept) c.reboot.ensures.moments;
+  writes = moments_weaker (BootMoment c.args.engine.now.host) (BootWorks c.args.engine.now) _ _ (λ s m moment text boots more. inr (text, more, refl, Boot, boots, moment.kept)) c.reboot.ensures.moments;
   tells = λ text boots. moment_weaker g.B.Shelf (OfTales (λ t m. told m ≡ told t)) (LineFront c.args.engine.now.host text c.args.engine.now.state) _ _ (λ t m up below here known. inl here) (moments_of_tales g.B.Shelf g.met.B.Shelf.telling _ _ (λ t m. told m ≡ told t) c.reboot.ensures.kept.goes
       (moments_weaker (BootMoment c.args.engine.now.host) (λ t m. told m ≡ told t) _ _ (λ t m moment. moment.quiet) c.reboot.ensures.moments));
 }

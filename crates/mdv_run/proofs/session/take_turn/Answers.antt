@@ -22,7 +22,7 @@ use Rattle.mdv_run.specs.Promise.{IsWorkOf, TurnEnd, TurnWrites, point_at}
 use Rattle.mdv_engine_law.specs.Home.{site_of}
 use Rattle.mdv_run_law.specs.Told.{WorkWrites}
 use Rattle.mdv_shelf.proofs.Frame.{kept_outside_same}
-use Rattle.mdv_store_law.specs.Site.{area_of}
+use Rattle.mdv_shelf.specs.Area.{nowhere}
 use Rattle.mdv_run.specs.Turns.{HasTurnCause}
 use Rattle.mdv_run_law.proofs.Lining.{lines_start}
 use Rattle.mdv_run_law.proofs.Turning.{long_moment, long_ran}
@@ -235,7 +235,7 @@ returns-in-Ok-End-clause-stays g c = record {
   told = λ on. absurd on;
   given = λ on. absurd on;
   rests = rests_quiet g.B.Shelf g.met.B.Shelf.telling _ _ (kept_itself g.B.Shelf c.args.bench.now).goes (moments_none (λ t m. told m ≡ told t) _ _ refl (λ t. refl));
-  writes = moments_none (TurnWrites g.I.Source c.args.engine.now c.args.script.now c.args.reader.now.reader) _ _ refl (λ t lines before. inl (kept_outside_same (area_of (site_of c.args.engine.now.host)) t));
+  writes = moments_none (TurnWrites g.I.Source c.args.engine.now c.args.script.now c.args.reader.now.reader) _ _ refl (λ t lines before. inl (kept_outside_same nowhere t));
   tells = λ lines before. still_front g.B.Shelf c.args.engine.now.host c.args.engine.now.state _ c.args.any_refused lines c.args.bench.now;
 }
 
@@ -245,7 +245,7 @@ returns-in-Ok-Spent-clause-stays g c = record {
   told = λ on. absurd on;
   given = λ on. absurd on;
   rests = rests_quiet g.B.Shelf g.met.B.Shelf.telling _ _ (kept_itself g.B.Shelf c.args.bench.now).goes (moments_none (λ t m. told m ≡ told t) _ _ refl (λ t. refl));
-  writes = moments_none (TurnWrites g.I.Source c.args.engine.now c.args.script.now c.args.reader.now.reader) _ _ refl (λ t lines before. inl (kept_outside_same (area_of (site_of c.args.engine.now.host)) t));
+  writes = moments_none (TurnWrites g.I.Source c.args.engine.now c.args.script.now c.args.reader.now.reader) _ _ refl (λ t lines before. inl (kept_outside_same nowhere t));
   tells = λ lines before. still_front g.B.Shelf c.args.engine.now.host c.args.engine.now.state _ c.args.any_refused lines c.args.bench.now;
 }
 
@@ -255,7 +255,7 @@ returns-in-Err-clause-stays g c = record {
   told = λ on. absurd on;
   given = λ on. absurd on;
   rests = rests_quiet g.B.Shelf g.met.B.Shelf.telling _ _ (kept_itself g.B.Shelf c.args.bench.now).goes (moments_none (λ t m. told m ≡ told t) _ _ refl (λ t. refl));
-  writes = moments_none (TurnWrites g.I.Source c.args.engine.now c.args.script.now c.args.reader.now.reader) _ _ refl (λ t lines before. inl (kept_outside_same (area_of (site_of c.args.engine.now.host)) t));
+  writes = moments_none (TurnWrites g.I.Source c.args.engine.now c.args.script.now c.args.reader.now.reader) _ _ refl (λ t lines before. inl (kept_outside_same nowhere t));
   tells = λ lines before. still_front g.B.Shelf c.args.engine.now.host c.args.engine.now.state _ c.args.any_refused lines c.args.bench.now;
 }
 

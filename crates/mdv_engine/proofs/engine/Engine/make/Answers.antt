@@ -1,11 +1,11 @@
 use Rattle.std.proofs.Common.{◌∙◌, refl, subst, sym}
 use Rattle.mdv_engine_law.specs.Commands as came
 use Rattle.mdv_engine_law.specs.Commands.{MayLose, MaySpend, blamed}
-use Rattle.mdv_engine.specs.Below.{Create, Created, key_of}
+use Rattle.mdv_engine.specs.Below.{Create, key_of}
 use Rattle.mdv_engine_law.proofs.Allowed.{allowed_none, allowed_room, allowed_clean}
 use Rattle.mdv_engine_law.proofs.Plain.{refusal_plain}
 use Rattle.mdv_engine_law.specs.declared.answer.Outcome.TheVariants as outcome
-use Rattle.mdv_engine_law.specs.Line.{ToDo}
+use Rattle.mdv_engine_law.specs.Line.{ToMake}
 use Rattle.mdv_shelf.specs.Shelves.{DriveFailures}
 use Rattle.mdv_engine.proofs.Blocks.{moments_still, refused_carried}
 use Rattle.mdv_engine.proofs.Judged.{IsJudged, creation_judged, judged_said}
@@ -27,7 +27,7 @@ pub returns-in-Some-clause-end : goal.returns-in-Some-clause-end
 returns-in-Some-clause-end g c =
     command_ends _ c.args.self.now (Create c.args.slice c.args.force c.args.blocks) (outcome.Refused c.in-Some.refusal) c.args.self.now _ _
     (λ t start. (t, start, λ known. came.refused (λ drive. refl) c.in-Some.refusal (sym c.creation_refusal.ensures ∙ c.in-Some.is) (refl, record { memory = refl; content = λ drive block. refl })))
-    (refused_carried c.args.self.now.host (ToDo (Created (key_of c.args.self.now.host))) c.args.self.now.state _ _ refl c.in-Some.refusal)
+    (refused_carried c.args.self.now.host (ToMake (key_of c.args.self.now.host) c.args.blocks) c.args.self.now.state _ _ refl c.in-Some.refusal)
     (λ on u. tt)
 
 pub returns-in-Some-clause-answer : goal.returns-in-Some-clause-answer
@@ -48,7 +48,7 @@ returns-in-Some-clause-counted g c =
     (λ fault. absurd (subst IsJudged fault (creation_judged (case_at c.args.self.now) c.args.slice c.args.force c.args.blocks c.in-Some.refusal (sym c.creation_refusal.ensures ∙ c.in-Some.is)))) refl
 
 pub returns-in-Some-clause-moments : goal.returns-in-Some-clause-moments
-returns-in-Some-clause-moments g c = moments_still c.args.self.now.host (ToDo (Created (key_of c.args.self.now.host))) c.args.self.now.state _ _ refl
+returns-in-Some-clause-moments g c = moments_still c.args.self.now.host (ToMake (key_of c.args.self.now.host) c.args.blocks) c.args.self.now.state _ _ refl
 
 pub returns-in-None-clause-counted : goal.returns-in-None-clause-counted
 returns-in-None-clause-counted g c = c.make_database.ensures.counted c.args.slice c.args.force

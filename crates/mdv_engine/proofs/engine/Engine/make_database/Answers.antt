@@ -1,5 +1,5 @@
 use Rattle.std.proofs.Common.{◌≡◌, ◌∙◌, ◌+◌, ◌≤◌, List, ℕ, Bool, true, false, Option, Some, None, Err, refl, sym, ap, subst, arith, rules}
-use Rattle.mdv_engine_law.specs.Line.{ToDo}
+use Rattle.mdv_engine_law.specs.Line.{ToMake}
 use Rattle.mdv_shelf.specs.Shelves.{DriveFailures}
 use Rattle.mdv_engine.specs.Below.{AreCalm, FailedOn, Outcomes, SliceName, Create, Local, IoFault, OutOfMemory, Ends, Moments, Tale, place_of, PlaceAt, IsPlaceOf, IsTableAt, Place, with_blocks, Geometry, IsCreated, Log, is_firm, Site, Newest, Anything, GoesMaking, IsOpened, ShowsNothing, Created, IsQuiet, IsSafe, first_newest, Answer, IsReady, identity_of, key_of, site_of, Memory, CameTo, IsAllowed, kept_at, CarriedTo, CarryMoment, Knows}
 use Rattle.mdv_database.specs.Database as database
@@ -13,7 +13,7 @@ use Rattle.mdv_engine.specs.declared.engine.Engine.{Engine}
 use Rattle.mdv_engine.proofs.Blocks.{moments_still}
 use Rattle.mdv_engine.proofs.Creating.{begun, lost_carried, lost_creation, lost_leaves, made_carried, made_creation, making_moments, new_memory, unbegun_carried, unbegun_creation, unmade_carried, unmade_creation, with_new}
 use Rattle.mdv_engine.proofs.Parts.{create_failed, create_goes, create_goes_to, create_lost, create_opened, create_quiet, create_safe}
-use Rattle.mdv_engine.proofs.Sites.{fits_place, laid, place_is}
+use Rattle.mdv_engine.proofs.Sites.{IsQuietIn, fits_place, laid, place_is}
 use Rattle.mdv_words.specs.Line.{IsLength}
 use Rattle.mdv_engine.proofs.Counting.{refused_counted}
 use Rattle.mdv_engine.proofs.Ending.{command_ends, lost_ends}
@@ -26,12 +26,12 @@ use Rattle.mdv_engine.proofs.engine.Engine.make_database.Goals as goal
 abbrev Creates : SliceName → Bool → ℕ → Outcomes → Answer → Memory → Option Tale → Option Tale → Engine → Type 0
 Creates slice force blocks calls answer next a b x = Ends (λ t u. Knows x.host x.state t → CameTo calls x.host (kept_at x.state t) (Create slice force blocks) answer (kept_at next u)) a b
 
-abbrev Carries : Answer → Memory → Option Tale → Option Tale → Engine → Type 0
-Carries answer next a b x = Ends (CarriedTo x.host (ToDo (Created (key_of x.host))) x.state answer next) a b
+abbrev Carries : ℕ → Answer → Memory → Option Tale → Option Tale → Engine → Type 0
+Carries blocks answer next a b x = Ends (CarriedTo x.host (ToMake (key_of x.host) blocks) x.state answer next) a b
 
 -- `e` is what the engine's fields are, `v` the engine
 module _ (sizes : List ℕ) (e v : Engine) (is : e ≡ v) (readied : IsReady v.host sizes) (blocks : ℕ) (form : IsLength blocks) (at : PlaceAt) (at_is : at ≡ place_of e.host.home) (roomy : 16 + blocks ≤ v.host.home.blocks) (closed : v.state.opened ≡ None) (awake : v.state.clean ≡ true) (a b : Option Tale)
-    (quiet : Moments (IsQuiet at) a b) where
+    (quiet : Moments (IsQuietIn at blocks) a b) where
   ready : IsReady e.host sizes
   ready = subst (λ (x : Engine). IsReady x.host sizes) (sym is) readied
 
@@ -69,12 +69,12 @@ module _ (sizes : List ℕ) (e v : Engine) (is : e ≡ v) (readied : IsReady v.h
       (lost_leaves e.host sizes ready at at_is e.state blocks none clean a b quiet (on_ours (λ drives. Ends (λ _ u. ShowsReplica (site drives) (identity_of e.host e.state.begun) u) a b) shows))
 
   module _ (stays : OnEach (λ drives. Moments (Goes (λ s. Anything) drives) a b)) where
-    moments : Moments (CarryMoment v.host (ToDo (Created (key_of v.host))) v.state) a b
-    moments = subst (λ (x : Engine). Moments (CarryMoment x.host (ToDo (Created (key_of x.host))) x.state) a b) is
+    moments : Moments (CarryMoment v.host (ToMake (key_of v.host) blocks) v.state) a b
+    moments = subst (λ (x : Engine). Moments (CarryMoment x.host (ToMake (key_of x.host) blocks) x.state) a b) is
         (making_moments e.host sizes ready at at_is e.state blocks none clean a b quiet (on_ours (λ drives. Moments (Goes (λ s. Anything) drives) a b) stays))
 
-    lost : (next : Memory) → Carries (Over (ended.Lost 0 1)) next a b v
-    lost next = subst (Carries (Over (ended.Lost 0 1)) next a b) is
+    lost : (next : Memory) → Carries blocks (Over (ended.Lost 0 1)) next a b v
+    lost next = subst (Carries blocks (Over (ended.Lost 0 1)) next a b) is
         (lost_carried e.host sizes ready at at_is e.state blocks none clean a b quiet next (on_ours (λ drives. Moments (Goes (λ s. Anything) drives) a b) stays))
 
   module _ (newest : Newest) (new : newest ≡ first_newest at blocks) (safe : OnEach (λ drives. Ends (λ t u. IsSafe (site drives) blocks (identity_of e.host e.state.begun) u) a b)) where
@@ -90,8 +90,8 @@ module _ (sizes : List ℕ) (e v : Engine) (is : e ≡ v) (readied : IsReady v.h
     made : (slice : SliceName) (force : Bool) → IsAllowed (case_at v) (Create slice force blocks) → (calls : Outcomes) → AreCalm calls → Creates slice force blocks calls accepted next a b v
     made slice force free calls calm = subst (Creates slice force blocks calls accepted next a b) is (made_creation e.host sizes ready at at_is e.state blocks none clean a b quiet slice force (allowed slice force free) ours calls calm next next_is)
 
-    carried : OnEach (λ drives. Ends (λ t u. IsOpened (site drives) newest u) a b) → OnEach (λ drives. Ends (Goes (λ s. IsCreated blocks (identity_of e.host e.state.begun) newest.table) drives) a b) → Carries accepted next a b v
-    carried opened goes = subst (Carries accepted next a b) is (made_carried e.host sizes ready at at_is e.state blocks none clean a b quiet newest next new next_is
+    carried : OnEach (λ drives. Ends (λ t u. IsOpened (site drives) newest u) a b) → OnEach (λ drives. Ends (Goes (λ s. IsCreated blocks (identity_of e.host e.state.begun) newest.table) drives) a b) → Carries blocks accepted next a b v
+    carried opened goes = subst (Carries blocks accepted next a b) is (made_carried e.host sizes ready at at_is e.state blocks none clean a b quiet newest next new next_is
         (on_ours (λ drives. Ends (λ t u. IsOpened (site drives) newest u) a b) opened)
         (on_ours (λ drives. Ends (Goes (λ s. IsCreated blocks (identity_of e.host e.state.begun) newest.table) drives) a b) goes))
 
@@ -107,13 +107,13 @@ module _ (sizes : List ℕ) (e v : Engine) (is : e ≡ v) (readied : IsReady v.h
     unmade slice force free calls so = subst (Creates slice force blocks calls (refusing IoFault) (begun e.state) a b) is
         (unmade_creation e.host sizes ready at at_is e.state blocks none clean a b quiet (on_ours (λ drives. Ends (λ t u. ShowsNothing (site drives) t → ShowsNothing (site drives) u) a b) nothing) slice force (allowed slice force free) calls so)
 
-    unmade_carries : OnEach (λ drives. Ends (Goes (λ s lg. is_firm lg ≡ false) drives) a b) → Carries (refusing IoFault) (begun e.state) a b v
-    unmade_carries goes = subst (Carries (refusing IoFault) (begun e.state) a b) is
+    unmade_carries : OnEach (λ drives. Ends (Goes (λ s lg. is_firm lg ≡ false) drives) a b) → Carries blocks (refusing IoFault) (begun e.state) a b v
+    unmade_carries goes = subst (Carries blocks (refusing IoFault) (begun e.state) a b) is
         (unmade_carried e.host sizes ready at at_is e.state blocks none clean a b quiet (on_ours (λ drives. Ends (λ t u. ShowsNothing (site drives) t → ShowsNothing (site drives) u) a b) nothing)
         (on_ours (λ drives. Ends (Goes (λ s lg. is_firm lg ≡ false) drives) a b) goes))
 
-unbegun : (e v : Engine) → e ≡ v → (blocks : ℕ) (a b : Option Tale) → b ≡ a → Carries (refusing OutOfMemory) (begun e.state) a b v
-unbegun e v is blocks a b same = subst (Carries (refusing OutOfMemory) (begun e.state) a b) is (unbegun_carried e.host e.state blocks a b same)
+unbegun : (e v : Engine) → e ≡ v → (blocks : ℕ) (a b : Option Tale) → b ≡ a → Carries blocks (refusing OutOfMemory) (begun e.state) a b v
+unbegun e v is blocks a b same = subst (Carries blocks (refusing OutOfMemory) (begun e.state) a b) is (unbegun_carried e.host e.state blocks a b same)
 
 unbegun_made : (e v : Engine) → e ≡ v → (blocks : ℕ) (a b : Option Tale) → b ≡ a → (slice : SliceName) (force : Bool) → IsAllowed (case_at v) (Create slice force blocks) → (calls : Outcomes) → AreCalm calls → Creates slice force blocks calls (refusing OutOfMemory) (begun e.state) a b v
 unbegun_made e v is blocks a b same slice force free calls calm = subst (Creates slice force blocks calls (refusing OutOfMemory) (begun e.state) a b) is
@@ -137,7 +137,7 @@ pub returns-in-Err-Lost-clause-moments : goal.returns-in-Err-Lost-clause-moments
 returns-in-Err-Lost-clause-moments g c = moments _ _ _ c.self.view_is c.requires.ready c.args.blocks c.requires.form c.place_at-at.result c.place_at-at.ensures c.requires.room c.requires.none c.requires.clean _ _ (create_quiet _ _ _ _ _ _ _ (fits_place c.place_at-at.result c.args.self.now.host.home c.args.blocks (at_home _ _ c.self.view_is c.place_at-at.result c.place_at-at.ensures) c.requires.form c.requires.room) c.create.ensures.moments) (create_goes _ _ _ _ _ _ _ c.create.ensures.moments)
 
 pub returns-in-Err-Memory-clause-moments : goal.returns-in-Err-Memory-clause-moments
-returns-in-Err-Memory-clause-moments g c = moments_still c.args.self.now.host (ToDo (Created (key_of c.args.self.now.host))) c.args.self.now.state _ _ (ap g.S.Shelf.tale (rw (c.in-Err-Memory.is ∙ ap Err c.in-Err-Memory.field-0-is) at c.create.ensures.counted))
+returns-in-Err-Memory-clause-moments g c = moments_still c.args.self.now.host (ToMake (key_of c.args.self.now.host) c.args.blocks) c.args.self.now.state _ _ (ap g.S.Shelf.tale (rw (c.in-Err-Memory.is ∙ ap Err c.in-Err-Memory.field-0-is) at c.create.ensures.counted))
 
 pub returns-in-Ok-clause-end : goal.returns-in-Ok-clause-end
 returns-in-Ok-clause-end g c = λ slice force free.
