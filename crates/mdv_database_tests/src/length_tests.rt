@@ -8,17 +8,12 @@ use mdv_table::{Table, Volume};
 use std::alloc::Global;
 use std::test::Fail;
 
-// The home's place has 56 blocks.
+// The home's place has 18 blocks.
 const TABLE: &[u8] =
-    b"host hostA\ndrive c0t0d0 40 hostA a0.img\ndrive c0t2d0 80 hostA a1.img\nslice c0t0d0s0 0 40\nslice c0t2d0s7 8 72 db\n";
+    b"host hostA\ndrive c0t0d0 40 hostA a0.img\ndrive c0t2d0 80 hostA a1.img\nslice c0t0d0s0 0 40\nslice c0t2d0s7 8 34 db\n";
 
 // By the blocks of the replica: the bytes that a slot has room for, and how many volumes of 50 bytes that is behind the 36 of a table without any.
-const LENGTHS: &[(u32, u64, u16)] = &[
-    (16, 3072, 60),
-    (17, 3072, 60),
-    (18, 3584, 70),
-    (56, 13312, 265),
-];
+const LENGTHS: &[(u32, u64, u16)] = &[(16, 3072, 60), (17, 3072, 60), (18, 3584, 70)];
 
 // The table with so many volumes, all on one slice.
 fn with_volumes(alloc: Global, table: &Table, count: u16) -> Result<Table, Fail> {
