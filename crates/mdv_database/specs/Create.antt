@@ -20,7 +20,7 @@ pub record CreateEnds (at : PlaceAt) (blocks : ℕ) (key : Key) (sizes : List �
   pub synced : OnOk result (IsSynced at.drive.0 u)
   pub safe : OnOk result (OnEach at blocks (λ drives. IsSafe (site_of drives key at sizes) blocks identity u))
   pub failed : result ≡ Err unmade.Failed → (drives : Geometry) → ShowsNothing (site_of drives key at sizes) t → ShowsNothing (site_of drives key at sizes) u
-  pub lost : result ≡ Err unmade.Lost → OnEach at blocks (λ drives. ShowsReplica (site_of drives key at sizes) identity u)
+  pub lost : result ≡ Err unmade.Lost → OnEach at blocks (λ drives. ShowsReplica (site_of drives key at sizes) blocks identity u)
   pub goes : OnEach at blocks (λ drives. ShowsNothing (site_of drives key at sizes) t → GoesMaking (site_of drives key at sizes) identity (IsCreatedTo blocks identity result) t u)
 
 -- what was made is the table of the one place, with this length, without volumes

@@ -1,7 +1,7 @@
 -- What a commit of the host's next table leaves, told of the host.
 use Rattle.mdv_engine_law.specs.Line.{ToDo}
 use Rattle.std.proofs.Common.{◌≡◌, ◌≤◌, ◌<◌, ◌+◌, ◌^◌, ◌++◌, inl, inr, ℕ, Bool, true, false, List, [], ◌∷◌, length, Option, Some, None, refl, sym, subst, ap, ◌∙◌, arith}
-use Rattle.mdv_engine.specs.Below.{AreCalm, FailedOn, Outcomes, VolId, SliceName, Refusal, ReplicaFull, OutOfMemory, place_of, Geometry, record_text, PlaceAt, KeptOutside, Moments, Ends, Tale, told, area_of, Change, MakeStripe, Table, IsOfGeometry, IsWithNewest, Log, IsMade, NoCreation, Site, Newest, Anything, GoesFrom, IsOpened, next_newest, Changed, IsCommitted, IsQuiet, MayCommit, Answer, Host, IsReady, key_of, site_of, Memory, CameTo, Answer, kept_at, record_room, IsPlain, CarriedTo, CarryMoment, Knows}
+use Rattle.mdv_engine.specs.Below.{AreCalm, FailedOn, Outcomes, VolId, SliceName, Refusal, ReplicaFull, OutOfMemory, place_of, Geometry, record_text, PlaceAt, KeptOutside, Moments, Ends, Tale, told, Change, MakeStripe, Table, IsOfGeometry, IsWithNewest, Log, IsMade, NoCreation, Site, Newest, Anything, GoesFrom, IsOpened, next_newest, Changed, IsCommitted, MayCommit, Answer, Host, IsReady, key_of, site_of, Memory, CameTo, Answer, kept_at, record_room, IsPlain, CarriedTo, CarryMoment, Knows}
 use Rattle.mdv_shelf.proofs.Moments.{moments_both, moments_weaker, moments_end, some_is, ends_both}
 use Rattle.mdv_words.specs.declared.command.Command.TheVariants as command
 use Rattle.mdv_engine_law.specs.Answers.{accepted, refusing}

@@ -3,7 +3,7 @@ use Rattle.mdv_engine_law.specs.Line.{ToMake}
 use Rattle.mdv_engine_law.specs.Home.{replica_area}
 use Rattle.mdv_engine_law.specs.Commands as came
 use Rattle.std.proofs.Common.{◌≡◌, ◌≤◌, ◌+◌, ℕ, Bool, true, false, List, Option, Some, None, refl, subst, ap, ◌∙◌}
-use Rattle.mdv_engine.specs.Below.{AreCalm, FailedOn, Outcomes, SliceName, Create, Identity, IoFault, OutOfMemory, place_of, with_blocks, PlaceAt, Moments, Ends, Tale, IsCreated, Log, is_firm, Site, Newest, Anything, GoesMaking, IsOpened, ShowsNothing, Created, IsQuiet, IsSafe, first_newest, first_table, Host, IsReady, key_of, site_of, identity_of, Memory, CameTo, IsAllowed, kept_at, CarriedTo, CarryMoment, Knows}
+use Rattle.mdv_engine.specs.Below.{AreCalm, FailedOn, Outcomes, SliceName, Create, Identity, IoFault, OutOfMemory, place_of, with_blocks, PlaceAt, Moments, Ends, Tale, IsCreated, Log, is_firm, Site, Newest, Anything, GoesMaking, IsOpened, ShowsNothing, IsSafe, first_newest, first_table, Host, IsReady, key_of, site_of, identity_of, Memory, CameTo, IsAllowed, kept_at, CarriedTo, CarryMoment, Knows}
 use Rattle.mdv_shelf.proofs.Moments.{moments_both, moments_weaker, moments_end, ends_both}
 use Rattle.mdv_engine_law.specs.Answers.{accepted, refusing}
 use Rattle.mdv_engine_law.specs.declared.answer.Answer.TheVariants.{Over}
@@ -83,18 +83,18 @@ module _ (host : Host) (sizes : List ℕ) (ready : IsReady host sizes) (at : Pla
         (ends_both (λ t u. ShowsNothing site t → ShowsNothing site u) (Goes (λ lg. is_firm lg ≡ false)) (λ t u. (ShowsNothing site t → ShowsNothing site u) × Goes (λ lg. is_firm lg ≡ false) t u) a b (λ t u o g. (o, g)) nothing goes)
 
   -- the write of its table failed
-  pub lost_creation : (slice : SliceName) (force : Bool) → IsAllowed (record { host = host; memory = memory }) (Create slice force blocks) → (calls : Outcomes) → FailedOn host.home.drive.0 calls → Ends (λ _ u. ShowsReplica site identity u) a b → Ends (λ t u. Knows host memory t → CameTo calls host (kept_at memory t) (Create slice force blocks) (Over (ended.Lost 0 1)) (kept_at (begun memory) u)) a b
+  pub lost_creation : (slice : SliceName) (force : Bool) → IsAllowed (record { host = host; memory = memory }) (Create slice force blocks) → (calls : Outcomes) → FailedOn host.home.drive.0 calls → Ends (λ _ u. ShowsReplica site blocks identity u) a b → Ends (λ t u. Knows host memory t → CameTo calls host (kept_at memory t) (Create slice force blocks) (Over (ended.Lost 0 1)) (kept_at (begun memory) u)) a b
   lost_creation slice force free calls so shows =
-      ends_both (IsQuietIn at blocks) (λ _ u. ShowsReplica site identity u) (λ t u. Knows host memory t → CameTo calls host (kept_at memory t) (Create slice force blocks) (Over (ended.Lost 0 1)) (kept_at (begun memory) u)) a b
+      ends_both (IsQuietIn at blocks) (λ _ u. ShowsReplica site blocks identity u) (λ t u. Knows host memory t → CameTo calls host (kept_at memory t) (Create slice force blocks) (Over (ended.Lost 0 1)) (kept_at (begun memory) u)) a b
       (λ t u q s known. came.over (ended.Lost 0 1) free refl (
         record { failed = so; active_is = refl; listed_is = refl },
-        record { made = to_host (λ x. ShowsReplica x identity u) s (last u) (last_image u); beside = same_beside (replica_area (site_of host) blocks) t u (replica_here host sizes ready at at_is blocks t u q) },
+        record { made = to_host (λ x. ShowsReplica x blocks identity u) s (last u) (last_image u); beside = same_beside (replica_area (site_of host) blocks) t u (replica_here host sizes ready at at_is blocks t u q) },
       ))
       (moments_end (IsQuietIn at blocks) a b quiet) shows
 
   -- whatever a crash leaves then
-  pub lost_leaves : Ends (λ _ u. ShowsReplica site identity u) a b → Ends (λ _ u. ShowsReplica (site_of host) identity u) a b
-  lost_leaves shows t start = (let end = shows t start in (end.0, end.1, to_host (λ x. ShowsReplica x identity end.0) end.2))
+  pub lost_leaves : Ends (λ _ u. ShowsReplica site blocks identity u) a b → Ends (λ _ u. ShowsReplica (site_of host) blocks identity u) a b
+  lost_leaves shows t start = (let end = shows t start in (end.0, end.1, to_host (λ x. ShowsReplica x blocks identity end.0) end.2))
 
   pub lost_carried : (next : Memory) → Moments (Goes Anything) a b → Ends (CarriedTo host (ToMake (key_of host) blocks) memory (Over (ended.Lost 0 1)) next) a b
   lost_carried next goes =

@@ -1,6 +1,6 @@
 -- What a boot, a creation and a commit of the database say, part by part.
 use Rattle.std.proofs.Common.{◌≡◌, ◌≤◌, ℕ, List, Option, Ok, Err, Result, sym, subst}
-use Rattle.mdv_engine.specs.Below.{Identity, PlaceAt, with_blocks, Moments, Ends, Tale, IsPlaceOf, Geometry, Key, Change, Table, NoCreation, asks_of, Anything, Site, Newest, GoesFrom, GoesMaking, IsOpened, IsWithNewest, ShowsNothing, IsQuiet, IsSafe, IsCommitted, MayCommit, first_newest, first_table, next_newest}
+use Rattle.mdv_engine.specs.Below.{Identity, PlaceAt, with_blocks, Moments, Ends, Tale, IsPlaceOf, Geometry, Key, Change, Table, NoCreation, asks_of, Anything, Site, Newest, GoesFrom, GoesMaking, IsOpened, IsWithNewest, ShowsNothing, IsSafe, IsCommitted, MayCommit, first_newest, first_table, next_newest}
 use Rattle.mdv_store_law.specs.Going.{created_head}
 use Rattle.mdv_store_law.specs.Standing.{ShowsReplica}
 use Rattle.mdv_shelf.proofs.Moments.{moments_weaker}
@@ -35,8 +35,8 @@ module _ (at : PlaceAt) (blocks : ℕ) (key : Key) (sizes : List ℕ) (identity 
     pub create_failed : result ≡ Err unmade.Failed → (drives : Geometry) → Ends (λ t u. ShowsNothing (there drives) t → ShowsNothing (there drives) u) a b
     create_failed failures drives = ends_of (CreateEnds at blocks key sizes identity result) (λ t u. ShowsNothing (there drives) t → ShowsNothing (there drives) u) a b (λ t u is. is.failed failures drives) ends
 
-    pub create_lost : result ≡ Err unmade.Lost → (drives : Geometry) → IsPlaceOf drives (with_blocks at blocks).place → Ends (λ _ u. ShowsReplica (there drives) identity u) a b
-    create_lost lost drives has = ends_of (CreateEnds at blocks key sizes identity result) (λ _ u. ShowsReplica (there drives) identity u) a b (λ t u is. is.lost lost drives has) ends
+    pub create_lost : result ≡ Err unmade.Lost → (drives : Geometry) → IsPlaceOf drives (with_blocks at blocks).place → Ends (λ _ u. ShowsReplica (there drives) blocks identity u) a b
+    create_lost lost drives has = ends_of (CreateEnds at blocks key sizes identity result) (λ _ u. ShowsReplica (there drives) blocks identity u) a b (λ t u is. is.lost lost drives has) ends
 
   module _ (newest : Newest) (ends : Ends (CreateEnds at blocks key sizes identity (Ok newest)) a b) where
     pub create_safe : (drives : Geometry) → IsPlaceOf drives (with_blocks at blocks).place → Ends (λ _ u. IsSafe (there drives) blocks identity u) a b

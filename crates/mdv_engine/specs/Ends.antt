@@ -34,7 +34,7 @@ ChangeMoments shelf from to old change = AtEachTale shelf (CarryMoment old.host 
 
 -- what a command leaves that the run is over with, for a place was lost: each crash then leaves the new replica of a creation
 abbrev pub LeavesMade : Host → Memory → Command → Tale → Type 0
-LeavesMade host old (Create slice force blocks) u = ShowsReplica (site_of host) (identity_of host old.begun) u
+LeavesMade host old (Create slice force blocks) u = ShowsReplica (site_of host) blocks (identity_of host old.begun) u
 LeavesMade host old other u = Unit {0}
 
 -- a command that was carried out: what it came to and led to, what it left where it was done, and where the run is over, for a place was lost

@@ -95,7 +95,7 @@ pub record IsLostPlace (calls : Outcomes) (host : Host) (active listed : ℕ) : 
 
 -- A creation that gives up leaves its replica there, whose format was answered, and each block outside that is as it was.
 pub record LeavesReplica (host : Host) (blocks : ℕ) (kept next : Kept) : Type 0 where
-  pub made : IsReplicaMade (site_of host) (identity_of host kept.memory.begun) (on_site (site_of host) next.content)
+  pub made : IsReplicaMade (site_of host) blocks (identity_of host kept.memory.begun) (on_site (site_of host) next.content)
   pub beside : IsSameBeside (replica_area (site_of host) blocks) kept.content next.content
 
 -- Why the run is over with a command: the one place is lost, whose new replica is there where a creation's format was answered, and each block outside the

@@ -138,11 +138,11 @@ module _ (site : Site) (blocks : ℕ) where
       ]
 
       -- the replica is there, whatever its slot has
-      still_there : (old new : Image) → IsImage u old → MayTake made_at First first_mark table old new → IsReplicaMade site identity (new site.at.drive.0)
+      still_there : (old new : Image) → IsImage u old → MayTake made_at First first_mark table old new → IsReplicaMade site blocks identity (new site.at.drive.0)
       still_there old new is takes = elim (takes.fills) [
-        | untouched same ↦ record { head = blank_head; replica = same_replica site old new blank_head (blank_replica old is) same; as_made = refl }
-        | closed others shut ↦ record { head = blank_head; replica = closed_replica site old new blank_head (blank_replica old is) First (length takes.body) takes.is_body.in_slot others shut; as_made = refl }
-        | filled fills ↦ record { head = made_head; replica = made_replica old new is (record { bytes = takes.bytes; body = takes.body; is_body = takes.is_body; fills = fills }); as_made = refl }
+        | untouched same ↦ record { head = blank_head; replica = same_replica site old new blank_head (blank_replica old is) same; as_made = refl; sized = refl }
+        | closed others shut ↦ record { head = blank_head; replica = closed_replica site old new blank_head (blank_replica old is) First (length takes.body) takes.is_body.in_slot others shut; as_made = refl; sized = refl }
+        | filled fills ↦ record { head = made_head; replica = made_replica old new is (record { bytes = takes.bytes; body = takes.body; is_body = takes.is_body; fills = fills }); as_made = refl; sized = refl }
       ]
 
       is_first : IsFirst (Some identity) [] None [] table

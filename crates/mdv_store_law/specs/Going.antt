@@ -95,7 +95,7 @@ pub record CreationsGo : Type 0 where
   -- the replica is there from then on, whether the table is written or not
   pub formatted : (site : Site) (blocks : ℕ) (identity : Identity) (table : Table) (u m : Tale) → Creates site blocks identity table
       → IsFormatted (with_blocks site.at blocks) (master_of (with_blocks site.at blocks) site.key identity) 1 u
-      → Leaves (MayTake (with_blocks site.at blocks) First first_mark table) u m → ShowsReplica site identity m
+      → Leaves (MayTake (with_blocks site.at blocks) First first_mark table) u m → ShowsReplica site blocks identity m
   -- in the end
   pub shows : (site : Site) (blocks : ℕ) (identity : Identity) (table : Table) (u v : Tale) → Creates site blocks identity table
       → IsFormatted (with_blocks site.at blocks) (master_of (with_blocks site.at blocks) site.key identity) 1 u → Leaves (Takes (with_blocks site.at blocks) First first_mark table) u v

@@ -55,15 +55,16 @@ pub record Stands (site : Site) (log : Log) (m : Tale) : Type 0 where
 abbrev pub ShowsNothing : Site → Tale → Type 0
 ShowsNothing site = Everywhere (λ image. IsFound site (image site.at.drive.0) None)
 
--- a replica is readable there, of the database that the creation with this identity made
-pub record IsReplicaMade (site : Site) (identity : Identity) (content : ℕ → List ℕ) : Type 0 where
+-- a replica of so many blocks is readable there, of the database that the creation with this identity made
+pub record IsReplicaMade (site : Site) (blocks : ℕ) (identity : Identity) (content : ℕ → List ℕ) : Type 0 where
   pub head : Head
   pub replica : IsReplica site content head
   pub as_made : head.master.identity ≡ identity
+  pub sized : head.master.blocks ≡ blocks
 
 -- whatever a crash leaves, the place has such a replica
-abbrev pub ShowsReplica : Site → Identity → Tale → Type 0
-ShowsReplica site identity = Everywhere (λ image. IsReplicaMade site identity (image site.at.drive.0))
+abbrev pub ShowsReplica : Site → ℕ → Identity → Tale → Type 0
+ShowsReplica site blocks identity = Everywhere (λ image. IsReplicaMade site blocks identity (image site.at.drive.0))
 
 -- whatever a crash leaves, the place has one and the same replica, whose newest table is this one
 pub record IsOpened (site : Site) (newest : Newest) (m : Tale) : Type 0 where

@@ -1,7 +1,7 @@
 use Rattle.std.proofs.Common.{◌≡◌, ◌∙◌, ◌+◌, ◌≤◌, List, ℕ, Bool, true, false, Option, Some, None, Err, refl, sym, ap, subst, arith, rules}
 use Rattle.mdv_engine_law.specs.Line.{ToMake}
 use Rattle.mdv_shelf.specs.Shelves.{DriveFailures}
-use Rattle.mdv_engine.specs.Below.{AreCalm, FailedOn, Outcomes, SliceName, Create, Local, IoFault, OutOfMemory, Ends, Moments, Tale, place_of, PlaceAt, IsPlaceOf, IsTableAt, Place, with_blocks, Geometry, IsCreated, Log, is_firm, Site, Newest, Anything, GoesMaking, IsOpened, ShowsNothing, Created, IsQuiet, IsSafe, first_newest, Answer, IsReady, identity_of, key_of, site_of, Memory, CameTo, IsAllowed, kept_at, CarriedTo, CarryMoment, Knows}
+use Rattle.mdv_engine.specs.Below.{AreCalm, FailedOn, Outcomes, SliceName, Create, Local, IoFault, OutOfMemory, Ends, Moments, Tale, place_of, PlaceAt, IsPlaceOf, IsTableAt, Place, with_blocks, Geometry, IsCreated, Log, is_firm, Site, Newest, Anything, GoesMaking, IsOpened, ShowsNothing, IsSafe, first_newest, Answer, IsReady, identity_of, key_of, site_of, Memory, CameTo, IsAllowed, kept_at, CarriedTo, CarryMoment, Knows}
 use Rattle.mdv_database.specs.Database as database
 use Rattle.mdv_store_law.specs.Standing.{ShowsReplica}
 use Rattle.mdv_engine_law.specs.Answers.{accepted, refusing}
@@ -60,13 +60,13 @@ module _ (sizes : List ℕ) (e v : Engine) (is : e ≡ v) (readied : IsReady v.h
   on_ours : (P : Geometry → Type 0) → OnEach P → P e.host.drives
   on_ours P each = each e.host.drives (place_is e.host sizes ready at at_is blocks form room)
 
-  lost_made : OnEach (λ drives. Ends (λ _ u. ShowsReplica (site drives) (identity_of e.host e.state.begun) u) a b) → (slice : SliceName) (force : Bool) → IsAllowed (case_at v) (Create slice force blocks) → (calls : Outcomes) → FailedOn e.host.home.drive.0 calls → Creates slice force blocks calls (Over (ended.Lost 0 1)) (begun e.state) a b v
+  lost_made : OnEach (λ drives. Ends (λ _ u. ShowsReplica (site drives) blocks (identity_of e.host e.state.begun) u) a b) → (slice : SliceName) (force : Bool) → IsAllowed (case_at v) (Create slice force blocks) → (calls : Outcomes) → FailedOn e.host.home.drive.0 calls → Creates slice force blocks calls (Over (ended.Lost 0 1)) (begun e.state) a b v
   lost_made shows slice force free calls so = subst (Creates slice force blocks calls (Over (ended.Lost 0 1)) (begun e.state) a b) is
-      (lost_creation e.host sizes ready at at_is e.state blocks none clean a b quiet slice force (allowed slice force free) calls so (on_ours (λ drives. Ends (λ _ u. ShowsReplica (site drives) (identity_of e.host e.state.begun) u) a b) shows))
+      (lost_creation e.host sizes ready at at_is e.state blocks none clean a b quiet slice force (allowed slice force free) calls so (on_ours (λ drives. Ends (λ _ u. ShowsReplica (site drives) blocks (identity_of e.host e.state.begun) u) a b) shows))
 
-  lost_left : OnEach (λ drives. Ends (λ _ u. ShowsReplica (site drives) (identity_of e.host e.state.begun) u) a b) → Ends (λ _ u. ShowsReplica (site_of v.host) (identity_of v.host v.state.begun) u) a b
-  lost_left shows = subst (λ (x : Engine). Ends (λ _ u. ShowsReplica (site_of x.host) (identity_of x.host x.state.begun) u) a b) is
-      (lost_leaves e.host sizes ready at at_is e.state blocks none clean a b quiet (on_ours (λ drives. Ends (λ _ u. ShowsReplica (site drives) (identity_of e.host e.state.begun) u) a b) shows))
+  lost_left : OnEach (λ drives. Ends (λ _ u. ShowsReplica (site drives) blocks (identity_of e.host e.state.begun) u) a b) → Ends (λ _ u. ShowsReplica (site_of v.host) blocks (identity_of v.host v.state.begun) u) a b
+  lost_left shows = subst (λ (x : Engine). Ends (λ _ u. ShowsReplica (site_of x.host) blocks (identity_of x.host x.state.begun) u) a b) is
+      (lost_leaves e.host sizes ready at at_is e.state blocks none clean a b quiet (on_ours (λ drives. Ends (λ _ u. ShowsReplica (site drives) blocks (identity_of e.host e.state.begun) u) a b) shows))
 
   module _ (stays : OnEach (λ drives. Moments (Goes (λ s. Anything) drives) a b)) where
     moments : Moments (CarryMoment v.host (ToMake (key_of v.host) blocks) v.state) a b
