@@ -19,7 +19,7 @@ use Rattle.mdv_engine_law.proofs.Turning.{accepted_none, never_among, refused_no
 use Rattle.mdv_engine_law.proofs.Knowing.{knows_kept}
 use Rattle.mdv_engine_law.specs.Replies.{IsPlain}
 use Rattle.mdv_engine_law.specs.Standing.{OnlyReplied}
-use Rattle.mdv_engine_law.specs.Home.{key_of, site_of}
+use Rattle.mdv_engine_law.specs.Home.{key_of}
 use Rattle.mdv_volumes.specs.History.{Created}
 use Rattle.mdv_base.specs.declared.refusal.Refusal.{Refusal}
 use Rattle.mdv_base.specs.declared.refusal.Refusal.TheVariants.{IoFault}
@@ -34,7 +34,6 @@ use Rattle.mdv_engine_law.specs.Standing.{LeavesDone, LineWrites, TurnMoment, Wr
 use Rattle.mdv_engine_law.specs.declared.answer.Answer.TheVariants.{Said, Over as Ends}
 use Rattle.mdv_shelf.specs.Area.{KeptOutside, nowhere}
 use Rattle.mdv_shelf.specs.declared.shelf.Shelf.{Ghosts as Shelf}
-use Rattle.mdv_store_law.specs.Site.{area_of}
 use Rattle.mdv_words.specs.declared.command.Command.{Command}
 use Rattle.mdv_shelf.specs.Moments.{Moments}
 use Rattle.mdv_shelf.proofs.Moments.{moments_end, moments_weaker, some_is}

@@ -1,6 +1,6 @@
 -- Lives: any number of runs on the same drives, each but the first begun on what the one before left, or a crash in it.
 use Rattle.std.specs.Prelude.{◌≡◌, ◌≢◌, ◌⊎◌, ◌<◌, ℕ, List, [], ◌∷◌, ◌++◌, reverse, None, Contains}
-use Rattle.mdv_run_law.specs.Below.{IsHome, Home, Geometry, Script, Head, Slot, IsNewest, Mark, Image, Tale, Among, last, on_site, Key, VolId, Map, readings, Change, Table, Version, IsSound, restarted, AreMade, HasTable, IsFound, IsReplica, Deed, Acknowledges, Created, Changed, Crashes, Stops, Event, IsNamed, Happening, Lasts, history_after, history_after_all, log_of, new_history, Host, key_of, site_of, sites_of, contents, StandsAt, left_in, replies_in}
+use Rattle.mdv_run_law.specs.Below.{IsHome, Home, Geometry, Script, Head, Slot, IsNewest, Mark, Image, Tale, Among, last, on_site, Key, VolId, Map, readings, Change, Table, Version, IsSound, restarted, AreMade, HasTable, IsFound, IsReplica, Deed, Acknowledges, Created, Changed, Crashes, Stops, Event, IsNamed, Happening, Lasts, history_after, history_after_all, log_of, new_history, Host, key_of, site_of, sites_of, StandsAt, left_in, replies_in}
 use Rattle.mdv_home.specs.Drives.{own_drives}
 use Rattle.mdv_home.specs.View.{own_view}
 use Rattle.mdv_store_law.specs.Machine as machine

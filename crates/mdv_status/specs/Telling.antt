@@ -1,4 +1,5 @@
--- How replies lie among the bytes that are told: a reply to a read is its lines of values and the line `ok`, one to a block of entries their number and this line, and one to a print its lines and this line.
+-- How replies lie among the bytes that are told: a reply to a read is its lines of values and the line `ok`, one to a block of
+-- entries their number and this line, and one to a print its lines and this line.
 use Rattle.std.specs.Prelude.{◌≡◌, ℕ, Bool, true, false, not, ◌&&◌, ◌||◌, ◌==◌, ◌+◌, ◌<◌, List, [], ◌∷◌, ◌++◌, length, map, take, All, codes, if◌then◌else◌}
 use Rattle.std.specs.Char.{is_ascii_digit}
 use Rattle.std.specs.List.{concat, list_all}
@@ -90,10 +91,14 @@ pub record EntriesAreOneReply : Type 0 where
   pub more : (n : ℕ) (rest : List ℕ) → said_in (entries_reply n ++ rest) ≡ with_reply (entries_reply n) (said_in rest)
   pub front : (n count : ℕ) → count < length (entries_reply n) → said_in (take count (entries_reply n)) ≡ unsaid (take count (entries_reply n))
 
+-- the reply to a print of these lines
+abbrev pub lines_reply : List (List ℕ) → List ℕ
+lines_reply ls = printed_reply (concat ls)
+
 -- So is a reply to a print, of lines none of which ends a reply.
 pub record PrintsAreOneReply : Type 0 where
-  pub more : (ls : List (List ℕ)) (rest : List ℕ) → All IsQuietLine ls → said_in (printed_reply (concat ls) ++ rest) ≡ with_reply (printed_reply (concat ls)) (said_in rest)
-  pub front : (ls : List (List ℕ)) (count : ℕ) → All IsQuietLine ls → count < length (printed_reply (concat ls)) → said_in (take count (printed_reply (concat ls))) ≡ unsaid (take count (printed_reply (concat ls)))
+  pub more : (ls : List (List ℕ)) (rest : List ℕ) → All IsQuietLine ls → said_in (lines_reply ls ++ rest) ≡ with_reply (lines_reply ls) (said_in rest)
+  pub front : (ls : List (List ℕ)) (count : ℕ) → All IsQuietLine ls → count < length (lines_reply ls) → said_in (take count (lines_reply ls)) ≡ unsaid (take count (lines_reply ls))
 
 -- So is a line that tells a refusal; and bytes without a newline are no reply.
 pub record RefusalsAreOneReply : Type 0 where

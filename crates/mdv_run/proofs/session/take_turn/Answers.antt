@@ -19,7 +19,6 @@ use Rattle.mdv_shelf.specs.Story.{tale_of}
 use Rattle.mdv_engine_law.proofs.Plain.{too_long_plain}
 use Rattle.mdv_run.specs.declared.session.Turn.{Turn}
 use Rattle.mdv_run.specs.Promise.{IsWorkOf, TurnEnd, TurnWrites, point_at}
-use Rattle.mdv_engine_law.specs.Home.{site_of}
 use Rattle.mdv_run_law.specs.Told.{WorkWrites}
 use Rattle.mdv_shelf.proofs.Frame.{kept_outside_same}
 use Rattle.mdv_shelf.specs.Area.{nowhere}
