@@ -1,35 +1,14 @@
 -- Which components lie on spares that go, by a set of their numbers.
-use Rattle.std.proofs.Common.{◌≡◌, ◌<◌, ◌+◌, ◌==◌, ◌&&◌, ◌||◌, ℕ, Bool, true, false, cond, not, nat_eq, refl, sym, ◌∙◌, ap, List, [], length, get_or, take, arith}
+use Rattle.std.proofs.Common.{◌≡◌, ◌<◌, ◌==◌, ◌&&◌, ℕ, Bool, true, false, not, refl, ◌∙◌, ap, List, [], length, get_or, arith}
 use Rattle.std.proofs.lemmas.Bool.Decides.{nat_tests}
 use Rattle.std.proofs.lemmas.List.{nil_from_length}
-use Rattle.std.proofs.lemmas.List.Folds.{list_any_more}
-use Rattle.std.specs.BTreeMap.{is_at}
 use Rattle.std.specs.BTreeSet.{BTreeSet}
 use Rattle.std.specs.List.{All, list_any}
-use Rattle.std.specs.Ordering.{nat_cmp}
 use Rattle.mdv_keys.proofs.Any.{any_never, any_same}
 use Rattle.mdv_keys.specs.Marks.{AreMarked}
 use Rattle.mdv_change.specs.Below.{PartStatus, VolId, VolumeStatus, slice_code}
 use Rattle.mdv_change.specs.Clear.{is_among, is_left_on, is_named, lies_on, part_spare, parts_of}
 use Rattle.mdv_change.specs.Seats.{AreKeys, is_in, is_left_by, lies_by}
-
-is_it : (a q : ℕ) → is_at (nat_cmp a) q ≡ nat_eq q a
-is_it a q = grind (arith, nat_tests)
-
-either : (a b : Bool) → cond a true b ≡ (b || a)
-either true true = refl
-either true false = refl
-either false true = refl
-either false false = refl
-
--- whether one of the numbers, or one more, is a number
-pub there_more : (xs : List ℕ) (i d q : ℕ) (old new : Bool) → i < length xs → old ≡ list_any (nat_eq q) (take i xs) → new ≡ cond (is_at (nat_cmp (get_or xs i d)) q) true old → new ≡ list_any (nat_eq q) (take (i + 1) xs)
-there_more xs i d q old new within was is =
-    is
-    ∙ ap (λ (b : Bool). cond b true old) (is_it (get_or xs i d) q)
-    ∙ either (nat_eq q (get_or xs i d)) old
-    ∙ ap (λ (b : Bool). b || nat_eq q (get_or xs i d)) was
-    ∙ sym (list_any_more (nat_eq q) xs i d within)
 
 lies_is : (set : BTreeSet ℕ) (keys : List ℕ) (part : PartStatus) → AreKeys set keys → lies_by set part ≡ lies_on keys part
 lies_is set keys part are = any_same (is_in set) (is_among keys) (part_spare part) (λ i d within. are (slice_code (get_or (part_spare part) i d)))

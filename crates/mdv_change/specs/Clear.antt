@@ -85,10 +85,10 @@ lost_of p pools q = lost_in p pools (pool_of p q)
 abbrev pub lost_spares : Plan → List PoolId → List ℕ
 lost_spares p pools = flat_map (lost_of p pools) pools
 
--- the component lies on a spare of one of these numbers
 abbrev pub is_among : List ℕ → SliceName → Bool
 is_among keys s = list_any (nat_eq (slice_code s)) keys
 
+-- the component lies on a spare of one of these numbers
 abbrev pub lies_on : List ℕ → PartStatus → Bool
 lies_on keys part = list_any (is_among keys) (part_spare part)
 

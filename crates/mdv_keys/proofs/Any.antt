@@ -1,8 +1,11 @@
 -- Whether a value of a list passes a test.
-use Rattle.std.proofs.Common.{◌≡◌, ◌&&◌, ◌||◌, Bool, true, false, cond, refl, sym, ◌∙◌, ap, List, [], ◌∷◌}
+use Rattle.std.proofs.Common.{◌≡◌, ◌<◌, ◌+◌, ◌&&◌, ◌||◌, ℕ, Bool, true, false, cond, nat_eq, refl, sym, ◌∙◌, ap, List, [], ◌∷◌, length, get_or, take, arith}
+use Rattle.std.proofs.lemmas.Bool.Decides.{nat_tests}
 use Rattle.std.proofs.lemmas.List.Elements.{All-head, All-tail}
-use Rattle.std.proofs.lemmas.List.Folds.{list_any-append}
+use Rattle.std.proofs.lemmas.List.Folds.{list_any-append, list_any_more}
+use Rattle.std.specs.BTreeMap.{is_at}
 use Rattle.std.specs.List.{All, filter, flat_map, list_any}
+use Rattle.std.specs.Ordering.{nat_cmp}
 
 pub any_same : {T : Type 0} (p q : T → Bool) (xs : List T) → All (λ x. p x ≡ q x) xs → list_any p xs ≡ list_any q xs
 any_same p q [] same = refl
@@ -45,3 +48,21 @@ pub any_flat : {S T : Type 0} (below : S → List T) (p : T → Bool) (test : S 
 any_flat below p test each [] = refl
 any_flat below p test each (x ∷ xs) =
     ap (λ (b : Bool). b || list_any test xs) (each x) ∙ ap (λ (b : Bool). list_any p (below x) || b) (any_flat below p test each xs) ∙ sym (list_any-append p (below x) (flat_map below xs))
+
+is_it : (a q : ℕ) → is_at (nat_cmp a) q ≡ nat_eq q a
+is_it a q = grind (arith, nat_tests)
+
+-- whether one of the numbers, or one more, is a number
+pub there_more : (xs : List ℕ) (i d q : ℕ) (old new : Bool) → i < length xs → old ≡ list_any (nat_eq q) (take i xs) → new ≡ cond (is_at (nat_cmp (get_or xs i d)) q) true old → new ≡ list_any (nat_eq q) (take (i + 1) xs)
+there_more xs i d q old new within was is =
+    is
+    ∙ ap (λ (b : Bool). cond b true old) (is_it (get_or xs i d) q)
+    ∙ either (nat_eq q (get_or xs i d)) old
+    ∙ ap (λ (b : Bool). b || nat_eq q (get_or xs i d)) was
+    ∙ sym (list_any_more (nat_eq q) xs i d within)
+  where
+    either : (a b : Bool) → cond a true b ≡ (b || a)
+    either true true = refl
+    either true false = refl
+    either false true = refl
+    either false false = refl

@@ -1,13 +1,11 @@
 -- Numbers that are put into a set one after another.
-use Rattle.std.proofs.Common.{◌≡◌, ◌<◌, ◌+◌, ◌||◌, ℕ, Bool, true, false, cond, nat_eq, List, [], length, get_or, take, refl, sym, ◌∙◌, ap, subst, arith}
+use Rattle.std.proofs.Common.{◌≡◌, ◌<◌, ◌+◌, ℕ, true, false, nat_eq, List, [], length, get_or, take, sym, ◌∙◌, subst, arith}
 use Rattle.std.proofs.lemmas.Bool.Decides.{nat_tests}
 use Rattle.std.proofs.lemmas.List.{get_or-take, get_or_default, length-take, take_more}
-use Rattle.std.proofs.lemmas.List.Folds.{Any-from_list_any, list_any_more}
+use Rattle.std.proofs.lemmas.List.Folds.{Any-from_list_any}
 use Rattle.std.proofs.lemmas.Map.Keys.{IsDistinct-push, apart_from_distinct}
-use Rattle.std.specs.BTreeMap.{is_at}
 use Rattle.std.specs.Cmp.{nat_eq_equiv}
 use Rattle.std.specs.List.{IsDistinct, list_any}
-use Rattle.std.specs.Ordering.{nat_cmp}
 
 pub none_twice : IsDistinct nat_eq []
 unfolding IsDistinct
@@ -29,21 +27,3 @@ stands_twice xs i d within there distinct =
 
 pub once_more : (xs : List ℕ) (i d : ℕ) → i < length xs → list_any (nat_eq (get_or xs i d)) (take i xs) ≡ false → IsDistinct nat_eq (take i xs) → IsDistinct nat_eq (take (i + 1) xs)
 once_more xs i d within new distinct = subst (IsDistinct nat_eq) (sym (take_more xs i d within)) (IsDistinct-push nat_eq_equiv (take i xs) (get_or xs i d) distinct new)
-
-is_it : (a q : ℕ) → is_at (nat_cmp a) q ≡ nat_eq q a
-is_it a q = grind (arith, nat_tests)
-
--- whether one of the numbers, or one more, is a number
-pub there_more : (xs : List ℕ) (i d q : ℕ) (old new : Bool) → i < length xs → old ≡ list_any (nat_eq q) (take i xs) → new ≡ cond (is_at (nat_cmp (get_or xs i d)) q) true old → new ≡ list_any (nat_eq q) (take (i + 1) xs)
-there_more xs i d q old new within was is =
-    is
-    ∙ ap (λ (b : Bool). cond b true old) (is_it (get_or xs i d) q)
-    ∙ either (nat_eq q (get_or xs i d)) old
-    ∙ ap (λ (b : Bool). b || nat_eq q (get_or xs i d)) was
-    ∙ sym (list_any_more (nat_eq q) xs i d within)
-  where
-    either : (a b : Bool) → cond a true b ≡ (b || a)
-    either true true = refl
-    either true false = refl
-    either false true = refl
-    either false false = refl

@@ -1,6 +1,6 @@
 use Rattle.std.proofs.Common.{arith}
 use Rattle.std.proofs.lemmas.Grind.{common_steps}
-use Rattle.mdv_change.proofs.Lying.{there_more}
+use Rattle.mdv_keys.proofs.Any.{there_more}
 use Rattle.std.specs.BTreeSet.{contains}
 use Rattle.std.specs.Ordering.{nat_cmp}
 use Rattle.mdv_change.proofs.seats.set_of.Goals as goal

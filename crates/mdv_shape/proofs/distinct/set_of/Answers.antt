@@ -2,7 +2,8 @@ use Rattle.std.proofs.Common.{◌≡◌, Bool, true, false, not, sym, ◌∙◌,
 use Rattle.std.proofs.lemmas.Grind.{common_steps}
 use Rattle.std.specs.BTreeSet.{contains}
 use Rattle.std.specs.Ordering.{nat_cmp}
-use Rattle.mdv_shape.proofs.Sets.{none_twice, once_more, stands_twice, there_more}
+use Rattle.mdv_keys.proofs.Any.{there_more}
+use Rattle.mdv_shape.proofs.Sets.{none_twice, once_more, stands_twice}
 use Rattle.mdv_shape.proofs.distinct.set_of.Goals as goal
 
 is_there : (a b : Bool) → a ≡ not b → a ≡ false → b ≡ true
