@@ -1,3 +1,5 @@
+mod Flat
 pub mod Lines
 pub mod Listed
+pub mod Told
 pub mod Volumes

@@ -11,7 +11,7 @@ use Rattle.mdv_listing.specs.Whole.{whole_volume}
 abbrev IsBelow : WholeVolume → WholeVolume → Type 0
 IsBelow x y = x.number.0 < y.number.0
 
-whole_ascend : (vs : List Volume) → IsAscending vs → AllPairs IsBelow (map whole_volume vs)
+pub whole_ascend : (vs : List Volume) → IsAscending vs → AllPairs IsBelow (map whole_volume vs)
 whole_ascend [] up = λ i j d below within. absurd (omega (arith, within))
 whole_ascend (v ∷ vs) up =
     let head : All (λ (w : Volume). v.number.0 < w.number.0) vs = λ k d within. up zero (suc k) d (omega arith) (omega arith) in

@@ -10,9 +10,10 @@ pub use Rattle.mdv_plan.specs.declared.volume.Row.{Row as WholeRow}
 pub use Rattle.mdv_plan.specs.declared.volume.Volume.{Volume as WholeVolume}
 pub use Rattle.mdv_plan.specs.declared.volume.VolumeKind.{VolumeKind as WholeKind}
 pub use Rattle.mdv_plan.specs.declared.volume.VolumeKind.TheVariants.{Stripe as WholeStripe}
-pub use Rattle.mdv_print.specs.Text.{names_text, tab_text}
+pub use Rattle.mdv_print.specs.Text.{names_text, tab_text, volume_line}
 pub use Rattle.mdv_status.specs.Telling.{IsQuietLine}
 pub use Rattle.mdv_table.specs.Plan.{places_of}
+pub use Rattle.mdv_table.specs.Volumes.{IsVolumes}
 pub use Rattle.mdv_table.specs.declared.plan.Plan.{Plan}
 pub use Rattle.mdv_table.specs.declared.volume.Base.{Base}
 pub use Rattle.mdv_table.specs.declared.volume.Base.TheVariants.{Slice}

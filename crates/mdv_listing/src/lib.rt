@@ -5,5 +5,5 @@ mod law;
 mod text;
 mod whole;
 
-pub use law::listings_are_lines;
+pub use law::{listings_are_lines, listings_tell_volumes};
 pub use text::listing;
