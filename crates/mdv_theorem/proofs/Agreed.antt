@@ -39,12 +39,13 @@ use Rattle.mdv_theorem.specs.Words.{IsOrWasWritten}
 use Rattle.mdv_theorem.proofs.Contents.{IsToldOf, told_block}
 use Rattle.mdv_theorem.proofs.Given.{Given}
 use Rattle.mdv_theorem.proofs.Lasting.{since_began}
-use Rattle.mdv_theorem.proofs.Later.{Lasts, lasts_between, lasts_offers, lasts_runs, lasts_work, open_lasts, stands_as}
+use Rattle.mdv_theorem.proofs.Later.{Lasts, lasts_between, lasts_offers, lasts_runs}
 use Rattle.mdv_theorem.proofs.Leaving.{Leaves, Spot, leaves_more, own, spot_out}
-use Rattle.mdv_theorem.proofs.Left.{Known, lines_go, tail_leaves}
+use Rattle.mdv_theorem.proofs.Left.{Known, tail_leaves}
 use Rattle.mdv_theorem.proofs.Lines.{the_only}
 use Rattle.mdv_theorem.proofs.Lying.{lies_made}
-use Rattle.mdv_theorem.proofs.Over.{RunsLeave, found_leaves, life_stands, runs_leave}
+use Rattle.mdv_theorem.proofs.Opened.{known_there, lasts_there}
+use Rattle.mdv_theorem.proofs.Over.{RunsLeave, found_leaves, runs_leave}
 use Rattle.mdv_theorem.proofs.Reread.{Came, came, reads_there, settled_there, there}
 use Rattle.mdv_theorem.proofs.Living.{lived_life}
 use Rattle.mdv_theorem.proofs.Settled.{IsSettledAt}
@@ -82,21 +83,11 @@ module _ (given : Given) (drives : Geometry) (home : Home) (before : List Ran) (
 
   -- a history is known there
   known : Known host at.place.at.kept.memory (tale_of point.0)
-  known =
-      let stands = life_stands drives home sound is_home given run.made before run.t.tale (lived_life drives run.made before run.t.tale run.life) in
-      let booted = at.by.point.before begun.0 begun.1 in
-      let up = (at.by.leads booted.0 booted.1).booted.goes stands.0 (stands_as drives home then_told.newest.table run.fresh stands.0 run.t.tale stands.1) in
-      let gone = lines_go drives home sound is_home given run.fresh run.stretch 0 _ at.place.at at.place.front at.place.lines booted.0 booted.1 in
-      let same : gone.u ≡ point.0 = (let both : Some gone.u ≡ Some point.0 = sym gone.is ∙ point.1 in cc (both)) in
-      subst (λ (u : Story). Known host at.place.at.kept.memory (tale_of u)) same (gone.known _ up.after.0)
+  known = known_there given drives home before script sound is_home run here rest behind read reply tells.told went.m went.tells.bytes at now then_told.newest then_told.opened
 
   -- and what was open lasts
   lasts : Lasts drives home then_told.newest.table went.m.tale
-  lasts =
-      let table = then_told.newest.table in
-      let first = open_lasts drives home table run.fresh at.place.at.kept.memory known.history (tale_of point.0) then_told.newest known.known then_told.opened refl in
-      let gone = lines_go drives home sound is_home given run.fresh run.stretch _ at.place.at at.by.lines.at at.place.left at.place.more point.0 point.1 in
-      lasts_work drives home table run.fresh at.by.lines.at.script at.by.lines.at.kept.memory (tale_of gone.u) went.m.tale (at.by.lines.work gone.u gone.is).moment (gone.lasts table first)
+  lasts = lasts_there given drives home before script sound is_home run here rest behind read reply tells.told went.m went.tells.bytes at now then_told.newest then_told.opened
 
   pub lasts_next : Lasts drives home then_told.newest.table next
   lasts_next = lasts_between drives home then_told.newest.table went.m.tale next went.found lasts

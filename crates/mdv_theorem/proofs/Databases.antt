@@ -29,11 +29,14 @@ use Rattle.mdv_theorem.specs.Words.{NeedsDatabase}
 use Rattle.mdv_theorem.specs.Running.{HasAnswered, Running}
 use Rattle.mdv_theorem.proofs.Aside.{IsAside, change_aside, commanded, told_as, where_all}
 use Rattle.mdv_theorem.proofs.Found.{created_found}
+use Rattle.mdv_theorem.proofs.Given.{given}
+use Rattle.mdv_theorem.proofs.Later.{lasts_offers}
 use Rattle.mdv_theorem.proofs.Living.{lived_life}
+use Rattle.mdv_theorem.proofs.Opened.{printed_open}
 use Rattle.mdv_theorem.proofs.Parting.{cut, cut_has}
 use Rattle.mdv_theorem.proofs.Staying.{Passed, found_open, it_stays, its_home, its_sound, passed}
 use Rattle.mdv_theorem.proofs.Steps.{Failed, Reached, reached, told_once}
-use Rattle.mdv_theorem.proofs.Tables.{granted_done, open_on, opened_steps}
+use Rattle.mdv_theorem.proofs.Tables.{Grows, granted_done, grows_carried, opened_steps, stands_line}
 
 -- that number isn't NoDatabase's
 abbrev IsElseNumber : ℕ → Type 0
@@ -98,6 +101,14 @@ module _ (drives : Geometry) (home : Home) (before : List Ran) (script : Script)
   abbrev host : Host
   host = host_of drives home run.fresh
 
+  -- what is open behind a line stays open
+  open_since : (here : List Exchange) (one : Exchange) (at : Reached run here one) (front rest : List Exchange) (shown : Exchange) (way : Passed drives home before script sound is_home run here one at front rest shown) (newest : Newest) → way.step.mid.memory.opened ≡ Some newest → IsOpen at.kept
+  open_since here one at front rest shown way newest opened =
+      let step = way.step in
+      let own = its_sound drives home before script sound is_home run in
+      let sees = its_home drives home before script sound is_home run in
+      opened_steps host own sees (Failed run) calm step.mid at.kept rest newest (stands_line host own sees step.calls shown.text step.answer step.kept step.mid way.stands step.comes step.said) opened step.after
+
   module _ (here : List Exchange) (one : Exchange) (at : Reached run here one) (made : Exchange) (slice : SliceName) (force : Bool) (blocks : ℕ) (asks : Asks made (Create slice force blocks)) (told : IsTold made ok_line) where
     -- created by an earlier run, the database is found by the boot and stays open
     created_before : Contains (exchanges_by home before) made → IsOpen at.kept
@@ -113,30 +124,41 @@ module _ (drives : Geometry) (home : Home) (before : List Ran) (script : Script)
         let step = way.step in
         let done = granted_done host step.calls step.kept step.mid made step.answer step.comes step.said step.told (Create slice force blocks) asks told in
         let new = done.1.1 in
-        let opened : step.mid.memory.opened ≡ Some new.newest = ap (λ (m : Memory). m.opened) new.memory in
-        opened_steps host (its_sound drives home before script sound is_home run) (its_home drives home before script sound is_home run) (Failed run) calm step.mid at.kept rest new.newest
-        (open_on new.newest opened new.head new.content) opened step.after
+        open_since here one at front rest made way new.newest (ap (λ (m : Memory). m.opened) new.memory)
 
-    -- so it is open where the line came
-    stays_open : Contains (exchanges_by home before ++ here) made → IsOpen at.kept
-    stays_open has = elim (Contains-append_cases (exchanges_by home before) here made has) [
-      | inl old ↦ created_before old
-      | inr new ↦
-          let c = cut here made new in
-          created_here c.front c.rest (passed drives home before script sound is_home run here one at c.front c.rest made c.is)
+  -- printed by an earlier run, what was open then lasts, and a boot finds it
+  module _ (here : List Exchange) (one : Exchange) (at : Reached run here one) (shown : Exchange) (names : List Named) (asks : Asks shown (Print names)) (granted : IsGranted shown (Print names)) where
+    printed_before : Contains (exchanges_by home before) shown → IsOpen at.kept
+    printed_before has =
+        let was = printed_open given drives home sound is_home run.made shown names asks granted before run.t.tale run.life has in
+        let its = found_open drives home before script sound is_home run here one at (Grows host.drives was.0) (grows_carried host.drives was.0) calm (lasts_offers drives home was.0 sound run.t.tale was.1 run.fresh) in
+        (its.newest, its.opened)
+
+    -- printed by an earlier line of this run, it was open there
+    printed_here : (front rest : List Exchange) → Passed drives home before script sound is_home run here one at front rest shown → IsOpen at.kept
+    printed_here front rest way =
+        let step = way.step in
+        let done = granted_done host step.calls step.kept step.mid shown step.answer step.comes step.said step.told (Print names) asks granted in
+        let its = done.1 in
+        open_since here one at front rest shown way its.0 (ap (λ (m : Memory). m.opened) its.3.memory ∙ its.1)
+
+  -- So it is open where the line came, by a line that was done, in an earlier run or in this one; a command on a volume shows it by that.
+  module _ (here : List Exchange) (one : Exchange) (at : Reached run here one) (shown : Exchange) (has : Contains (exchanges_by home before ++ here) shown) where
+    either : (Contains (exchanges_by home before) shown → IsOpen at.kept) → ((front rest : List Exchange) → Passed drives home before script sound is_home run here one at front rest shown → IsOpen at.kept) → IsOpen at.kept
+    either earlier now = elim (Contains-append_cases (exchanges_by home before) here shown has) [
+      | inl old ↦ earlier old
+      | inr new ↦ (let c = cut here shown new in now c.front c.rest (passed drives home before script sound is_home run here one at c.front c.rest shown c.is))
     ]
 
-  -- a command that was done behind its creation shows it too, by the volume that it is on
-  module _ (here : List Exchange) (one : Exchange) (at : Reached run here one) (shown : Exchange) (has : Contains (exchanges_by home before ++ here) shown) where
     by_volume : (volume : VolId) → ShowsThere volume shown → IsOpen at.kept
     by_volume volume shows = let its = it_stays drives home before script sound is_home run here one at calm shown volume has shows in (its.newest, its.opened)
 
-    shown_open : (command : Command) → NeedsDatabase command → Asks shown command → IsGranted shown command → IsOpen at.kept
-    shown_open (Create slice force blocks) needs asks granted = stays_open here one at shown slice force blocks asks granted has
+    pub shown_open : (command : Command) → NeedsDatabase command → Asks shown command → IsGranted shown command → IsOpen at.kept
+    shown_open (Create slice force blocks) needs asks granted = either (created_before here one at shown slice force blocks asks granted) (created_here here one at shown slice force blocks asks granted)
     shown_open (MakeStripe volume slice) needs asks granted = by_volume volume (record { command = MakeStripe volume slice; asks = asks; on = refl; granted = granted })
     shown_open (Read volume at_block count) needs asks granted = by_volume volume (record { command = Read volume at_block count; asks = asks; on = refl; granted = granted })
     shown_open (Write volume at_block block) needs asks granted = by_volume volume (record { command = Write volume at_block block; asks = asks; on = refl; granted = granted })
-    shown_open (Print names) needs asks granted = absurd needs
+    shown_open (Print names) needs asks granted = either (printed_before here one at shown names asks granted) (printed_here here one at shown names asks granted)
 
 pub databases_stay : DatabasesStay
 databases_stay drives home before script is_home run calm one earlier command answered has asks =

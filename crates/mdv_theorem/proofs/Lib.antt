@@ -36,4 +36,7 @@ mod Placed
 mod Beginning
 mod Synced
 mod Reread
+mod Opened
+mod Listed
+mod Printing
 mod Agreed

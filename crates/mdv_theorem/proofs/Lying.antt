@@ -77,6 +77,12 @@ module _ (drives : Geometry) (home : Home) (before : List Ran) (script : Script)
         let made = table_made drives home run.made before run.t.tale sound is_home (lived_life drives run.made before run.t.tale run.life) table found volume of has in
         record { made = made.0; slice = made.1; asked = among made.0 made.2; may = made.3; is = made.4 }
 
+    -- a volume is on a slice on which it may lie
+    pub record IsLaid (of : Volume) : Type 0 where
+      pub slice : SliceName
+      pub may : MayLie volume slice all
+      pub is : of ≡ stripe host.drives volume slice
+
     -- a slice on which it may lie, and of which the map has each block
     pub record LiesOn (v : Map) : Type 0 where
       pub slice : SliceName
@@ -150,13 +156,21 @@ module _ (drives : Geometry) (home : Home) (before : List Ran) (script : Script)
     only_since newest opened of slice has is old since parts stays other elsewhere among =
         only_there newest opened of slice has is other elsewhere (subst (λ (l : List Exchange). Contains l other) (sym parts) (Contains-append_right old since other among))
 
+    laid_there : (newest : Newest) → kept.memory.opened ≡ Some newest → (of : Volume) → HasVolume newest.table.plan.volumes volume of → IsLaid lines of
+    laid_there newest opened of has =
+        let made = now_made newest opened of has in
+        record { slice = made.slice; may = record { made = made.made; asked = made.asked; may = made.may; only = only_since newest opened of made.slice has made.is }; is = made.is }
+
     pub lies_there : (newest : Newest) → kept.memory.opened ≡ Some newest → IsPlanOf host.drives newest.table.plan → (v : Map) → IsMapOf host.drives newest.table volume v → LiesOn lines v
     lies_there newest opened plan v lies =
-        let made = now_made newest opened lies.of lies.has in
+        let laid = laid_there newest opened lies.of lies.has in
         let kind = All-contains (λ (w : Volume). IsKindOf host.drives w.kind) newest.table.plan.volumes lies.of plan.kinds lies.has.0 in
-        let at = stripe_map host.drives volume made.slice v host_sound (subst (λ (w : Volume). IsKindMap host.drives w.kind v) made.is lies.kind) in
-        record { slice = made.slice; may = record { made = made.made; asked = made.asked; may = made.may; only = only_since newest opened lies.of made.slice lies.has made.is }; at = at.0; has = at.1; plain = stripe_plain host.drives volume made.slice at.0 host_sound (subst (λ (w : Volume). IsKindOf host.drives w.kind) made.is kind) at.1; is = at.2 }
+        let at = stripe_map host.drives volume laid.slice v host_sound (subst (λ (w : Volume). IsKindMap host.drives w.kind v) laid.is lies.kind) in
+        record { slice = laid.slice; may = laid.may; at = at.0; has = at.1; plain = stripe_plain host.drives volume laid.slice at.0 host_sound (subst (λ (w : Volume). IsKindOf host.drives w.kind) laid.is kind) at.1; is = at.2 }
 
   -- where the run has come to a line
+  pub laid : (here : List Exchange) (one : Exchange) (at : Reached run here one) (newest : Newest) → at.kept.memory.opened ≡ Some newest → (of : Volume) → HasVolume newest.table.plan.volumes volume of → IsLaid (exchanges_by home before ++ here) of
+  laid here one at newest opened of has = laid_there here at.booted at.first at.kept at.boots (Failed run) at.steps newest opened of has
+
   pub lies_made : (here : List Exchange) (one : Exchange) (at : Reached run here one) (newest : Newest) → at.kept.memory.opened ≡ Some newest → IsPlanOf host.drives newest.table.plan → (v : Map) → IsMapOf host.drives newest.table volume v → LiesOn (exchanges_by home before ++ here) v
   lies_made here one at newest opened plan v lies = lies_there here at.booted at.first at.kept at.boots (Failed run) at.steps newest opened plan v lies

@@ -54,6 +54,14 @@ module _ (drives : Geometry) (home : Home) (sound : IsSound drives) (is_home : I
   pub life_stands : (made : Image) (ran : List Ran) (t : Tale) → Life drives made ran t → (h : History) × StandsAt (own drives home) h t
   life_stands made ran t life = (_, (lives_stand drives home made ran t is_home (record { sound = sound; life = life; fair = tt })).stands)
 
+  -- what a run of the host told, where it is known by its home's name
+  pub own_told : (other : Home) (fresh : ℕ) (stretch : Stretch) (start : Counts) (script : Script) (t m : Moment) → IsHome drives other → bytes_eq other.host home.host ≡ true → (stands : RunMoment (host_of drives other fresh) script t.tale m.tale)
+      → IsToldBy (host_of drives other fresh) stretch start script t m → (its : IsToldBy (host_of drives home fresh) stretch start script t m) × (its.bytes ≡ stands.bytes)
+  own_told other fresh stretch start script t m its_home does stands tells =
+      let same = one_home drives home other is_home its_home (sym ((bytes_eq-Decides other.host home.host).0 does)) in
+      let its : IsToldBy (host_of drives home fresh) stretch start script t m = subst (λ (h : Home). IsToldBy (host_of drives h fresh) stretch start script t m) (sym same) tells in
+      (its, append_cancel_left (told t.tale) its.bytes stands.bytes (sym its.is_told ∙ stands.is_told))
+
   module _ (final : Table) (volume : VolId) (number : ℕ) (spot : Spot drives home final volume number) where
     abbrev AreLeft : List Exchange → Tale → Tale → Type 0
     AreLeft es t u = Leaves volume number spot.drive (spot.first + number) es t u
@@ -78,19 +86,13 @@ module _ (drives : Geometry) (home : Home) (sound : IsSound drives) (is_home : I
       in_it : area_of_map (run_map spot.drive spot.first spot.count) spot.drive (spot.first + number) ≡ true
       in_it = runs_lie.area spot.drive spot.first spot.count spot.drive (spot.first + number) ∙ in_range spot.drive spot.first spot.count number spot.within
 
-    -- the bytes that a run told are one
-    one_told : (a b : List ℕ) (t m : Tale) → told m ≡ told t ++ a → told m ≡ told t ++ b → a ≡ b
-    one_told a b t m one other = append_cancel_left (told t) a b (sym one ∙ other)
-
     any_leaves : (other : Home) (fresh : ℕ) (stretch : Stretch) (start : Counts) (script : Script) (t m : Moment) → IsHome drives other → (stands : RunMoment (host_of drives other fresh) script t.tale m.tale) → IsToldBy (host_of drives other fresh) stretch start script t m
         → IsMomentOf stretch t m → AllInto m.tale → (h : History) → StandsAt (own drives home) h t.tale → AreLeft (lines_of (record { home = other; fresh = fresh; script = script; bytes = stands.bytes })) t.tale m.tale
     any_leaves other fresh stretch start script t m its_home stands tells moment into h there = elim (both_ways (bytes_eq other.host home.host)) [
       | inl does ↦
-          let same = one_home drives home other is_home its_home (sym ((bytes_eq-Decides other.host home.host).0 does)) in
-          let its : IsToldBy (host_of drives home fresh) stretch start script t m = subst (λ (h : Home). IsToldBy (host_of drives h fresh) stretch start script t m) (sym same) tells in
-          let bytes : its.bytes ≡ stands.bytes = one_told its.bytes stands.bytes t.tale m.tale its.is_told stands.is_told in
-          let left = own_leaves fresh stretch start script t m its moment into h there in
-          subst (λ (b : Bool). AreLeft (if b then exchanges_of script stands.bytes else []) t.tale m.tale) (sym does) (subst (λ (l : List ℕ). AreLeft (exchanges_of script l) t.tale m.tale) bytes left)
+          let its = own_told other fresh stretch start script t m its_home does stands tells in
+          let left = own_leaves fresh stretch start script t m its.0 moment into h there in
+          subst (λ (b : Bool). AreLeft (if b then exchanges_of script stands.bytes else []) t.tale m.tale) (sym does) (subst (λ (l : List ℕ). AreLeft (exchanges_of script l) t.tale m.tale) its.1 left)
       | inr never ↦
           subst (λ (b : Bool). AreLeft (if b then exchanges_of script stands.bytes else []) t.tale m.tale) (sym never)
           (other_leaves other fresh script t.tale m.tale its_home (λ same. (let does = (bytes_eq-Decides other.host home.host).1 same in cc (does, never))) stands)

@@ -1,7 +1,8 @@
 -- The theorem in a user's words: of scripts, replies and drives that answer, with no word of replicas, numbers or histories.
-use Rattle.std.specs.Prelude.{◌≡◌, ◌⊎◌, ◌↔◌, ◌+◌, ◌≤◌, ℕ, Bool, None, List, ◌∷◌, ◌++◌, length, Option, Contains, false}
+use Rattle.std.specs.Prelude.{◌≡◌, ◌⊎◌, ◌↔◌, ◌+◌, ◌≤◌, ◌<◌, ℕ, Bool, None, List, [], ◌∷◌, ◌++◌, length, map, flat_map, Option, Contains, AllPairs, false}
 use Rattle.mdv_base.specs.Causes.{Rose}
 use Rattle.mdv_base.specs.declared.drive.SliceName.{SliceName}
+use Rattle.mdv_base.specs.declared.name.Named.TheVariants as named
 use Rattle.mdv_base.specs.declared.name.VolId.{VolId}
 use Rattle.mdv_base.specs.declared.refusal.Refusal.{Refusal}
 use Rattle.mdv_base.specs.declared.refusal.Refusal.TheVariants.{NoDatabase, NoSuchVolume, OutOfMemory}
@@ -20,12 +21,12 @@ use Rattle.mdv_run_law.specs.declared.status.RunStatus.{RunStatus}
 use Rattle.mdv_run_law.specs.declared.status.RunStatus.TheVariants.{Done, NoMemory, NoQuorum, NumbersSpent, Panic, ReadFault, ScriptTooLong, SomeRefused, TwoDatabases, Usage, WriteFault}
 use Rattle.mdv_shelf.specs.Tale.{Tale}
 use Rattle.mdv_status.specs.Telling.{replies_in}
-use Rattle.mdv_status.specs.Values.{values_reply}
+use Rattle.mdv_status.specs.Values.{printed_reply, values_reply}
 use Rattle.mdv_words.specs.declared.command.Command.{Command}
-use Rattle.mdv_words.specs.declared.command.Command.TheVariants.{Create, Read}
+use Rattle.mdv_words.specs.declared.command.Command.TheVariants.{Create, Print, Read}
 use Rattle.mdv_theorem.specs.Exchanges.{Asks, Exchange, IsAbout, IsAcknowledged, IsTold, TellsBlock, exchanges_by, exchanges_of}
 use Rattle.mdv_theorem.specs.Running.{HasAnswered, Running, Runs, WentOn, exchanges_now, ran_on}
-use Rattle.mdv_theorem.specs.Words.{HasBegun, HasDatabase, HeldAtFirst, IsOrWasWritten, IsThere, MayLie}
+use Rattle.mdv_theorem.specs.Words.{HasBegun, HasDatabase, HeldAtFirst, IsOrWasWritten, IsThere, Listed, MayLie, listed_line}
 
 -- how a run may end whose script could be read and whose replies could be told: with Panic only where the database's drive failed
 abbrev pub MayEnd : Type 0 → RunStatus → Type 0
@@ -99,6 +100,37 @@ ReadsAreTold =
     → (one : Exchange) (earlier : List Exchange) (volume : VolId) (at count : ℕ)
     → Answered run one earlier → HasBegun volume earlier → Asks one (Read volume at count) → count ≤ 1024 → KeepsCopies run volume earlier (at + count)
     → (reply : List ℕ) → IsTold one reply → (reply ≡ refusal_line OutOfMemory) ⊎ AreValuesOf at count reply
+
+-- the numbers of what a print tells
+abbrev pub numbers_of : List Listed → List VolId
+numbers_of listed = map (λ (one : Listed). one.volume) listed
+
+-- The reply tells volumes, a line for each, and `ok` behind them: each with a slice on which it may lie by these lines.
+pub record Lists (lines : List Exchange) (reply : List ℕ) : Type 0 where
+  pub listed : List Listed
+  pub told : reply ≡ printed_reply (flat_map listed_line listed)
+  pub lie : (one : Listed) → Contains listed one → MayLie one.volume one.slice lines
+
+-- it tells them in ascending order, and each that these lines show to be there is among them
+pub record ListsAll (lines : List Exchange) (reply : List ℕ) : Type 0 where
+  pub are : Lists lines reply
+  pub ascending : AllPairs (λ m n. m.0 < n.0) (numbers_of are.listed)
+  pub each : (volume : VolId) → IsThere volume lines → Contains (numbers_of are.listed) volume
+
+-- A print of volumes each of which lines show to be there tells just these, or is refused for want of memory, as long as the database's drive answers.
+abbrev pub PrintsOfNames : Type 0
+PrintsOfNames =
+    (drives : Geometry) (home : Home) (before : List Ran) (script : Script) → IsHome drives home → (run : Running drives home before script) → HasAnswered run home.drive
+    → (one : Exchange) (earlier : List Exchange) (first : VolId) (volumes : List VolId)
+    → Answered run one earlier → ((volume : VolId) → Contains (first ∷ volumes) volume → IsThere volume earlier) → Asks one (Print (map named.Volume (first ∷ volumes)))
+    → (reply : List ℕ) → IsTold one reply → (reply ≡ refusal_line OutOfMemory) ⊎ ((is : Lists earlier reply) × (numbers_of is.listed ≡ first ∷ volumes))
+
+-- A print of no names, where lines show that there is a database, tells all its volumes, or is refused for want of memory, as long as its drive answers.
+abbrev pub PrintsOfAll : Type 0
+PrintsOfAll =
+    (drives : Geometry) (home : Home) (before : List Ran) (script : Script) → IsHome drives home → (run : Running drives home before script) → HasAnswered run home.drive
+    → (one : Exchange) (earlier : List Exchange) → Answered run one earlier → HasDatabase earlier → Asks one (Print [])
+    → (reply : List ℕ) → IsTold one reply → (reply ≡ refusal_line OutOfMemory) ⊎ ListsAll earlier reply
 
 -- what a read tells of a block that was written, and the write acknowledged, is that write's, or one's that was issued later
 abbrev pub WritesLast : Type 0

@@ -1,12 +1,14 @@
 -- What lines show of a database and of a volume: that they are there, that the volume's blocks may be read, where it lies, and what its blocks may have. Further commands and kinds of
 -- volumes widen these words.
-use Rattle.std.specs.Prelude.{◌≡◌, ◌⊎◌, ◌+◌, ◌<◌, ℕ, List, ◌∷◌, ◌++◌, Contains, false}
+use Rattle.std.specs.Prelude.{◌≡◌, ◌⊎◌, ◌+◌, ◌<◌, ℕ, List, [], ◌∷◌, ◌++◌, codes, Contains, false}
 use Rattle.mdv_base.specs.declared.drive.SliceName.{SliceName}
 use Rattle.mdv_base.specs.declared.name.VolId.{VolId}
 use Rattle.mdv_engine_law.specs.Replies.{ok_line}
 use Rattle.mdv_home.specs.View.{own_view}
 use Rattle.mdv_home.specs.declared.geometry.Home.{Home}
+use Rattle.mdv_name.specs.Drive.{slice_text}
 use Rattle.mdv_name.specs.SliceIndex.{HasSlice}
+use Rattle.mdv_name.specs.Volume.{number_text}
 use Rattle.mdv_name.specs.declared.geometry.Geometry.{Geometry}
 use Rattle.mdv_name.specs.declared.slice_lines.SliceAt.{SliceAt}
 use Rattle.mdv_shelf.specs.Everywhere.{Image}
@@ -57,13 +59,13 @@ pub record MayTakeDatabase (one : Exchange) : Type 0 where
   pub takes : TakesDatabase command
   pub begun : MayHaveBegun one
 
--- the command is done with a database alone, or makes one: each does so far but a print, of which no more is said here than of its refusals
+-- the command is done with a database alone, or makes one: each so far
 abbrev pub NeedsDatabase : Command → Type 0
 NeedsDatabase (Create slice force blocks) = Unit {0}
 NeedsDatabase (MakeStripe volume slice) = Unit {0}
 NeedsDatabase (Read volume at count) = Unit {0}
 NeedsDatabase (Write volume at block) = Unit {0}
-NeedsDatabase (Print names) = ⊥
+NeedsDatabase (Print names) = Unit {0}
 
 -- one of these lines made a database, or was done with one, as it was told, and none behind it may have taken it away
 pub record HasDatabase (lines : List Exchange) : Type 0 where
@@ -85,6 +87,15 @@ pub record MayLie (volume : VolId) (slice : SliceName) (lines : List Exchange) :
   pub may : MayBeMade volume slice made
   pub only : (before since : List Exchange) → lines ≡ before ++ since → ((one : Exchange) → Contains since one → MayTakeAway volume one → ⊥)
       → (other : Exchange) (elsewhere : SliceName) → Contains since other → Asks other (MakeStripe volume elsewhere) → IsTold other ok_line → elsewhere ≡ slice
+
+-- what a print tells of a volume: that it lies on a slice, as each does so far
+pub record Listed : Type 0 where
+  pub volume : VolId
+  pub slice : SliceName
+
+-- the line that tells it, as `d7 1 1 c0t0d0s3`
+abbrev pub listed_line : Listed → List ℕ
+listed_line of = number_text of.volume.0 ++ (codes " 1 1 " ++ (slice_text of.slice ++ 10 ∷ []))
 
 -- what the new drives, which held this, held in that block of the volume: in that block of a slice of the host that isn't marked `db`, on which the
 -- volume may lie by these lines

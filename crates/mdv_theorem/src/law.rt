@@ -1,4 +1,4 @@
-ghost use Rattle.mdv_theorem.specs.Observed.{BlocksBegin, DatabasesStay, ReadsAgree, ReadsAreTold, RunsAgree, RunsAnswer, RunsEnd, VolumesStay, WritesLast};
+ghost use Rattle.mdv_theorem.specs.Observed.{BlocksBegin, DatabasesStay, PrintsOfAll, PrintsOfNames, ReadsAgree, ReadsAreTold, RunsAgree, RunsAnswer, RunsEnd, VolumesStay, WritesLast};
 ghost use Rattle.mdv_theorem.specs.Running.{RunsGoOn, RunsLiveOn};
 
 /// Whatever ran on the drives before, whatever failed and crashed then: a run whose script can be read and whose replies can be told ends with Panic only where its database's
@@ -24,6 +24,13 @@ pub fn blocks_keep_their_values()
 /// made, as long as its drive answers.
 pub fn databases_stay()
     ensures { DatabasesStay }
+{}
+
+/// A print of volumes that lines showed to be there, or of all of a database that they showed, is told, or refused for want of memory, as long as the database's drive answers: a line
+/// for each volume, with a slice on which it may lie.
+pub fn prints_are_told()
+    ensures named { PrintsOfNames }
+    ensures all { PrintsOfAll }
 {}
 
 /// A run that came to the end of its script has answered each line, and its status says whether one was refused.
