@@ -1,4 +1,6 @@
 mod Ahead
 mod Back
+mod Holding
 mod Noting
+mod Parts
 mod Table

@@ -1,4 +1,5 @@
 pub mod Below
+pub mod Held
 pub mod Noted
 pub mod Parted
 pub mod Settled

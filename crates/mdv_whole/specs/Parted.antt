@@ -1,5 +1,5 @@
 -- The table that a record is of: each of its parts, parted into what the plan says and what is noted.
-use Rattle.std.specs.Prelude.{Bool, List, [], map, flat_map, take}
+use Rattle.std.specs.Prelude.{◌≡◌, Bool, List, [], map, flat_map, take}
 use Rattle.std.specs.List.{fold}
 use Rattle.mdv_whole.specs.Below.{VolId, Recorded, RecordedKind, RecordedPart, RecordedPool, RecordedRow, RecordedSpare, RecordedSubmirror, RecordedVolume}
 use Rattle.mdv_whole.specs.Below.{with_put, Pool, Spare, KindStatus, PartStatus, SpareStatus, VolumeStatus, Table, Component, Row, Volume, VolumeKind}
@@ -44,6 +44,10 @@ noted_in (StripeRecorded s) = StripeNoted (stripe_states s.rows)
 noted_in (MirrorRecorded m) = MirrorNoted (record { offline = map offline_in m.submirrors; dirty = m.dirty })
 noted_in (RaidRecorded r) = RaidNoted (record { state = r.columns.state; columns = map status_in r.columns.parts })
 noted_in (SoftRecorded s) = SoftNoted
+
+-- what the plan says, and what is noted
+abbrev pub ArePartsOf : RecordedKind → VolumeKind × KindStatus → Type 0
+ArePartsOf kind sides = (sides.0 ≡ kind_in kind) × (sides.1 ≡ noted_in kind)
 
 abbrev pub plan_volume : RecordedVolume → Volume
 plan_volume v = record { number = v.number; kind = kind_in v.kind }

@@ -4,10 +4,11 @@ ghost use Rattle.mdv_whole.specs.Parted.{table_of as spec_table_of, spare_states
 ghost use Rattle.mdv_whole.specs.Text.{IsDecoded};
 
 use crate::halves::sorted_halves;
+use crate::parting::{Parted, part_volumes};
 use crate::spares::{States, are_settled, spare_states};
 use mdv_codec::{Recorded, read_record};
 use mdv_fields::RecordError;
-use mdv_plan::{Plan, Status, Table};
+use mdv_plan::{Plan, Sorted, Status, Table};
 use std::alloc::{AllocError, Global};
 
 /// Reads the table whose text these bytes are.
@@ -31,10 +32,11 @@ fn table_of(alloc: Global, recorded: Recorded, spares: States) -> Result<Table, 
     let Recorded {
         front,
         pools,
-        volumes,
+        mut volumes,
     } = recorded;
+    let Parted { planned, noted } = part_volumes(alloc, volumes.as_mut_slice())?;
     let status = Status {
-        volumes: sorted_halves(alloc, volumes.as_slice())?,
+        volumes: Sorted::from_ascending(noted),
         spares,
     };
     let plan = Plan {
@@ -42,7 +44,7 @@ fn table_of(alloc: Global, recorded: Recorded, spares: States) -> Result<Table, 
         set: front.set,
         pending: front.pending,
         pools: sorted_halves(alloc, pools.as_slice())?,
-        volumes: sorted_halves(alloc, volumes.as_slice())?,
+        volumes: Sorted::from_ascending(planned),
     };
     Ok(Table { plan, status })
 }

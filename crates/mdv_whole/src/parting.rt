@@ -1,19 +1,21 @@
 //! The sides of each part of a record.
 ghost use Rattle.std.specs.Prelude.{◌≡◌, ◌≤◌, ◌++◌, length, map, take, IfOk, OnOk};
+ghost use Rattle.mdv_codec.specs.declared.recorded.RecordedKind.TheVariants.{Stripe as StripeRecorded, Mirror as MirrorRecorded, Raid as RaidRecorded};
 ghost use Rattle.mdv_whole.specs.Parted.{component_in, status_in, volume_in, offline_in, spare_in, row_in, stripe_states as spec_stripe_states};
-ghost use Rattle.mdv_whole.specs.Parted.{kind_in as spec_kind_in, noted_in as spec_noted_in, plan_volume, noted_volume, plan_pool};
+ghost use Rattle.mdv_whole.specs.Parted.{ArePartsOf, plan_volume, noted_volume, plan_pool};
 
 use crate::halves::{Half, halves};
 use mdv_base::VolId;
 use mdv_codec::{
-    RecordedKind, RecordedPart, RecordedPool, RecordedRow, RecordedSpare, RecordedSubmirror,
-    RecordedVolume,
+    RecordedKind, RecordedMirror, RecordedPart, RecordedPool, RecordedRaid, RecordedRow,
+    RecordedSoft, RecordedSpare, RecordedStripe, RecordedSubmirror, RecordedVolume,
 };
 use mdv_plan::{
-    Component, KindStatus, Listed, MAX_COMPONENTS, Mirror, MirrorStatus, PartStatus, Pool, Raid,
-    RaidStatus, Regions, Row, Soft, Spare, Stripe, Volume, VolumeKind, VolumeStatus,
+    Base, Component, KindStatus, Listed, MAX_COMPONENTS, Mirror, MirrorStatus, PartStatus, Pool,
+    Raid, RaidStatus, Row, Soft, Spare, Stripe, Volume, VolumeKind, VolumeStatus,
 };
 use std::alloc::{AllocError, Global};
+use std::mem;
 
 impl Half<Component> for RecordedPart {
     ghost half = { component_in };
@@ -66,28 +68,6 @@ impl Half<Row> for RecordedRow {
     }
 }
 
-impl Half<Volume> for RecordedVolume {
-    ghost half = { plan_volume };
-
-    fn half(&self, alloc: Global) -> Result<Volume, AllocError> {
-        Ok(Volume {
-            number: self.number,
-            kind: kind_in(alloc, &self.kind)?,
-        })
-    }
-}
-
-impl Half<VolumeStatus> for RecordedVolume {
-    ghost half = { noted_volume };
-
-    fn half(&self, alloc: Global) -> Result<VolumeStatus, AllocError> {
-        Ok(VolumeStatus {
-            number: self.number,
-            kind: noted_in(alloc, &self.kind)?,
-        })
-    }
-}
-
 impl Half<Pool> for RecordedPool {
     ghost half = { plan_pool };
 
@@ -99,52 +79,118 @@ impl Half<Pool> for RecordedPool {
     }
 }
 
-fn kind_in(alloc: Global, kind: &RecordedKind) -> Result<VolumeKind, AllocError>
-    ensures { IfOk result (λ made. made ≡ spec_kind_in kind.now) }
+fn part_stripe(
+    alloc: Global,
+    stripe: RecordedStripe,
+) -> Result<(VolumeKind, KindStatus), AllocError>
+    ensures { IfOk result (λ sides. ArePartsOf (StripeRecorded stripe) sides) }
 {
-    Ok(match kind {
-        RecordedKind::Stripe(stripe) => VolumeKind::Stripe(Stripe {
-            rows: halves(alloc, &stripe.rows)?,
-            spares: stripe.spares,
-        }),
-        RecordedKind::Mirror(mirror) => VolumeKind::Mirror(Mirror {
-            submirrors: halves(alloc, &mirror.submirrors)?,
-            read: mirror.options.read,
-            write: mirror.options.write,
-            pass: mirror.options.pass,
-            blocks: mirror.blocks,
-        }),
-        RecordedKind::Raid(raid) => VolumeKind::Raid(Raid {
-            columns: halves(alloc, &raid.columns.parts)?,
-            interlace: raid.interlace,
-            units: raid.columns.units,
-            spares: raid.spares,
-        }),
-        RecordedKind::Soft(soft) => VolumeKind::Soft(Soft {
-            base: soft.base,
-            start: soft.start,
-            extents: soft.extents.copy(alloc)?,
-        }),
-    })
+    let rows = halves(alloc, &stripe.rows)?;
+    let spares = stripe.spares;
+    let states = stripe_states(alloc, stripe.rows.as_slice())?;
+    let planned = Stripe { rows, spares };
+    Ok((VolumeKind::Stripe(planned), KindStatus::Stripe(states)))
 }
 
-fn noted_in(alloc: Global, kind: &RecordedKind) -> Result<KindStatus, AllocError>
-    ensures { IfOk result (λ made. made ≡ spec_noted_in kind.now) }
+fn part_mirror(
+    alloc: Global,
+    mirror: RecordedMirror,
+) -> Result<(VolumeKind, KindStatus), AllocError>
+    ensures { IfOk result (λ sides. ArePartsOf (MirrorRecorded mirror) sides) }
 {
-    Ok(match kind {
-        RecordedKind::Stripe(stripe) => {
-            KindStatus::Stripe(stripe_states(alloc, stripe.rows.as_slice())?)
+    let RecordedMirror {
+        options,
+        submirrors,
+        blocks,
+        dirty,
+    } = mirror;
+    let planned = Mirror {
+        submirrors: halves(alloc, &submirrors)?,
+        read: options.read,
+        write: options.write,
+        pass: options.pass,
+        blocks,
+    };
+    let offline = halves(alloc, &submirrors)?;
+    let noted = MirrorStatus { offline, dirty };
+    Ok((VolumeKind::Mirror(planned), KindStatus::Mirror(noted)))
+}
+
+fn part_raid(alloc: Global, raid: RecordedRaid) -> Result<(VolumeKind, KindStatus), AllocError>
+    ensures { IfOk result (λ sides. ArePartsOf (RaidRecorded raid) sides) }
+{
+    let columns = &raid.columns;
+    let planned = Raid {
+        columns: halves(alloc, &columns.parts)?,
+        interlace: raid.interlace,
+        units: columns.units,
+        spares: raid.spares,
+    };
+    let noted = RaidStatus {
+        state: columns.state,
+        columns: halves(alloc, &columns.parts)?,
+    };
+    Ok((VolumeKind::Raid(planned), KindStatus::Raid(noted)))
+}
+
+fn part_kind(alloc: Global, kind: RecordedKind) -> Result<(VolumeKind, KindStatus), AllocError>
+    ensures { IfOk result (λ sides. ArePartsOf kind sides) }
+{
+    match kind {
+        RecordedKind::Stripe(stripe) => part_stripe(alloc, stripe),
+        RecordedKind::Mirror(mirror) => part_mirror(alloc, mirror),
+        RecordedKind::Raid(raid) => part_raid(alloc, raid),
+        RecordedKind::Soft(soft) => {
+            let RecordedSoft {
+                base,
+                start,
+                extents,
+            } = soft;
+            let planned = Soft {
+                base,
+                start,
+                extents,
+            };
+            Ok((VolumeKind::Soft(planned), KindStatus::Soft))
         }
-        RecordedKind::Mirror(mirror) => KindStatus::Mirror(MirrorStatus {
-            offline: halves(alloc, &mirror.submirrors)?,
-            dirty: Regions::from_slice(alloc, mirror.dirty.as_slice())?,
-        }),
-        RecordedKind::Raid(raid) => KindStatus::Raid(RaidStatus {
-            state: raid.columns.state,
-            columns: halves(alloc, &raid.columns.parts)?,
-        }),
-        RecordedKind::Soft(_) => KindStatus::Soft,
-    })
+    }
+}
+
+// The kind of a volume, of which the record keeps nothing.
+fn take_kind(alloc: Global, volume: &mut RecordedVolume) -> RecordedKind
+    ensures kind { result ≡ volume.old.kind }
+    ensures number { volume.new.number ≡ volume.old.number }
+{
+    let nothing = RecordedKind::Soft(RecordedSoft {
+        base: Base::Volume(VolId(0)),
+        start: 0,
+        extents: Listed::new(alloc),
+    });
+    mem::replace(&mut volume.kind, nothing)
+}
+
+/// Volumes as the plan has them, and what is noted of each.
+#[derive(Drop)]
+pub struct Parted {
+    pub planned: Vec<Volume>,
+    pub noted: Vec<VolumeStatus>,
+}
+
+/// The volumes' two sides, to which all goes over that only one of them has.
+pub fn part_volumes(alloc: Global, volumes: &mut [RecordedVolume]) -> Result<Parted, AllocError>
+    ensures planned { IfOk result (λ sides. sides.planned.items ≡ map plan_volume volumes.old) }
+    ensures noted { IfOk result (λ sides. sides.noted.items ≡ map noted_volume volumes.old) }
+{
+    let mut planned = Vec::with_capacity(alloc, volumes.len())?;
+    let mut noted = Vec::with_capacity(alloc, volumes.len())?;
+    for i in 0..volumes.len() {
+        let number = volumes[i].number;
+        let (kind, state) = part_kind(alloc, take_kind(alloc, &mut volumes[i]))?;
+        planned.push(Volume { number, kind })?;
+        let kind = state;
+        noted.push(VolumeStatus { number, kind })?;
+    }
+    Ok(Parted { planned, noted })
 }
 
 // The states of all rows' components, as many as a list has room for.

@@ -1,20 +1,26 @@
 //! The one state of each spare.
 ghost use Rattle.std.specs.Prelude.{◌≡◌, OnOk, IfOk};
+ghost use Rattle.std.specs.BTreeMap.{values};
 ghost use Rattle.std.specs.List.{list_all};
 ghost use Rattle.mdv_whole.specs.Sides.{state_in as spec_state_in};
-ghost use Rattle.mdv_whole.specs.Parted.{noted_spare as spec_noted_spare, with_spares, spare_states as spec_spare_states};
+ghost use Rattle.mdv_whole.specs.Parted.{noted_spare as spec_noted_spare, spare_states as spec_spare_states};
+ghost use Rattle.mdv_whole.specs.Held.{HasSpares};
 ghost use Rattle.mdv_whole.specs.Settled.{is_same as spec_is_same, is_settled as spec_is_settled, are_settled as spec_are_settled, is_pool_settled as spec_is_pool_settled};
 
 use mdv_base::SliceName;
 use mdv_codec::{RecordedPool, RecordedSpare};
 use mdv_plan::{Keyed, Sorted, SpareState, SpareStatus};
 use std::alloc::{AllocError, Global};
+use std::collections::BTreeMap;
 
 // One more than the greatest key of a spare's state.
 const KEYS: usize = 4294967296;
 
 /// The states of spares, by their slices.
 pub type States = Sorted<SpareStatus, KEYS>;
+
+// The states by the numbers of their slices, while spares are still to come.
+type Noted = BTreeMap<u32, SpareStatus>;
 
 /// The state of the spare; Available where none is noted.
 pub fn state_in(states: &States, slice: SliceName) -> SpareState
@@ -30,22 +36,31 @@ pub fn state_in(states: &States, slice: SliceName) -> SpareState
     }
 }
 
-/// The states of all spares of the pools.
+/// The states of all spares of the pools. The work is linear, with a look-up of each.
 pub fn spare_states(alloc: Global, pools: &[RecordedPool]) -> Result<States, AllocError>
     ensures { IfOk result (λ states. states ≡ spec_spare_states pools.now) }
 {
-    let mut states = Sorted::new(alloc);
+    let mut noted = BTreeMap::new(alloc);
     for pool in pools {
-        add_spares(&mut states, pool.spares.as_slice())?;
+        add_spares(&mut noted, pool.spares.as_slice())?;
     }
-    Ok(states)
+    let _ascending = noted.len();
+    let states = states_in(alloc, noted)?;
+    Ok(Sorted::from_ascending(states))
 }
 
-fn add_spares(states: &mut States, spares: &[RecordedSpare]) -> Result<(), AllocError>
-    ensures { OnOk result (states.new ≡ with_spares states.old spares.now) }
+fn states_in(alloc: Global, noted: Noted) -> Result<Vec<SpareStatus>, AllocError>
+    ensures { IfOk result (λ states. states.items ≡ values noted) }
+{
+    noted.into_values().collect(alloc)
+}
+
+fn add_spares(noted: &mut Noted, spares: &[RecordedSpare]) -> Result<(), AllocError>
+    ensures { OnOk result (HasSpares noted.old spares.now noted.new) }
 {
     for spare in spares {
-        states.put(noted_spare(spare))?;
+        let state = noted_spare(spare);
+        noted.insert(state.key(), state)?;
     }
     Ok(())
 }
