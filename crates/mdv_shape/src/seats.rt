@@ -4,33 +4,18 @@ ghost use Rattle.std.specs.List.{flat_map, list_all};
 ghost use Rattle.mdv_name.specs.Code.{slice_code};
 ghost use Rattle.mdv_shape.specs.Seats.{spares_in, spare_key, same_seat as spec_same_seat, are_spares};
 ghost use Rattle.mdv_shape.specs.Seats.{is_room_for as spec_is_room_for, is_in_use as spec_is_in_use, AreSeats};
-ghost use Rattle.mdv_shape.specs.Found.{seat_in, with_seat, seats_from as spec_seats_from, is_as_seat as spec_is_as_seat, is_seat_in};
+ghost use Rattle.mdv_shape.specs.Found.{seat_in, HasSeat, AreFirsts, is_as_seat as spec_is_as_seat, is_seat_in};
 
 use crate::distinct::set_of;
 use crate::taken::seats_taken;
 use mdv_base::SliceName;
-use mdv_plan::{Keyed, Pool, Sorted, Spare, SpareState, SpareStatus, Table};
+use mdv_plan::{Keyed, Pool, Spare, SpareState, SpareStatus, Table};
 use mdv_whole::{States, state_in};
 use std::alloc::{AllocError, Global};
+use std::collections::BTreeMap;
 
-// One more than the greatest number of a slice.
-const KEYS: usize = 4294967296;
-
-// The first spare on its slice, in the order of the pools.
-#[derive(Clone, Copy)]
-pub(crate) struct Seat {
-    pub(crate) spare: Spare,
-}
-
-type Seats = Sorted<Seat, KEYS>;
-
-impl Keyed for Seat {
-    ghost key = { λ x. slice_code x.spare.slice };
-
-    fn key(&self) -> u32 {
-        slice_key(self.spare.slice)
-    }
-}
+// The first spare on each slice, in the order of the pools, by the slice's number.
+type Seats = BTreeMap<u32, Spare>;
 
 /// One number for each slice.
 pub fn slice_key(slice: SliceName) -> u32
@@ -53,26 +38,26 @@ fn all_spares(alloc: Global, pools: &[Pool]) -> Result<Vec<Spare>, AllocError>
 fn find_seat(seats: &Seats, slice: SliceName) -> Option<Spare>
     ensures { result ≡ seat_in seats.now slice }
 {
-    match seats.find(slice_key(slice)) {
-        Some(seat) => Some(seat.spare),
+    match seats.get(&slice_key(slice)) {
+        Some(first) => Some(*first),
         None => None,
     }
 }
 
 fn add_seat(seats: &mut Seats, spare: Spare) -> Result<(), AllocError>
-    ensures { OnOk result (seats.new ≡ with_seat seats.old spare) }
+    ensures { OnOk result (HasSeat seats.old spare seats.new) }
 {
-    let seat = Seat { spare };
-    if seats.find(seat.key()).is_some() {
-        return Ok(());
+    let key = slice_key(spare.slice);
+    if !seats.contains_key(&key) {
+        seats.insert(key, spare)?;
     }
-    seats.put(seat)
+    Ok(())
 }
 
 fn seats_from(alloc: Global, spares: &[Spare]) -> Result<Seats, AllocError>
-    ensures { IfOk result (λ seats. seats ≡ spec_seats_from spares.now) }
+    ensures { IfOk result (AreFirsts spares.now) }
 {
-    let mut seats = Sorted::new(alloc);
+    let mut seats = BTreeMap::new(alloc);
     for spare in spares {
         add_seat(&mut seats, *spare)?;
     }
