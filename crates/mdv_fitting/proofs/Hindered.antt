@@ -2,10 +2,10 @@
 use Rattle.std.proofs.Common.{◌≡◌, ◌<◌, ◌==◌, ◌&&◌, ◌||◌, ℕ, zero, suc, Bool, true, false, not, cond, Option, None, Some, List, [], ◌∷◌, length, get_or, refl, sym, ◌∙◌, ap, subst, inl, inr, ◌⊎◌, arith}
 use Rattle.std.proofs.lemmas.Bool.Decides.{nat_tests}
 use Rattle.std.proofs.lemmas.List.Folds.{Any-from_list_any, list_any_at}
-use Rattle.std.specs.BTreeMap.{BTreeMap, get}
+use Rattle.mdv_fitting.specs.Held.{held}
+use Rattle.mdv_fitting.specs.declared.held.Held.{Held}
 use Rattle.std.specs.List.{All, find}
 use Rattle.std.specs.Option.{option_map}
-use Rattle.std.specs.Ordering.{nat_cmp}
 use Rattle.std.specs.Prelude.{is_some}
 use Rattle.mdv_name.proofs.Finding.{same_slice-equal, same_slice-refl, slice_at-some}
 use Rattle.mdv_name.proofs.Places.{slice_code_injective}
@@ -104,7 +104,7 @@ other_number s t drives differs =
     ] refl
 
 -- a slice that overlaps another one and is taken hinders it
-pub hinders_it : (g : Geometry) (m : BTreeMap ℕ User) (s t : SliceName) → IsSound g → IsSliceName t → overlap g t s ≡ true → same_slice t s ≡ false → is_taken g m t ≡ true → IsHindered g m s
+pub hinders_it : (g : Geometry) (m : Held User) (s t : SliceName) → IsSound g → IsSliceName t → overlap g t s ≡ true → same_slice t s ≡ false → is_taken g m t ≡ true → IsHindered g m s
 hinders_it g m s t sound named over differs taken =
     let drives = one_drive g t s sound over in
     let other = other_number s t drives differs in (
@@ -113,17 +113,17 @@ hinders_it g m s t sound named over differs taken =
       subst (λ (n : SliceName). (not (t.slice == s.slice) && (overlap g n s && is_taken g m n)) ≡ true) (sym (beside_is s t drives)) (all_three (not (t.slice == s.slice)) (overlap g t s) (is_taken g m t) other over taken),
     )
 
-taken_first : (g : Geometry) (m : BTreeMap ℕ User) (t : SliceName) → is_some (get nat_cmp m (slice_code t)) ≡ true → is_taken g m t ≡ true
+taken_first : (g : Geometry) (m : Held User) (t : SliceName) → is_some (held m (slice_code t)) ≡ true → is_taken g m t ≡ true
 taken_first g m t some = ap (λ (b : Bool). b || is_db_at (slice_at g.slices t)) some
 
-taken_db : (g : Geometry) (m : BTreeMap ℕ User) (t : SliceName) → is_db_at (slice_at g.slices t) ≡ true → is_taken g m t ≡ true
-taken_db g m t db = elim (is_some (get nat_cmp m (slice_code t))) as (λ b. (b || is_db_at (slice_at g.slices t)) ≡ true) [ true ↦ refl | false ↦ db ]
+taken_db : (g : Geometry) (m : Held User) (t : SliceName) → is_db_at (slice_at g.slices t) ≡ true → is_taken g m t ≡ true
+taken_db g m t db = elim (is_some (held m (slice_code t))) as (λ b. (b || is_db_at (slice_at g.slices t)) ≡ true) [ true ↦ refl | false ↦ db ]
 
 -- what nothing hinders overlaps no other slice in use
-pub free_of_uses : (g : Geometry) (m : BTreeMap ℕ User) (xs : List SliceUse) (s : SliceName) → IsSound g → All IsNamed xs → AreFirsts xs m → (IsHindered g m s → ⊥) → All (λ u. same_slice u.slice s ≡ false → overlap g u.slice s ≡ false) xs
+pub free_of_uses : (g : Geometry) (m : Held User) (xs : List SliceUse) (s : SliceName) → IsSound g → All IsNamed xs → AreFirsts xs m → (IsHindered g m s → ⊥) → All (λ u. same_slice u.slice s ≡ false → overlap g u.slice s ≡ false) xs
 free_of_uses g m xs s sound named firsts free i d within differs =
     let u = get_or xs i d in
-    let some : is_some (get nat_cmp m (use_key u)) ≡ true = ap is_some (firsts (use_key u)) ∙ some_first xs (use_key u) i d within refl in
+    let some : is_some (held m (use_key u)) ≡ true = ap is_some (firsts (use_key u)) ∙ some_first xs (use_key u) i d within refl in
     false_unless (overlap g u.slice s) (λ over. free (hinders_it g m s u.slice sound (named i d within) over differs (taken_first g m u.slice some)))
 
 other_parts : (a b c : Bool) → ((a && b) && c) ≡ true → (a ≡ true) × (b ≡ true) × (c ≡ true)
@@ -137,7 +137,7 @@ not_true true is = cc
 not_true false is = refl
 
 -- and no other one that is set aside for replicas
-pub free_of_dbs : (g : Geometry) (m : BTreeMap ℕ User) (s : SliceName) → IsSound g → (IsHindered g m s → ⊥) → meets_db g s ≡ false
+pub free_of_dbs : (g : Geometry) (m : Held User) (s : SliceName) → IsSound g → (IsHindered g m s → ⊥) → meets_db g s ≡ false
 free_of_dbs g m s sound free = false_unless (meets_db g s) (λ meets.
     let found = Any-from_list_any (is_other_db g s) g.slices meets in
     let line = found.1 in
@@ -173,14 +173,14 @@ either true b is = inl refl
 either false b is = inr is
 
 -- what stands in nothing's way and is clear of replicas isn't hindered
-pub never_hindered : (g : Geometry) (m : BTreeMap ℕ User) (xs : List SliceUse) (s : SliceName) → IsSound g → IsSliceName s → All IsNamed xs → AreFirsts xs m → All (λ u. same_slice u.slice s ≡ false → overlap g u.slice s ≡ false) xs → meets_db g s ≡ false → IsHindered g m s → ⊥
+pub never_hindered : (g : Geometry) (m : Held User) (xs : List SliceUse) (s : SliceName) → IsSound g → IsSliceName s → All IsNamed xs → AreFirsts xs m → All (λ u. same_slice u.slice s ≡ false → overlap g u.slice s ≡ false) xs → meets_db g s ≡ false → IsHindered g m s → ⊥
 never_hindered g m xs s sound form named firsts clear no_db (i, few, is) =
     let other = beside s i in
     let parts = three_parts (not (i == s.slice)) (overlap g other s) (is_taken g m other) is in
     let differs = beside_differs s i parts.0 in
-    elim (either (is_some (get nat_cmp m (slice_code other))) (is_db_at (slice_at g.slices other)) parts.2) [
+    elim (either (is_some (held m (slice_code other))) (is_db_at (slice_at g.slices other)) parts.2) [
       | inl some ↦
-          let by = is_found (get nat_cmp m (slice_code other)) some in
+          let by = is_found (held m (slice_code other)) some in
           let first = first_stands xs (slice_code other) by.0 (sym (firsts (slice_code other)) ∙ by.1) in
           let d : SliceUse = record { slice = s; start = 0; run = record { at = 0; blocks = 0 }; by = by.0 } in
           let u = get_or xs first.place d in

@@ -10,13 +10,17 @@ use Rattle.mdv_fitting.specs.Below.{Geometry, LieApart, OneSoft, OneVolume, Plan
 use Rattle.mdv_fitting.specs.Keys.{base_key, kind_runs_at, runs_at, volume_runs_at}
 use Rattle.mdv_fitting.specs.Runs.{AreRuns, AreSameSize, HasRuns, IsKindApart, IsSoftApart, IsVolumeApart, Judges, RunMap, SameSize, items_at, soft_size}
 
-runs_last : (k : ℕ) (vs : List OneVolume) (v : OneVolume) → runs_at k (vs ++ v ∷ []) ≡ runs_at k vs ++ kind_runs_at k v.kind
+pub runs_last : (k : ℕ) (vs : List OneVolume) (v : OneVolume) → runs_at k (vs ++ v ∷ []) ≡ runs_at k vs ++ kind_runs_at k v.kind
 runs_last k [] v = append-nil (kind_runs_at k v.kind)
 runs_last k (w ∷ vs) v = ap (λ (l : List Run). volume_runs_at k w ++ l) (runs_last k vs v) ∙ sym (append_assoc (volume_runs_at k w) (runs_at k vs) (kind_runs_at k v.kind))
 
 -- with the extents of one volume more
 pub runs_more : (vs : List OneVolume) (v : OneVolume) (m n : RunMap) → AreRuns vs m → HasRuns m v.kind n → AreRuns (vs ++ v ∷ []) n
 runs_more vs v m n are more k = more k ∙ ap (λ (l : List Run). l ++ kind_runs_at k v.kind) (are k) ∙ sym (runs_last k vs v)
+
+-- a volume that stands in what is lent of the list stands in the list
+pub lent : (vs slice : List OneVolume) (i : ℕ) (v : OneVolume) → slice ≡ vs → i < length slice → v ≡ get_or slice i v → (i < length vs) × (v ≡ get_or vs i v)
+lent vs slice i v all within is = (subst (λ (l : List OneVolume). i < length l) all within, is ∙ ap (λ (l : List OneVolume). get_or l i v) all)
 
 -- on the base of this number
 abbrev pub IsJudgedAt : Geometry → Plan → ℕ → VolumeKind → Type 0

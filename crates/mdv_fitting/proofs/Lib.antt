@@ -1,7 +1,10 @@
 mod Basing
+mod Cells
+mod Climbing
 mod Hindered
 mod Judging
 mod Named
 mod Partly
+mod Slicing
 mod Starting
 mod Together

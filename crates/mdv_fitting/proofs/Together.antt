@@ -5,10 +5,10 @@ use Rattle.std.proofs.lemmas.List.{get_or-take, get_or_append_left, get_or_at, g
 use Rattle.std.proofs.lemmas.List.Folds.{find-append, list_all-append}
 use Rattle.std.proofs.lemmas.List.Quantifiers.{all_pairs_push}
 use Rattle.std.proofs.lemmas.List.Sums.{AllPass-from_list_all, list_all-from_AllPass}
-use Rattle.std.specs.BTreeMap.{BTreeMap, get}
+use Rattle.mdv_fitting.specs.Held.{held}
+use Rattle.mdv_fitting.specs.declared.held.Held.{Held}
 use Rattle.std.specs.List.{All, find, list_all}
 use Rattle.std.specs.Option.{option_map, option_or}
-use Rattle.std.specs.Ordering.{nat_cmp}
 use Rattle.std.specs.Prelude.{◌↔◌, MatchOption, is_some}
 use Rattle.mdv_name.proofs.Finding.{same_slice-equal, same_slice-refl}
 use Rattle.mdv_plan.specs.Slices.{can_share}
@@ -18,7 +18,7 @@ use Rattle.mdv_fitting.specs.Firsts.{AreFirsts, FitsBeside, HasFirst, IsHindered
 use Rattle.mdv_fitting.proofs.Hindered.{false_unless, first_stands, free_of_dbs, free_of_uses, never_hindered, one_slice, overlap-comm, some_first}
 
 -- with one use more
-firsts_more : (xs : List SliceUse) (u : SliceUse) (m n : BTreeMap ℕ User) → AreFirsts xs m → HasFirst m u n → AreFirsts (xs ++ u ∷ []) n
+firsts_more : (xs : List SliceUse) (u : SliceUse) (m n : Held User) → AreFirsts xs m → HasFirst m u n → AreFirsts (xs ++ u ∷ []) n
 firsts_more xs u m n firsts more k =
     more k ∙ ap (λ (o : Option User). option_or o (user_at u k)) (firsts k) ∙ mapped (find (λ v. use_key v == k) xs) (use_key u == k) ∙ ap (option_map user_of) (sym (find-append (λ v. use_key v == k) xs (u ∷ [])))
   where
@@ -153,7 +153,7 @@ not_false : (b : Bool) → b ≡ false → not b ≡ true
 not_false b is = ap not is
 
 -- where its slice is new
-beside_new : (g : Geometry) (m : BTreeMap ℕ User) (xs : List SliceUse) (v : SliceUse) (b : Bool) → IsSound g → All IsNamed xs → IsNamed v → All IsPart xs → IsPart v → AreFirsts xs m → get nat_cmp m (use_key v) ≡ None → IsTrue b ↔ (IsHindered g m v.slice → ⊥) → IsTrue b ↔ Beside g xs v
+beside_new : (g : Geometry) (m : Held User) (xs : List SliceUse) (v : SliceUse) (b : Bool) → IsSound g → All IsNamed xs → IsNamed v → All IsPart xs → IsPart v → AreFirsts xs m → held m (use_key v) ≡ None → IsTrue b ↔ (IsHindered g m v.slice → ⊥) → IsTrue b ↔ Beside g xs v
 beside_new g m xs v b sound named also parts is_part firsts none is = (
   λ true_so.
       let free = is.0 true_so in
@@ -183,7 +183,7 @@ beside_new g m xs v b sound named also parts is_part firsts none is = (
         cc (never)
 
 -- where it has a first use
-beside_first : (g : Geometry) (m : BTreeMap ℕ User) (xs : List SliceUse) (v : SliceUse) (b : Bool) (by : User) → All IsNamed xs → IsNamed v → All IsPart xs → IsPart v → AreFirsts xs m → StandTogether g xs → get nat_cmp m (use_key v) ≡ Some by → b ≡ can_share_slice by v.by → IsTrue b ↔ Beside g xs v
+beside_first : (g : Geometry) (m : Held User) (xs : List SliceUse) (v : SliceUse) (b : Bool) (by : User) → All IsNamed xs → IsNamed v → All IsPart xs → IsPart v → AreFirsts xs m → StandTogether g xs → held m (use_key v) ≡ Some by → b ≡ can_share_slice by v.by → IsTrue b ↔ Beside g xs v
 beside_first g m xs v b by named also parts is_part firsts stands some is =
     let first = first_stands xs (use_key v) by (sym (firsts (use_key v)) ∙ some) in
     let w = get_or xs first.place v in
@@ -220,12 +220,12 @@ beside_first g m xs v b by named also parts is_part firsts stands some is =
           ]
         ]
 
-beside_is : (g : Geometry) (m : BTreeMap ℕ User) (xs : List SliceUse) (v : SliceUse) (b : Bool) → IsSound g → All IsNamed xs → IsNamed v → All IsPart xs → IsPart v → AreFirsts xs m → StandTogether g xs → FitsBeside g m v b → IsTrue b ↔ StandTogether g (xs ++ v ∷ [])
+beside_is : (g : Geometry) (m : Held User) (xs : List SliceUse) (v : SliceUse) (b : Bool) → IsSound g → All IsNamed xs → IsNamed v → All IsPart xs → IsPart v → AreFirsts xs m → StandTogether g xs → FitsBeside g m v b → IsTrue b ↔ StandTogether g (xs ++ v ∷ [])
 beside_is g m xs v b sound named also parts is_part firsts stands fits =
-    let it = cases (get nat_cmp m (use_key v)) refl fits in
+    let it = cases (held m (use_key v)) refl fits in
     (λ true_so. stand_more g xs v stands (it.0 true_so), λ all. it.1 (stood_more g xs v all))
   where
-    cases : (o : Option User) → get nat_cmp m (use_key v) ≡ o → MatchOption o (IsTrue b ↔ (IsHindered g m v.slice → ⊥)) (λ first. b ≡ can_share_slice first v.by) → IsTrue b ↔ Beside g xs v
+    cases : (o : Option User) → held m (use_key v) ≡ o → MatchOption o (IsTrue b ↔ (IsHindered g m v.slice → ⊥)) (λ first. b ≡ can_share_slice first v.by) → IsTrue b ↔ Beside g xs v
     cases None none is = beside_new g m xs v b sound named also parts is_part firsts none is
     cases (Some by) some is = beside_first g m xs v b by named also parts is_part firsts stands some is
 
@@ -249,11 +249,11 @@ all_front P xs i all k d within =
     subst P (sym (get_or-take i xs k d (omega (arith, few)))) (all k d (omega (arith, few)))
 
 -- at a place of a list
-pub step_told : (g : Geometry) (m : BTreeMap ℕ User) (xs : List SliceUse) (i : ℕ) (d : SliceUse) (b : Bool) → i < length xs → IsSound g → All IsNamed xs → All IsPart xs → AreFirsts (take i xs) m → StandTogether g (take i xs) → FitsBeside g m (get_or xs i d) b → IsTrue b ↔ StandTogether g (take (i + 1) xs)
+pub step_told : (g : Geometry) (m : Held User) (xs : List SliceUse) (i : ℕ) (d : SliceUse) (b : Bool) → i < length xs → IsSound g → All IsNamed xs → All IsPart xs → AreFirsts (take i xs) m → StandTogether g (take i xs) → FitsBeside g m (get_or xs i d) b → IsTrue b ↔ StandTogether g (take (i + 1) xs)
 step_told g m xs i d b within sound named parts firsts stands fits =
     let it = beside_is g m (take i xs) (get_or xs i d) b sound (all_front IsNamed xs i named) (named i d within) (all_front IsPart xs i parts) (parts i d within) firsts stands fits in
     let more = take_more xs i d within in
     (λ true_so. subst (StandTogether g) (sym more) (it.0 true_so), λ all. it.1 (subst (StandTogether g) more all))
 
-pub step_firsts : (m n : BTreeMap ℕ User) (xs : List SliceUse) (i : ℕ) (d : SliceUse) → i < length xs → AreFirsts (take i xs) m → HasFirst m (get_or xs i d) n → AreFirsts (take (i + 1) xs) n
+pub step_firsts : (m n : Held User) (xs : List SliceUse) (i : ℕ) (d : SliceUse) → i < length xs → AreFirsts (take i xs) m → HasFirst m (get_or xs i d) n → AreFirsts (take (i + 1) xs) n
 step_firsts m n xs i d within firsts more k = firsts_more (take i xs) (get_or xs i d) m n firsts more k ∙ ap (λ (l : List SliceUse). first_user l k) (sym (take_more xs i d within))

@@ -11,7 +11,7 @@ pub use Rattle.mdv_fields.specs.declared.fault.RecordError.TheVariants.{Memory}
 pub use Rattle.mdv_name.specs.Code.{slice_code}
 pub use Rattle.mdv_name.specs.declared.geometry.Geometry.{Geometry}
 pub use Rattle.mdv_name.specs.declared.slice_lines.SliceAt.{SliceAt}
-pub use Rattle.mdv_plan.specs.Slices.{IsSound, beside, clashes_with, meets_db, overlap, slice_at}
+pub use Rattle.mdv_plan.specs.Slices.{IsSound, IsSoundSlice, beside, clashes_with, meets_db, overlap, share_a_block, slice_at}
 pub use Rattle.mdv_plan.specs.Uses.{list_uses, pool_uses, runs_on, same_base, same_slice, uses_of, volume_runs, volume_uses}
 pub use Rattle.mdv_plan.specs.declared.clash.Asked.{Asked}
 pub use Rattle.mdv_plan.specs.declared.clash.Asked.TheVariants.{ReplicasTo, OneComponent, Extents, OneSpare}

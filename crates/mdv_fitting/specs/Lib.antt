@@ -1,11 +1,14 @@
 pub mod Below
 pub mod Beside
+pub mod Climb
 pub mod Decoded
 pub mod Firsts
+pub mod Held
 pub mod Keys
 pub mod Fit
 pub mod OnBases
 pub mod Parts
 pub mod Places
 pub mod Runs
+pub mod Slices
 pub mod Starts

@@ -1,14 +1,17 @@
 //! Whether the extents on each base lie apart.
 ghost use Rattle.std.specs.Prelude.{◌≡◌, ◌↔◌, ◌++◌, ◌==◌, ℕ, [], All, IsTrue, IfOk, OnOk, if◌then◌else◌};
-ghost use Rattle.mdv_fitting.specs.Below.{IsSound, LieApart};
+ghost use Rattle.mdv_fitting.specs.Below.{IsSound, LieApart, blocks_behind as spec_blocks_behind, volume_blocks as spec_volume_blocks, volume_of as spec_volume_of};
 ghost use Rattle.mdv_fitting.specs.Keys.{base_key as spec_base_key};
+ghost use Rattle.mdv_fitting.specs.Slices.{AreSlices};
 ghost use Rattle.mdv_fitting.specs.Runs.{items_at, AreRuns, HasRuns, HasNoRuns, size_from as spec_size_from, soft_size, IsVolumeApart, AreSameSize, Judges};
 
 use crate::key::base_key;
+use crate::slices::{Slices, slice_in};
+use mdv_base::VolId;
 use mdv_components::volume_of;
 use mdv_extent::{Run, lie_apart};
-use mdv_name::Geometry;
-use mdv_plan::{Base, Plan, Soft, Volume, VolumeKind, slice_at};
+use mdv_name::{Geometry, SliceAt};
+use mdv_plan::{Base, Plan, Soft, Volume, VolumeKind};
 use mdv_softs::kind_blocks;
 use std::alloc::{AllocError, Global};
 use std::collections::BTreeMap;
@@ -57,19 +60,34 @@ fn runs_by_base(alloc: Global, volumes: &[Volume]) -> Result<Runs, AllocError>
     Ok(runs)
 }
 
-fn size_from(geometry: &Geometry, plan: &Plan, base: Base, start: u64) -> u64
-    requires { IsSound geometry.now }
+/// How many blocks a slice that lies there has behind that one.
+pub(crate) fn blocks_behind(start: u64, at: Option<SliceAt>) -> u64
+    ensures { result ≡ spec_blocks_behind start at }
+{
+    match at {
+        Some(at) => at.blocks.saturating_sub(start),
+        None => 0,
+    }
+}
+
+/// How many blocks the volume has.
+pub(crate) fn volume_blocks(plan: &Plan, volume: VolId) -> u64
+    ensures { result ≡ spec_volume_blocks (spec_volume_of plan.now volume) }
+{
+    match volume_of(plan, volume) {
+        Some(volume) => kind_blocks(&volume.kind),
+        None => 0,
+    }
+}
+
+fn size_from(geometry: &Geometry, slices: &Slices, plan: &Plan, base: Base, start: u64) -> u64
+    requires sound { IsSound geometry.now }
+    requires slices { AreSlices geometry.now slices.now }
     ensures { result ≡ spec_size_from geometry.now plan.now base start }
 {
     match base {
-        Base::Slice(slice) => match slice_at(geometry, slice) {
-            Some(at) => at.blocks.saturating_sub(start),
-            None => 0,
-        },
-        Base::Volume(volume) => match volume_of(plan, volume) {
-            Some(volume) => kind_blocks(&volume.kind),
-            None => 0,
-        },
+        Base::Slice(slice) => blocks_behind(start, slice_in(geometry, slices, slice)),
+        Base::Volume(volume) => volume_blocks(plan, volume),
     }
 }
 
@@ -77,46 +95,56 @@ fn size_from(geometry: &Geometry, plan: &Plan, base: Base, start: u64) -> u64
 fn is_soft_apart(
     alloc: Global,
     geometry: &Geometry,
+    slices: &Slices,
     plan: &Plan,
     runs: &mut Runs,
     soft: &Soft,
 ) -> Result<bool, AllocError>
-    requires { IsSound geometry.now }
+    requires sound { IsSound geometry.now }
+    requires slices { AreSlices geometry.now slices.now }
     ensures apart { IfOk result (λ yes. IsTrue yes ↔
         LieApart (soft_size geometry.now plan.now soft.now) (items_at runs.old (spec_base_key soft.now.base))) }
     ensures left { HasNoRuns runs.old (spec_base_key soft.now.base) runs.new }
 {
     let list = take_runs(alloc, runs, base_key(soft.base));
-    let size = size_from(geometry, plan, soft.base, soft.start);
+    let size = size_from(geometry, slices, plan, soft.base, soft.start);
     lie_apart(alloc, size, list.as_slice())
 }
 
 fn is_apart(
     alloc: Global,
     geometry: &Geometry,
+    slices: &Slices,
     plan: &Plan,
     runs: &mut Runs,
     volume: &Volume,
 ) -> Result<bool, AllocError>
-    requires { IsSound geometry.now }
+    requires sound { IsSound geometry.now }
+    requires slices { AreSlices geometry.now slices.now }
     ensures { IfOk result (Judges geometry.now plan.now runs.old volume.now.kind runs.new) }
 {
     match &volume.kind {
-        VolumeKind::Soft(soft) => is_soft_apart(alloc, geometry, plan, runs, soft),
+        VolumeKind::Soft(soft) => is_soft_apart(alloc, geometry, slices, plan, runs, soft),
         _ => Ok(true),
     }
 }
 
 /// Whether the extents of all soft partitions on each base lie apart. Each base is judged once.
-pub(crate) fn are_apart(alloc: Global, geometry: &Geometry, plan: &Plan) -> Result<bool, AllocError>
+pub(crate) fn are_apart(
+    alloc: Global,
+    geometry: &Geometry,
+    slices: &Slices,
+    plan: &Plan,
+) -> Result<bool, AllocError>
     requires sound { IsSound geometry.now }
+    requires slices { AreSlices geometry.now slices.now }
     requires sizes { AreSameSize geometry.now plan.now }
     ensures { IfOk result (λ yes. IsTrue yes ↔
         All (IsVolumeApart geometry.now plan.now) plan.now.volumes) }
 {
     let mut runs = runs_by_base(alloc, plan.volumes.as_slice())?;
     for volume in plan.volumes.as_slice() {
-        if !is_apart(alloc, geometry, plan, &mut runs, volume)? {
+        if !is_apart(alloc, geometry, slices, plan, &mut runs, volume)? {
             return Ok(false);
         }
     }

@@ -4,10 +4,11 @@ ghost use Rattle.mdv_fitting.specs.Beside.{HasOnce};
 ghost use Rattle.mdv_fitting.specs.Fit.{Fits};
 ghost use Rattle.mdv_fitting.specs.Parts.{parts_of};
 
-use crate::bases::are_on_bases;
 use crate::beside::stand_together;
+use crate::climb::lie_on_bases;
 use crate::parts::all_lie;
 use crate::places::are_placed;
+use crate::slices::slices_of;
 use mdv_name::Geometry;
 use mdv_plan::{Lists, Plan, Pool, SliceUse};
 use mdv_shape::{set_of, spare_keys};
@@ -54,14 +55,15 @@ pub fn fits(alloc: Global, geometry: &Geometry, plan: &Plan) -> Result<bool, All
     if !are_placed(geometry, &plan.lists) {
         return Ok(false);
     }
-    if !all_lie(geometry, &plan.lists, parts) {
+    let slices = slices_of(alloc, geometry)?;
+    if !all_lie(geometry, &slices, &plan.lists, parts) {
         return Ok(false);
     }
-    if !stand_together(alloc, geometry, parts)? {
+    if !stand_together(alloc, geometry, &slices, parts)? {
         return Ok(false);
     }
     if !have_once(alloc, plan.pools.as_slice())? {
         return Ok(false);
     }
-    are_on_bases(alloc, geometry, plan)
+    lie_on_bases(alloc, geometry, &slices, plan)
 }

@@ -3,12 +3,15 @@
 
 mod bases;
 mod beside;
+mod climb;
 mod decoding;
 mod extents;
 mod fit;
+mod held;
 mod key;
 mod parts;
 mod places;
+mod slices;
 
 pub use decoding::decode;
 pub use fit::fits;

@@ -2,12 +2,14 @@
 ghost use Rattle.std.specs.Prelude.{◌≡◌};
 ghost use Rattle.std.specs.List.{list_all};
 ghost use Rattle.mdv_fitting.specs.Below.{IsSound};
+ghost use Rattle.mdv_fitting.specs.Slices.{AreSlices};
 ghost use Rattle.mdv_fitting.specs.Parts.{may_start as spec_may_start, may_start_at as spec_may_start_at, ends_at as spec_ends_at, lies as spec_lies};
 
+use crate::slices::{Slices, slice_in};
 use mdv_base::SliceName;
 use mdv_components::first_block;
 use mdv_name::{Geometry, SliceAt};
-use mdv_plan::{Lists, SliceUse, slice_at};
+use mdv_plan::{Lists, SliceUse};
 
 fn may_start(lists: &Lists, slice: SliceName, start: u64, at: SliceAt) -> bool
     ensures { result ≡ spec_may_start lists.now slice start at }
@@ -40,18 +42,25 @@ fn ends_at(one: &SliceUse, at: Option<SliceAt>) -> bool
         && one.run.blocks <= at.blocks - one.start - one.run.at
 }
 
-fn lies(geometry: &Geometry, lists: &Lists, one: &SliceUse) -> bool
-    requires { IsSound geometry.now }
+fn lies(geometry: &Geometry, slices: &Slices, lists: &Lists, one: &SliceUse) -> bool
+    requires sound { IsSound geometry.now }
+    requires slices { AreSlices geometry.now slices.now }
     ensures { result ≡ spec_lies geometry.now lists.now one.now }
 {
-    let at = slice_at(geometry, one.slice);
+    let at = slice_in(geometry, slices, one.slice);
     may_start_at(lists, one.slice, one.start, at) && ends_at(one, at)
 }
 
 /// Whether each use lies within a slice of the table of drives, behind its replicas.
-pub(crate) fn all_lie(geometry: &Geometry, lists: &Lists, uses: &[SliceUse]) -> bool
-    requires { IsSound geometry.now }
+pub(crate) fn all_lie(
+    geometry: &Geometry,
+    slices: &Slices,
+    lists: &Lists,
+    uses: &[SliceUse],
+) -> bool
+    requires sound { IsSound geometry.now }
+    requires slices { AreSlices geometry.now slices.now }
     ensures { result ≡ list_all (spec_lies geometry.now lists.now) uses.now }
 {
-    uses.iter().all(|one| lies(geometry, lists, one))
+    uses.iter().all(|one| lies(geometry, slices, lists, one))
 }

@@ -17,16 +17,16 @@ returns-then-not-are_counted c =
 pub returns-then-not-branch : goal.returns-then-not-branch
 returns-then-not-branch c =
     let told = c.in_ok-are_joined.ensures ∙ ap (λ (l : List OneVolume). list_all (is_joined_in l) l) c.as_slice.ensures.value in
-    (λ never. cc (never), λ on. let never = sym (bases_join c.args.geometry.now c.args.plan.now c.requires on) ∙ sym told ∙ c.if-not-branch.true in cc (never))
+    (λ never. cc (never), λ on. let never = sym (bases_join c.args.geometry.now c.args.plan.now c.requires.sound on) ∙ sym told ∙ c.if-not-branch.true in cc (never))
 
 pub are_apart-requires-clause-sizes : goal.are_apart-requires-clause-sizes
 are_apart-requires-clause-sizes c =
     let told = c.in_ok-are_joined.ensures ∙ ap (λ (l : List OneVolume). list_all (is_joined_in l) l) c.as_slice.ensures.value in
-    one_size c.args.geometry.now c.args.plan.now c.requires (sym c.are_counted.ensures ∙ c.if-not-are_counted.false) (sym told ∙ c.if-not-branch.false)
+    one_size c.args.geometry.now c.args.plan.now c.requires.sound (sym c.are_counted.ensures ∙ c.if-not-are_counted.false) (sym told ∙ c.if-not-branch.false)
 
 pub returns : goal.returns
 returns c =
     let g = c.args.geometry.now in
     let p = c.args.plan.now in
     let told = c.in_ok-are_joined.ensures ∙ ap (λ (l : List OneVolume). list_all (is_joined_in l) l) c.as_slice.ensures.value in
-    if_ok c.are_apart.result _ _ (λ answer is. bases_are g p answer c.requires (sym c.are_counted.ensures ∙ c.if-not-are_counted.false) (sym told ∙ c.if-not-branch.false) is) c.are_apart.ensures
+    if_ok c.are_apart.result _ _ (λ answer is. bases_are g p answer c.requires.sound (sym c.are_counted.ensures ∙ c.if-not-are_counted.false) (sym told ∙ c.if-not-branch.false) is) c.are_apart.ensures

@@ -1,8 +1,7 @@
 use Rattle.std.proofs.Common.{◌≡◌, ℕ, take}
-use Rattle.std.specs.BTreeMap.{get}
-use Rattle.std.specs.Ordering.{nat_cmp}
+use Rattle.mdv_fitting.specs.Held.{held}
 use Rattle.mdv_fitting.specs.Keys.{start_at}
 use Rattle.mdv_fitting.proofs.bases.first_starts.Given as goal
 
 abbrev pub invariant-loop-volume : goal.invariant-loop-volume
-invariant-loop-volume l = (k : ℕ) → get nat_cmp l.starts k ≡ start_at k (take l.volume-index l.volumes)
+invariant-loop-volume l = (k : ℕ) → held l.starts k ≡ start_at k (take l.volume-index l.volumes)

@@ -2,12 +2,12 @@ use Rattle.std.proofs.Common.{sym, ◌∙◌}
 use Rattle.mdv_fitting.proofs.Together.{stands_front, step_firsts, step_told}
 use Rattle.mdv_fitting.proofs.beside.stand_together.Goals as goal
 
-pub returns-then-not-fits_beside : goal.returns-then-not-fits_beside
-returns-then-not-fits_beside c =
-    let told = step_told c.args.geometry.now c.loop-one.firsts c.args.uses.now c.loop-one.one-index _ c.fits_beside.result c.loop-one-test.true c.requires.sound c.requires.named c.requires.parts c.loop-one.invariant.firsts c.loop-one.invariant.stands c.fits_beside.ensures in
-    (λ never. cc (never), λ all. sym c.if-not-fits_beside.true ∙ told.1 (stands_front c.args.geometry.now c.args.uses.now _ all))
+pub returns-then-not-branch : goal.returns-then-not-branch
+returns-then-not-branch c =
+    let told = step_told c.args.geometry.now c.loop-one.firsts c.args.uses.now c.loop-one.one-index _ c.in_ok-comes_beside.field-0 c.loop-one-test.true c.requires.sound c.requires.named c.requires.parts c.loop-one.invariant.firsts c.loop-one.invariant.stands c.in_ok-comes_beside.ensures.fits in
+    (λ never. cc (never), λ all. sym c.if-not-branch.true ∙ told.1 (stands_front c.args.geometry.now c.args.uses.now _ all))
 
 pub loop-one-preserved : goal.loop-one-preserved
 loop-one-preserved c =
-    let told = step_told c.args.geometry.now c.loop-one.firsts c.args.uses.now c.loop-one.one-index _ c.fits_beside.result c.loop-one-test.true c.requires.sound c.requires.named c.requires.parts c.loop-one.invariant.firsts c.loop-one.invariant.stands c.fits_beside.ensures in
-    record { firsts = step_firsts c.loop-one.firsts c.add_first.new.firsts c.args.uses.now c.loop-one.one-index _ c.loop-one-test.true c.loop-one.invariant.firsts c.in_ok-add_first.ensures; stands = told.0 c.if-not-fits_beside.false }
+    let told = step_told c.args.geometry.now c.loop-one.firsts c.args.uses.now c.loop-one.one-index _ c.in_ok-comes_beside.field-0 c.loop-one-test.true c.requires.sound c.requires.named c.requires.parts c.loop-one.invariant.firsts c.loop-one.invariant.stands c.in_ok-comes_beside.ensures.fits in
+    record { firsts = step_firsts c.loop-one.firsts c.comes_beside.new.firsts c.args.uses.now c.loop-one.one-index _ c.loop-one-test.true c.loop-one.invariant.firsts (c.in_ok-comes_beside.ensures.first c.if-not-branch.false); stands = told.0 c.if-not-branch.false }

@@ -1,12 +1,8 @@
-use Rattle.std.proofs.Common.{◌≡◌, ◌<◌, ◌≤◌, true, ℕ, List, length, get_or, refl, sym, ◌∙◌, ap, subst}
+use Rattle.std.proofs.Common.{◌≤◌, true, List, length, refl, sym, ◌∙◌, subst}
 use Rattle.mdv_fitting.specs.Below.{OneVolume}
 use Rattle.mdv_fitting.specs.Runs.{IsVolumeApart, Judges}
-use Rattle.mdv_fitting.proofs.Judging.{judged_all, judged_more, judged_none, judged_tells}
+use Rattle.mdv_fitting.proofs.Judging.{judged_all, judged_more, judged_none, judged_tells, lent}
 use Rattle.mdv_fitting.proofs.extents.are_apart.Goals as goal
-
--- a volume that stands in what is lent of the list stands in the list
-lent : (vs slice : List OneVolume) (i : ℕ) (v : OneVolume) → slice ≡ vs → i < length slice → v ≡ get_or slice i v → (i < length vs) × (v ≡ get_or vs i v)
-lent vs slice i v all within is = (subst (λ (l : List OneVolume). i < length l) all within, is ∙ ap (λ (l : List OneVolume). get_or l i v) all)
 
 pub loop-volume-init : goal.loop-volume-init
 loop-volume-init c = judged_none c.args.geometry.now c.args.plan.now c.in_ok-runs.runs c.as_slice.result.now c.as_slice.ensures.value c.in_ok-runs.ensures
