@@ -268,13 +268,19 @@ fn finds_nothing_with_a_failing_call(rt: HostRuntime) -> Result<(), Fail> {
     Ok(())
 }
 
+fn lose_one(shelf: &mut MemShelf, number: u32)
+    ensures { shelf_sizes shelf.new ≡ shelf_sizes shelf.old }
+{
+    if number < shelf.drives() {
+        shelf.lose(DriveNo(number));
+    }
+}
+
 fn lose(shelf: &mut MemShelf, lost: &[u32])
     ensures { shelf_sizes shelf.new ≡ shelf_sizes shelf.old }
 {
     for number in lost {
-        if *number < shelf.drives() {
-            shelf.lose(DriveNo(*number));
-        }
+        lose_one(shelf, *number);
     }
 }
 
