@@ -190,7 +190,8 @@ impl Course {
         }
         match line {
             Line::Tab(number) => self.tab(number),
-            Line::Forced if !self.clean => self.refuse("refused E13 WrongState Down\n"),
+            Line::Forced => self.creation_line(8192),
+            Line::Short(blocks) => self.creation_line(blocks),
             Line::Elsewhere => self.refuse("refused E6 NoSuchSlice\n"),
             _ => self.command(line),
         }
@@ -199,8 +200,6 @@ impl Course {
     fn command(&mut self, line: Line) -> Result<(), AllocError> {
         match (self.standing, line) {
             (_, Line::Boot) => self.boot_line(),
-            (Standing::Empty, Line::Forced) => self.creation(),
-            (Standing::InUse, Line::Forced) => self.refuse("refused E7 SliceInUse\n"),
             (Standing::InUse, Line::Volume(number)) => self.change(number),
             (Standing::InUse, Line::Write(number, at, value)) => self.write(number, at, value),
             (Standing::InUse, Line::Read(number, at)) => self.read(number, at),
@@ -227,7 +226,19 @@ impl Course {
         Ok(())
     }
 
-    fn creation(&mut self) -> Result<(), AllocError> {
+    // A creation of a replica of so many blocks.
+    fn creation_line(&mut self, blocks: u64) -> Result<(), AllocError> {
+        if !self.clean {
+            return self.refuse("refused E13 WrongState Down\n");
+        }
+        match self.standing {
+            Standing::InUse => self.refuse("refused E7 SliceInUse\n"),
+            _ if blocks > self.ground.home.blocks => self.refuse("refused E10 TooSmall\n"),
+            _ => self.creation(blocks),
+        }
+    }
+
+    fn creation(&mut self, blocks: u64) -> Result<(), AllocError> {
         let identity = Identity {
             fresh: self.fresh,
             number: self.begun,
@@ -238,10 +249,10 @@ impl Course {
             return self.refuse(FAULT);
         }
         if !self.passes(home, 6) {
-            self.panic(Broken::Creation(identity));
+            self.panic(Broken::Creation(made(identity, blocks)));
             return Ok(());
         }
-        self.known.shown = Some(made(identity));
+        self.known.shown = Some(made(identity, blocks));
         self.standing = Standing::InUse;
         if self.tell(OK)? {
             self.known.promised.database = Some(identity);

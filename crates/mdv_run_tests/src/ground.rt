@@ -67,6 +67,47 @@ slice c0t0d0s7 16 8208 db
     away: &[&[], &[], &[], &[0]],
 };
 
+/// A drive whose place has room for short replicas alone.
+pub const NARROW: Ground = Ground {
+    table: "host alpha
+drive c0t0d0 64 alpha disk.img
+slice c0t0d0s0 0 8
+slice c0t0d0s1 8 8
+slice c0t0d0s2 56 8
+slice c0t0d0s7 16 40 db
+",
+    sizes: &[64],
+    own: &[0],
+    home: Area {
+        drive: 0,
+        target: 0,
+        start: 32,
+        blocks: 24,
+    },
+    volumes: [
+        Area {
+            drive: 0,
+            target: 0,
+            start: 0,
+            blocks: 8,
+        },
+        Area {
+            drive: 0,
+            target: 0,
+            start: 8,
+            blocks: 8,
+        },
+        Area {
+            drive: 0,
+            target: 0,
+            start: 56,
+            blocks: 8,
+        },
+    ],
+    written: 64,
+    away: &[&[], &[], &[], &[0]],
+};
+
 /// A drive with more slices, and blocks behind the place.
 pub const WIDE: Ground = Ground {
     table: "host alpha

@@ -1,4 +1,5 @@
 // Two hosts of one table, whose runs take turns.
+use crate::ground::NARROW;
 use crate::story::{Act, Story, expect_act, expect_acts};
 use std::test::Fail;
 
@@ -129,6 +130,67 @@ fn hosts_take_turns(rt: HostRuntime) -> Result<(), Fail> {
     for choice in [&[], newest.as_slice()] {
         let mut story = Story::new(rt.alloc(), TABLE, SIZES)?;
         expect_acts(&rt, &mut story, TURNS, choice)?;
+    }
+    Ok(())
+}
+
+// Runs over a replica of 16 blocks in a place of 24, by the host that is alone there.
+const SHORT: &[Act] = &[
+    Act(
+        &[],
+        "alpha",
+        "metadb -a -f c0t0d0s7
+metadb -a -f -l 25 c0t0d0s7
+metadb -a -f -l 16 c0t0d0s7
+metainit d0 1 1 c0t0d0s0
+metainit d1 1 1 c0t0d0s1
+boot
+metainit d2 1 1 c0t0d0s2
+write d2 0 aa
+",
+        "refused E10 TooSmall
+refused E10 TooSmall
+ok
+ok
+ok
+ok
+ok
+ok
+",
+    ),
+    Act(
+        &[],
+        "alpha",
+        "boot
+read d2 0 1
+metastat -p
+metadb -a -f -l 24 c0t0d0s7
+",
+        "ok
+0 aa
+ok
+d0 1 1 c0t0d0s0
+d1 1 1 c0t0d0s1
+d2 1 1 c0t0d0s2
+ok
+refused E7 SliceInUse
+",
+    ),
+];
+
+// No block of the place behind a short replica is written, and none of the slice in front of it.
+#[test]
+fn a_short_replica_leaves_the_rest_of_its_slice(rt: HostRuntime) -> Result<(), Fail> {
+    let mut story = Story::new(rt.alloc(), NARROW.table, NARROW.sizes)?;
+    for at in 16..56 {
+        story.put(0, at, b"of before")?;
+    }
+    for act in SHORT {
+        expect_act(&rt, &mut story, act)?;
+    }
+    for at in 16..56 {
+        let is_kept = (32..48).contains(&at) || story.has_block(0, at, b"of before")?;
+        assert!(rt; is_kept, "{at}");
     }
     Ok(())
 }

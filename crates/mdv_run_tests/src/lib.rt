@@ -39,5 +39,5 @@ mod volume_tests;
 #[cfg(test)]
 mod writes;
 
-pub use reading::{PlaceBlocks, read_place};
+pub use reading::{PlaceBlocks, read_place, second_body};
 pub use shown::{Shown, ShownTable, ShownVolume};

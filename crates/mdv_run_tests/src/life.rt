@@ -6,7 +6,7 @@ use crate::script::{Line, script_of};
 use crate::spots::{FOLLOWED, Spots, Value};
 use crate::trouble::Trouble;
 use crate::writes::{may_show, newest, volume_in};
-use crate::{PlaceBlocks, Shown, read_place};
+use crate::{PlaceBlocks, Shown, read_place, second_body};
 use mdv_base::{Block, DriveNo, ZERO_BLOCK};
 use mdv_port::MemSource;
 use mdv_run::run;
@@ -16,10 +16,8 @@ use std::alloc::{AllocError, Global};
 use std::process::Abort;
 use std::test::Fail;
 
-// The blocks of the two bodies, counted from the place's first.
+// The block in which the first slot's body begins, counted from the place's first.
 const FIRST_BODY: u64 = 4;
-
-const SECOND_BODY: u64 = 4098;
 
 // One less than a number that 1 to 12 divide, so it picks the last of up to 12 values.
 const LAST: u32 = 27719;
@@ -184,7 +182,11 @@ impl Life {
         let mut second = [ZERO_BLOCK];
         self.read(drive, start, &mut head)?;
         self.read(drive, start.saturating_add(FIRST_BODY), &mut first)?;
-        self.read(drive, start.saturating_add(SECOND_BODY), &mut second)?;
+        self.read(
+            drive,
+            start.saturating_add(second_body(&head[0])),
+            &mut second,
+        )?;
         Ok(read_place(&PlaceBlocks {
             target,
             head,

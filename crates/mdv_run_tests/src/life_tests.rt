@@ -1,5 +1,5 @@
 // Drawn lives of several runs.
-use crate::ground::{Ground, SMALL, THREE, WIDE};
+use crate::ground::{Ground, NARROW, SMALL, THREE, WIDE};
 use crate::life::{End, Life, Step, calm, next, play};
 use crate::script::Line;
 use crate::spots::Value;
@@ -8,11 +8,26 @@ use std::alloc::{AllocError, Global};
 use std::process::Abort;
 use std::test::Fail;
 
+// A narrow place has no room for the first two and for 25 blocks.
+const CREATIONS: &[Line] = &[
+    Line::Forced,
+    Line::Short(4096),
+    Line::Short(25),
+    Line::Short(24),
+    Line::Short(18),
+    Line::Short(17),
+    Line::Short(16),
+];
+
+fn drawn_creation(state: u64) -> Line {
+    pick(CREATIONS, state >> 44, Line::Forced)
+}
+
 fn drawn_line(state: u64) -> Line {
     let volume = ((state >> 48) % 3) as u8;
     let at = (state >> 52) % 9;
     match (state >> 33) % 20 {
-        0..=2 => Line::Forced,
+        0..=2 => drawn_creation(state),
         18 => Line::Elsewhere,
         19 => Line::Volume(volume),
         3..=5 => Line::Boot,
@@ -68,20 +83,19 @@ fn step_of<'a>(ground: &Ground, lines: &'a [Line], state: u64) -> Step<'a> {
     }
 }
 
-const WHOLE: &[Line] = &[
-    Line::Forced,
-    Line::Volume(1),
-    Line::Volume(2),
-    Line::Volume(0),
-];
-
-// Lives of ten runs; every other one begins with a database of three volumes.
+// Lives of ten runs; every other one begins with a database of three volumes, where the place has room for it.
 fn expect_drawn<R: Abort + AllocGlobal>(rt: &R, ground: Ground, lives: u64) -> Result<(), Fail> {
     for seed in 0..lives {
         let mut life = Life::new(rt.alloc(), ground)?;
         let mut state = next(seed);
         if seed % 2 == 0 {
-            play(rt, &mut life, calm(WHOLE))?;
+            let whole = [
+                drawn_creation(state),
+                Line::Volume(1),
+                Line::Volume(2),
+                Line::Volume(0),
+            ];
+            play(rt, &mut life, calm(&whole))?;
         }
         for _ in 0..10 {
             state = next(state);
@@ -95,6 +109,11 @@ fn expect_drawn<R: Abort + AllocGlobal>(rt: &R, ground: Ground, lives: u64) -> R
 #[test]
 fn drawn_lives(rt: HostRuntime) -> Result<(), Fail> {
     expect_drawn(&rt, SMALL, 400)
+}
+
+#[test]
+fn drawn_lives_in_a_narrow_place(rt: HostRuntime) -> Result<(), Fail> {
+    expect_drawn(&rt, NARROW, 400)
 }
 
 #[test]

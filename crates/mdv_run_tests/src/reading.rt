@@ -1,5 +1,5 @@
-// A place is read by comparing bytes, with nothing of the crates that write one. It is the place of 8192
-// blocks from block 16 of slice 7 on, of a drive of controller 0 and disk 0, and the host is alpha.
+// A place is read by comparing bytes, with nothing of the crates that write one. It lies from block 16 of slice 7 on, of a
+// drive of controller 0 and disk 0, and the host is alpha.
 ghost use Rattle.std.specs.Prelude.{◌≡◌, ◌<◌, ◌^◌, IfSome, None, length};
 ghost use Rattle.mdv_run_tests.specs.Numbers.{IsMarked};
 
@@ -16,17 +16,17 @@ pub struct PlaceBlocks {
     pub second_body: Block,
 }
 
-// What stands in a master behind the identity: the host and a controller; then, behind the target, the disk, the slice, the
-// place, and that it is 0 of 1.
+// What stands in a master behind the identity: the host and a controller; then, behind the target, the disk, the slice and
+// the place's first block; then, behind its length, that it is 0 of 1.
 const WHOSE: &[u8] = b"\0\x05alpha\0\0\0\0\0\0\0\0\0\0\0\0\0\0\0\0\0\0\0\0\0\0\0\0\0\0\0\0";
 
-const WHERE: &[u8] = b"\0\x07\0\0\0\x10\0\0\x20\0\0\x01";
+const WHERE: &[u8] = b"\0\x07\0\0\0\x10";
 
-// What stands in a record between its length and the number of its volumes: one list, of this one place, and neither
-// a set nor pools. The target stands between the two.
+const ALONE: &[u8] = b"\0\x01";
+
+// What stands in a record between its length and the target of this one place: one list. Behind the place come neither a set
+// nor pools, and then the number of its volumes.
 const ONE_PLACE: &[u8] = b"\x01\x01\0";
-
-const NO_MORE: &[u8] = b"\0\x07\0\0\0\x10\0\0\x20\0\0\0\0\0\0\0\0\0";
 
 // What stands in a volume between its number and its drive's: a stripe without a pool, alone and of width 1, with an
 // interlace of 32 blocks, on a slice.
@@ -39,22 +39,49 @@ pub fn read_place(place: &PlaceBlocks) -> Option<Shown>
 {
     let [master, claim, first, second] = &place.head;
     let identity = identity_of(master, place.target)?;
+    let blocks = number(&master[62..66]);
+    let lies = Lies {
+        target: place.target,
+        blocks,
+    };
     let claim = claim_of(claim)?;
-    let first = table_of(first, &place.first_body, place.target)?;
-    let second = table_of(second, &place.second_body, place.target)?;
+    let first = table_of(first, &place.first_body, lies)?;
+    let second = table_of(second, &place.second_body, lies)?;
     if first.is_none() && second.is_none() {
         return None;
     }
     Some(Shown {
         identity,
+        blocks,
         claim,
         first,
         second,
     })
 }
 
+// Where a replica lies: the target of its drive, and how many blocks it has.
+#[derive(Clone, Copy)]
+struct Lies {
+    target: u8,
+    blocks: u64,
+}
+
+/// The block in which the second slot's body begins, counted from the place's first, where it has this master: behind four
+/// blocks the slots have half of those that are left each.
+pub fn second_body(master: &Block) -> u64 {
+    let blocks = number(&master[62..66]).min(8192);
+    (blocks.saturating_sub(4) / 2).saturating_add(4)
+}
+
 fn identity_of(master: &Block, target: u8) -> Option<Identity> {
-    if !begins(master, b"MDVREPL1") || !is_zero(behind(&master[20..], WHOSE, target, WHERE)?) {
+    let blocks = number(&master[62..66]);
+    if !begins(master, b"MDVREPL1")
+        || !is_zero(behind(&master[20..62], WHOSE, target, WHERE)?)
+        || !begins(&master[66..], ALONE)
+        || !is_zero(&master[68..])
+        || blocks < 16
+        || blocks > 8192
+    {
         return None;
     }
     Some(Identity {
@@ -74,7 +101,7 @@ fn claim_of(claim: &Block) -> Option<u64>
 
 // The table of an open slot, none of a closed one; None where the gate isn't of its form, or stands open over a body
 // that isn't the record of a table.
-fn table_of(gate: &Block, body: &Block, target: u8) -> Option<Option<ShownTable>>
+fn table_of(gate: &Block, body: &Block, lies: Lies) -> Option<Option<ShownTable>>
     ensures { IfSome result (λ t. IfSome t (λ t. IsMarked t.mark)) }
 {
     if !begins(gate, b"MDVGATE1") || !is_zero(&gate[29..]) {
@@ -87,20 +114,24 @@ fn table_of(gate: &Block, body: &Block, target: u8) -> Option<Option<ShownTable>
                 boot: below_limit(number(&gate[9..17]))?,
                 count: below_limit(number(&gate[17..25]))?,
             };
-            Some(Some(table_in(mark, body, number(&gate[25..29]), target)?))
+            Some(Some(table_in(mark, body, number(&gate[25..29]), lies)?))
         }
         _ => None,
     }
 }
 
 // The table of this mark whose record of so many bytes stands in the body.
-fn table_in(mark: Mark, body: &Block, bytes: u64, target: u8) -> Option<ShownTable>
+fn table_in(mark: Mark, body: &Block, bytes: u64, lies: Lies) -> Option<ShownTable>
     ensures { IfSome result (λ t. t.mark ≡ mark) }
 {
-    if !begins(body, b"MDVREC01") || number(&body[8..12]) != bytes {
+    if !begins(body, b"MDVREC01")
+        || number(&body[8..12]) != bytes
+        || !is_zero(behind(&body[12..22], ONE_PLACE, lies.target, WHERE)?)
+        || number(&body[22..26]) != lies.blocks
+        || !is_zero(&body[26..34])
+    {
         return None;
     }
-    let _places = behind(&body[12..], ONE_PLACE, target, NO_MORE)?;
     let count = match (number(&body[34..36]), bytes) {
         (0, 36) => 0,
         (1, 86) => 1,

@@ -1,4 +1,4 @@
-use crate::{PlaceBlocks, Shown, ShownTable, ShownVolume, read_place};
+use crate::{PlaceBlocks, Shown, ShownTable, ShownVolume, read_place, second_body};
 use mdv_base::{Block, Identity, Mark, ZERO_BLOCK};
 
 const MASTER: &[u8] =
@@ -161,6 +161,7 @@ fn is_shown(blocks: &Blocks, target: u8, first: Volumes, second: Volumes) -> boo
     };
     let want = Shown {
         identity,
+        blocks: 8192,
         claim: 258,
         first: first.map(table_of),
         second: second.map(table_of),
@@ -197,5 +198,62 @@ const HIDDEN: &[Blocks] = &[
 fn shows_no_table(rt: HostRuntime) {
     for blocks in HIDDEN {
         assert!(rt; shown_of(blocks, 0).is_none(), "{blocks:?}");
+    }
+}
+
+// By the lengths that a master and its record tell, whether the place shows the table.
+const LENGTHS: &[(u16, u16, bool)] = &[
+    (16, 16, true),
+    (17, 17, true),
+    (8192, 8192, true),
+    (15, 15, false),
+    (8193, 8193, false),
+    (16, 17, false),
+    (17, 16, false),
+];
+
+// The text, and in the two bytes from that one on a length.
+fn with_length(text: &[u8], at: usize, length: u16) -> Block {
+    let mut block = block(text);
+    for (to, byte) in block.iter_mut().skip(at).zip(&length.to_be_bytes()) {
+        *to = *byte;
+    }
+    block
+}
+
+fn is_shown_with(master: u16, record: u16) -> bool {
+    let shown = read_place(&PlaceBlocks {
+        target: 0,
+        head: [
+            with_length(MASTER, 64, master),
+            block(CLAIM),
+            block(CLOSED),
+            block(OPEN),
+        ],
+        first_body: ZERO_BLOCK,
+        second_body: with_length(RECORD, 24, record),
+    });
+    shown.is_some_and(|shown| {
+        shown.blocks == u64::from(master) && shown.second == Some(table_of(EMPTY))
+    })
+}
+
+#[test]
+fn shows_the_length(rt: HostRuntime) {
+    for (master, record, is_shown) in LENGTHS {
+        assert!(rt;
+            is_shown_with(*master, *record) == *is_shown,
+            "{master} {record}"
+        );
+    }
+}
+
+// By the blocks of a replica, where its second body begins.
+const BODIES: &[(u16, u64)] = &[(16, 10), (17, 10), (18, 11), (8191, 4097), (8192, 4098)];
+
+#[test]
+fn finds_the_second_body(rt: HostRuntime) {
+    for (length, at) in BODIES {
+        assert_eq!(rt; second_body(&with_length(MASTER, 64, *length)), *at);
     }
 }

@@ -7,8 +7,10 @@ use std::alloc::{AllocError, Global};
 /// A line of a script, by its kind, or a `tab` block.
 #[derive(Clone, Copy, Debug, PartialEq, Eq)]
 pub enum Line {
-    /// A creation with `-f`.
+    /// A creation with `-f`, of the length that none means, 8192 blocks.
     Forced,
+    /// One with `-l` and so many blocks, of 16 to 8192.
+    Short(u64),
     /// A creation on a slice that no drive of alpha's has.
     Elsewhere,
     Boot,
@@ -34,6 +36,12 @@ impl Line {
             Line::Forced => {
                 let target = ground.home.target;
                 script.push_str(format!(in alloc; "metadb -a -f c0t{target}d0s7\n")?.as_str())
+            }
+            Line::Short(blocks) => {
+                let target = ground.home.target;
+                script.push_str(format!(in alloc;
+                    "metadb -a -f -l {blocks} c0t{target}d0s7\n"
+                )?.as_str())
             }
             Line::Elsewhere => script.push_str("metadb -a -f c2t0d0s7\n"),
             Line::Boot => script.push_str("boot\n"),

@@ -21,10 +21,12 @@ pub struct ShownTable {
     pub volumes: [Option<ShownVolume>; 3],
 }
 
-/// What a place shows: whose database it is, the number of its claim, and the tables of its open slots.
+/// What a place shows: whose database it is, how many blocks its replica has, the number of its claim, and the tables of its
+/// open slots.
 #[derive(Clone, Copy, Debug, PartialEq, Eq)]
 pub struct Shown {
     pub identity: Identity,
+    pub blocks: u64,
     pub claim: u64,
     pub first: Option<ShownTable>,
     pub second: Option<ShownTable>,

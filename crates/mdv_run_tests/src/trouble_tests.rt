@@ -1,5 +1,5 @@
 // Runs in which each call fails once, is the last, or loses a drive.
-use crate::ground::{Ground, SMALL, THREE};
+use crate::ground::{Ground, NARROW, SMALL, THREE};
 use crate::life::{End, Step, begun_on, calm, play};
 use crate::script::Line;
 use crate::spots::Value;
@@ -105,6 +105,41 @@ fn of_creations_and_boots(rt: HostRuntime) -> Result<(), Fail> {
     expect_on_one_drive(&rt, &[], CREATIONS, 30, CREATION)?;
     expect_on_one_drive(&rt, &[CREATION], BOOT, 27, CREATION)?;
     expect_on_one_drive(&rt, &[CREATION, &[]], BOOT, 28, CREATION)
+}
+
+// A creation that is refused, a short one, and one more.
+const SHORT_CREATIONS: &[Line] = &[
+    Line::Short(25),
+    Line::Short(18),
+    Line::Boot,
+    Line::Short(16),
+];
+
+const SHORT_MADE: &[Line] = &[Line::Short(17), Line::Volume(0)];
+
+const SHORT_CHANGES: &[Line] = &[Line::Volume(1), Line::Boot, Line::Volume(2), Line::Forced];
+
+fn expect_in_narrow<R: Abort + AllocGlobal>(
+    rt: &R,
+    runs: &[&[Line]],
+    lines: &[Line],
+    calls: u64,
+    behind: &[Line],
+) -> Result<(), Fail> {
+    let lives = Lives {
+        ground: NARROW,
+        runs,
+        lines,
+        behind,
+    };
+    lives.expect_each_trouble(rt, calls, KINDS, ENDS)
+}
+
+// In a place of 24 blocks: a creation behind one of another length that was stopped, changes, and boots.
+#[test]
+fn of_short_replicas(rt: HostRuntime) -> Result<(), Fail> {
+    expect_in_narrow(&rt, &[], SHORT_CREATIONS, 32, &[Line::Short(24)])?;
+    expect_in_narrow(&rt, &[SHORT_MADE], SHORT_CHANGES, 40, &[Line::Short(24)])
 }
 
 const MADE: &[Line] = &[Line::Forced, Line::Volume(0)];

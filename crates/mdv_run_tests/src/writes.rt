@@ -5,16 +5,17 @@ use mdv_base::{Identity, Mark};
 /// A write that failed, and with it its run.
 #[derive(Clone, Copy, Debug, PartialEq, Eq)]
 pub enum Broken {
-    /// The first table of that database.
-    Creation(Identity),
+    /// The first table of a database; whole it would show this.
+    Creation(Shown),
     /// A table in the slot that doesn't hold the newest one, with the claim before it; whole it would show this.
     Table(Shown),
 }
 
-/// The first table of a database.
-pub(crate) fn made(identity: Identity) -> Shown {
+/// The first table of a database, on a replica of so many blocks.
+pub(crate) fn made(identity: Identity, blocks: u64) -> Shown {
     Shown {
         identity,
+        blocks,
         claim: 1,
         first: Some(ShownTable {
             mark: Mark { boot: 1, count: 0 },
@@ -113,7 +114,7 @@ fn with_spare(before: &Shown, table: Option<ShownTable>) -> Shown {
 pub(crate) fn may_show(shown: Option<Shown>, broken: Option<Broken>, after: Option<Shown>) -> bool {
     match (broken, shown) {
         (None, _) => after == shown,
-        (Some(Broken::Creation(identity)), _) => after.is_none() || after == Some(made(identity)),
+        (Some(Broken::Creation(new)), _) => after.is_none() || after == Some(new),
         (Some(Broken::Table(new)), Some(before)) => {
             after.is_some_and(|after| is_between(&before, &new, &after))
         }
