@@ -4,6 +4,7 @@ pub mod Booting
 pub mod Committing
 pub mod Counting
 pub mod Finding
+pub mod Fitting
 pub mod Joining
 pub mod Making
 pub mod Quiet

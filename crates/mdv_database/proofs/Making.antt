@@ -1,6 +1,6 @@
 -- What the calls of a creation lead to.
 use Rattle.std.proofs.Common.{◌≡◌, ℕ, ◌≤◌, List, [], refl, subst, Option, Ok, Err, arith}
-use Rattle.mdv_database.specs.Below.{Identity, Key, Geometry, Master, PlaceAt, First, IsMaster, Formatting, IsFormatted, master_of, with_blocks, Everywhere, Moments, Ends, Tale, IsPlaceOf, Table, Creates, created_head, first_mark, Site, IsNewestOf, IsTableAt, IsOpened}
+use Rattle.mdv_database.specs.Below.{Identity, Key, Geometry, Master, PlaceAt, First, IsMaster, Formatting, IsFormatted, master_of, with_blocks, Everywhere, Moments, Ends, Tale, IsOnePlace, Table, Creates, created_head, first_mark, Site, IsNewestOf, IsTableAt, IsOpened}
 use Rattle.mdv_shelf.proofs.Moments.{moments_after, moments_end, moments_weaker, ends_both, ends_more}
 use Rattle.mdv_store_law.proofs.Creating.{creations_go}
 use Rattle.mdv_database.specs.Create.{CreateEnds, CreateMoment}
@@ -61,7 +61,7 @@ module _ (at : PlaceAt) (blocks : ℕ) (key : Key) (sizes : List ℕ) (identity 
         )
 
     -- and then its table is written
-    module _ (table : Table) (from : (drives : Geometry) → IsPlaceOf drives sized.place → Creates (site drives) blocks identity table) (formatted : Ends (λ t u. IsFormatted sized master 1 u) old between) (new : Option Tale) where
+    module _ (table : Table) (from : (drives : Geometry) → IsOnePlace drives sized.place → Creates (site drives) blocks identity table) (formatted : Ends (λ t u. IsFormatted sized master 1 u) old between) (new : Option Tale) where
       both : Ends (λ t u. Formatting sized master 1 t u × IsFormatted sized master 1 u) old between
       both = ends_both (Formatting sized master 1) (λ t u. IsFormatted sized master 1 u) (λ t u. Formatting sized master 1 t u × IsFormatted sized master 1 u) old between (λ t u one is. (one, is))
           (moments_end (Formatting sized master 1) old between formatting) formatted

@@ -28,12 +28,12 @@ pub use Rattle.mdv_shelf.specs.Tale.{IsImage, Synced, Tale, Then, last, told}
 pub use Rattle.mdv_store_law.specs.Going.{Adopts, Commits, Creates, IsCreated, IsWithNewest, created_head, created_newest, drawn, first_mark}
 pub use Rattle.mdv_store_law.specs.Going.{next_mark}
 pub use Rattle.mdv_store_law.specs.Log.{IsMade, IsNewestTellable, Log, NoCreation, asks_of, is_firm}
-pub use Rattle.mdv_store_law.specs.Site.{IsFound, IsNewestOf, IsRecordAt, IsReplica, IsTableAt, Newest, Site}
+pub use Rattle.mdv_store_law.specs.Site.{IsFound, IsNewestOf, IsOnePlace, IsRecordAt, IsReplica, IsTableAt, Newest, Site}
 pub use Rattle.mdv_store_law.specs.Standing.{Anything, GoesFrom, GoesMaking, GoesOn, GoesOnTo, IsNewestIn, IsOpened, ShowsNothing, ShowsReplica}
 pub use Rattle.mdv_store_law.specs.Steps.{IsAdopted, IsBody, IsTheReplica, MayTake, Rewrites, Rewriting, Rewritten, Takes, adopted_newest}
 pub use Rattle.mdv_store_law.specs.Steps.{next_newest}
 pub use Rattle.mdv_table.specs.Slices.{IsSound}
-pub use Rattle.mdv_table.specs.Table.{IsOfGeometry, IsPlaceOf}
+pub use Rattle.mdv_table.specs.Table.{IsOfGeometry}
 pub use Rattle.mdv_table.specs.declared.change.Change.{Change}
 pub use Rattle.mdv_table.specs.declared.plan.Lists.TheVariants.{One}
 pub use Rattle.mdv_table.specs.declared.table.Table.{Table}

@@ -1,13 +1,13 @@
 -- What a creation says: of each moment, of the end, and of its answer.
 use Rattle.std.specs.Prelude.{◌≡◌, ℕ, List, Result, Ok, Err, OnOk}
-use Rattle.mdv_database.specs.Below.{Failures, Identity, Key, Geometry, PlaceAt, with_blocks, IsSynced, Tale, IsPlaceOf, IsTableAt, Newest, Anything, GoesMaking, ShowsNothing, ShowsReplica}
+use Rattle.mdv_database.specs.Below.{Failures, Identity, Key, Geometry, PlaceAt, with_blocks, IsSynced, Tale, IsOnePlace, IsTableAt, Newest, Anything, GoesMaking, ShowsNothing, ShowsReplica}
 use Rattle.mdv_database.specs.declared.database.CreateFault.{CreateFault}
 use Rattle.mdv_database.specs.declared.database.CreateFault.TheVariants as unmade
 use Rattle.mdv_database.specs.Database.{IsQuiet, IsSafe, IsCreatedTo, first_newest, site_of}
 
 -- on each table of drives that has the place with this length
 abbrev pub OnEach : PlaceAt → ℕ → (Geometry → Type 0) → Type 0
-OnEach at blocks P = (drives : Geometry) → IsPlaceOf drives (with_blocks at blocks).place → P drives
+OnEach at blocks P = (drives : Geometry) → IsOnePlace drives (with_blocks at blocks).place → P drives
 
 -- By each moment nothing was told, and nothing done outside the replica's own blocks. Where nothing was there the log goes on.
 pub record CreateMoment (at : PlaceAt) (blocks : ℕ) (key : Key) (sizes : List ℕ) (identity : Identity) (t m : Tale) : Type 0 where

@@ -9,8 +9,7 @@ ghost use Rattle.mdv_replica.specs.Form.{room_of};
 ghost use Rattle.mdv_replica.specs.Forms.{IsMark};
 ghost use Rattle.mdv_replica.specs.Replica.{IsPlaced, slot_blocks};
 ghost use Rattle.mdv_table.specs.Slices.{IsSound};
-ghost use Rattle.mdv_table.specs.Table.{IsPlaceOf};
-ghost use Rattle.mdv_store_law.specs.Site.{IsTableAt};
+ghost use Rattle.mdv_store_law.specs.Site.{IsOnePlace, IsTableAt};
 ghost use Rattle.mdv_database.specs.Boot.{AdoptEnds, AdoptMoment, BootAnswer, BootEndsAs, BootMoment, HereEndsAs, IsAdoption, IsCleanIn, PlaceAnswer, PlaceMoment, RewriteEnds, RewriteMoment, is_answered as spec_is_answered};
 ghost use Rattle.mdv_database.specs.Commit.{CommitAnswer, CommitDone, CommitMoment, IsOver};
 ghost use Rattle.mdv_database.specs.Counts.{IsAdoptionCounted, IsBootCounted, IsCommitCounted, IsCreationCounted, IsPlaceCounted};
@@ -300,7 +299,7 @@ pub fn create<S: Shelf>(
 // The table of one place without volumes.
 fn first_table(alloc: Global, place: Place) -> Table
     ensures value { result ≡ spec_first_table place }
-    ensures is { (drives : Drives) → IsPlaceOf drives place → IsTableAt drives place result }
+    ensures is { (drives : Drives) → IsOnePlace drives place → IsTableAt drives place result }
 {
     let mut places = Places::new();
     places.push(place);

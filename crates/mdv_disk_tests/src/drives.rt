@@ -19,13 +19,17 @@ pub(crate) fn slice(text: &[u8]) -> Result<SliceName, Fail> {
     Ok(parse_slice(text).ok_or("a slice")?)
 }
 
-/// One place alone.
-pub(crate) fn place(text: &[u8], start: u32, blocks: u32) -> Result<Places, Fail> {
-    let mut places = Places::new();
-    places.push(Place {
+pub(crate) fn lies(text: &[u8], start: u32, blocks: u32) -> Result<Place, Fail> {
+    Ok(Place {
         slice: slice(text)?,
         start,
         blocks,
-    });
+    })
+}
+
+/// One place alone.
+pub(crate) fn place(text: &[u8], start: u32, blocks: u32) -> Result<Places, Fail> {
+    let mut places = Places::new();
+    places.push(lies(text, start, blocks)?);
     Ok(places)
 }

@@ -1,5 +1,6 @@
-use crate::drives::{place, sound};
+use crate::drives::{lies, place, sound};
 use crate::table_tests::told;
+use mdv_base::Places;
 use mdv_record::*;
 use mdv_table::Table;
 use std::alloc::Global;
@@ -11,6 +12,7 @@ drive c0t0d0 40000 hostA d0.img
 slice c0t0d0s0 0 1000
 slice c0t0d0s1 999 991
 slice c0t0d0s3 2000 4000
+slice c0t0d0s5 6000 6000 db
 slice c0t0d0s7 12000 28000 db
 ";
 
@@ -23,7 +25,19 @@ const EMPTY: [u8; 36] = [
     0, 0, // no volumes
 ];
 
-// The same with the stripes d10 on c0t0d0s0 and d260 on c0t0d0s3.
+// Two places of 16 blocks on c0t0d0s7, and on c0t0d0s5 one of 512 at block 528.
+const PLACES: [u8; 60] = [
+    0x4d, 0x44, 0x56, 0x52, 0x45, 0x43, 0x30, 0x31, // MDVREC01
+    0, 0, 0, 60, // bytes
+    1, 3, // one list of three places
+    0, 0, 0, 7, 0, 0, 0, 16, 0, 0, 0, 16, // c0t0d0s7
+    0, 0, 0, 7, 0, 0, 0, 32, 0, 0, 0, 16, // behind it
+    0, 0, 0, 5, 0, 0, 0x02, 0x10, 0, 0, 0x02, 0, // c0t0d0s5
+    0, 0, 0, 0, 0, 0, 0, 0, // no set, no pending sets, no pools
+    0, 0, // no volumes
+];
+
+// The empty table with the stripes d10 on c0t0d0s0 and d260 on c0t0d0s3.
 const STRIPES: [u8; 136] = [
     0x4d, 0x44, 0x56, 0x52, 0x45, 0x43, 0x30, 0x31, // MDVREC01
     0, 0, 0, 136, // bytes
@@ -42,6 +56,14 @@ const STRIPES: [u8; 136] = [
 
 fn empty(alloc: Global) -> Result<Table, Fail> {
     Ok(Table::empty(alloc, place(b"c0t0d0s7", 16, 16)?))
+}
+
+fn places(alloc: Global) -> Result<Table, Fail> {
+    let mut places = Places::new();
+    places.push(lies(b"c0t0d0s7", 16, 16)?);
+    places.push(lies(b"c0t0d0s7", 32, 16)?);
+    places.push(lies(b"c0t0d0s5", 528, 512)?);
+    Ok(Table::empty(alloc, places))
 }
 
 fn stripes(alloc: Global) -> Result<Table, Fail> {
@@ -79,6 +101,8 @@ fn writes_and_reads_the_worked_bytes(rt: HostRuntime) -> Result<(), Fail> {
     let (empty, stripes) = (empty(rt.alloc())?, stripes(rt.alloc())?);
     assert!(rt; is_both_ways(rt.alloc(), &empty, &EMPTY)?);
     assert!(rt; is_both_ways(rt.alloc(), &stripes, &STRIPES)?);
+    let places = places(rt.alloc())?;
+    assert!(rt; is_both_ways(rt.alloc(), &places, &PLACES)?);
     Ok(())
 }
 
@@ -135,22 +159,37 @@ const WRONG: &[(usize, &[(usize, u8)], &str)] = &[
     (0, &[], "no bytes"),
 ];
 
-fn changed(changes: &[(usize, u8)]) -> [u8; 136] {
-    let mut bytes = STRIPES;
+// Bytes of the text of three places that are others, and what these ask.
+const OTHER_PLACES: &[(&[(usize, u8)], &str)] = &[
+    (&[(13, 0)], "no places"),
+    (&[(13, 2)], "two places"),
+    (&[(13, 51)], "51 places"),
+    (&[(33, 33)], "a place out of step"),
+    (&[(33, 48), (37, 32)], "places of two lengths on one slice"),
+    (&[(41, 3)], "a place on a slice for data"),
+    (&[(44, 0x16)], "a place that ends behind its slice"),
+];
+
+fn change(text: &mut [u8], changes: &[(usize, u8)]) {
     for (place, byte) in changes {
-        if let Some(at) = bytes.get_mut(*place) {
+        if let Some(at) = text.get_mut(*place) {
             *at = *byte;
         }
     }
-    bytes
 }
 
 #[test]
 fn reads_nothing_else(rt: HostRuntime) -> Result<(), Fail> {
     for (count, changes, name) in WRONG {
-        let bytes = changed(changes);
+        let mut bytes = STRIPES;
+        change(&mut bytes, changes);
         let front = bytes.get(..*count).ok_or("fewer bytes")?;
         assert!(rt; is_refused(rt.alloc(), front)?, "{name}");
+    }
+    for (changes, name) in OTHER_PLACES {
+        let mut bytes = PLACES;
+        change(&mut bytes, changes);
+        assert!(rt; is_refused(rt.alloc(), &bytes)?, "{name}");
     }
     Ok(())
 }

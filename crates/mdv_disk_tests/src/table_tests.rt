@@ -6,7 +6,8 @@ use mdv_table::*;
 use std::alloc::Global;
 use std::test::Fail;
 
-// Slice 2 is the whole drive, slice 3 the last block of slice 0, slice 4 the block behind it.
+// Slice 2 is the whole drive, slice 3 the last block of slice 0, slice 4 the block behind it. On the last drive two slices
+// for replicas share a block.
 const DRIVES: &[u8] = b"host hostA
 drive c0t0d0 40000 hostA d0.img
 slice c0t0d0s0 0 1000
@@ -18,6 +19,10 @@ slice c0t0d0s7 12000 28000 db
 drive c0t1d0 40000 hostA d1.img
 slice c0t1d0s0 0 1000
 slice c0t1d0s7 12000 28000 db
+drive c0t3d0 40000 hostA d3.img
+slice c0t3d0s5 0 1000 db
+slice c0t3d0s6 999 1000 db
+slice c0t3d0s7 1999 1000 db
 ";
 
 fn number(number: u16) -> VolId
@@ -115,6 +120,12 @@ const TABLES: &[(Lies, Option<(&[u8], u64)>, bool)] = &[
     ((b"c0t0d0s7", 16, 15), None, false),
     ((b"c0t0d0s7", 16, 8193), None, false),
     ((b"c0t0d0s7", 17, 16), None, false),
+    ((b"c0t0d0s7", 32, 16), None, true),
+    ((b"c0t0d0s7", 8208, 8192), None, true),
+    ((b"c0t0d0s7", 24592, 8192), None, false),
+    ((b"c0t3d0s5", 16, 16), None, false),
+    ((b"c0t3d0s6", 16, 16), None, false),
+    ((b"c0t3d0s7", 16, 16), None, true),
     ((b"c0t0d0s0", 16, 16), None, false),
     ((b"c0t0d0s5", 16, 16), None, false),
     ((b"c0t2d0s7", 16, 16), None, false),

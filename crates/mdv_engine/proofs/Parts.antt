@@ -1,6 +1,6 @@
 -- What a boot, a creation and a commit of the database say, part by part.
 use Rattle.std.proofs.Common.{◌≡◌, ◌≤◌, ℕ, List, Option, Ok, Err, Result, sym, subst}
-use Rattle.mdv_engine.specs.Below.{Identity, PlaceAt, with_blocks, Moments, Ends, Tale, IsPlaceOf, Geometry, Key, Change, Table, NoCreation, asks_of, Anything, Site, Newest, GoesFrom, GoesMaking, IsOpened, IsWithNewest, ShowsNothing, IsSafe, IsCommitted, MayCommit, first_newest, first_table, next_newest}
+use Rattle.mdv_engine.specs.Below.{Identity, PlaceAt, with_blocks, Moments, Ends, Tale, IsOnePlace, Geometry, Key, Change, Table, NoCreation, asks_of, Anything, Site, Newest, GoesFrom, GoesMaking, IsOpened, IsWithNewest, ShowsNothing, IsSafe, IsCommitted, MayCommit, first_newest, first_table, next_newest}
 use Rattle.mdv_store_law.specs.Going.{created_head}
 use Rattle.mdv_store_law.specs.Standing.{ShowsReplica}
 use Rattle.mdv_shelf.proofs.Moments.{moments_weaker}
@@ -23,26 +23,26 @@ module _ (at : PlaceAt) (blocks : ℕ) (key : Key) (sizes : List ℕ) (identity 
   pub create_quiet : blocks ≤ at.place.blocks → Moments (CreateMoment at blocks key sizes identity) a b → Moments (IsQuietIn at blocks) a b
   create_quiet within moments = moments_weaker (CreateMoment at blocks key sizes identity) (IsQuietIn at blocks) a b (λ t m is. (quiet_sized at blocks t m within is.quiet, is.quiet)) moments
 
-  pub create_goes : Moments (CreateMoment at blocks key sizes identity) a b → (drives : Geometry) → IsPlaceOf drives (with_blocks at blocks).place → Moments (λ t m. ShowsNothing (there drives) t → GoesMaking (there drives) identity Anything t m) a b
+  pub create_goes : Moments (CreateMoment at blocks key sizes identity) a b → (drives : Geometry) → IsOnePlace drives (with_blocks at blocks).place → Moments (λ t m. ShowsNothing (there drives) t → GoesMaking (there drives) identity Anything t m) a b
   create_goes moments drives has =
       moments_weaker (CreateMoment at blocks key sizes identity) (λ t m. ShowsNothing (there drives) t → GoesMaking (there drives) identity Anything t m) a b (λ t m is. is.goes drives has) moments
 
   module _ (result : Result Newest CreateFault) (ends : Ends (CreateEnds at blocks key sizes identity result) a b) where
-    pub create_goes_to : (drives : Geometry) → IsPlaceOf drives (with_blocks at blocks).place → Ends (λ t u. ShowsNothing (there drives) t → GoesMaking (there drives) identity (IsCreatedTo blocks identity result) t u) a b
+    pub create_goes_to : (drives : Geometry) → IsOnePlace drives (with_blocks at blocks).place → Ends (λ t u. ShowsNothing (there drives) t → GoesMaking (there drives) identity (IsCreatedTo blocks identity result) t u) a b
     create_goes_to drives has =
         ends_of (CreateEnds at blocks key sizes identity result) (λ t u. ShowsNothing (there drives) t → GoesMaking (there drives) identity (IsCreatedTo blocks identity result) t u) a b (λ t u is. is.goes drives has) ends
 
     pub create_failed : result ≡ Err unmade.Failed → (drives : Geometry) → Ends (λ t u. ShowsNothing (there drives) t → ShowsNothing (there drives) u) a b
     create_failed failures drives = ends_of (CreateEnds at blocks key sizes identity result) (λ t u. ShowsNothing (there drives) t → ShowsNothing (there drives) u) a b (λ t u is. is.failed failures drives) ends
 
-    pub create_lost : result ≡ Err unmade.Lost → (drives : Geometry) → IsPlaceOf drives (with_blocks at blocks).place → Ends (λ _ u. ShowsReplica (there drives) blocks identity u) a b
+    pub create_lost : result ≡ Err unmade.Lost → (drives : Geometry) → IsOnePlace drives (with_blocks at blocks).place → Ends (λ _ u. ShowsReplica (there drives) blocks identity u) a b
     create_lost lost drives has = ends_of (CreateEnds at blocks key sizes identity result) (λ _ u. ShowsReplica (there drives) blocks identity u) a b (λ t u is. is.lost lost drives has) ends
 
   module _ (newest : Newest) (ends : Ends (CreateEnds at blocks key sizes identity (Ok newest)) a b) where
-    pub create_safe : (drives : Geometry) → IsPlaceOf drives (with_blocks at blocks).place → Ends (λ _ u. IsSafe (there drives) blocks identity u) a b
+    pub create_safe : (drives : Geometry) → IsOnePlace drives (with_blocks at blocks).place → Ends (λ _ u. IsSafe (there drives) blocks identity u) a b
     create_safe drives has = ends_of (CreateEnds at blocks key sizes identity (Ok newest)) (λ _ u. IsSafe (there drives) blocks identity u) a b (λ t u is. is.safe drives has) ends
 
-    pub create_opened : newest ≡ first_newest at blocks → (drives : Geometry) → IsPlaceOf drives (with_blocks at blocks).place → Ends (λ _ u. IsOpened (there drives) newest u) a b
+    pub create_opened : newest ≡ first_newest at blocks → (drives : Geometry) → IsOnePlace drives (with_blocks at blocks).place → Ends (λ _ u. IsOpened (there drives) newest u) a b
     create_opened new drives has =
         ends_of (CreateEnds at blocks key sizes identity (Ok newest)) (λ _ u. IsOpened (there drives) newest u) a b
         (λ t u is. subst (λ (n : Newest). IsOpened (there drives) n u) (sym new) (record { head = created_head (there drives) blocks identity (first_table (with_blocks at blocks).place); each = is.safe drives has }))

@@ -2,16 +2,18 @@
 use Rattle.std.proofs.Math.Nat.{le-min, min-le_left}
 use Rattle.mdv_words.specs.Line.{IsLength}
 use Rattle.mdv_home.specs.declared.geometry.Home.{Home}
-use Rattle.std.proofs.Common.{◌≡◌, ◌+◌, ◌-◌, ◌≤◌, ℕ, List, [], ◌∷◌, refl, sym, subst, ap, arith}
+use Rattle.std.proofs.Common.{◌≡◌, ◌+◌, ◌-◌, ◌≤◌, ℕ, false, List, [], ◌∷◌, refl, sym, subst, ap, arith, lit<}
 use Rattle.std.proofs.lemmas.List.Elements.{All-head}
-use Rattle.mdv_engine.specs.Below.{Local, Place, line_of, place_of, SliceAt, PlaceAt, IsPlaced, with_blocks, KeptOutside, Tale, One, Table, IsListsOf, IsPlaceOf, Site, area_of, IsLaid, IsOnDrive, IsQuiet, Host, IsReady, site_of}
+use Rattle.mdv_engine.specs.Below.{Local, Place, line_of, place_of, SliceAt, SliceLine, PlaceAt, IsPlaced, with_blocks, KeptOutside, Tale, One, Table, IsListsOf, IsOnePlace, IsPlaceOf, Site, area_of, IsLaid, IsOnDrive, IsQuiet, Host, IsReady, site_of}
 use Rattle.mdv_database.specs.Database as database
 use Rattle.std.proofs.lemmas.Option.{slice_get_within}
 use Rattle.mdv_engine_law.proofs.Lifting.{site_here}
 use Rattle.mdv_engine_law.proofs.Within.{kept_by_both}
 use Rattle.mdv_engine_law.specs.Home.{replica_area}
-use Rattle.mdv_engine_law.proofs.Ready.{home_seen, home_size, size_is}
+use Rattle.mdv_engine_law.proofs.Ready.{has_slice, home_seen, home_size, size_is}
 use Rattle.mdv_engine.specs.Engine.{IsTableOf}
+use Rattle.mdv_table.proofs.Alone.{alone, never_meets}
+use Rattle.mdv_table.specs.Below.{meets_db}
 
 -- nothing is told, and nothing done outside the place, nor outside so many blocks there
 abbrev pub IsQuietIn : PlaceAt → ℕ → Tale → Tale → Type 0
@@ -54,13 +56,19 @@ module _ (host : Host) (sizes : List ℕ) (ready : IsReady host sizes) (at : Pla
   pub laid : (blocks : ℕ) → IsLength blocks → 16 + blocks ≤ host.home.blocks → IsLaid sizes at blocks
   laid blocks form room = record { placed = placed blocks form.0 room; in_place = fits_place at host.home blocks at_is form room }
 
+  -- no other slice that the host sees shares a block with its home
+  home_clear : meets_db host.drives host.home.slice ≡ false
+  home_clear = never_meets host.drives ready.sound host.home.slice (line_of host.home).at (home_seen host sizes ready) (λ line there other.
+      (ready.home.home.others line (has_slice host sizes ready line.name line.at there) (λ same. other (ap (λ (l : SliceLine). l.name) same))).apart)
+
   -- and is one of the table of drives
-  pub place_is : (blocks : ℕ) → IsLength blocks → 16 + blocks ≤ host.home.blocks → IsPlaceOf host.drives (with_blocks at blocks).place
-  place_is blocks form room = subst (λ (p : PlaceAt). IsPlaceOf host.drives (with_blocks p blocks).place) (sym at_is) (record {
+  pub place_is : (blocks : ℕ) → IsLength blocks → 16 + blocks ≤ host.home.blocks → IsOnePlace host.drives (with_blocks at blocks).place
+  place_is blocks form room = subst (λ (p : PlaceAt). IsOnePlace host.drives (with_blocks p blocks).place) (sym at_is) (alone host.drives (record { slice = host.home.slice; start = 16; blocks = blocks }) (record {
     at = (line_of host.home).at;
     has = home_seen host sizes ready;
-    lies = (let least = form.0 in let most = form.1 in record { db = refl; start = refl; least = least; most = most; within = omega (arith, room) });
-  })
+    lies = (let least = form.0 in let most = form.1 in record { db = refl; start = lit< tt; least = least; most = most; within = omega (arith, room) });
+    clear = home_clear;
+  }) refl)
 
   -- it has no more than the default length
   pub short_place : at.place.blocks ≤ 8192
@@ -70,8 +78,8 @@ module _ (host : Host) (sizes : List ℕ) (ready : IsReady host sizes) (at : Pla
   pub laid_open : (blocks : ℕ) (table : Table) → IsTableOf host blocks table → IsLaid sizes at blocks
   laid_open blocks table is =
       let place : Place = record { slice = host.home.slice; start = 16; blocks = blocks } in
-      let listed : IsListsOf host.drives (One (place ∷ [])) = subst (IsListsOf host.drives) is.lists is.of_geometry.lists in
-      let of : IsPlaceOf host.drives place = All-head (IsPlaceOf host.drives) place [] listed.1 in
+      let listed : IsOnePlace host.drives place = subst (IsListsOf host.drives) is.lists is.of_geometry.lists in
+      let of : IsPlaceOf host.drives place = All-head (IsPlaceOf host.drives) place [] listed.each in
       let same : of.at ≡ (line_of host.home).at = ready.sound.once host.home.slice of.at (line_of host.home).at of.has (home_seen host sizes ready) in
       let within = of.lies.within in
       let counted : of.at.blocks ≡ host.home.blocks = ap (λ (a : SliceAt). a.blocks) same in

@@ -31,6 +31,7 @@ pub use Rattle.mdv_map.specs.Maps.{DriveBlock}
 pub use Rattle.mdv_name.specs.SliceIndex.{HasNoSlice, HasSlice}
 pub use Rattle.mdv_name.specs.declared.geometry.Geometry.{Geometry}
 pub use Rattle.mdv_name.specs.declared.slice_lines.SliceAt.{SliceAt}
+pub use Rattle.mdv_name.specs.declared.slice_lines.SliceLine.{SliceLine}
 pub use Rattle.mdv_record.specs.Text.{record_text}
 pub use Rattle.mdv_record.specs.declared.record.TooLong.{TooLong}
 pub use Rattle.mdv_replica.specs.Form.{other_slot, room_of}
@@ -44,7 +45,7 @@ pub use Rattle.mdv_shelf.specs.Tale.{Tale, last, told}
 pub use Rattle.mdv_status.specs.Values.{values_reply}
 pub use Rattle.mdv_store_law.specs.Going.{IsCreated, IsWithNewest}
 pub use Rattle.mdv_store_law.specs.Log.{IsMade, Log, NoCreation, asks_of, is_firm}
-pub use Rattle.mdv_store_law.specs.Site.{IsFound, IsTableAt, Newest, Site, area_of}
+pub use Rattle.mdv_store_law.specs.Site.{IsFound, IsOnePlace, IsTableAt, Newest, Site, area_of}
 pub use Rattle.mdv_store_law.specs.Standing.{Anything, GoesFrom, GoesMaking, GoesOn, GoesOnTo, IsNewestIn, IsOpened, ShowsNothing}
 pub use Rattle.mdv_store_law.specs.Steps.{IsAdopted, next_newest}
 pub use Rattle.mdv_table.specs.Table.{IsComponentOn, IsKindOf, IsListsOf, IsOfGeometry, IsPlaceOf, IsStripeOf, IsWholeSlice}

@@ -112,7 +112,7 @@ module _ (host : Host) (sizes : List ℕ) (ready : IsReady host sizes) where
     replica_within =
         let place : Place = record { slice = host.home.slice; start = 16; blocks = newest.blocks } in
         let listed : IsListsOf host.drives (One (place ∷ [])) = subst (IsListsOf host.drives) table_at.lists table_at.of_geometry.lists in
-        let of : IsPlaceOf host.drives place = All-head (IsPlaceOf host.drives) place [] listed.1 in
+        let of : IsPlaceOf host.drives place = All-head (IsPlaceOf host.drives) place [] listed.each in
         let same : of.at ≡ (line_of host.home).at = ready.sound.once host.home.slice of.at (line_of host.home).at of.has (home_seen host sizes ready) in
         let within = of.lies.within in
         let blocks : of.at.blocks ≡ host.home.blocks = ap (λ (a : SliceAt). a.blocks) same in

@@ -11,10 +11,10 @@ module _ (g : Geometry) (sound : IsSound g) where
       record { controller = name.drive.controller; target = name.drive.target; disk = name.drive.disk; slice = omega (arith, name.slice) }
 
   place_fits : (p : Place) → IsPlaceOf g p → FitsPlace p
-  place_fits p is = record { slice = slice_fits p.slice is.at is.has; start = omega (arith, is.lies.start); blocks = omega (arith, is.lies.most) }
+  place_fits p is = record { slice = slice_fits p.slice is.at is.has; start = is.lies.start; blocks = omega (arith, is.lies.most) }
 
   lists_fit : (l : Lists) → IsListsOf g l → FitsLists l
-  lists_fit (One places) is = record { few = omega (arith, is.0); each = All-weaker (IsPlaceOf g) FitsPlace place_fits places is.1 }
+  lists_fit (One places) is = record { few = is.few; each = All-weaker (IsPlaceOf g) FitsPlace place_fits places is.each }
 
   base_fits : (c : Component) (b : Base) → IsComponentOn g c b → FitsBase b
   base_fits c (Slice s) is = slice_fits s is.at is.has

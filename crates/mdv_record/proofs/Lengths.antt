@@ -37,7 +37,7 @@ unfolding volume_text
 length-volume_text v = omega (arith, length-kind_text v.kind)
 
 -- parts of one length
-length-flat_map_of : {A : Type 0} (text : A → List ℕ) (size : ℕ) → ((a : A) → length (text a) ≡ size) → (xs : List A) → length (flat_map text xs) ≡ size * length xs
+pub length-flat_map_of : {A : Type 0} (text : A → List ℕ) (size : ℕ) → ((a : A) → length (text a) ≡ size) → (xs : List A) → length (flat_map text xs) ≡ size * length xs
 length-flat_map_of text size each [] = omega arith
 length-flat_map_of text size each (x ∷ xs) = length-append (text x) (flat_map text xs) ∙ grind (arith, each x, length-flat_map_of text size each xs)
 

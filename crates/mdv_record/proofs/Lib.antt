@@ -6,6 +6,7 @@ pub mod Fitting
 pub mod Laying
 pub mod Lengths
 pub mod Lists
+pub mod Parsed
 pub mod Parts
 pub mod Records
 pub mod Volumes

@@ -7,6 +7,7 @@ pub use Rattle.mdv_name.specs.declared.slice_lines.SliceAt.{SliceAt}
 pub use Rattle.mdv_table.specs.Plan.{places_of}
 pub use Rattle.mdv_table.specs.Slices.{IsSound}
 pub use Rattle.mdv_table.specs.Table.{IsComponentOn, IsKindOf, IsListsOf, IsOfGeometry, IsPlaceOf, IsPlanOf}
+pub use Rattle.mdv_table.specs.Tests.{is_of_geometry}
 pub use Rattle.mdv_table.specs.Volumes.{IsVolumes}
 pub use Rattle.mdv_table.specs.declared.plan.Lists.{Lists}
 pub use Rattle.mdv_table.specs.declared.plan.Lists.TheVariants.{One}

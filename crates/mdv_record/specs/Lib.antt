@@ -3,6 +3,7 @@ pub use Rattle.byteorder.specs.Endian
 pub use Rattle.mdv_table.specs.Slices
 pub use Rattle.mdv_table.specs.Table
 pub mod Fits
+pub mod Parsing
 pub mod Reading
 pub mod Record
 pub mod Spelling

@@ -1,3 +1,6 @@
+ghost use Rattle.std.specs.Prelude.{◌≡◌, Err, IfOk, None};
+ghost use Rattle.mdv_record.specs.declared.record.RecordError.TheVariants.{NotARecord};
+ghost use Rattle.mdv_record.specs.Parsing.{IsTextOf, read_of};
 ghost use Rattle.mdv_record.specs.Reading.{Reads};
 ghost use Rattle.mdv_record.specs.Record.{IsDecoded};
 ghost use Rattle.mdv_record.specs.Whole.{FitsFront, front_text, ReadsWhole};
@@ -14,7 +17,9 @@ use std::alloc::Global;
 /// Reads the table whose text these bytes are, where it may be one of a database on these drives.
 pub fn decode(alloc: Global, geometry: &Geometry, bytes: &[u8]) -> Result<Table, RecordError>
     requires { IsSound geometry.now }
-    ensures { IsDecoded geometry.now bytes.now result }
+    ensures decoded { IsDecoded geometry.now bytes.now result }
+    ensures read { IfOk result (IsTextOf geometry.now bytes.now) }
+    ensures none { result ≡ Err NotARecord → read_of geometry.now bytes.now ≡ None }
 {
     let table = read_record(alloc, bytes)?;
     if table.is_of_geometry(geometry) {

@@ -1,6 +1,7 @@
-ghost use Rattle.std.specs.Prelude.{◌≡◌, ◌⊎◌, Result};
+ghost use Rattle.std.specs.Prelude.{◌≡◌, ◌↔◌, ◌⊎◌, ℕ, List, Result};
 ghost use Rattle.mdv_name.specs.declared.geometry.Geometry.{Geometry};
 ghost use Rattle.mdv_record.specs.declared.record.RecordError.{RecordError};
+ghost use Rattle.mdv_record.specs.Parsing.{IsTextOf};
 ghost use Rattle.mdv_record.specs.Record.{IsDecoded};
 ghost use Rattle.mdv_record.specs.Text.{record_text};
 ghost use Rattle.mdv_table.specs.declared.table.Table.{Table};
@@ -18,4 +19,10 @@ pub fn reads_what_was_written()
     ensures { (g : Geometry) (t : Table) (answer : Result Table RecordError) → IsSound g →
         IsOfGeometry g t → IsDecoded g (record_text t) answer →
         (answer ≡ Ok t) ⊎ (answer ≡ Err RecordError.Memory) }
+{}
+
+/// Bytes are read as a table of a geometry exactly where they are its text.
+pub fn texts_are_read()
+    ensures { (g : Geometry) (text : List ℕ) (t : Table) → IsSound g →
+        IsTextOf g text t ↔ (IsOfGeometry g t × (text ≡ record_text t)) }
 {}

@@ -27,7 +27,7 @@ pub use Rattle.mdv_shelf.specs.Settle.{IsSynced}
 pub use Rattle.mdv_shelf.specs.Tale.{Begun, IsImage, MayLeave, Start, Tale, last, values}
 pub use Rattle.mdv_table.specs.Change.{IsAfter}
 pub use Rattle.mdv_table.specs.Slices.{IsSound}
-pub use Rattle.mdv_table.specs.Table.{IsOfGeometry}
+pub use Rattle.mdv_table.specs.Table.{IsListsOf, IsOfGeometry}
 pub use Rattle.mdv_table.specs.declared.change.Change.{Change}
 pub use Rattle.mdv_table.specs.declared.plan.Lists.TheVariants.{One}
 pub use Rattle.mdv_table.specs.declared.table.Table.{Table}

@@ -1,6 +1,6 @@
 -- Where a database with one place lies, what counts there as a record, and what a replica there has.
 use Rattle.std.specs.Prelude.{◌≡◌, ℕ, true, List, [], ◌∷◌, Option, Some, None}
-use Rattle.mdv_store_law.specs.Below.{Mark, Key, Place, Geometry, record_text, Open, Head, PlaceAt, Slot, IsReadable, IsNewest, IsSpareSlot, gate_of, shows, text_of, with_blocks, Area, range, One, Table, IsOfGeometry}
+use Rattle.mdv_store_law.specs.Below.{Mark, Key, Place, Geometry, record_text, Open, Head, PlaceAt, Slot, IsReadable, IsNewest, IsSpareSlot, gate_of, shows, text_of, with_blocks, Area, range, One, Table, IsListsOf, IsOfGeometry}
 
 -- the table of drives, whose database it is, its one place with the most blocks that it may have, and the drive's blocks
 pub record Site : Type 0 where
@@ -16,6 +16,10 @@ area_of site = range site.at.drive.0 site.at.first site.at.place.blocks
 -- the place, with the length of the replica that lies there
 abbrev pub sized : Site → Head → PlaceAt
 sized site head = with_blocks site.at head.master.blocks
+
+-- a database on these drives may have this one place
+abbrev pub IsOnePlace : Geometry → Place → Type 0
+IsOnePlace g place = IsListsOf g (One (place ∷ []))
 
 -- a table on these drives whose database has this one place
 pub record IsTableAt (g : Geometry) (place : Place) (table : Table) : Type 0 where

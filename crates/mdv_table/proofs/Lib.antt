@@ -1,3 +1,4 @@
+pub mod Alone
 pub mod Apart
 pub mod Ascending
 pub mod Causes
@@ -5,3 +6,4 @@ pub mod Deciding
 pub mod Making
 pub mod Marks
 pub mod Pairs
+pub mod Testing

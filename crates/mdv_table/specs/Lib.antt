@@ -5,5 +5,6 @@ pub mod Marks
 pub mod Plan
 pub mod Slices
 pub mod Table
+pub mod Tests
 pub mod Volume
 pub mod Volumes

@@ -1,6 +1,6 @@
 -- Which tables are of a geometry.
-use Rattle.std.specs.Prelude.{◌≡◌, ◌≤◌, ◌+◌, true, false, List, length, All, AllPairs}
-use Rattle.mdv_table.specs.Below.{SliceName, Place, Geometry, SliceAt, HasSlice}
+use Rattle.std.specs.Prelude.{◌≡◌, ◌<◌, ◌≤◌, ◌+◌, ◌^◌, true, false, List, length, All, AllPairs, IsTrue}
+use Rattle.mdv_table.specs.Below.{SliceName, Place, Geometry, SliceAt, HasSlice, OneList, are_spaced, meets_db}
 use Rattle.mdv_table.specs.declared.plan.Lists.{Lists}
 use Rattle.mdv_table.specs.declared.plan.Lists.TheVariants.{One}
 use Rattle.mdv_table.specs.declared.plan.Plan.{Plan}
@@ -15,23 +15,31 @@ use Rattle.mdv_table.specs.Plan.{places_of, component_slices}
 use Rattle.mdv_table.specs.Slices.{Overlaps}
 use Rattle.mdv_table.specs.Volumes.{IsVolumes}
 
--- 16 to 8192 blocks from block 16 of a slice on that is set aside for replicas
+-- 16 to 8192 blocks of a slice that is set aside for replicas, within it, from a block on whose number has 32 bits
 pub record IsPlaceIn (at : SliceAt) (p : Place) : Type 0 where
   pub db : at.db ≡ true
-  pub start : p.start ≡ 16
+  pub start : p.start < 2 ^ 32
   pub least : 16 ≤ p.blocks
   pub most : p.blocks ≤ 8192
   pub within : p.start + p.blocks ≤ at.blocks
 
--- a replica lies in a slice of the geometry
+-- a replica lies in a slice of the geometry, which no other slice that is set aside for replicas overlaps
 pub record IsPlaceOf (g : Geometry) (p : Place) : Type 0 where
   pub at : SliceAt
   pub has : HasSlice g.slices p.slice at
   pub lies : IsPlaceIn at p
+  pub clear : meets_db g p.slice ≡ false
 
--- one list of one place
+-- 1 to 50 places, and all of a slice have one number b of blocks and start at 16 + k * b
+pub record IsPlacesOf (g : Geometry) (places : List Place) : Type 0 where
+  pub some : 1 ≤ length places
+  pub few : length places ≤ 50
+  pub spaced : IsTrue (are_spaced (OneList places))
+  pub each : All (IsPlaceOf g) places
+
+-- one list of places
 abbrev pub IsListsOf : Geometry → Lists → Type 0
-IsListsOf g (One places) = (length places ≡ 1) × All (IsPlaceOf g) places
+IsListsOf g (One places) = IsPlacesOf g places
 
 -- all blocks of a slice that isn't set aside for replicas
 pub record IsWhole (at : SliceAt) (c : Component) : Type 0 where

@@ -1,18 +1,19 @@
 // Which tables are of a geometry: what a record may say beside the drives that there are.
-ghost use Rattle.std.specs.Prelude.{◌↔◌, IsTrue, All};
+ghost use Rattle.std.specs.Prelude.{◌≡◌, ◌↔◌, IsTrue, All};
+ghost use Rattle.mdv_table.specs.Below.{OneList, are_spaced as spec_are_spaced};
 ghost use Rattle.mdv_table.specs.Plan.{component_slices};
 ghost use Rattle.mdv_table.specs.Slices.{IsSound};
-ghost use Rattle.mdv_table.specs.Table.{IsOfGeometry, IsListsOf, IsPlaceOf, IsPlaceIn, IsKindOf, IsStripeOf, IsComponentOn, IsWhole, IsWholeSlice, IsApart};
+ghost use Rattle.mdv_table.specs.Table.{IsOfGeometry, IsListsOf, IsPlacesOf, IsPlaceOf, IsPlaceIn};
+ghost use Rattle.mdv_table.specs.Table.{IsKindOf, IsStripeOf, IsComponentOn, IsWhole, IsWholeSlice, IsApart};
 
-use crate::plan::Lists;
+use crate::plan::{Lists, all_of, copy_of};
 use crate::table::Table;
 use crate::uses::Uses;
 use crate::volume::{Base, Component, Stripe, Volume, VolumeKind};
-use mdv_base::{Place, SliceName};
+use mdv_base::{Place, Places, SliceName};
+use mdv_fields::are_spaced;
 use mdv_name::{Geometry, SliceAt};
-
-// Where the first replica of a slice begins, in blocks.
-const FIRST_START: u32 = 16;
+use mdv_plan::{Lists as PlanLists, meets_db};
 
 // How many blocks a replica has at least and at most.
 const LEAST_REPLICA: u32 = 16;
@@ -44,11 +45,23 @@ fn are_lists_of(geometry: &Geometry, lists: &Lists) -> bool
     ensures { IsTrue result ↔ IsListsOf geometry.now lists.now }
 {
     match lists {
-        Lists::One(places) => match places.as_slice() {
-            [place] => is_place_of(geometry, place),
-            _ => false,
-        },
+        Lists::One(places) => are_places_of(geometry, places),
     }
+}
+
+fn are_places_of(geometry: &Geometry, places: &Places) -> bool
+    requires { IsSound geometry.now }
+    ensures { IsTrue result ↔ IsPlacesOf geometry.now places.now }
+{
+    let all = all_of(places);
+    !all.is_empty() && are_in_step(places) && all.iter().all(|place| is_place_of(geometry, place))
+}
+
+// Whether all places of a slice have one number b of blocks and start at 16 + k * b.
+fn are_in_step(places: &Places) -> bool
+    ensures { result ≡ spec_are_spaced (OneList places.now) }
+{
+    are_spaced(&PlanLists::One(copy_of(places)))
 }
 
 fn is_place_of(geometry: &Geometry, place: &Place) -> bool
@@ -56,7 +69,7 @@ fn is_place_of(geometry: &Geometry, place: &Place) -> bool
     ensures { IsTrue result ↔ IsPlaceOf geometry.now place.now }
 {
     match geometry.slices.find(place.slice) {
-        Some(at) => is_place_in(at, place),
+        Some(at) => is_place_in(at, place) && !meets_db(geometry, place.slice),
         None => false,
     }
 }
@@ -65,7 +78,6 @@ fn is_place_in(at: SliceAt, place: &Place) -> bool
     ensures { IsTrue result ↔ IsPlaceIn at place.now }
 {
     at.db
-        && place.start == FIRST_START
         && LEAST_REPLICA <= place.blocks
         && place.blocks <= MOST_REPLICA
         && u64::from(place.start) + u64::from(place.blocks) <= at.blocks

@@ -31,7 +31,7 @@ impl Lists {
 }
 
 // The places, and that they are few.
-fn all_of(places: &Places) -> &[Place]
+pub(crate) fn all_of(places: &Places) -> &[Place]
     ensures value { result.now ≡ places.now }
     ensures few { length result.now ≤ 50 }
 {
@@ -39,7 +39,7 @@ fn all_of(places: &Places) -> &[Place]
     places.as_slice()
 }
 
-fn copy_of(places: &Places) -> Places
+pub(crate) fn copy_of(places: &Places) -> Places
     ensures { result ≡ places.now }
 {
     let mut copy = Places::new();

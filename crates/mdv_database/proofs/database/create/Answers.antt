@@ -1,5 +1,5 @@
 use Rattle.std.proofs.Common.{◌≡◌, length, ◌∙◌, ap, arith}
-use Rattle.mdv_database.specs.Below.{Geometry, record_text, PlaceAt, with_blocks, Table, IsPlaceOf, Creates}
+use Rattle.mdv_database.specs.Below.{Geometry, record_text, PlaceAt, with_blocks, Table, IsOnePlace, Creates}
 use Rattle.mdv_record.proofs.Lengths.{record_lengths}
 use Rattle.mdv_shelf.proofs.Between.{between_of, between_then}
 use Rattle.mdv_shelf.proofs.Counts.{took_more}
@@ -9,7 +9,7 @@ use Rattle.mdv_database.proofs.Making.{creates, format_ends, format_moments, los
 use Rattle.mdv_database.proofs.database.create.Goals as goal
 use Rattle.mdv_database.proofs.database.create.Goals.{After-format}
 
-from : (g : _) (c : After-format g) (drives : Geometry) → IsPlaceOf drives (with_blocks c.args.at c.args.blocks).place → Creates (site_of drives c.args.key.now c.args.at (g.S.Shelf.sizes c.args.shelf.now)) c.args.blocks c.args.identity c.first_table-table.result
+from : (g : _) (c : After-format g) (drives : Geometry) → IsOnePlace drives (with_blocks c.args.at c.args.blocks).place → Creates (site_of drives c.args.key.now c.args.at (g.S.Shelf.sizes c.args.shelf.now)) c.args.blocks c.args.identity c.first_table-table.result
 from g c drives lies =
     creates drives c.args.key.now c.args.at c.args.blocks _ c.args.identity c.first_table-table.result c.requires.laid c.requires.length (rw c.at_length-sized.ensures at c.format.ensures.answer.form)
     ((rw c.at_length-sized.ensures at c.first_table-table.ensures.is) drives lies)

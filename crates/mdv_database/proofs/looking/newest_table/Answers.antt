@@ -4,6 +4,7 @@ use Rattle.mdv_database.specs.Below.{gate_of}
 use Rattle.mdv_database.specs.declared.looking.Held.TheVariants.{Other}
 use Rattle.mdv_database.specs.declared.body.ReadFault.{ReadFault}
 use Rattle.mdv_database.proofs.Counting.{both_few, both_read, err_is}
+use Rattle.mdv_database.proofs.Fitting.{are_held}
 use Rattle.mdv_database.proofs.looking.newest_table.Goals as goal
 use Rattle.mdv_database.proofs.looking.newest_table.Goals.{in-Other, in_default}
 
@@ -26,6 +27,22 @@ returns-in_err-table-clause-kept g c = kept_on_more c.in_ok-older.ensures.answer
 
 pub returns-in-Kept-clause-kept : goal.returns-in-Kept-clause-kept
 returns-in-Kept-clause-kept g c = kept_on_more c.in_ok-older.ensures.answer.calm c.read_slot.ensures.kept c.read_slot-2.ensures.kept
+
+-- the slot beside the spare one has the table, and both fit
+pub returns-in-Kept-clause-reads : goal.returns-in-Kept-clause-reads
+returns-in-Kept-clause-reads g c =
+    let never : c.in_ok-older.older ≡ Other → ⊥ = elim c.match-matches.branch [
+      | in-Other w ↦ absurd (cc (sym w.matches-is ∙ c.if-matches.false))
+      | in_default w ↦ w.in_default.not-Other
+    ] in
+    let second = rw (c.in-Kept.is, c.gate_of_slot-2.ensures, c.other_slot-kept.ensures) at c.in_ok-table.ensures in
+    let first = rw c.gate_of_slot.ensures at c.in_ok-older.ensures in
+    record {
+      same = second.reads.same ∙ first.reads.same;
+      gave = λ t told.
+          are_held c.args.drives.now c.args.at _ c.args.head.now c.args.spare c.in_ok-older.older c.in-Kept.table never first.answer.is (first.reads.gave t told) second.answer.is
+          (second.reads.gave t (first.reads.same ∙ told));
+    }
 
 -- both slots were read, each as its gate says
 pub returns-in-Kept-clause-counted : goal.returns-in-Kept-clause-counted

@@ -1,12 +1,22 @@
 use Rattle.std.proofs.Common.{◌∙◌, ap, Err}
 use Rattle.std.proofs.lemmas.Result.{err_from_is_err_and}
 use Rattle.mdv_record.proofs.Codes.{none_decoded, not_of_geometry}
+use Rattle.mdv_record.proofs.Parsed.{is_read, none_of_decoded}
 use Rattle.mdv_record.proofs.decoding.decode.Goals as goal
 
-pub returns-in_err-table : goal.returns-in_err-table
-returns-in_err-table c =
+pub returns-in_err-table-clause-decoded : goal.returns-in_err-table-clause-decoded
+returns-in_err-table-clause-decoded c =
     let told = err_from_is_err_and c.from_residual.result c.from_residual.ensures.1 in
     none_decoded c.args.geometry.now c.requires c.from_residual.result c.in_err-table.field-0.0 (told.1 ∙ ap Err told.2) c.in_err-table.ensures
 
-pub returns-else-is_of_geometry : goal.returns-else-is_of_geometry
-returns-else-is_of_geometry c = not_of_geometry c.args.geometry.now c.requires c.in_ok-table.table (λ of_geometry. cc (c.is_of_geometry.ensures.1 of_geometry, c.if-is_of_geometry.false)) c.in_ok-table.ensures
+pub returns-in_err-table-clause-none : goal.returns-in_err-table-clause-none
+returns-in_err-table-clause-none c = none_of_decoded c.args.geometry.now c.requires c.args.bytes.now c.from_residual.result (returns-in_err-table-clause-decoded c)
+
+pub returns-then-is_of_geometry-clause-read : goal.returns-then-is_of_geometry-clause-read
+returns-then-is_of_geometry-clause-read c = (is_read c.args.geometry.now c.requires c.args.bytes.now c.in_ok-table.table).1 (c.is_of_geometry.ensures.0 c.if-is_of_geometry.true, c.in_ok-table.ensures.read.1)
+
+pub returns-else-is_of_geometry-clause-decoded : goal.returns-else-is_of_geometry-clause-decoded
+returns-else-is_of_geometry-clause-decoded c = not_of_geometry c.args.geometry.now c.requires c.in_ok-table.table (λ of_geometry. cc (c.is_of_geometry.ensures.1 of_geometry, c.if-is_of_geometry.false)) c.in_ok-table.ensures
+
+pub returns-else-is_of_geometry-clause-none : goal.returns-else-is_of_geometry-clause-none
+returns-else-is_of_geometry-clause-none c = none_of_decoded c.args.geometry.now c.requires c.args.bytes.now _ (returns-else-is_of_geometry-clause-decoded c)

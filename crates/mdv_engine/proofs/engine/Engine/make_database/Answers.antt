@@ -1,7 +1,7 @@
 use Rattle.std.proofs.Common.{◌≡◌, ◌∙◌, ◌+◌, ◌≤◌, List, ℕ, Bool, true, false, Option, Some, None, Err, refl, sym, ap, subst, arith, rules}
 use Rattle.mdv_engine_law.specs.Line.{ToMake}
 use Rattle.mdv_shelf.specs.Shelves.{DriveFailures}
-use Rattle.mdv_engine.specs.Below.{AreCalm, FailedOn, Outcomes, SliceName, Create, Local, IoFault, OutOfMemory, Ends, Moments, Tale, place_of, PlaceAt, IsPlaceOf, IsTableAt, Place, with_blocks, Geometry, IsCreated, Log, is_firm, Site, Newest, Anything, GoesMaking, IsOpened, ShowsNothing, IsSafe, first_newest, Answer, IsReady, identity_of, key_of, site_of, Memory, CameTo, IsAllowed, kept_at, CarriedTo, CarryMoment, Knows}
+use Rattle.mdv_engine.specs.Below.{AreCalm, FailedOn, Outcomes, SliceName, Create, Local, IoFault, OutOfMemory, Ends, Moments, Tale, place_of, PlaceAt, IsOnePlace, IsTableAt, Place, with_blocks, Geometry, IsCreated, Log, is_firm, Site, Newest, Anything, GoesMaking, IsOpened, ShowsNothing, IsSafe, first_newest, Answer, IsReady, identity_of, key_of, site_of, Memory, CameTo, IsAllowed, kept_at, CarriedTo, CarryMoment, Knows}
 use Rattle.mdv_database.specs.Database as database
 use Rattle.mdv_store_law.specs.Standing.{ShowsReplica}
 use Rattle.mdv_engine_law.specs.Answers.{accepted, refusing}
@@ -55,7 +55,7 @@ module _ (sizes : List ℕ) (e v : Engine) (is : e ≡ v) (readied : IsReady v.h
 
   -- so on each table of drives that has the place
   abbrev OnEach : (Geometry → Type 0) → Type 0
-  OnEach P = (drives : Geometry) → IsPlaceOf drives (with_blocks at blocks).place → P drives
+  OnEach P = (drives : Geometry) → IsOnePlace drives (with_blocks at blocks).place → P drives
 
   on_ours : (P : Geometry → Type 0) → OnEach P → P e.host.drives
   on_ours P each = each e.host.drives (place_is e.host sizes ready at at_is blocks form room)
@@ -102,7 +102,7 @@ module _ (sizes : List ℕ) (e v : Engine) (is : e ≡ v) (readied : IsReady v.h
       let place : (with_blocks at blocks).place ≡ (with_blocks (site_of e.host).at newest.blocks).place = λ i. (with_blocks (at_is i) ((sym (ap (λ (n : Newest). n.blocks) new)) i)).place in
       subst (λ (x : Engine). IsTableOf x.host newest.blocks newest.table) is (subst (λ (p : Place). IsTableAt e.host.drives p newest.table) place here)
 
-  module _ (nothing : (drives : Geometry) → IsPlaceOf drives (with_blocks at blocks).place → Ends (λ t u. ShowsNothing (site drives) t → ShowsNothing (site drives) u) a b) where
+  module _ (nothing : (drives : Geometry) → IsOnePlace drives (with_blocks at blocks).place → Ends (λ t u. ShowsNothing (site drives) t → ShowsNothing (site drives) u) a b) where
     unmade : (slice : SliceName) (force : Bool) → IsAllowed (case_at v) (Create slice force blocks) → (calls : Outcomes) → FailedOn e.host.home.drive.0 calls → Creates slice force blocks calls (refusing IoFault) (begun e.state) a b v
     unmade slice force free calls so = subst (Creates slice force blocks calls (refusing IoFault) (begun e.state) a b) is
         (unmade_creation e.host sizes ready at at_is e.state blocks none clean a b quiet (on_ours (λ drives. Ends (λ t u. ShowsNothing (site drives) t → ShowsNothing (site drives) u) a b) nothing) slice force (allowed slice force free) calls so)

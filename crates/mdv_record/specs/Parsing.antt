@@ -1,0 +1,55 @@
+-- The table whose text some bytes are: each part is read from their front, and at the end the text of what was read is held against them.
+use Rattle.std.specs.Prelude.{◌≡◌, ◌*◌, ◌&&◌, ℕ, zero, suc, List, [], ◌∷◌, drop, slice_index, Option, None, Some, if◌then◌else◌}
+use Rattle.std.specs.Str.{bytes_eq}
+use Rattle.byteorder.specs.Endian.{big_number}
+use Rattle.mdv_record.specs.Below.{Geometry, SliceName, Place, One, Table, Base, Slice, Component, Volume, VolumeKind, Stripe, is_of_geometry}
+use Rattle.mdv_record.specs.Text.{record_text}
+use Rattle.mdv_table.specs.declared.volume.Stripe.{Stripe as OneStripe}
+
+abbrev pub slice_from : List ℕ → SliceName
+slice_from bytes = record { drive = record { controller = slice_index bytes 0; target = slice_index bytes 1; disk = slice_index bytes 2 }; slice = slice_index bytes 3 }
+
+abbrev pub place_from : List ℕ → Place
+place_from bytes = record { slice = slice_from bytes; start = big_number 4 (drop 4 bytes); blocks = big_number 4 (drop 8 bytes) }
+
+-- so many values one behind another, each of which has so many bytes
+abbrev pub many_from : {A : Type 0} → (List ℕ → A) → ℕ → ℕ → List ℕ → List A
+many_from read size zero bytes = []
+many_from read size (suc n) bytes = read bytes ∷ many_from read size n (drop size bytes)
+
+abbrev pub base_from : List ℕ → Base
+base_from bytes = Slice (slice_from (drop 1 bytes))
+
+abbrev pub component_from : List ℕ → Component
+component_from bytes = record { on = base_from bytes; start = big_number 8 (drop 5 bytes); blocks = big_number 8 (drop 13 bytes) }
+
+-- behind the head of seven bytes
+abbrev pub stripe_from : List ℕ → OneStripe
+stripe_from bytes = record { interlace = big_number 4 (drop 7 bytes); component = component_from (drop 11 bytes) }
+
+abbrev pub kind_from : List ℕ → VolumeKind
+kind_from bytes = Stripe (stripe_from (drop 1 bytes))
+
+abbrev pub volume_from : List ℕ → Volume
+volume_from bytes = record { number = record { 0 = big_number 2 bytes }; kind = kind_from (drop 2 bytes) }
+
+-- a count of two bytes, and volumes of 50 each
+abbrev pub volumes_from : List ℕ → List Volume
+volumes_from bytes = many_from volume_from 50 (big_number 2 bytes) (drop 2 bytes)
+
+-- Byte 13 says how many places there are, of 12 bytes each; behind them are the eight empty parts, and the volumes.
+unfoldable pub table_from : List ℕ → Table
+table_from bytes =
+    let count = slice_index bytes 13 in
+    let places = drop 14 bytes in
+    record { plan = record { lists = One (many_from place_from 12 count places); volumes = volumes_from (drop 8 (drop (12 * count) places)) }; status = record {} }
+
+-- a table of the geometry whose text the bytes are, where there is one
+unfoldable pub read_of : Geometry → List ℕ → Option Table
+read_of g bytes =
+    let table = table_from bytes in
+    if bytes_eq (record_text table) bytes && is_of_geometry g table then Some table else None
+
+-- the bytes are the text of this table of the geometry
+abbrev pub IsTextOf : Geometry → List ℕ → Table → Type 0
+IsTextOf g bytes t = read_of g bytes ≡ Some t
