@@ -17,3 +17,7 @@ pub mod Knowing
 pub mod Stores
 pub mod Rest
 pub mod Forming
+pub mod Tracing
+pub mod Stretches
+pub mod Blanking
+pub mod Formed

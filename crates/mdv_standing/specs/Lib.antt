@@ -12,3 +12,6 @@ pub mod Others
 pub mod Turning
 pub mod Rest
 pub mod Forming
+pub mod Tracing
+pub mod Blanking
+pub mod Formed

@@ -1,5 +1,8 @@
 ghost use Rattle.mdv_standing.specs.Forming.{CreationsTurn};
 ghost use Rattle.mdv_standing.specs.Rest.{DatabasesTurn};
+ghost use Rattle.mdv_standing.specs.Blanking.{BlanksStay, ClearsTurn};
+ghost use Rattle.mdv_standing.specs.Formed.{FormedStay};
+ghost use Rattle.mdv_standing.specs.Tracing.{BootsTrace, CreationsTrace, WritesTrace};
 ghost use Rattle.mdv_standing.specs.Turning.{BootsTurn, WritesTurn};
 ghost use Rattle.mdv_standing.specs.Others.{OthersGo};
 ghost use Rattle.mdv_standing.specs.Holding.{DatabasesStand, KnownStay};
@@ -74,7 +77,26 @@ pub fn stores_turn()
     ensures creations { CreationsTurn }
 {}
 
+/// The same in each world, with the events of each call: so a call's trace is appended to from its start.
+pub fn calls_trace()
+    ensures boots { BootsTrace }
+    ensures writes { WritesTrace }
+    ensures creations { CreationsTrace }
+{}
+
 /// While one database is written, all others stand; and with that one, whose log may have gone on, all do.
 pub fn databases_turn()
     ensures { DatabasesTurn }
+{}
+
+/// While a creation blanks the places of slices, all databases stand, and no replica of its own is found: on each slice the first place
+/// is blanked first, and then each other one may be, whatever lay there. What was blanked is blank when the places are formatted.
+pub fn slices_clear()
+    ensures clears { ClearsTurn }
+    ensures blanks { BlanksStay }
+{}
+
+/// A place that was formatted has a replica, which stays while a creation formats the places behind it, and those of other slices.
+pub fn formed_stay()
+    ensures { FormedStay }
 {}

@@ -4,6 +4,7 @@
 mod law;
 
 pub use law::{
-    adoptions_go, commits_go, crashes_stand, creations_go, databases_stand, databases_turn,
-    finds_hold, frames, known_stay, new_drives_stand, nothing_holds, others_go, stores_turn,
+    adoptions_go, calls_trace, commits_go, crashes_stand, creations_go, databases_stand,
+    databases_turn, finds_hold, formed_stay, frames, known_stay, new_drives_stand, nothing_holds,
+    others_go, slices_clear, stores_turn,
 };
