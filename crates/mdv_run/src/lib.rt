@@ -3,7 +3,5 @@
 #![tactic(auto)]
 
 mod session;
-#[cfg(test)]
-mod session_tests;
 
 pub use session::run;

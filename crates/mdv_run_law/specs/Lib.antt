@@ -5,3 +5,4 @@ pub mod Run
 pub mod Standing
 pub mod Told
 pub mod Lives
+pub mod Status

@@ -3,6 +3,10 @@
 #![tactic(auto)]
 
 #[cfg(test)]
+mod answers_tests;
+#[cfg(test)]
+mod bench;
+#[cfg(test)]
 mod blocks;
 #[cfg(test)]
 mod course;
@@ -20,10 +24,14 @@ mod reading;
 #[cfg(test)]
 mod reading_tests;
 #[cfg(test)]
+mod scenes_tests;
+#[cfg(test)]
 mod script;
 mod shown;
 #[cfg(test)]
 mod spots;
+#[cfg(test)]
+mod status_tests;
 #[cfg(test)]
 mod story;
 #[cfg(test)]
@@ -34,6 +42,8 @@ mod torn_tests;
 mod trouble;
 #[cfg(test)]
 mod trouble_tests;
+#[cfg(test)]
+mod uses_tests;
 #[cfg(test)]
 mod volume_tests;
 #[cfg(test)]

@@ -1,0 +1,396 @@
+// What the lines of a script are answered.
+
+use crate::bench::{BLOCKS, CREATION, LONE, TABLE, ends_so};
+use mdv_run_law::RunStatus;
+use mdv_shelf::MemShelf;
+use std::alloc::{AllocError, Global};
+use std::test::Fail;
+
+// A drive of 40000 blocks: the slice for replicas, which has more than a replica takes, and four for volumes, of
+// which 0 and 4 overlap.
+const WIDE: &str = "host alpha
+drive c0t0d0 40000 alpha d0.img
+slice c0t0d0s0 0 1000
+slice c0t0d0s1 1000 990
+slice c0t0d0s3 2000 4000
+slice c0t0d0s4 999 1
+slice c0t0d0s7 12000 28000 db
+";
+
+const WIDE_BLOCKS: u64 = 40000;
+
+// A slice for replicas that is a block too short for the default, and the least one that there is.
+const SMALL: &str =
+    "host alpha\ndrive c0t0d0 9000 alpha disk.img\nslice c0t0d0s0 0 16\nslice c0t0d0s7 16 8207 db\n";
+
+const LEAST: &str =
+    "host alpha\ndrive c0t0d0 48 alpha disk.img\nslice c0t0d0s0 0 16\nslice c0t0d0s7 16 32 db\n";
+
+const DOWN: &str = "refused E13 WrongState Down";
+
+// A line and its reply, both without the last newline.
+type Row = (&'static str, &'static str);
+
+// These lines, each with its newline.
+fn script_of(alloc: Global, rows: &[Row]) -> Result<String, AllocError> {
+    let mut script = String::new(alloc);
+    for (line, _) in rows {
+        script.push_str(line)?;
+        script.push('\n')?;
+    }
+    Ok(script)
+}
+
+fn replies_of(alloc: Global, rows: &[Row]) -> Result<String, AllocError> {
+    let mut told = String::new(alloc);
+    for (_, reply) in rows {
+        told.push_str(reply)?;
+        told.push('\n')?;
+    }
+    Ok(told)
+}
+
+fn status_of(rows: &[Row]) -> RunStatus {
+    for (_, reply) in rows {
+        if reply.as_bytes().starts_with(b"refused") {
+            return RunStatus::SomeRefused;
+        }
+    }
+    RunStatus::Done
+}
+
+// A script of these lines on a blank drive of so many blocks, where the calls of these numbers fail.
+struct Lines {
+    table: &'static str,
+    blocks: u64,
+    failing: &'static [u64],
+    rows: &'static [Row],
+}
+
+fn drive_of(alloc: Global, lines: &Lines) -> Result<MemShelf, AllocError> {
+    let mut shelf = MemShelf::new(alloc, &[lines.blocks])?;
+    for number in lines.failing {
+        shelf.fail_call(*number)?;
+    }
+    Ok(shelf)
+}
+
+fn are_answered(alloc: Global, lines: &Lines) -> Result<bool, AllocError> {
+    let mut shelf = drive_of(alloc, lines)?;
+    let script = script_of(alloc, lines.rows)?;
+    let told = replies_of(alloc, lines.rows)?;
+    let end = (status_of(lines.rows), told.as_str());
+    ends_so(alloc, lines.table, &mut shelf, script.as_str(), end)
+}
+
+// Each refusal of a creation in its place: E6, E12, E13, then E7 where a database is open, else E3 and E10.
+const CREATIONS: &[Row] = &[
+    ("metadb -a c0t1d0s7", "refused E6 NoSuchSlice"),
+    ("metadb -a c0t0d0s0", "refused E12 WrongKind"),
+    ("metadb -a c0t0d0s7", "refused E3 NeedForce"),
+    ("metadb -a -f c0t0d0s7", "ok"),
+    ("metadb -a -f c0t1d0s7", "refused E6 NoSuchSlice"),
+    ("metadb -a -f c0t0d0s0", "refused E12 WrongKind"),
+    ("metadb -a c0t0d0s7", "refused E7 SliceInUse"),
+    ("metadb -a -f c0t0d0s7", "refused E7 SliceInUse"),
+    ("boot", "ok"),
+    ("metadb -a -f c0t0d0s7", "refused E7 SliceInUse"),
+];
+
+const SMALL_CREATIONS: &[Row] = &[
+    ("metadb -a c0t1d0s7", "refused E6 NoSuchSlice"),
+    ("metadb -a c0t0d0s0", "refused E12 WrongKind"),
+    ("metadb -a c0t0d0s7", DOWN),
+    ("boot", "ok"),
+    ("metadb -a c0t0d0s7", "refused E3 NeedForce"),
+    ("metadb -a -f c0t0d0s7", "refused E10 TooSmall"),
+];
+
+// A replica of as many blocks as `-l` says, where the slice has them behind its first 16.
+const LENGTHS: &[Row] = &[
+    ("metadb -a -f -l 15 c0t0d0s7", "refused E1 BadLine"),
+    ("metadb -a -f -l 8193 c0t0d0s7", "refused E1 BadLine"),
+    ("metadb -a -l 8192 c0t0d0s7", "refused E3 NeedForce"),
+    ("metadb -a -f -l 8192 c0t0d0s7", "refused E10 TooSmall"),
+    ("metadb -a -f -l 8191 c0t0d0s7", "ok"),
+    ("metadb -a -f -l 16 c0t0d0s7", "refused E7 SliceInUse"),
+    ("boot", "ok"),
+    ("metainit d0 1 1 c0t0d0s0", "ok"),
+    ("metastat -p", "d0 1 1 c0t0d0s0\nok"),
+];
+
+const LEAST_LENGTHS: &[Row] = &[
+    ("metadb -a -f -l 17 c0t0d0s7", "refused E10 TooSmall"),
+    ("metadb -a -f -l 16 c0t0d0s7", "ok"),
+    ("metainit d8191 1 1 c0t0d0s0", "ok"),
+    ("boot", "ok"),
+    ("metastat -p d8191", "d8191 1 1 c0t0d0s0\nok"),
+];
+
+// A table is printed as md.tab text, whole or by names in their order, behind a boot too. Each refusal in its place: E2, E4, E26.
+const PRINTS: &[Row] = &[
+    ("metastat -p", "refused E2 NoDatabase"),
+    ("metastat -p d0", "refused E2 NoDatabase"),
+    ("metadb -a -f c0t0d0s7", "ok"),
+    ("metastat -p", "ok"),
+    ("metastat -p d0 hsp001", "refused E4 NoSuchVolume"),
+    ("metainit d10 1 1 c0t0d0s1", "ok"),
+    ("metainit d2 1 1 c0t0d0s0", "ok"),
+    ("metastat -p", "d2 1 1 c0t0d0s0\nd10 1 1 c0t0d0s1\nok"),
+    (
+        "metastat -p d10 d2",
+        "d10 1 1 c0t0d0s1\nd2 1 1 c0t0d0s0\nok",
+    ),
+    ("metastat -p d2 hsp001", "refused E26 NoSuchPool"),
+    ("metastat -p hsp001 d3", "refused E4 NoSuchVolume"),
+    ("metastat", "refused E1 BadLine"),
+    ("metastat -s blue -p", "refused E1 BadLine"),
+    ("boot", "ok"),
+    ("metastat -p d2", "d2 1 1 c0t0d0s0\nok"),
+];
+
+// Each refusal of a volume in its place: E2, E6, E5, E12, E7. A volume is there behind a boot too.
+const CHANGES: &[Row] = &[
+    ("metainit d0 1 1 c0t1d0s0", "refused E2 NoDatabase"),
+    ("metadb -a -f c0t0d0s7", "ok"),
+    ("metainit d0 1 1 c0t1d0s0", "refused E6 NoSuchSlice"),
+    ("metainit d0 1 1 c0t0d0s0", "ok"),
+    ("metainit d0 1 1 c0t1d0s0", "refused E6 NoSuchSlice"),
+    ("metainit d0 1 1 c0t0d0s7", "refused E5 NameTaken"),
+    ("metainit d0 1 1 c0t0d0s0", "refused E5 NameTaken"),
+    ("metainit d1 1 1 c0t0d0s7", "refused E12 WrongKind"),
+    ("metainit d1 1 1 c0t0d0s0", "refused E7 SliceInUse"),
+    ("metainit d1 1 1 c0t0d0s4", "refused E7 SliceInUse"),
+    ("metainit d1 1 1 c0t0d0s1", "ok"),
+    ("boot", "ok"),
+    ("metainit d1 1 1 c0t0d0s3", "refused E5 NameTaken"),
+    ("metainit d8191 1 1 c0t0d0s3", "ok"),
+];
+
+// Each refusal of a read and a write in its place: E2, E4, E9, E22. What was written is read, behind a boot too, and no block of another volume.
+const TRANSFERS: &[Row] = &[
+    ("read d0 1000 1025", "refused E2 NoDatabase"),
+    ("write d0 1000 ab", "refused E2 NoDatabase"),
+    ("metadb -a -f c0t0d0s7", "ok"),
+    ("read d0 1000 1", "refused E4 NoSuchVolume"),
+    ("read d0 1000 1025", "refused E4 NoSuchVolume"),
+    ("write d0 1000 ab", "refused E4 NoSuchVolume"),
+    ("metainit d0 1 1 c0t0d0s0", "ok"),
+    ("metainit d1 1 1 c0t0d0s1", "ok"),
+    ("read d0 0 1", "0 -\nok"),
+    ("read d0 999 1", "999 -\nok"),
+    ("read d0 999 2", "refused E22 OutOfRange"),
+    (
+        "read d0 18446744073709551615 1024",
+        "refused E22 OutOfRange",
+    ),
+    ("read d0 18446744073709551615 1025", "refused E9 TooMany"),
+    ("read d0 0 1025", "refused E9 TooMany"),
+    ("read d0 0 18446744073709551615", "refused E9 TooMany"),
+    ("write d0 1000 ab", "refused E22 OutOfRange"),
+    (" write\td0  5 \t ab ", "ok"),
+    ("read d0 5 1", "5 ab\nok"),
+    ("write d0 7 00F000", "ok"),
+    ("read d0 4 4", "4 -\n5 ab\n6 -\n7 00f0\nok"),
+    ("write d1 5 cd", "ok"),
+    ("write d0 5 00", "ok"),
+    ("boot", "ok"),
+    ("read d0 5 1", "5 -\nok"),
+    ("read d1 5 1", "5 cd\nok"),
+    ("read d0 7 1", "7 00f0\nok"),
+    ("read d1 989 2", "refused E22 OutOfRange"),
+];
+
+// Lines that the grammar lacks, or that aren't built.
+const BAD: &[Row] = &[
+    ("# a comment with \u{e9}", "refused E1 BadLine"),
+    ("metadb", "refused E1 BadLine"),
+    ("boot now", "refused E1 BadLine"),
+    ("metadb -a c0t0d0s8", "refused E1 BadLine"),
+    ("metaclear d0", "refused E1 BadLine"),
+    ("metainit d8192 1 1 c0t0d0s0", "refused E1 BadLine"),
+    ("metainit d0 1 2 c0t0d0s0", "refused E1 BadLine"),
+    ("read d0 0 0", "refused E1 BadLine"),
+    ("read d0 0", "refused E1 BadLine"),
+    ("write d0 0", "refused E1 BadLine"),
+    ("write d0 0 a", "refused E1 BadLine"),
+    ("write d0 0 xy", "refused E1 BadLine"),
+];
+
+const ANSWERS: &[Lines] = &[
+    Lines {
+        table: WIDE,
+        blocks: WIDE_BLOCKS,
+        failing: &[],
+        rows: CREATIONS,
+    },
+    Lines {
+        table: SMALL,
+        blocks: 9000,
+        failing: &[0],
+        rows: SMALL_CREATIONS,
+    },
+    Lines {
+        table: SMALL,
+        blocks: 9000,
+        failing: &[],
+        rows: LENGTHS,
+    },
+    Lines {
+        table: LEAST,
+        blocks: 48,
+        failing: &[],
+        rows: LEAST_LENGTHS,
+    },
+    Lines {
+        table: WIDE,
+        blocks: WIDE_BLOCKS,
+        failing: &[],
+        rows: PRINTS,
+    },
+    Lines {
+        table: WIDE,
+        blocks: WIDE_BLOCKS,
+        failing: &[],
+        rows: CHANGES,
+    },
+    Lines {
+        table: WIDE,
+        blocks: WIDE_BLOCKS,
+        failing: &[],
+        rows: TRANSFERS,
+    },
+    Lines {
+        table: TABLE,
+        blocks: BLOCKS,
+        failing: &[],
+        rows: BAD,
+    },
+];
+
+#[test]
+fn answers_each_line(rt: HostRuntime) -> Result<(), Fail> {
+    for lines in ANSWERS {
+        assert!(rt; are_answered(rt.alloc(), lines)?, "{:?}", lines.rows);
+    }
+    Ok(())
+}
+
+fn add_drives(alloc: Global, table: &mut String) -> Result<(), AllocError> {
+    for drive in 0..9 {
+        let line = format!(in alloc; "drive c0t{drive}d0 200 alpha d{drive}.img\n")?;
+        table.push_str(line.as_str())?;
+    }
+    Ok(())
+}
+
+fn add_slices(alloc: Global, table: &mut String) -> Result<(), AllocError> {
+    for number in 0..60 {
+        let (drive, slice) = (number / 7, number % 7);
+        let start = 40 + slice * 16;
+        let line = format!(in alloc; "slice c0t{drive}d0s{slice} {start} 16\n")?;
+        table.push_str(line.as_str())?;
+    }
+    Ok(())
+}
+
+// Sixty slices for volumes on nine drives, and one more.
+fn long_table(alloc: Global) -> Result<String, AllocError> {
+    let mut table = String::from_str(alloc, "host alpha\n")?;
+    add_drives(alloc, &mut table)?;
+    table.push_str("slice c0t0d0s7 0 32 db\n")?;
+    add_slices(alloc, &mut table)?;
+    table.push_str("slice c0t8d0s6 152 16\n")?;
+    Ok(table)
+}
+
+fn long_script(alloc: Global) -> Result<String, AllocError> {
+    let mut script = String::from_str(alloc, "metadb -a -f -l 16 c0t0d0s7\n")?;
+    for number in 0..60 {
+        let (drive, slice) = (number / 7, number % 7);
+        let line = format!(in alloc; "metainit d{number} 1 1 c0t{drive}d0s{slice}\n")?;
+        script.push_str(line.as_str())?;
+    }
+    script.push_str("metainit d60 1 1 c0t8d0s6\nmetastat -p d60\nboot\nmetastat -p d59\n")?;
+    Ok(script)
+}
+
+fn long_replies(alloc: Global) -> Result<String, AllocError> {
+    let mut told = String::new(alloc);
+    for _ in 0..61 {
+        told.push_str("ok\n")?;
+    }
+    told.push_str(
+        "refused E17 ReplicaFull 3086 3072\nrefused E4 NoSuchVolume\nok\nd59 1 1 c0t8d0s3\nok\n",
+    )?;
+    Ok(told)
+}
+
+fn is_too_long(alloc: Global) -> Result<bool, AllocError> {
+    let (table, script) = (long_table(alloc)?, long_script(alloc)?);
+    let told = long_replies(alloc)?;
+    let mut shelf = MemShelf::new(alloc, &[200; 9])?;
+    let end = (RunStatus::SomeRefused, told.as_str());
+    ends_so(alloc, table.as_str(), &mut shelf, script.as_str(), end)
+}
+
+// A replica of 16 blocks has slots of 6, so 3,072 bytes of a table: 60 volumes, and not one more. A table that is too long changes nothing.
+#[test]
+fn answers_tables_that_are_too_long(rt: HostRuntime) -> Result<(), Fail> {
+    assert!(rt; is_too_long(rt.alloc())?);
+    Ok(())
+}
+
+// What is told of 1024 blocks from block 477 on, of which the last isn't zero.
+fn many_replies(alloc: Global) -> Result<String, AllocError> {
+    let mut told = String::from_str(alloc, "ok\nok\nok\n")?;
+    for block in 477..1500 {
+        told.push_str(format!(in alloc; "{block} -\n")?.as_str())?;
+    }
+    told.push_str("1500 ab\nok\n")?;
+    Ok(told)
+}
+
+const MANY: &str = "metadb -a -f c0t0d0s7
+metainit d0 1 1 c0t0d0s3
+write d0 1500 ab
+read d0 477 1024
+";
+
+fn are_read(alloc: Global) -> Result<bool, AllocError> {
+    let told = many_replies(alloc)?;
+    let mut shelf = MemShelf::new(alloc, &[WIDE_BLOCKS])?;
+    let end = (RunStatus::Done, told.as_str());
+    ends_so(alloc, WIDE, &mut shelf, MANY, end)
+}
+
+#[test]
+fn reads_up_to_1024_blocks(rt: HostRuntime) -> Result<(), Fail> {
+    assert!(rt; are_read(rt.alloc())?);
+    Ok(())
+}
+
+// A creation, a line of 4096 letters, one of 4097, and a boot.
+fn long_lines(alloc: Global) -> Result<String, AllocError> {
+    let mut script = String::from_str(alloc, CREATION)?;
+    for letters in [4096, 4097] {
+        script.push_str("x".repeat(alloc, letters)?.as_str())?;
+        script.push('\n')?;
+    }
+    script.push_str("boot")?;
+    Ok(script)
+}
+
+fn are_refused(alloc: Global) -> Result<bool, AllocError> {
+    let script = long_lines(alloc)?;
+    let mut shelf = MemShelf::new(alloc, LONE)?;
+    let told = "ok\nrefused E1 BadLine\nrefused E29 LineTooLong\nok\n";
+    let end = (RunStatus::SomeRefused, told);
+    ends_so(alloc, TABLE, &mut shelf, script.as_str(), end)
+}
+
+#[test]
+fn refuses_lines_that_are_too_long(rt: HostRuntime) -> Result<(), Fail> {
+    assert!(rt; are_refused(rt.alloc())?);
+    Ok(())
+}
