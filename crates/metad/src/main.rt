@@ -2,27 +2,11 @@
 //! tells a reply to each line.
 #![tactic(auto)]
 
-mod bench;
-mod disk;
-mod held;
 mod help;
-mod image;
-mod journal;
-mod lines;
-mod misfit;
-mod opening;
-mod reason;
-mod source;
-mod status;
-#[cfg(test)]
-mod tests;
 
-use bench::FileBench;
-use journal::{BOOT_ID, JOURNAL, SystemStart};
+use mdv_files::{BOOT_ID, FileBench, FileSource, JOURNAL, SystemStart, open_table};
 use mdv_run::run;
 use mdv_run_law::RunStatus;
-use opening::open_table;
-use source::FileSource;
 use std::fs::File;
 use std::io::{self, ErrorKind};
 use std::process::ExitCode;
@@ -39,7 +23,7 @@ fn main(rt: HostRuntime) -> ExitCode {
         Err(_) => Ending::of(&rt, RunStatus::ReadFault),
     };
     ending.tell(&rt);
-    ExitCode::from(status::number(&ending.status))
+    ExitCode::from(ending.status.number())
 }
 
 // How a run ended, and what standard error has behind a failure: what doesn't fit in a faulty use, and the
@@ -61,8 +45,8 @@ impl Ending {
     }
 
     fn tell(&self, rt: &HostRuntime) {
-        if status::is_failure(&self.status) {
-            let _told = rt.eprintln(status::Report(self.status));
+        if self.status.is_failure() {
+            let _told = rt.eprintln(self.status);
         }
         if let (RunStatus::Usage, Some(misfit)) = (self.status, &self.misfit) {
             let _told = rt.eprintln(misfit.as_str());
