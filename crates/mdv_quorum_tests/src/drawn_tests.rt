@@ -3,7 +3,6 @@ use crate::act::{Act, Lists, PLACES, Spots, bit, has, spot_at};
 use crate::world::World;
 use mdv_quorum::{Core, Event, SlotEnd};
 use std::alloc::{AllocError, Global};
-use std::process::Abort;
 use std::test::Fail;
 
 // Each of them with three chances of four.
@@ -100,69 +99,140 @@ fn agree(alloc: Global, core: &Core, world: &World) -> bool {
         && first_apart(alloc, core, world).is_none()
 }
 
-// The core beside the plain world, and how many events happened to both.
+// The core beside the plain world, how many events happened to both, and whether they agreed behind each of them.
 #[derive(Drop)]
 struct Pair {
     core: Core,
     world: World,
     events: u32,
+    agrees: bool,
 }
 
-// Each event of the act that may happen, at the core and in the plain world.
-fn play_both<R: Abort>(rt: &R, alloc: Global, pair: &mut Pair, act: Act) -> Result<(), AllocError> {
+fn new_pair(alloc: Global, set: bool) -> Result<Pair, AllocError> {
+    Ok(Pair {
+        core: Core::new(alloc, set),
+        world: World::new(alloc, set)?,
+        events: 0,
+        agrees: true,
+    })
+}
+
+// An event that may happen, at the core and in the plain world.
+fn step_both(
+    alloc: Global,
+    pair: &mut Pair,
+    (act, index): (Act, u32),
+    event: Event,
+) -> Result<(), AllocError> {
+    if !pair.core.may(alloc, &event) || !pair.core.has_room(&event) {
+        return Ok(());
+    }
+    pair.core.step(alloc, event)?;
+    pair.world.step(alloc, act, index)?;
+    pair.events = pair.events.saturating_add(1);
+    pair.agrees = pair.agrees && agree(alloc, &pair.core, &pair.world);
+    Ok(())
+}
+
+fn play_at(alloc: Global, pair: &mut Pair, act: Act, index: u32) -> Result<(), AllocError> {
+    let event = act.event(alloc, index)?;
+    step_both(alloc, pair, (act, index), event)
+}
+
+// Each event of the act that may happen.
+fn play_both(alloc: Global, pair: &mut Pair, act: Act) -> Result<(), AllocError> {
     for index in 0..32 {
         if has(act.spots(), index) {
-            let event = act.event(alloc, index)?;
-            if pair.core.may(alloc, &event) && pair.core.has_room(&event) {
-                pair.core.step(alloc, event)?;
-                pair.world.step(alloc, act, index)?;
-                pair.events = pair.events.saturating_add(1);
-                let same = agree(alloc, &pair.core, &pair.world);
-                assert!(rt; same, "{act:?} at {index}");
-            }
+            play_at(alloc, pair, act, index)?;
         }
     }
     Ok(())
 }
 
-// A world of these places and seats; new places are mostly formatted before they are written.
-fn play_drawn<R: Abort>(rt: &R, alloc: Global, seed: u64, all: Spots) -> Result<Pair, AllocError> {
-    let mut draws = Draws::new(seed);
-    let set = all > PLACES || draws.below(2) == 1;
-    let mut pair = Pair {
-        core: Core::new(alloc, set),
-        world: World::new(alloc, set)?,
-        events: 0,
-    };
-    for _ in 0..400 {
-        let act = drawn_act(&mut draws, all, pair.world.lists());
-        play_both(rt, alloc, &mut pair, act)?;
-        if let Act::List(_) = act {
-            let places = drawn_set(&mut draws, all & PLACES);
-            play_both(rt, alloc, &mut pair, Act::Format(places))?;
-        }
+// An act that is drawn; new places are mostly formatted before they are written.
+fn play_next(
+    alloc: Global,
+    draws: &mut Draws,
+    all: Spots,
+    pair: &mut Pair,
+) -> Result<(), AllocError> {
+    let act = drawn_act(draws, all, pair.world.lists());
+    play_both(alloc, pair, act)?;
+    if let Act::List(_) = act {
+        let places = drawn_set(draws, all & PLACES);
+        play_both(alloc, pair, Act::Format(places))?;
     }
-    Ok(pair)
+    Ok(())
 }
+
+// What was seen of worlds: so many events and boots, behind each of which both agreed or not.
+#[derive(Clone, Copy, Debug)]
+struct Seen {
+    events: u32,
+    boots: u32,
+    agrees: bool,
+}
+
+fn outcome(pair: &Pair) -> Seen {
+    Seen {
+        events: pair.events,
+        boots: pair.world.boots(),
+        agrees: pair.agrees,
+    }
+}
+
+fn play_turns(
+    alloc: Global,
+    draws: &mut Draws,
+    all: Spots,
+    pair: &mut Pair,
+) -> Result<Seen, AllocError> {
+    for _ in 0..400 {
+        play_next(alloc, draws, all, pair)?;
+    }
+    Ok(outcome(pair))
+}
+
+// A world of these places and seats.
+fn play_drawn(alloc: Global, draws: &mut Draws, all: Spots) -> Result<Seen, AllocError> {
+    let set = all > PLACES || draws.below(2) == 1;
+    let mut pair = new_pair(alloc, set)?;
+    play_turns(alloc, draws, all, &mut pair)
+}
+
+fn play_seed(alloc: Global, seed: u64, all: Spots) -> Result<Seen, AllocError> {
+    let mut draws = Draws::new(seed);
+    play_drawn(alloc, &mut draws, all)
+}
+
+fn play_worlds(alloc: Global, all: Spots) -> Result<Seen, AllocError> {
+    let mut seen = Seen {
+        events: 0,
+        boots: 0,
+        agrees: true,
+    };
+    for seed in 1..5 {
+        let world = play_seed(alloc, seed, all)?;
+        seen = Seen {
+            events: seen.events.saturating_add(world.events),
+            boots: seen.boots.saturating_add(world.boots),
+            agrees: seen.agrees && world.agrees,
+        };
+    }
+    Ok(seen)
+}
+
+// One to five places, and mediators beside them.
+const DRAWN: &[Spots] = &[
+    0x1, 0x11, 0x111, 0x1111, 0x1113, 0x11_0011, 0x111_0011, 0x111_1113,
+];
 
 #[test]
 fn boots_agree_with_a_plain_world(rt: HostRuntime) -> Result<(), Fail> {
-    // One to five places, and mediators beside them.
-    let cases: [Spots; 8] = [
-        0x1, 0x11, 0x111, 0x1111, 0x1113, 0x11_0011, 0x111_0011, 0x111_1113,
-    ];
-    for all in cases {
-        let mut events: u32 = 0;
-        let mut boots: u32 = 0;
-        for seed in 1..5 {
-            let pair = play_drawn(&rt, rt.alloc(), seed, all)?;
-            events = events.saturating_add(pair.events);
-            boots = boots.saturating_add(pair.world.boots());
-        }
-        assert!(rt;
-            events > 300 && boots > 4,
-            "{all:x}: {events} events, {boots} boots"
-        );
+    for all in DRAWN {
+        let seen = play_worlds(rt.alloc(), *all)?;
+        let is_well = seen.agrees && seen.events > 300 && seen.boots > 4;
+        assert!(rt; is_well, "{all:x}: {seen:?}");
     }
     Ok(())
 }

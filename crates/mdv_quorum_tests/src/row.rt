@@ -14,9 +14,8 @@
 
 use crate::act::{Act, Lists, PLACES, Spots, has};
 use mdv_base::Mark;
-use mdv_quorum::Core;
+use mdv_quorum::{Core, Event};
 use std::alloc::{AllocError, Global};
-use std::process::Abort;
 
 fn act_at(verb: &str, set: Spots) -> Option<Act> {
     let act = match verb {
@@ -72,88 +71,128 @@ fn act_of(line: &str) -> Option<Act> {
 
 fn mark_of(line: &str) -> Option<Mark> {
     let mut words = line.split_whitespace();
-    let boot = number_of(words.next())?;
-    let count = number_of(words.next())?;
-    Some(Mark {
-        boot: u64::from(boot),
-        count: u64::from(count),
-    })
+    let (boot, count) = (number_of(words.next()), number_of(words.next()));
+    match (boot, count) {
+        (Some(boot), Some(count)) => Some(Mark {
+            boot: u64::from(boot),
+            count: u64::from(count),
+        }),
+        _ => None,
+    }
 }
 
-// Each event of the act may happen where it happens, and does.
-fn play_act<R: Abort>(rt: &R, alloc: Global, core: &mut Core, act: Act) -> Result<(), AllocError> {
+// Whether the event may happen; then it does.
+fn happens(alloc: Global, core: &mut Core, event: Event) -> Result<bool, AllocError> {
+    if !core.may(alloc, &event) || !core.has_room(&event) {
+        return Ok(false);
+    }
+    core.step(alloc, event)?;
+    Ok(true)
+}
+
+fn happens_at(alloc: Global, core: &mut Core, act: Act, index: u32) -> Result<bool, AllocError> {
+    let event = act.event(alloc, index)?;
+    happens(alloc, core, event)
+}
+
+// Whether each event of the act may happen where it happens, and did.
+fn is_played(alloc: Global, core: &mut Core, act: Act) -> Result<bool, AllocError> {
     for index in 0..32 {
-        if has(act.spots(), index) {
-            let event = act.event(alloc, index)?;
-            let happens = core.may(alloc, &event) && core.has_room(&event);
-            assert!(rt; happens, "{act:?} at {index}");
-            core.step(alloc, event)?;
+        if has(act.spots(), index) && !happens_at(alloc, core, act, index)? {
+            return Ok(false);
         }
     }
-    Ok(())
+    Ok(true)
 }
 
-// No event of the act may happen.
-fn refuse<R: Abort>(rt: &R, alloc: Global, core: &Core, act: Act) -> Result<(), AllocError> {
+fn is_refused_at(alloc: Global, core: &Core, act: Act, index: u32) -> Result<bool, AllocError> {
+    let event = act.event(alloc, index)?;
+    Ok(!core.may(alloc, &event))
+}
+
+// Whether no event of the act may happen.
+fn is_refused(alloc: Global, core: &Core, act: Act) -> Result<bool, AllocError> {
     for index in 0..32 {
-        if has(act.spots(), index) {
-            let event = act.event(alloc, index)?;
-            assert!(rt; !core.may(alloc, &event), "{act:?} at {index}");
+        if has(act.spots(), index) && !is_refused_at(alloc, core, act, index)? {
+            return Ok(false);
         }
     }
-    Ok(())
+    Ok(true)
 }
 
-fn play_boot<R: Abort>(
-    rt: &R,
-    alloc: Global,
-    core: &mut Core,
-    on: Spots,
-) -> Result<(), AllocError> {
-    play_act(rt, alloc, core, Act::Crash)?;
-    play_act(rt, alloc, core, Act::Read(on))?;
-    play_act(rt, alloc, core, Act::Claim(on))?;
-    play_act(rt, alloc, core, Act::Write(on))?;
-    play_act(rt, alloc, core, Act::Tell)?;
-    Ok(())
+fn boots(alloc: Global, core: &mut Core, on: Spots) -> Result<bool, AllocError> {
+    let acts = [
+        Act::Crash,
+        Act::Read(on),
+        Act::Claim(on),
+        Act::Write(on),
+        Act::Tell,
+    ];
+    for act in acts {
+        if !is_played(alloc, core, act)? {
+            return Ok(false);
+        }
+    }
+    Ok(true)
 }
 
-fn play_line<R: Abort>(
-    rt: &R,
-    alloc: Global,
-    core: &mut Core,
-    line: &str,
-) -> Result<(), AllocError> {
+// What a line says; none of a line that isn't of the form.
+enum Said {
+    Adopts(Mark),
+    Boots(Spots),
+    Refuses(Act),
+    Plays(Act),
+}
+
+fn meaning(line: &str) -> Option<Said> {
     if let Some(adopted) = line.strip_prefix("adopts ") {
-        let mark = mark_of(adopted).expect(rt, "a mark");
-        assert_eq!(rt; core.adopted(), Some(mark), "{line:?}");
-    } else if let Some(set) = line.strip_prefix("boot ") {
-        play_boot(rt, alloc, core, number_of(Some(set)).expect(rt, "a set"))?;
-    } else if let Some(refused) = line.strip_prefix("no ") {
-        refuse(rt, alloc, core, act_of(refused).expect(rt, "an event"))?;
-    } else {
-        play_act(rt, alloc, core, act_of(line).expect(rt, "an event"))?;
+        return Some(Said::Adopts(mark_of(adopted)?));
     }
-    Ok(())
+    if let Some(set) = line.strip_prefix("boot ") {
+        return Some(Said::Boots(number_of(Some(set))?));
+    }
+    match line.strip_prefix("no ") {
+        Some(refused) => Some(Said::Refuses(act_of(refused)?)),
+        None => Some(Said::Plays(act_of(line)?)),
+    }
 }
 
-fn play_row<R: Abort>(rt: &R, alloc: Global, core: &mut Core, row: &str) -> Result<(), AllocError> {
+fn is_so(alloc: Global, core: &mut Core, line: &str) -> Result<bool, AllocError> {
+    match meaning(line) {
+        Some(Said::Adopts(mark)) => Ok(core.adopted() == Some(mark)),
+        Some(Said::Boots(on)) => boots(alloc, core, on),
+        Some(Said::Refuses(act)) => is_refused(alloc, core, act),
+        Some(Said::Plays(act)) => is_played(alloc, core, act),
+        None => Ok(false),
+    }
+}
+
+// The first line of the row that isn't so.
+fn wrong_line<'a>(
+    alloc: Global,
+    core: &mut Core,
+    row: &'a str,
+) -> Result<Option<&'a str>, AllocError> {
     for line in row.lines() {
-        play_line(rt, alloc, core, line.trim())?;
+        if !is_so(alloc, core, line.trim())? {
+            return Ok(Some(line));
+        }
     }
-    Ok(())
+    Ok(None)
 }
 
-// The rows one after the other, from nothing.
-pub(crate) fn play<R: Abort>(
-    rt: &R,
+/// The first line that isn't so of the rows, one after the other, from nothing.
+pub(crate) fn first_wrong<'a>(
     alloc: Global,
     set: bool,
-    rows: &[&str],
-) -> Result<(), AllocError> {
+    rows: &[&'a str],
+) -> Result<Option<&'a str>, AllocError> {
     let mut core = Core::new(alloc, set);
     for row in rows {
-        play_row(rt, alloc, &mut core, row)?;
+        let wrong = wrong_line(alloc, &mut core, row)?;
+        if wrong.is_some() {
+            return Ok(wrong);
+        }
     }
-    Ok(())
+    Ok(None)
 }

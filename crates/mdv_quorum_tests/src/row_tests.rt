@@ -1,4 +1,4 @@
-use crate::row::play;
+use crate::row::first_wrong;
 use std::test::Fail;
 
 // A place on each of three drives, and a creation there that was told.
@@ -325,7 +325,8 @@ const CASES: &[(bool, &[&str])] = &[
 #[test]
 fn boots_adopt_as_worked(rt: HostRuntime) -> Result<(), Fail> {
     for (set, rows) in CASES {
-        play(&rt, rt.alloc(), *set, rows)?;
+        let wrong = first_wrong(rt.alloc(), *set, rows)?;
+        assert!(rt; wrong.is_none(), "{wrong:?}");
     }
     Ok(())
 }
