@@ -1,0 +1,15 @@
+pub mod Counting
+pub mod Bodies
+pub mod Tables
+pub mod Newests
+pub mod Listing
+pub mod Chains
+pub mod Walking
+pub mod Among
+pub mod Lines
+pub mod Seating
+pub mod Efforts
+pub mod Identities
+pub mod Places
+pub mod Visiting
+pub mod Slicing

@@ -1,0 +1,29 @@
+-- What was read at a place, of the same place by another name.
+use Rattle.std.proofs.Common.{◌≡◌, ℕ, List, Option, subst}
+use Rattle.std.specs.Prelude.{slice_index_or}
+use Rattle.mdv_shelf.specs.Calls.{OnDrive}
+use Rattle.mdv_shelf.specs.Shelves.{DriveFailures, KeptOn}
+use Rattle.mdv_survey.specs.Below.{Geometry, Ghosts, Head, PlaceAt, Tale, last}
+use Rattle.mdv_survey.specs.Slice.{IsHeadThere}
+use Rattle.mdv_survey.specs.Slots.{AreSlots, HasReadCause}
+use Rattle.mdv_survey.specs.declared.body.ReadFault.{ReadFault}
+use Rattle.mdv_survey.specs.declared.slots.Slots.{Slots}
+
+module _ (at place : PlaceAt) (same : at ≡ place) where
+  module _ {S : Type 0} (shelf : Ghosts S) (a b : S) where
+    pub calm_here : shelf.faults b (OnDrive at.drive.0) ≡ shelf.faults a (OnDrive at.drive.0) → shelf.faults b (OnDrive place.drive.0) ≡ shelf.faults a (OnDrive place.drive.0)
+    calm_here calm = subst (λ (p : PlaceAt). shelf.faults b (OnDrive p.drive.0) ≡ shelf.faults a (OnDrive p.drive.0)) same calm
+
+    pub cause_here : (fault : ReadFault) → HasReadCause (DriveFailures shelf a b at.drive.0) fault → HasReadCause (DriveFailures shelf a b place.drive.0) fault
+    cause_here fault cause = subst (λ (p : PlaceAt). HasReadCause (DriveFailures shelf a b p.drive.0) fault) same cause
+
+    pub kept_here : KeptOn shelf a b (OnDrive at.drive.0) → KeptOn shelf a b (OnDrive place.drive.0)
+    kept_here kept = subst (λ (p : PlaceAt). KeptOn shelf a b (OnDrive p.drive.0)) same kept
+
+  pub slots_here : (g : Geometry) (head : Head) (t : Tale) (found other : Option Slots) → found ≡ other → AreSlots g at head (last t at.drive.0) found → AreSlots g place head (last t place.drive.0) other
+  slots_here g head t found other is slots = subst (λ (p : PlaceAt). AreSlots g p head (last t p.drive.0) other) same (subst (AreSlots g at head (last t at.drive.0)) is slots)
+
+  pub head_here : (sizes : List ℕ) (t : Tale) (found other : Option Head) → found ≡ other → IsHeadThere at (slice_index_or sizes at.drive.0 0) (last t at.drive.0) found
+      → IsHeadThere place (slice_index_or sizes place.drive.0 0) (last t place.drive.0) other
+  head_here sizes t found other is there =
+      subst (λ (p : PlaceAt). IsHeadThere p (slice_index_or sizes p.drive.0 0) (last t p.drive.0) other) same (subst (IsHeadThere at (slice_index_or sizes at.drive.0 0) (last t at.drive.0)) is there)

@@ -1,0 +1,103 @@
+use Rattle.std.proofs.Common.{Some, None, refl, sym, subst, arith}
+use Rattle.mdv_shelf.specs.Tale.{last}
+use Rattle.mdv_survey.specs.Below.{IsPlaced}
+use Rattle.mdv_survey.specs.Replica.{at_of}
+use Rattle.mdv_survey.specs.Slice.{ListsNext}
+use Rattle.mdv_survey.specs.declared.body.ReadFault.TheVariants.{Memory}
+use Rattle.mdv_survey.proofs.Counting.{err_is}
+use Rattle.mdv_survey.proofs.Seating.{first_fits, placed_of}
+use Rattle.mdv_survey.proofs.Places.{calm_here, cause_here, slots_here}
+use Rattle.mdv_survey.proofs.Visiting.{lists_added, lists_skip, visits_added, visits_not, visits_other}
+use Rattle.mdv_survey.proofs.slice.visit.Goals as goal
+
+pub at-at-requires-clause-start : goal.at-at-requires-clause-start
+at-at-requires-clause-start g c =
+    let start = c.requires.seated.formed.of_place.start in
+    let fits = c.requires.seated.formed.of_master.start in
+    omega (arith, start, fits)
+
+pub at-at-requires-clause-first : goal.at-at-requires-clause-first
+at-at-requires-clause-first g c = first_fits (g.S.Shelf.sizes c.args.shelf.now) c.args.site.now c.requires.on_shelf c.args.replica c.requires.seated
+
+pub slots_at-requires-clause-placed : goal.slots_at-requires-clause-placed
+slots_at-requires-clause-placed g c = subst (IsPlaced (g.S.Shelf.sizes c.args.shelf.now)) (sym c.at-at.ensures) (placed_of (g.S.Shelf.sizes c.args.shelf.now) c.args.site.now c.requires.on_shelf c.args.replica c.requires.seated)
+
+-- its slots couldn't be read
+pub returns-in_err-slots-clause-answer : goal.returns-in_err-slots-clause-answer
+returns-in_err-slots-clause-answer g c =
+    rw (err_is c.from_residual.result c.in_err-slots.field-0.0 c.from_residual.ensures.1)
+    (record {
+      read = record {
+        calm = tt;
+        cause = cause_here c.at-at.result (at_of c.args.replica) c.at-at.ensures g.S.Shelf c.args.shelf.now c.slots_at.new.shelf c.in_err-slots.field-0.0 c.in_err-slots.ensures.answer.read.cause;
+      };
+      lists = lists_skip c.args.site.now c.args.replica c.args.finds.now;
+      err = refl;
+    })
+
+-- they don't both fit
+pub returns-in_default-clause-answer : goal.returns-in_default-clause-answer
+returns-in_default-clause-answer g c = record {
+  read = record {
+    calm = calm_here c.at-at.result (at_of c.args.replica) c.at-at.ensures g.S.Shelf c.args.shelf.now c.slots_at.new.shelf c.in_ok-slots.ensures.answer.read.calm;
+    cause = tt;
+  };
+  lists = lists_skip c.args.site.now c.args.replica c.args.finds.now;
+  err = tt;
+}
+
+pub returns-in_default-clause-reads : goal.returns-in_default-clause-reads
+returns-in_default-clause-reads g c = record {
+  same = c.in_ok-slots.ensures.reads.same;
+  gave = λ t is. visits_not c.args.geometry.now c.args.site.now c.args.replica c.requires.seated (last t) c.args.finds.now
+      (slots_here c.at-at.result (at_of c.args.replica) c.at-at.ensures c.args.geometry.now c.args.replica.head t c.in_ok-slots.field-0 None c.in_default.is (c.in_ok-slots.ensures.reads.gave t is));
+}
+
+-- it is of another key
+pub returns-then-not-is_same-clause-answer : goal.returns-then-not-is_same-clause-answer
+returns-then-not-is_same-clause-answer g c = record {
+  read = record {
+    calm = calm_here c.at-at.result (at_of c.args.replica) c.at-at.ensures g.S.Shelf c.args.shelf.now c.slots_at.new.shelf c.in_ok-slots.ensures.answer.read.calm;
+    cause = tt;
+  };
+  lists = lists_skip c.args.site.now c.args.replica c.args.finds.now;
+  err = tt;
+}
+
+pub returns-then-not-is_same-clause-reads : goal.returns-then-not-is_same-clause-reads
+returns-then-not-is_same-clause-reads g c = record {
+  same = c.in_ok-slots.ensures.reads.same;
+  gave = λ t is. (
+      let slots = slots_here c.at-at.result (at_of c.args.replica) c.at-at.ensures c.args.geometry.now c.args.replica.head t c.in_ok-slots.field-0 (Some c.in-Some.slots) c.in-Some.is (c.in_ok-slots.ensures.reads.gave t is) in
+      visits_other c.args.geometry.now c.args.site.now c.args.replica c.requires.seated (last t) c.args.finds.now slots.0 (λ same. absurd (cc (c.is_same.ensures.1 same, c.if-not-is_same.true))));
+}
+
+-- there is no memory for it
+pub returns-in_err-add-clause-answer : goal.returns-in_err-add-clause-answer
+returns-in_err-add-clause-answer g c =
+    rw (err_is c.from_residual-in_err-add.result Memory c.from_residual-in_err-add.ensures.1)
+    (record {
+      read = record { calm = tt; cause = calm_here c.at-at.result (at_of c.args.replica) c.at-at.ensures g.S.Shelf c.args.shelf.now c.slots_at.new.shelf c.in_ok-slots.ensures.answer.read.calm };
+      lists = subst (ListsNext c.args.site.now c.args.replica.line c.args.replica.number c.args.finds.now) (sym c.in_err-add.ensures.err) (lists_skip c.args.site.now c.args.replica c.args.finds.now);
+      err = c.in_err-add.ensures.err;
+    })
+
+-- it was added
+pub returns-clause-answer : goal.returns-clause-answer
+returns-clause-answer g c = record {
+  read = record {
+    calm = calm_here c.at-at.result (at_of c.args.replica) c.at-at.ensures g.S.Shelf c.args.shelf.now c.slots_at.new.shelf c.in_ok-slots.ensures.answer.read.calm;
+    cause = tt;
+  };
+  lists = lists_added c.args.site.now c.args.replica c.args.finds.now c.add.new.self c.requires.seated (c.is_same.ensures.0 c.if-not-is_same.false) c.in_ok-add.ensures.replicas c.in_ok-add.ensures.marked;
+  err = tt;
+}
+
+pub returns-clause-reads : goal.returns-clause-reads
+returns-clause-reads g c = record {
+  same = c.in_ok-slots.ensures.reads.same;
+  gave = λ t is. (
+      let slots = slots_here c.at-at.result (at_of c.args.replica) c.at-at.ensures c.args.geometry.now c.args.replica.head t c.in_ok-slots.field-0 (Some c.in-Some.slots) c.in-Some.is (c.in_ok-slots.ensures.reads.gave t is) in
+      visits_added c.args.geometry.now c.args.site.now c.args.replica c.requires.seated (last t) c.args.finds.now c.add.new.self slots.0 (c.is_same.ensures.0 c.if-not-is_same.false) c.in_ok-add.ensures.replicas
+      (λ has. c.in_ok-add.ensures.table c.args.geometry.now (last t) has slots.1));
+}
