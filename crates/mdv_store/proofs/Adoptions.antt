@@ -1,0 +1,278 @@
+-- What a boot makes of the newest table: what follows for its moments, its end and its answer.
+use Rattle.std.proofs.Common.{◌≡◌, inl, inr, ◌<◌, ◌+◌, ◌-◌, ◌*◌, ◌^◌, ℕ, zero, suc, Bool, true, false, List, [], ◌∷◌, Option, Some, Contains, length, slice_get, refl, sym, ◌∙◌, subst, ap, arith}
+use Rattle.std.specs.List.{list_any}
+use Rattle.std.proofs.lemmas.Bool.{or_left, or_right}
+use Rattle.std.proofs.lemmas.Bool.Decides.{nat_tests}
+use Rattle.mdv_shelf.proofs.Among.{among_none}
+use Rattle.mdv_shelf.proofs.Between.{between_none}
+use Rattle.mdv_shelf.proofs.Frame.{within_range}
+use Rattle.mdv_shelf.proofs.Moments.{moments_none, moments_weaker}
+use Rattle.mdv_shelf.specs.Drives.{KeptAmong}
+use Rattle.mdv_shelf.specs.Moments.{Moments}
+use Rattle.mdv_shelf.specs.Shelves.{AtEachTale, AtEnd, DriveFailures}
+use Rattle.mdv_shown.specs.Choice.{spots_seen}
+use Rattle.mdv_replica.specs.Form.{boot_of}
+use Rattle.mdv_replica.specs.Forms.{IsGate}
+use Rattle.mdv_replica.specs.declared.forms.Gate.{Gate}
+use Rattle.mdv_replica.specs.declared.forms.Gate.TheVariants.{Closed, Open}
+use Rattle.mdv_survey.specs.Choice.{IsTheOne, is_of, same_identity}
+use Rattle.mdv_survey.specs.Newest.{IsGreatest}
+use Rattle.mdv_survey.specs.Replica.{IsOnShelf, IsSeated}
+use Rattle.mdv_survey.specs.declared.replica.Newest.{Newest}
+use Rattle.mdv_survey.specs.declared.replica.Survey.{Survey}
+use Rattle.mdv_store.specs.Adopting.{AdoptEnds, AdoptMoment, IsAdoptAnswer, WasReadOf}
+use Rattle.mdv_store.specs.Below.{DriveNo, Failures, Geometry, Ghosts, Identity, IsReadyWith, Replica, Site, SliceLine, Tale, at_of, greatest, places_of, record_text, range, site_area, site_of}
+use Rattle.mdv_store.specs.Boot.{IfAdopted, IsDrawn, IsEndBy, IsInHand, TakesBoth, greatest_number, seats_of}
+use Rattle.mdv_store.specs.BootCounts.{most_blocks}
+use Rattle.mdv_store.specs.Booting.{BootGoes, BootMoment, Writes, WritesFor, boot_area, has_written}
+use Rattle.mdv_store.specs.Commit.{AnyLog, AnyWorld, IsNewestWritten}
+use Rattle.mdv_store.specs.Opened.{Opened}
+use Rattle.mdv_store.specs.Seats.{AreLaid, IsLaid, active_of, drives_of, replica_area, replicas_of, seats_area, spots_of}
+use Rattle.mdv_store.specs.Taking.{IsCalmOn, IsHandOf, IsRewriteAnswer, IsRewriteEnd, IsTakingCounted, IsToAdopt, RewriteEnds, RewriteMoment, StaySynced, drives_read}
+use Rattle.mdv_store.specs.Text.{blocks_for}
+use Rattle.mdv_store.specs.declared.booting.BootEnd.{BootEnd}
+use Rattle.mdv_store.specs.declared.booting.BootEnd.TheVariants as end
+use Rattle.mdv_store.specs.declared.booting.Hand.{Hand}
+use Rattle.mdv_store.specs.declared.booting.Taken.{Taken}
+use Rattle.mdv_store.specs.declared.seats.Seat.{Seat}
+use Rattle.mdv_store.proofs.Passes.{mapped, unmapped}
+use Rattle.mdv_store.proofs.Quiet.{quiet_same, quiet_wider}
+use Rattle.mdv_store.proofs.Reading.{in_hand_is, seated_laid, seated_own, to_adopt}
+use Rattle.mdv_store.specs.Quiet.{IsQuiet}
+use Rattle.mdv_store.proofs.Seating.{or_yes}
+use Rattle.mdv_store.proofs.Sitting.{contains_behind, contains_first, first_or_behind, left_replica}
+
+-- An end of which nothing was written.
+pub not_adopted : (answer : BootEnd) (P : Opened → Type 0) → has_written answer ≡ false → IfAdopted answer P
+not_adopted (end.Adopted o) P still = absurd (cc (still))
+not_adopted end.Empty P still = tt
+not_adopted (end.TwoDatabases a b) P still = tt
+not_adopted (end.NoQuorum readable needed) P still = tt
+not_adopted (end.Lost active listed) P still = tt
+not_adopted end.Spent P still = tt
+not_adopted end.Memory P still = tt
+
+pub written_for : (g : Geometry) (site : Site) (answer : BootEnd) (t m : Tale) → has_written answer ≡ false → WritesFor g site answer t m
+written_for g site (end.Adopted o) t m still = absurd (cc (still))
+written_for g site end.Empty t m still = tt
+written_for g site (end.TwoDatabases a b) t m still = tt
+written_for g site (end.NoQuorum readable needed) t m still = tt
+written_for g site (end.Lost active listed) t m still = absurd (cc (still))
+written_for g site end.Spent t m still = tt
+written_for g site end.Memory t m still = tt
+
+pub still_moment : (g : Geometry) (site : Site) (answer : BootEnd) (t : Tale) → has_written answer ≡ false → BootMoment g site answer t t
+still_moment g site answer t still = record { quiet = quiet_same (boot_area site (has_written answer)) t; writes = written_for g site answer t t still }
+
+module _ {S : Type 0} (shelf : Ghosts S) (now : S) (taken : Taken) (still : has_written taken.end ≡ false) where
+  pub still_counted : IsTakingCounted shelf now now taken
+  still_counted = record { most = between_none shelf.calls shelf.written now now (8 * 50) most_blocks refl; calm = λ so. not_adopted taken.end _ still }
+
+  pub still_kept : (drives : List DriveNo) → KeptAmong shelf now now drives
+  still_kept drives = among_none shelf now drives
+
+  pub still_synced : AtEnd shelf (StaySynced shelf now now) now now
+  still_synced t is = (t, is, λ drive was never. was)
+
+  pub still_calm : (replicas : List Replica) → taken.calm ≡ true → IsCalmOn shelf now now replicas taken.calm
+  still_calm replicas calm = subst (λ (b : Bool). IsCalmOn shelf now now replicas b) (sym calm) (λ drive. refl)
+
+  pub still_moments : (P : Tale → Geometry → Type 0) (site : Site) → AtEachTale shelf (λ t m. (g : Geometry) → P t g → BootMoment g site taken.end t m) now now
+  still_moments P site = moments_none (λ t m. (g : Geometry) → P t g → BootMoment g site taken.end t m) (shelf.tale now) (shelf.tale now) refl (λ t g was. still_moment g site taken.end t still)
+
+  pub still_ends : (P : Tale → Geometry → Type 0) (Q : Geometry → Tale → Tale → Opened → Type 0) → AtEnd shelf (λ t u. (g : Geometry) → P t g → IfAdopted taken.end (Q g t u)) now now
+  still_ends P Q t is = (t, is, λ g was. not_adopted taken.end (Q g t t) still)
+
+-- the identity of a replica that shows the newest table
+pub same_identity_self : (a : Identity) → same_identity a a ≡ true
+same_identity_self a = grind (arith, nat_tests)
+
+pub got_contains : {X : Type 0} (xs : List X) (k : ℕ) (x : X) → slice_get xs k ≡ Some x → Contains xs x
+got_contains [] k x is = absurd (cc (is))
+got_contains (y ∷ ys) zero x is = (let same : y ≡ x = cc (is) in subst (Contains (y ∷ ys)) same (contains_first y ys))
+got_contains (y ∷ ys) (suc k) x is = contains_behind y x ys (got_contains ys k x is)
+
+-- the blocks of seated replicas are the site's
+any_in : {X : Type 0} (xs : List X) (x : X) (p : X → Bool) → Contains xs x → p x ≡ true → list_any p xs ≡ true
+any_in [] x p has so = absurd (omega (arith, has.1))
+any_in (y ∷ ys) x p has so = elim (first_or_behind y x ys has) [
+  | inl here ↦ or_left (p y) (list_any p ys) (ap p here ∙ so)
+  | inr there ↦ or_right (p y) (list_any p ys) (any_in ys x p there so)
+]
+
+any_line : (lines : List SliceLine) (line : SliceLine) (drive block : ℕ) → Contains lines line → list_any (λ (l : SliceLine). range l.at.drive.0 (l.at.start + 16) (l.at.blocks - 16) drive block) lines ≡ false → range line.at.drive.0 (line.at.start + 16) (line.at.blocks - 16) drive block ≡ false
+any_line lines line drive block has out = by (range line.at.drive.0 (line.at.start + 16) (line.at.blocks - 16) drive block) refl where
+  by : (b : Bool) → range line.at.drive.0 (line.at.start + 16) (line.at.blocks - 16) drive block ≡ b → range line.at.drive.0 (line.at.start + 16) (line.at.blocks - 16) drive block ≡ false
+  by true so = absurd (cc (out, any_in lines line (λ (l : SliceLine). range l.at.drive.0 (l.at.start + 16) (l.at.blocks - 16) drive block) has so))
+  by false so = so
+
+none_in : (rs : List Replica) (drive block : ℕ) → ((r : Replica) → Contains rs r → replica_area r drive block ≡ false) → list_any (λ (r : Replica). replica_area r drive block) rs ≡ false
+none_in [] drive block out = refl
+none_in (r ∷ rs) drive block out = or_yes (replica_area r drive block) (list_any (λ (x : Replica). replica_area x drive block) rs) (out r (contains_first r rs)) (none_in rs drive block (λ x has. out x (contains_behind r x rs has)))
+
+pub seats_within : (site : Site) (seats : List Seat) → ((r : Replica) → Contains (replicas_of seats) r → IsSeated site r) → (drive block : ℕ) → site_area site drive block ≡ false → seats_area seats drive block ≡ false
+seats_within site seats seated drive block out = none_in (replicas_of seats) drive block (λ r has.
+    let at = seated r has in
+    within_range r.line.at.drive.0 (at_of r).first r.first.blocks (r.line.at.start + 16) (r.line.at.blocks - 16) drive block (omega arith) (omega (arith, at.within)) (any_line site.lines r.line drive block at.one_of out))
+
+-- The newest table in hand.
+module _ (site : Site) (replicas : List Replica) (newest : Newest) (hand : Hand) (is : IsHandOf replicas newest hand) (seated : (r : Replica) → Contains replicas r → IsSeated site r) (marks : IsGreatest replicas newest) where
+  is_own : is_of hand.identity is.replica ≡ true
+  is_own = subst (λ (i : Identity). same_identity is.replica.head.master.identity i ≡ true) (sym is.identity_is) (same_identity_self is.replica.head.master.identity)
+
+  -- as the survey has it
+  module _ (survey : Survey) (replica : Replica) (reps : survey.replicas ≡ replicas) (newest_is : survey.newest ≡ Some newest) (the : IsTheOne replicas newest replica) where
+    same : is.replica ≡ replica
+    same = (let both : Some is.replica ≡ Some replica = sym is.one_of ∙ the.one_of in cc (both))
+
+    identity_is : hand.identity ≡ replica.head.master.identity
+    identity_is = is.identity_is ∙ ap (λ (r : Replica). r.head.master.identity) same
+
+    pub in_hand_of : IsInHand survey newest replica hand.seats
+    in_hand_of = record {
+      newest_is = newest_is;
+      the = subst (λ (rs : List Replica). IsTheOne rs newest replica) (sym reps) the;
+      seats_are = is.seats_are ∙ ap (λ (i : Identity). seats_of replicas i (blocks_for (length (record_text newest.table))) (places_of newest.table.plan.lists)) identity_is
+          ∙ ap (λ (rs : List Replica). seats_of rs replica.head.master.identity (blocks_for (length (record_text newest.table))) (places_of newest.table.plan.lists)) (sym reps);
+    }
+
+    pub number_of : hand.number ≡ greatest_number replica.head.master.identity survey.replicas + 1
+    number_of = is.number_is ∙ ap (λ (i : Identity). greatest_number i replicas + 1) identity_is ∙ ap (λ (rs : List Replica). greatest_number replica.head.master.identity rs + 1) (sym reps)
+
+    module _ (enough : length hand.seats < 2 * active_of hand.seats) (small : hand.number < 2 ^ 63) where
+      drawn_of : IsDrawn survey newest replica hand.seats hand.number
+      drawn_of = record { hand = in_hand_of; enough = enough; number_is = number_of; small = small }
+
+      pub end_of : (failed : ℕ → Failures) (answer : BootEnd) → IsRewriteEnd failed site.key hand newest.table answer → IsEndBy failed site survey answer
+      end_of failed (end.Adopted o) by = record {
+        newest = newest;
+        replica = replica;
+        seats = hand.seats;
+        number = hand.number;
+        drawn = drawn_of;
+        left = by.left;
+        enough = by.enough;
+        is = by.is ∙ ap (λ (i : Identity). record { key = site.key; identity = i; mark = record { boot = hand.number; count = 0 }; table = newest.table; seats = o.seats }) identity_is;
+      }
+      end_of failed end.Empty by = absurd by
+      end_of failed (end.TwoDatabases a b) by = absurd by
+      end_of failed (end.NoQuorum readable needed) by = absurd by
+      end_of failed (end.Lost active listed) by = record { newest = newest; replica = replica; seats = hand.seats; number = hand.number; drawn = drawn_of; now = by.now; left = by.left; few = by.few; active_is = by.active_is; listed_is = by.listed_is }
+      end_of failed end.Spent by = absurd by
+      end_of failed end.Memory by = absurd by
+
+  module _ (enough : length hand.seats < 2 * active_of hand.seats) where
+    pub hand_laid : (sizes : List ℕ) → IsOnShelf sizes site → AreLaid sizes hand.seats
+    hand_laid sizes on r has = (let one = in_hand_is site replicas newest hand is seated enough r has in seated_laid sizes site r on (seated r one.1))
+
+    of_hand : (r : Replica) → Contains (replicas_of hand.seats) r → Contains replicas r
+    of_hand r has = (in_hand_is site replicas newest hand is seated enough r has).1
+
+    pub hand_drives : (drive : DriveNo) → Contains (drives_of hand.seats) drive → Contains (drives_read replicas) drive
+    hand_drives drive has =
+        let r = unmapped (λ (x : Replica). x.line.at.drive) (replicas_of hand.seats) drive has in
+        subst (Contains (drives_read replicas)) r.2 (mapped (λ (x : Replica). x.line.at.drive) replicas r.0 (of_hand r.0 r.1))
+
+    -- what was read is to be adopted
+    to_be : (g : Geometry) (t : Tale) → WasReadOf g site replicas newest t → IsToAdopt g site.key hand newest.table t
+    to_be g t was =
+        to_adopt g site.key replicas newest hand is (λ r has. subst (λ (s : Site). IsSeated s r) was.site_is (seated r has)) enough marks t (subst (λ (s : Site). WasReadOf g s replicas newest t) was.site_is was) is.replica is.one_of
+        (got_contains replicas newest.replica is.replica is.one_of) is_own
+
+    writes_of : (g : Geometry) (t m : Tale) → WasReadOf g site replicas newest t → RewriteMoment site.key hand newest.table t m → Writes g site hand.identity t m
+    writes_of g t m was moment =
+        let to = to_be g t was in
+        record {
+          read = spots_seen to.seen;
+          seats = hand.seats;
+          found = λ r has. (let one = in_hand_is site replicas newest hand is seated enough r has in (was.each r one.1, seated_own hand.identity one.0 _ r one.2));
+          within = moment.quiet;
+          goes = subst (λ (s : Site). BootGoes g s hand.identity (spots_seen to.seen) (spots_of hand.seats) AnyWorld AnyLog t m) (sym was.site_is) (moment.goes g to);
+          rest = λ all. moment.rest g all to;
+          blank = moment.blank g to;
+        }
+
+    quiet_of : (t m : Tale) → RewriteMoment site.key hand newest.table t m → IsQuiet (site_area site) t m
+    quiet_of t m moment = quiet_wider (seats_area hand.seats) (site_area site) t m (seats_within site hand.seats (λ r has. seated r (of_hand r has))) moment.quiet
+
+    adopt_moment : (failed : ℕ → Failures) (answer : BootEnd) → IsRewriteEnd failed site.key hand newest.table answer → (t m : Tale) → RewriteMoment site.key hand newest.table t m → AdoptMoment site replicas newest answer t m
+    adopt_moment failed (end.Adopted o) by t m moment = λ g replica the was. record { quiet = quiet_of t m moment; writes = subst (λ (i : Identity). Writes g site i t m) (sym (ap (λ (x : Opened). x.identity) by.is)) (writes_of g t m was moment) }
+    adopt_moment failed end.Empty by t m moment = absurd by
+    adopt_moment failed (end.TwoDatabases a b) by t m moment = absurd by
+    adopt_moment failed (end.NoQuorum readable needed) by t m moment = absurd by
+    adopt_moment failed (end.Lost active listed) by t m moment = λ g replica the was. record { quiet = quiet_of t m moment; writes = (hand.identity, writes_of g t m was moment) }
+    adopt_moment failed end.Spent by t m moment = absurd by
+    adopt_moment failed end.Memory by t m moment = absurd by
+
+    adopt_end : (failed : ℕ → Failures) (answer : BootEnd) → IsRewriteEnd failed site.key hand newest.table answer → (t u : Tale) → IfAdopted answer (λ o. RewriteEnds site.key hand newest.table o t u) → AdoptEnds site replicas newest answer t u
+    adopt_end failed (end.Adopted o) by t u ends = λ g replica the was.
+        let to = to_be g t was in
+        record {
+          opened = ends.opened g to;
+          read = spots_seen to.seen;
+          seated = spots_of hand.seats;
+          goes = subst (λ (s : Site). BootGoes g s o.identity (spots_seen to.seen) (spots_of hand.seats) (IsReadyWith (spots_of o.seats)) (λ log. IsNewestWritten log o.mark o.table) t u) (sym was.site_is)
+              (subst (λ (i : Identity). BootGoes g (site_of g site.key) i (spots_seen to.seen) (spots_of hand.seats) (IsReadyWith (spots_of o.seats)) (λ log. IsNewestWritten log o.mark o.table) t u) (sym (ap (λ (x : Opened). x.identity) by.is)) (ends.goes g to));
+        }
+    adopt_end failed end.Empty by t u ends = absurd by
+    adopt_end failed (end.TwoDatabases a b) by t u ends = absurd by
+    adopt_end failed (end.NoQuorum readable needed) by t u ends = absurd by
+    adopt_end failed (end.Lost active listed) by t u ends = λ g replica the was. tt
+    adopt_end failed end.Spent by t u ends = absurd by
+    adopt_end failed end.Memory by t u ends = absurd by
+
+    module _ {S : Type 0} (shelf : Ghosts S) (old new : S) (taken : Taken) (answer : IsRewriteAnswer shelf old new site.key hand newest.table taken) where
+      pub adopted_moments : AtEachTale shelf (RewriteMoment site.key hand newest.table) old new → AtEachTale shelf (AdoptMoment site replicas newest taken.end) old new
+      adopted_moments = moments_weaker (RewriteMoment site.key hand newest.table) (AdoptMoment site replicas newest taken.end) (shelf.tale old) (shelf.tale new) (adopt_moment (DriveFailures shelf old new) taken.end answer.ended)
+
+      pub adopted_ends : AtEnd shelf (λ t u. IfAdopted taken.end (λ o. RewriteEnds site.key hand newest.table o t u)) old new → AtEnd shelf (AdoptEnds site replicas newest taken.end) old new
+      adopted_ends ends t told = (let e = ends t told in (e.0, e.1, adopt_end (DriveFailures shelf old new) taken.end answer.ended t e.0 e.2))
+
+      adopted_calm : (b : Bool) → IsCalmOn shelf old new (replicas_of hand.seats) b → IsCalmOn shelf old new replicas b
+      adopted_calm true calm = calm
+      adopted_calm false lost = (lost.0, of_hand lost.0 lost.1, lost.2)
+
+      wrote : (failed : ℕ → Failures) (e : BootEnd) → IsRewriteEnd failed site.key hand newest.table e → has_written e ≡ false → ⊥
+      wrote failed (end.Adopted o) by still = cc (still)
+      wrote failed end.Empty by still = by
+      wrote failed (end.TwoDatabases a b) by still = by
+      wrote failed (end.NoQuorum readable needed) by still = by
+      wrote failed (end.Lost active listed) by still = cc (still)
+      wrote failed end.Spent by still = by
+      wrote failed end.Memory by still = by
+
+      laid_by : (failed : ℕ → Failures) (sizes : List ℕ) → AreLaid sizes hand.seats → (e : BootEnd) → IsRewriteEnd failed site.key hand newest.table e → IfAdopted e (λ o. AreLaid sizes o.seats)
+      laid_by failed sizes laid (end.Adopted o) by = λ n has.
+          let one = left_replica failed (TakesBoth hand.number (length (record_text newest.table))) hand.seats o.seats n by.left has in
+          let was = laid one.0 one.1 in
+          subst (λ (x : Replica). IsLaid sizes x) (sym one.2.2) (record { placed = was.placed; short = was.short })
+      laid_by failed sizes laid end.Empty by = tt
+      laid_by failed sizes laid (end.TwoDatabases a b) by = tt
+      laid_by failed sizes laid (end.NoQuorum readable needed) by = tt
+      laid_by failed sizes laid (end.Lost active listed) by = tt
+      laid_by failed sizes laid end.Spent by = tt
+      laid_by failed sizes laid end.Memory by = tt
+
+      pub adopted_answer : hand.number < 2 ^ 63 → AreLaid (shelf.sizes old) hand.seats → IsAdoptAnswer shelf old new site replicas newest taken
+      adopted_answer small laid = record {
+        ended = inr (λ survey replica reps newest_is the. end_of survey replica reps newest_is the enough small (DriveFailures shelf old new) taken.end answer.ended);
+        calm = adopted_calm taken.calm answer.calm;
+        still = λ still. absurd (wrote (DriveFailures shelf old new) taken.end answer.ended still);
+        laid = laid_by (DriveFailures shelf old new) (shelf.sizes old) laid taken.end answer.ended;
+      }
+
+-- a gate's number, and a head's
+gate_small : (gate : Gate) → IsGate gate → boot_of gate < 2 ^ 63
+gate_small Closed is = omega arith
+gate_small (Open mark bytes) is = is.0.boot
+
+pub seated_small : (site : Site) (r : Replica) → IsSeated site r → greatest r.head < 2 ^ 63
+seated_small site r is = omega (arith, is.formed.of_claim, gate_small r.head.first is.formed.of_first, gate_small r.head.second is.formed.of_second)
+
+pub adopt_still : (site : Site) (replicas : List Replica) (newest : Newest) (answer : BootEnd) (told : Option Tale) → has_written answer ≡ false → Moments (AdoptMoment site replicas newest answer) told told
+adopt_still site replicas newest answer told still = moments_none (AdoptMoment site replicas newest answer) told told refl (λ t g replica the was. still_moment g site answer t still)
+
+pub got_within : {X : Type 0} (xs : List X) (k : ℕ) (x : X) → slice_get xs k ≡ Some x → k < length xs
+got_within [] k x is = absurd (cc (is))
+got_within (y ∷ ys) zero x is = omega arith
+got_within (y ∷ ys) (suc k) x is = omega (arith, got_within ys k x is)

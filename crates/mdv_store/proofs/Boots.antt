@@ -1,0 +1,487 @@
+-- The stretches of a boot, one behind another.
+use Rattle.std.proofs.Common.{◌≡◌, ◌⊎◌, inl, inr, ◌≤◌, ◌+◌, ◌*◌, ◌&&◌, ℕ, zero, suc, Bool, true, false, not, cond, List, [], ◌∷◌, ◌++◌, Option, None, Some, All, Contains, length, refl, sym, ◌∙◌, subst, ap, arith}
+use Rattle.std.specs.Prelude.{count_by}
+use Rattle.std.specs.Bool.{MatchBool}
+use Rattle.std.specs.Option.{option_map}
+use Rattle.std.proofs.Math.Nat.{mul-le-mul_left}
+use Rattle.std.proofs.lemmas.List.Elements.{All-contains}
+use Rattle.mdv_base.specs.Causes.{Rose, RoseOnce}
+use Rattle.mdv_base.specs.DriveSet.{no_drives}
+use Rattle.mdv_replica.specs.Images.{IsSame}
+use Rattle.mdv_shelf.proofs.Among.{among_wider}
+use Rattle.mdv_shelf.proofs.Between.{between_then, between_wider}
+use Rattle.mdv_shelf.proofs.Counts.{took_more}
+use Rattle.mdv_shelf.proofs.Everywhere.{everywhere_kept, image_synced}
+use Rattle.mdv_shelf.proofs.Moments.{moments_after, moments_end, moments_weaker, some_is}
+use Rattle.mdv_shelf.specs.Calls.{OnDrive}
+use Rattle.mdv_shelf.specs.Drives.{KeptAmong}
+use Rattle.mdv_shelf.specs.Everywhere.{Everywhere, Leaves}
+use Rattle.mdv_shelf.specs.Moments.{Moments}
+use Rattle.mdv_shelf.specs.Shelves.{AtEachTale, AtEnd, DriveFailed, DriveFailures, MadeCalls}
+use Rattle.mdv_shelf.specs.Story.{tale_of}
+use Rattle.mdv_standing.proofs.Tracing.{adds_none, trace_more, trace_same, trace_weaker}
+use Rattle.mdv_standing.specs.Laws.{ShowsNoTable}
+use Rattle.mdv_standing.specs.Others.{Anything}
+use Rattle.mdv_standing.specs.Rest.{HoldsRest}
+use Rattle.mdv_standing.specs.Worlds.{IsWorld}
+use Rattle.mdv_store_law.specs.Log.{log_after_all}
+use Rattle.mdv_survey.specs.Counts.{AreLinesBy, MadeFew, MadeReads}
+use Rattle.mdv_survey.specs.Newest.{IsMarked}
+use Rattle.mdv_survey.specs.Replica.{Contents, IsFoundIn, IsOnShelf}
+use Rattle.mdv_survey.specs.Survey.{IsSurveyOf}
+use Rattle.mdv_survey.specs.declared.replica.Newest.{Newest}
+use Rattle.mdv_survey.specs.declared.replica.Survey.{Survey}
+use Rattle.mdv_store.specs.Adopting.{AreAllIn}
+use Rattle.mdv_store.specs.Below.{Core, CoversWith, Database, DriveNo, Drives, Event, Failures, Geometry, Ghosts, Identity, IsSound, IsSynced, Log, Replica, RestStands, Site, Spot, Tale, has_drive, last, places_of, record_text, site_of}
+use Rattle.mdv_shown.specs.Found.{IsFound}
+use Rattle.mdv_store.specs.Blank.{StayBlank}
+use Rattle.mdv_store.specs.Boot.{IfAdopted, IsBooted, IsEndBy, IsReadAt, TakesBoth, is_memory}
+use Rattle.mdv_store.specs.BootCounts.{IsBootCounted, IsEndCounted, most_blocks, most_reads}
+use Rattle.mdv_store.specs.Booting.{AreOfBoot, BootEnds, BootGoes, BootMoment, IsBootedTo, Writes, WritesFor, boot_area, has_written}
+use Rattle.mdv_store.specs.Bringing.{AreSynced, AreUpBy, BringingEnds, IsBringingCounted}
+use Rattle.mdv_store.specs.Commit.{AnyLog, AnyWorld}
+use Rattle.mdv_store.specs.Counts.{MadeCallsBetween}
+use Rattle.mdv_store.specs.Looking.{HaveAnswered, IsLookedAt}
+use Rattle.mdv_store.specs.Quiet.{IsUnwritten}
+use Rattle.mdv_store.specs.Records.{Spells}
+use Rattle.mdv_store.specs.Seats.{AreLaid, active_of, drive_of, replicas_of, seats_area, spots_of}
+use Rattle.mdv_store.specs.Taking.{IsCalmOn, IsTaken, IsTakingCounted, StaySynced, TakingEnds, TakingMoment, WasRead, drives_read}
+use Rattle.mdv_store.specs.Text.{blocks_for}
+use Rattle.mdv_store.specs.declared.booting.BootEnd.{BootEnd}
+use Rattle.mdv_store.specs.declared.booting.BootEnd.TheVariants as end
+use Rattle.mdv_store.specs.declared.booting.Booted.{Booted}
+use Rattle.mdv_store.specs.declared.booting.Taken.{Taken}
+use Rattle.mdv_store.specs.declared.looking.Looked.{Looked}
+use Rattle.mdv_store.specs.declared.seats.Seat.{Seat}
+use Rattle.mdv_store.proofs.Among.{among_calm, among_silent}
+use Rattle.mdv_store.proofs.Bringing.{count_cons}
+use Rattle.mdv_store.proofs.Few.{reads_between, reads_more}
+use Rattle.mdv_store.proofs.Looks.{and_first, and_second, cases_bool, count_length, yes_not}
+use Rattle.mdv_store.proofs.Passes.{left_as, once_rose, unmapped}
+use Rattle.mdv_store.proofs.Quiet.{quiet_more, unwritten_quiet}
+use Rattle.mdv_store.proofs.Seating.{seated_at}
+use Rattle.mdv_store.proofs.Sitting.{contains_behind, contains_first}
+use Rattle.mdv_store.proofs.Takes.{none_newest}
+
+pub at_true : (A B : Type 0) (b : Bool) → b ≡ true → MatchBool b A B → A
+at_true A B b is m = subst (λ (c : Bool). MatchBool c A B) is m
+
+pub at_false : (A B : Type 0) (b : Bool) → b ≡ false → MatchBool b A B → B
+at_false A B b is m = subst (λ (c : Bool). MatchBool c A B) is m
+
+rose_later : (a b c : ℕ) → b ≤ c → Rose a b → Rose a c
+rose_later a b c up rose = omega (arith, up, rose)
+
+rose_before : (a b c : ℕ) → a ≤ b → Rose b c → Rose a c
+rose_before a b c up rose = omega (arith, up, rose)
+
+-- Nothing is written.
+leaves_same : (t m : Tale) → IsUnwritten t m → Leaves IsSame t m
+leaves_same t m unwritten image is = (image, record { each = λ drive block. (unwritten.outside drive block refl).left (image drive block) (is.each drive block) }, λ drive block. refl)
+
+pub last_same : (t m : Tale) → IsUnwritten t m → last m ≡ last t
+last_same t m unwritten = λ i drive block. (unwritten.outside drive block refl).last i
+
+module _ (g : Geometry) (site : Site) (identity : Identity) where
+  nothing_goes : (t m : Tale) → IsUnwritten t m → BootGoes g site identity [] [] AnyWorld AnyLog t m
+  nothing_goes t m unwritten log covers known = record {
+    es = [];
+    course = tt;
+    come = adds_none;
+    traces = trace_weaker (Spells g) site identity log log Anything Anything Anything AnyWorld (λ es. es ≡ []) (AreOfBoot [] []) t m (λ w k. k) (λ es none. inl none) (λ w k. tt) (trace_same (Spells g) site identity log Anything t m (leaves_same t m unwritten));
+    after = tt;
+  }
+
+  rest_kept : (all : List Database) (t m : Tale) → IsUnwritten t m → RestStands (Spells g) g all identity t → RestStands (Spells g) g all identity m
+  rest_kept all t m unwritten = everywhere_kept (HoldsRest (Spells g) g all identity) t m unwritten.outside
+
+  blank_kept : (t m : Tale) → IsUnwritten t m → StayBlank g identity t m
+  blank_kept t m unwritten key other another = everywhere_kept (ShowsNoTable (Spells g) (site_of g key) other) t m unwritten.outside
+
+  pub nothing_written : (t m : Tale) → IsUnwritten t m → Writes g site identity t m
+  nothing_written t m unwritten = record {
+    read = [];
+    seats = [];
+    found = λ r has. absurd (omega (arith, has.1));
+    within = unwritten_quiet (seats_area []) t m unwritten;
+    goes = nothing_goes t m unwritten;
+    rest = λ all. rest_kept all t m unwritten;
+    blank = blank_kept t m unwritten;
+  }
+
+  -- a boot goes on so behind calls that wrote nothing
+  pub goes_then : (read seated : List Spot) (Then : Core → Type 0) (After : Log → Type 0) (t u m : Tale) → IsUnwritten t u → BootGoes g site identity read seated Then After u m → BootGoes g site identity read seated Then After t m
+  goes_then read seated Then After t u m unwritten goes log covers known =
+      let covers_u : CoversWith (Spells g) site identity (λ image w. Anything w) log u = everywhere_kept (λ image. (w : Core) × IsWorld (Spells g) site identity log w image × Anything w) t u unwritten.outside covers in
+      let to = goes log covers_u known in
+      record {
+        es = to.es;
+        course = to.course;
+        come = to.come;
+        traces =
+            trace_more (Spells g) site identity log log (log_after_all log to.es) Anything Anything Then (λ es. es ≡ []) (AreOfBoot read seated) (AreOfBoot read seated) t u m
+            (λ es fs none are. subst (AreOfBoot read seated) (sym (ap (λ (l : List Event). l ++ fs) none)) are) (trace_same (Spells g) site identity log Anything t u (leaves_same t u unwritten)) to.traces;
+        after = to.after;
+      }
+
+  pub writes_then : (t u m : Tale) → IsUnwritten t u → Writes g site identity u m → Writes g site identity t m
+  writes_then t u m unwritten w = record {
+    read = w.read;
+    seats = w.seats;
+    found = λ r has. (let one = w.found r has in (subst (λ (c : Contents). IsFoundIn g site c r) (last_same t u unwritten) one.0, one.1));
+    within = quiet_more (seats_area w.seats) t u m (unwritten_quiet (seats_area w.seats) t u unwritten) w.within;
+    goes = goes_then w.read (spots_of w.seats) AnyWorld AnyLog t u m unwritten w.goes;
+    rest = λ all was. w.rest all (rest_kept all t u unwritten was);
+    blank = λ key other another was. w.blank key other another (blank_kept t u unwritten key other another was);
+  }
+
+pub boot_before : (g : Geometry) (site : Site) (answer : BootEnd) (t m : Tale) → IsUnwritten t m → BootMoment g site answer t m
+boot_before g site answer t m unwritten = record { quiet = unwritten_quiet (boot_area site (has_written answer)) t m unwritten; writes = by answer } where
+  by : (a : BootEnd) → WritesFor g site a t m
+  by (end.Adopted o) = nothing_written g site o.identity t m unwritten
+  by end.Empty = tt
+  by (end.TwoDatabases a b) = tt
+  by (end.NoQuorum readable needed) = tt
+  by (end.Lost active listed) = (record { fresh = 0; number = 0 }, nothing_written g site (record { fresh = 0; number = 0 }) t m unwritten)
+  by end.Spent = tt
+  by end.Memory = tt
+
+pub boot_then : (g : Geometry) (site : Site) (answer : BootEnd) (t u m : Tale) → IsUnwritten t u → BootMoment g site answer u m → BootMoment g site answer t m
+boot_then g site answer t u m unwritten moment =
+    record { quiet = quiet_more (boot_area site (has_written answer)) t u m (unwritten_quiet (boot_area site (has_written answer)) t u unwritten) moment.quiet; writes = by answer moment.writes }
+  where
+    by : (a : BootEnd) → WritesFor g site a u m → WritesFor g site a t m
+    by (end.Adopted o) w = writes_then g site o.identity t u m unwritten w
+    by end.Empty w = tt
+    by (end.TwoDatabases a b) w = tt
+    by (end.NoQuorum readable needed) w = tt
+    by (end.Lost active listed) w = (w.0, writes_then g site w.0 t u m unwritten w.1)
+    by end.Spent w = tt
+    by end.Memory w = tt
+
+booted_then : (g : Geometry) (site : Site) (answer : BootEnd) (t u w : Tale) → IsUnwritten t u → IfAdopted answer (λ o. IsBootedTo g site o u w) → IfAdopted answer (λ o. IsBootedTo g site o t w)
+booted_then g site (end.Adopted o) t u w unwritten is = record { opened = is.opened; read = is.read; seated = is.seated; goes = goes_then g site o.identity is.read is.seated _ _ t u w unwritten is.goes }
+booted_then g site end.Empty t u w unwritten is = tt
+booted_then g site (end.TwoDatabases a b) t u w unwritten is = tt
+booted_then g site (end.NoQuorum readable needed) t u w unwritten is = tt
+booted_then g site (end.Lost active listed) t u w unwritten is = tt
+booted_then g site end.Spent t u w unwritten is = tt
+booted_then g site end.Memory t u w unwritten is = tt
+
+-- an end that follows, as the failures are told from earlier on
+end_as : (failed told : ℕ → Failures) (site : Site) (survey : Survey) → ((r : Replica) → Contains survey.replicas r → (failed (drive_of r)).some → (told (drive_of r)).some) → ((r : Replica) → Contains survey.replicas r → (failed (drive_of r)).none → (told (drive_of r)).none)
+    → (answer : BootEnd) → IsEndBy failed site survey answer → IsEndBy told site survey answer
+end_as failed told site survey some none (end.Adopted o) by =
+    let has : (r : Replica) → Contains (replicas_of by.seats) r → Contains survey.replicas r =
+    λ r in_seats. (seated_at survey.replicas by.replica.head.master.identity (blocks_for (length (record_text by.newest.table))) [] (places_of by.newest.table.plan.lists) r (subst (λ (ss : List Seat). Contains (replicas_of ss) r) by.drawn.hand.seats_are in_seats)).1 in
+    record {
+      newest = by.newest;
+      replica = by.replica;
+      seats = by.seats;
+      number = by.number;
+      drawn = by.drawn;
+      left = left_as failed told (TakesBoth by.number (length (record_text by.newest.table))) (TakesBoth by.number (length (record_text by.newest.table))) by.seats o.seats (λ r in_seats. some r (has r in_seats)) (λ r in_seats. none r (has r in_seats)) (λ r m took. took) by.left;
+      enough = by.enough;
+      is = by.is;
+    }
+end_as failed told site survey some none end.Empty by = by
+end_as failed told site survey some none (end.TwoDatabases a b) by = by
+end_as failed told site survey some none (end.NoQuorum readable needed) by = by
+end_as failed told site survey some none (end.Lost active listed) by =
+    let has : (r : Replica) → Contains (replicas_of by.seats) r → Contains survey.replicas r =
+    λ r in_seats. (seated_at survey.replicas by.replica.head.master.identity (blocks_for (length (record_text by.newest.table))) [] (places_of by.newest.table.plan.lists) r (subst (λ (ss : List Seat). Contains (replicas_of ss) r) by.drawn.hand.seats_are in_seats)).1 in
+    record {
+      newest = by.newest;
+      replica = by.replica;
+      seats = by.seats;
+      number = by.number;
+      drawn = by.drawn;
+      now = by.now;
+      left = left_as failed told (λ r m. Unit {0}) (λ r m. Unit {0}) by.seats by.now (λ r in_seats. some r (has r in_seats)) (λ r in_seats. none r (has r in_seats)) (λ r m took. tt) by.left;
+      few = by.few;
+      active_is = by.active_is;
+      listed_is = by.listed_is;
+    }
+end_as failed told site survey some none end.Spent by = by
+end_as failed told site survey some none end.Memory by = tt
+
+-- all of a list pass
+count_all : {X : Type 0} (p : X → Bool) (xs : List X) → ((x : X) → Contains xs x → p x ≡ true) → count_by p xs ≡ length xs
+count_all p [] all = refl
+count_all p (x ∷ xs) all =
+    let rest = count_all p xs (λ y has. all y (contains_behind x y xs has)) in
+    omega (arith, count_cons p x xs, rest, ap (λ (b : Bool). cond {A = ℕ} b 1 0) (all x (contains_first x xs)))
+
+-- Drives that were brought up.
+module _ {S : Type 0} (shelf : Ghosts S) (site : Site) (old m1 : S) (up : Drives) (ups : AreUpBy (DriveFailures shelf old m1) site.drives up) (b_moments : AtEachTale shelf IsUnwritten old m1) (b_end : AtEnd shelf (BringingEnds up site.drives) old m1)
+    (b_counted : IsBringingCounted shelf old m1 site.drives up) (b_kept : KeptAmong shelf old m1 site.drives) where
+  -- what is known as they are up
+  pub record IsUp (t u : Tale) : Type 0 where
+    pub unwritten : IsUnwritten t u
+    pub synced : AreSynced up u
+    pub is : shelf.tale m1 ≡ Some u
+
+  pub brought : AtEnd shelf IsUp old m1
+  brought t told =
+      let e = b_end t told in
+      let m = moments_end IsUnwritten (shelf.tale old) (shelf.tale m1) b_moments t told in
+      let same : m.0 ≡ e.0 = some_is (shelf.tale m1) m.0 e.0 m.1 e.1 in
+      (e.0, e.1, record { unwritten = subst (λ (u : Tale). IsUnwritten t u) same m.2; synced = e.2.synced; is = e.1 })
+
+  up_calm : (drive : DriveNo) → Contains site.drives drive → has_drive up drive ≡ true → shelf.faults m1 (OnDrive drive.0) ≡ shelf.faults old (OnDrive drive.0)
+  up_calm drive one_of so = at_true _ _ (has_drive up drive) so (ups.each drive one_of)
+
+  down_rose : (drive : DriveNo) → Contains site.drives drive → has_drive up drive ≡ false → DriveFailed shelf old m1 drive.0
+  down_rose drive one_of so = once_rose _ _ (at_false _ _ (has_drive up drive) so (ups.each drive one_of))
+
+  -- and looked at
+  module _ (telling : (s : S) → shelf.tale s ≡ option_map tale_of (shelf.story s)) (g : Geometry) (m2 : S) (l_same : shelf.tale m2 ≡ shelf.tale m1) (l_few : MadeFew shelf m1 m2 ((1 + count_by (has_drive up) site.drives) * (765 * length site.lines)))
+      (l_kept : KeptAmong shelf m1 m2 site.drives) where
+    pub look_kept : KeptAmong shelf old m2 site.drives
+    look_kept = among_silent shelf telling m1 m2 site.drives l_kept l_same old b_kept
+
+    looks_most : MadeCallsBetween shelf old m2 0 (2 * length site.drives + most_reads site) 0
+    looks_most =
+        let few = count_length (has_drive up) site.drives in
+        let larger : 1 + count_by (has_drive up) site.drives ≤ 1 + length site.drives = omega (arith, few) in
+        let product = mul-le-mul_left (765 * length site.lines) larger in
+        between_then shelf.calls shelf.written old m1 m2 0 (2 * length site.drives) 0 0 ((1 + count_by (has_drive up) site.drives) * (765 * length site.lines)) 0 0 (2 * length site.drives + most_reads site) 0 (omega arith) (omega (arith, product)) (omega arith)
+        (reads_between shelf old m1 b_counted.calls 0 (2 * length site.drives) (omega arith) b_counted.by.most b_counted.made) (reads_between shelf m1 m2 l_few.0 0 _ (omega arith) l_few.1 l_few.2)
+
+    -- memory was wanting
+    module _ (answer : Booted) (end_is : answer.end ≡ end.Memory) (up_is : answer.up ≡ up) (clean_is : answer.clean ≡ false) where
+      pub wanting : IsBooted shelf old m2 g site answer
+      wanting = record {
+        brought = record {
+          ready = m1;
+          up = subst (λ (d : Drives). AreUpBy (DriveFailures shelf old m1) site.drives d) (sym up_is) ups;
+          ends = subst (λ (d : Drives). AtEnd shelf (BringingEnds d site.drives) old m1) (sym up_is) b_end;
+          counted = subst (λ (d : Drives). IsBringingCounted shelf old m1 site.drives d) (sym up_is) b_counted;
+          before = b_kept;
+          behind = l_kept;
+        };
+        ended = inl (ap is_memory end_is);
+        down = λ drive one_of so. rose_later (shelf.faults old (OnDrive drive.0)) (shelf.faults m1 (OnDrive drive.0)) (shelf.faults m2 (OnDrive drive.0)) (l_kept.keeps.no_fewer_faults (OnDrive drive.0)) (down_rose drive one_of (sym (ap (λ (d : Drives). has_drive d drive) up_is) ∙ so));
+        others = λ drive out. ap (λ (d : Drives). has_drive d drive) up_is ∙ ups.others drive out;
+        clean = subst (λ (b : Bool). MatchBool b ((is_memory answer.end ≡ false) × ((drive : DriveNo) → Contains site.drives drive → (DriveFailures shelf old m2 drive.0).none)) ((is_memory answer.end ≡ true) ⊎ ((drive : DriveNo) × Contains site.drives drive × DriveFailed shelf old m2 drive.0)))
+            (sym clean_is) (inl (ap is_memory end_is));
+        laid = subst (λ (e : BootEnd). IfAdopted e (λ o. AreLaid (shelf.sizes old) o.seats)) (sym end_is) tt;
+      }
+
+      pub wanting_moments : AtEachTale shelf (BootMoment g site answer.end) old m2
+      wanting_moments =
+          subst (λ (o : Option Tale). Moments (BootMoment g site answer.end) (shelf.tale old) o) (sym l_same) (moments_weaker IsUnwritten (BootMoment g site answer.end) (shelf.tale old) (shelf.tale m1) (boot_before g site answer.end) b_moments)
+
+      pub wanting_ends : ((drive : DriveNo) → Contains site.drives drive → (DriveFailed shelf old m2 drive.0 → ⊥) → has_drive up drive ≡ true) → AtEnd shelf (BootEnds (DriveFailed shelf old m2) g site answer) old m2
+      wanting_ends is_up t told =
+          let u = brought t told in (
+            u.0,
+            l_same ∙ u.1,
+            record {
+              adopted = subst (λ (e : BootEnd). IfAdopted e (λ o. IsBootedTo g site o t u.0)) (sym end_is) tt;
+              empty = λ e so. absurd (cc (so, clean_is));
+              synced = λ drive one_of never. u.2.synced drive (is_up drive one_of never);
+            },
+          )
+
+      pub wanting_counted : IsBootCounted shelf old m2 g site answer
+      wanting_counted = record {
+        most = between_wider shelf.calls shelf.written old m2 0 (2 * length site.drives + most_reads site) 0 0 (2 * length site.drives + most_reads site + 8 * 50) most_blocks (omega arith) (omega arith) (omega arith) looks_most;
+        clean = λ so. absurd (cc (so, clean_is));
+      }
+
+    pub is_up_where : (drive : DriveNo) → Contains site.drives drive → (DriveFailed shelf old m2 drive.0 → ⊥) → has_drive up drive ≡ true
+    is_up_where drive one_of never = elim (cases_bool (has_drive up drive)) [
+      | inl so ↦ so
+      | inr down ↦ absurd (never (rose_later (shelf.faults old (OnDrive drive.0)) (shelf.faults m1 (OnDrive drive.0)) (shelf.faults m2 (OnDrive drive.0)) (l_kept.keeps.no_fewer_faults (OnDrive drive.0)) (down_rose drive one_of down)))
+    ]
+
+    -- what was read was made something of
+    module _ (sound : IsSound g) (on : IsOnShelf (shelf.sizes old) site) (of_site : site ≡ site_of g site.key) (looked : Looked) (at : IsLookedAt shelf m1 m2 g site up looked) (new : S) (taken : Taken) (answer : IsTaken shelf m2 new site looked taken)
+        (t_kept : KeptAmong shelf m2 new (drives_read looked.survey.replicas)) (calm : Bool) (all : AreAllIn calm site.drives looked.calm) (clean : Bool) (clean_is : clean ≡ (calm && (taken.calm && not (is_memory taken.end)))) where
+      abbrev faults_at : S → DriveNo → ℕ
+      faults_at s drive = shelf.faults s (OnDrive drive.0)
+
+      calm_up : (drive : DriveNo) → has_drive looked.calm drive ≡ true → has_drive up drive ≡ true
+      calm_up = at.calm.is_up
+
+      -- no call failed on a drive that answered every read
+      calm_faults : (drive : DriveNo) → has_drive looked.calm drive ≡ true → faults_at m2 drive ≡ faults_at old drive
+      calm_faults drive so =
+          let one_of = at.calm.only drive so in
+          let is_up = calm_up drive so in
+          at_true _ _ (has_drive looked.calm drive) so (at.calm.each drive one_of is_up) ∙ up_calm drive one_of is_up
+
+      not_calm : (drive : DriveNo) → Contains site.drives drive → has_drive looked.calm drive ≡ false → DriveFailed shelf old m2 drive.0
+      not_calm drive one_of out = elim (cases_bool (has_drive up drive)) [
+        | inl is_up ↦ rose_before (faults_at old drive) (faults_at m1 drive) (faults_at m2 drive) (b_kept.keeps.no_fewer_faults (OnDrive drive.0)) (at_false _ _ (has_drive looked.calm drive) out (at.calm.each drive one_of is_up))
+        | inr down ↦ rose_later (faults_at old drive) (faults_at m1 drive) (faults_at m2 drive) (l_kept.keeps.no_fewer_faults (OnDrive drive.0)) (down_rose drive one_of down)
+      ]
+
+      later_too : (drive : DriveNo) → DriveFailed shelf old m2 drive.0 → DriveFailed shelf old new drive.0
+      later_too drive rose = rose_later (faults_at old drive) (faults_at m2 drive) (faults_at new drive) (t_kept.keeps.no_fewer_faults (OnDrive drive.0)) rose
+
+      read_calm : (r : Replica) → Contains looked.survey.replicas r → has_drive looked.calm r.line.at.drive ≡ true
+      read_calm r has = (at.survey.each r has).is_up
+
+      read_faults : (r : Replica) → Contains looked.survey.replicas r → shelf.faults m2 (OnDrive (drive_of r)) ≡ shelf.faults old (OnDrive (drive_of r))
+      read_faults r has = calm_faults r.line.at.drive (read_calm r has)
+
+      read_within : (drive : DriveNo) → Contains (drives_read looked.survey.replicas) drive → Contains site.drives drive
+      read_within drive has = (let r = unmapped (λ (x : Replica). x.line.at.drive) looked.survey.replicas drive has in subst (Contains site.drives) r.2 (on.brought r.0.line (at.survey.each r.0 r.1).seated.one_of))
+
+      looked_faults : (drive : DriveNo) → Contains (drives_read looked.survey.replicas) drive → faults_at m2 drive ≡ faults_at m1 drive
+      looked_faults drive has =
+          let r = unmapped (λ (x : Replica). x.line.at.drive) looked.survey.replicas drive has in
+          let so = read_calm r.0 r.1 in
+          let read = r.0.line.at.drive in
+          subst (λ (d : DriveNo). faults_at m2 d ≡ faults_at m1 d) r.2 (at_true _ _ (has_drive looked.calm read) so (at.calm.each read (at.calm.only read so) (calm_up read so)))
+
+      told_end : IsEndBy (DriveFailures shelf m2 new) site looked.survey taken.end → IsEndBy (DriveFailures shelf old new) site looked.survey taken.end
+      told_end = end_as (DriveFailures shelf m2 new) (DriveFailures shelf old new) site looked.survey
+          (λ r has some. subst (λ (n : ℕ). RoseOnce n (shelf.faults new (OnDrive (drive_of r)))) (read_faults r has) some) (λ r has none. none ∙ read_faults r has) taken.end
+
+      all_calm : calm ≡ true → (drive : DriveNo) → Contains site.drives drive → has_drive looked.calm drive ≡ true
+      all_calm so drive one_of = All-contains (λ (d : DriveNo). has_drive looked.calm d ≡ true) site.drives drive (at_true _ _ calm so all) one_of
+
+      clean_by : (a b c : Bool) → MatchBool a (All (λ drive. has_drive looked.calm drive ≡ true) site.drives) ((drive : DriveNo) × Contains site.drives drive × (has_drive looked.calm drive ≡ false)) → IsCalmOn shelf m2 new looked.survey.replicas b → is_memory taken.end ≡ c
+          → MatchBool (a && (b && not c)) ((is_memory taken.end ≡ false) × ((drive : DriveNo) → Contains site.drives drive → (DriveFailures shelf old new drive.0).none))
+          ((is_memory taken.end ≡ true) ⊎ ((drive : DriveNo) × Contains site.drives drive × DriveFailed shelf old new drive.0))
+      clean_by true true true fine none memory = inl memory
+      clean_by true true false fine none memory = (memory, λ drive one_of. none drive ∙ calm_faults drive (All-contains (λ (d : DriveNo). has_drive looked.calm d ≡ true) site.drives drive fine one_of))
+      clean_by true false c fine lost memory =
+          let r = lost.0 in
+          let listed = at.survey.each r lost.1 in
+          inr (r.line.at.drive, on.brought r.line listed.seated.one_of, rose_before (shelf.faults old (OnDrive (drive_of r))) (shelf.faults m2 (OnDrive (drive_of r))) (shelf.faults new (OnDrive (drive_of r))) (look_kept.keeps.no_fewer_faults (OnDrive (drive_of r))) lost.2)
+      clean_by false b c out none memory = inr (out.0, out.1, later_too out.0 (not_calm out.0 out.1 out.2))
+
+      abbrev made : Booted
+      made = record { end = taken.end; up = up; clean = clean }
+
+      read_at : IsReadAt shelf old new g site made looked.survey
+      read_at = record {
+        looked = m2;
+        unwritten = subst (λ (o : Option Tale). Moments IsUnwritten (shelf.tale old) o) (sym l_same) b_moments;
+        before = look_kept;
+        behind = among_wider shelf m2 new (drives_read looked.survey.replicas) site.drives read_within t_kept;
+        answered = calm_faults;
+        calm = looked.calm;
+        up = calm_up;
+        failed = not_calm;
+        survey_is = at.survey;
+        of = λ t told. (
+            let u = brought t told in
+            subst (λ (c : Contents). IsSurveyOf g site looked.calm c looked.survey) (last_same t u.0 u.2.unwritten) (at.of u.0 u.2.is));
+        none = at.none;
+      }
+
+      ended_by : (is_memory taken.end ≡ true) ⊎ IsEndBy (DriveFailures shelf m2 new) site looked.survey taken.end
+          → (is_memory taken.end ≡ true) ⊎ ((survey : Survey) × IsReadAt shelf old new g site made survey × IsEndBy (DriveFailures shelf old new) site survey taken.end)
+      ended_by (inl memory) = inl memory
+      ended_by (inr by) = inr (looked.survey, read_at, told_end by)
+
+      pub booted : IsBooted shelf old new g site made
+      booted = record {
+        brought = record {
+          ready = m1;
+          up = ups;
+          ends = b_end;
+          counted = b_counted;
+          before = b_kept;
+          behind = among_calm shelf m1 m2 new site.drives (drives_read looked.survey.replicas) read_within looked_faults l_kept t_kept;
+        };
+        ended = ended_by answer.ended;
+        down = λ drive one_of out. later_too drive (rose_later (faults_at old drive) (faults_at m1 drive) (faults_at m2 drive) (l_kept.keeps.no_fewer_faults (OnDrive drive.0)) (down_rose drive one_of out));
+        others = ups.others;
+        clean = subst (λ (b : Bool). MatchBool b ((is_memory taken.end ≡ false) × ((drive : DriveNo) → Contains site.drives drive → (DriveFailures shelf old new drive.0).none)) ((is_memory taken.end ≡ true) ⊎ ((drive : DriveNo) × Contains site.drives drive × DriveFailed shelf old new drive.0)))
+            (sym clean_is) (clean_by calm taken.calm (is_memory taken.end) all answer.calm refl);
+        laid = subst (λ (sizes : List ℕ). IfAdopted taken.end (λ o. AreLaid sizes o.seats)) look_kept.keeps.same_sizes answer.laid;
+      }
+
+      -- what was read, as the looks ended
+      was_read : (t u : Tale) → IsUp t u → WasRead g site looked u
+      was_read t u is = record { sound = sound; site_is = of_site; of = at.of u is.is; synced = λ r has. is.synced r.line.at.drive (calm_up r.line.at.drive (read_calm r has)) }
+
+      pub all_moments : AtEachTale shelf (TakingMoment site looked taken.end) m2 new → AtEachTale shelf (BootMoment g site taken.end) old new
+      all_moments taking =
+          moments_after IsUnwritten IsUp (TakingMoment site looked taken.end) (BootMoment g site taken.end) (shelf.tale old) (shelf.tale m1) (shelf.tale new) (boot_before g site taken.end)
+          (λ t u m is moment. boot_then g site taken.end t u m is.unwritten (moment g (was_read t u is))) b_moments brought (subst (λ (o : Option Tale). Moments (TakingMoment site looked taken.end) o (shelf.tale new)) l_same taking)
+
+      -- nothing shows a table, where nothing was found and all answered
+      nothing_shown : (t u : Tale) → IsUp t u → looked.survey.newest ≡ None → calm ≡ true → Everywhere (λ image. (identity : Identity) → ShowsNoTable (Spells g) site identity image) u
+      nothing_shown t u is none so image im identity line k first head own =
+          let drive = line.at.drive in
+          let here = all_calm so drive (on.brought line own.found.one_of) in
+          let r : Replica = record { line = line; number = k; first = first; head = head } in
+          let found = subst (λ (c : ℕ → List ℕ). IsFound (Spells g) site line k c first head) (image_synced drive.0 u (is.synced drive (calm_up drive here)) image im) own.found in
+          let has = (at.of u is.is).all r found (yes_not (has_drive looked.calm drive) (has_drive looked.survey.failed drive) here (at.none drive here)) in
+          subst (λ (o : Option Newest). IsMarked looked.survey.replicas o) none at.survey.marked r has
+
+      empty_by : (is_memory taken.end ≡ true) ⊎ IsEndBy (DriveFailures shelf m2 new) site looked.survey taken.end → taken.end ≡ end.Empty → looked.survey.newest ≡ None
+      empty_by (inl memory) is = absurd (cc (memory, ap is_memory is))
+      empty_by (inr by) is = none_newest looked.survey (subst (λ (e : BootEnd). IsEndBy (DriveFailures shelf m2 new) site looked.survey e) is by)
+
+      calm_of : clean ≡ true → calm ≡ true
+      calm_of so = and_first calm (taken.calm && not (is_memory taken.end)) (sym clean_is ∙ so)
+
+      pub all_ends : AtEnd shelf (TakingEnds site looked taken.end) m2 new → AtEnd shelf (StaySynced shelf m2 new) m2 new → AtEnd shelf (BootEnds (DriveFailed shelf old new) g site made) old new
+      all_ends taking stays t told =
+          let u = brought t told in
+          let here : shelf.tale m2 ≡ Some u.0 = l_same ∙ u.1 in
+          let w = taking u.0 here in
+          let s = stays u.0 here in
+          let same : s.0 ≡ w.0 = some_is (shelf.tale new) s.0 w.0 s.1 w.1 in (
+            w.0,
+            w.1,
+            record {
+              adopted = booted_then g site taken.end t u.0 w.0 u.2.unwritten (w.2 g (was_read t u.0 u.2));
+              empty = λ is so. (
+                  let nothing = nothing_shown t u.0 u.2 (empty_by answer.ended is) (calm_of so) in
+                  let still : new ≡ m2 = answer.still (ap has_written is) in
+                  let at_rest : u.0 ≡ w.0 = some_is (shelf.tale new) u.0 w.0 (ap shelf.tale still ∙ here) w.1 in
+                  subst (λ (x : Tale). Everywhere (λ image. (identity : Identity) → ShowsNoTable (Spells g) site identity image) x) at_rest nothing);
+              synced = λ drive one_of never. (
+                  let is_calm = calm_where drive one_of never in
+                  subst (λ (x : Tale). IsSynced drive.0 x) same
+                  (s.2 drive (u.2.synced drive (calm_up drive is_calm)) (λ rose. never (rose_before (faults_at old drive) (faults_at m2 drive) (faults_at new drive) (look_kept.keeps.no_fewer_faults (OnDrive drive.0)) rose))));
+            },
+          )
+        where
+          calm_where : (drive : DriveNo) → Contains site.drives drive → (DriveFailed shelf old new drive.0 → ⊥) → has_drive looked.calm drive ≡ true
+          calm_where drive one_of never = elim (cases_bool (has_drive looked.calm drive)) [ inl so ↦ so | inr out ↦ absurd (never (later_too drive (not_calm drive one_of out))) ]
+
+      pub all_kept : KeptAmong shelf old new site.drives
+      all_kept = among_calm shelf old m2 new site.drives (drives_read looked.survey.replicas)
+          read_within
+          (λ drive has. (let r = unmapped (λ (x : Replica). x.line.at.drive) looked.survey.replicas drive has in subst (λ (d : DriveNo). shelf.faults m2 (OnDrive d.0) ≡ shelf.faults old (OnDrive d.0)) r.2 (read_faults r.0 r.1))) look_kept t_kept
+
+      -- the calls of one on which none failed
+      reads_then : (a b c : S) (j k l : ℕ) → MadeReads shelf a b j → MadeCalls shelf b c k l → MadeCalls shelf a c (j + k) l
+      reads_then a b c zero k l same took = subst (λ (s : S). MadeCalls shelf s c (0 + k) l) same (subst (λ (n : ℕ). MadeCalls shelf b c n l) (omega arith) took)
+      reads_then a b c (suc j) k l read took = took_more shelf.calls shelf.written a b c (suc j) k 0 l (suc j + k) l refl (omega arith) read took
+
+      counted_by : (e : BootEnd) → (n : ℕ) → MadeReads shelf old m2 n → (has_written e ≡ false → new ≡ m2) → IfAdopted e (λ o. MadeCalls shelf m2 new (8 * active_of o.seats) ((3 + blocks_for (length (record_text o.table))) * active_of o.seats)) → IsEndCounted shelf old new n e
+      counted_by (end.Adopted o) n read still took = reads_then old m2 new n (8 * active_of o.seats) ((3 + blocks_for (length (record_text o.table))) * active_of o.seats) read took
+      counted_by end.Empty n read still took = subst (λ (s : S). MadeReads shelf old s n) (sym (still refl)) read
+      counted_by (end.TwoDatabases a b) n read still took = subst (λ (s : S). MadeReads shelf old s n) (sym (still refl)) read
+      counted_by (end.NoQuorum readable needed) n read still took = subst (λ (s : S). MadeReads shelf old s n) (sym (still refl)) read
+      counted_by (end.Lost active listed) n read still took = tt
+      counted_by end.Spent n read still took = subst (λ (s : S). MadeReads shelf old s n) (sym (still refl)) read
+      counted_by end.Memory n read still took = tt
+
+      pub all_counted : IsTakingCounted shelf m2 new taken → (HaveAnswered site up looked.calm → (t : Tale) → shelf.tale m1 ≡ Some t → (n : ℕ) × MadeReads shelf m1 m2 n × AreLinesBy g site up no_drives (last t) site.lines n) → IsBootCounted shelf old new g site made
+      all_counted counted once = record {
+        most = between_then shelf.calls shelf.written old m2 new 0 (2 * length site.drives + most_reads site) 0 0 (8 * 50) most_blocks 0 (2 * length site.drives + most_reads site + 8 * 50) most_blocks (omega arith) (omega arith) (omega arith) looks_most counted.most;
+        clean = λ so t told. (
+            let is_calm = calm_of so in
+            let u = brought t told in
+            let one = once (λ drive one_of is_up. all_calm is_calm drive one_of) u.0 u.1 in
+            let every = count_all (has_drive up) site.drives (λ drive one_of. calm_up drive (all_calm is_calm drive one_of)) in
+            let calls : b_counted.calls ≡ 2 * length site.drives = omega (arith, every, b_counted.by.least, b_counted.by.most) in
+            let brought_by : MadeReads shelf old m1 (2 * length site.drives) = subst (λ (n : ℕ). MadeReads shelf old m1 n) calls b_counted.made in
+            let taken_calm = and_first taken.calm (not (is_memory taken.end)) (and_second calm (taken.calm && not (is_memory taken.end)) (sym clean_is ∙ so)) in (
+              one.0,
+              subst (λ (c : Contents). AreLinesBy g site up no_drives c site.lines one.0) (last_same t u.0 u.2.unwritten) one.2,
+              counted_by taken.end (2 * length site.drives + one.0) (reads_more shelf old m1 m2 (2 * length site.drives) one.0 (2 * length site.drives + one.0) refl brought_by one.1) answer.still (counted.calm taken_calm),
+            ));
+      }

@@ -1,0 +1,289 @@
+-- What a creation says by each moment and in the end, for each table of drives.
+use Rattle.std.proofs.Common.{◌≡◌, inl, inr, ℕ, ◌+◌, ◌*◌, ◌<◌, ◌≤◌, Bool, true, false, if◌then◌else◌, List, [], ◌∷◌, ◌++◌, length, Contains, slice_index_or, None, refl, sym, ◌∙◌, ap, subst, append_assoc, append-nil, arith}
+use Rattle.std.specs.Prelude.{flat_map, nat_lt}
+use Rattle.std.proofs.lemmas.Bool.Decides.{nat_tests}
+use Rattle.std.proofs.lemmas.List.{length-map}
+use Rattle.std.proofs.lemmas.List.Elements.{Contains-get_or}
+use Rattle.mdv_quorum.specs.declared.event.Event.TheVariants.{Formatted, Slotted, Told}
+use Rattle.mdv_quorum.specs.declared.event.SlotEnd.TheVariants.{Closed as LeftClosed}
+use Rattle.mdv_replica.specs.declared.forms.Gate.TheVariants.{Closed}
+use Rattle.mdv_replica.specs.declared.forms.Master.{Master}
+use Rattle.mdv_store_law.proofs.Parts.{part_front, part_mapped, part_of_part}
+use Rattle.mdv_store_law.specs.Log.{Writing as WritesLog, Written, log_after}
+use Rattle.mdv_shown.specs.Formats.{master_on}
+use Rattle.mdv_standing.specs.Creating.{IsCreating, first_mark, issued_log}
+use Rattle.mdv_standing.specs.Tracing.{IsCreationBegin, IsRun, IsStart, Traces, formats_at, written_at}
+use Rattle.mdv_standing.proofs.Creating.{may_write_first}
+use Rattle.mdv_standing.proofs.Stretches.{traced_answer, traced_first_write}
+use Rattle.mdv_standing.proofs.Tracing.{adds_begun, adds_none, adds_written, course_one, course_written, more, newest_begun, part_one, run_within, trace_weaker}
+use Rattle.mdv_store.specs.Acts.{Act, AreDoing, AreDone, blanks_asked, blanks_on, forms_asked}
+use Rattle.mdv_store.specs.Below.{Database, Event, Failures, First, Geometry, Identity, IsOwn, IsPart, IsReadyWith, IsTaking, Key, Log, Mark, Open, Replica, RestStands, Second, Site, SliceLine, Slot, Spot, Table, Tale, fills_at, gate_of, is_named, lists_of_spots, record_text, site_of, spot_on}
+use Rattle.mdv_store.specs.Commit.{AnyLog, AnyWorld}
+use Rattle.mdv_store.specs.Create.{AreAsked, AreOfCreation, CreateGoes, IsCreatedTo, MayCreate, replica_on, seats_asked, table_of}
+use Rattle.mdv_store.specs.Opened.{AreSeatsOf, IsOpenedAt, Opened}
+use Rattle.mdv_store.specs.Records.{Spells}
+use Rattle.mdv_store.specs.Seats.{AreHeld, AreLeft, AreNamed, TakesSlot, is_half_active, replicas_of, spot_of, spots_of}
+use Rattle.mdv_store.specs.Slots.{AreAbove, AreBodies, AreFills, IsWritten, SlottingEnds, SlottingMoment}
+use Rattle.mdv_store.specs.Text.{IsSpelled}
+use Rattle.mdv_store.specs.declared.seats.Seat.{Seat}
+use Rattle.mdv_votes.specs.Spots.{is_none}
+use Rattle.mdv_store.proofs.Acting.{done_split, doing_split, no_line}
+use Rattle.mdv_store.proofs.Clearing.{IsCleared, IsClearing, all_cleared, all_clearing, clearing_now, may_form, one_each}
+use Rattle.mdv_store.proofs.Forming.{IsFormingAt, IsGiven}
+use Rattle.mdv_store.proofs.Given.{ArePairsApart, IsOwner, all_given, slices_apart}
+use Rattle.mdv_store.proofs.Halves.{half_written, spot_in_spots}
+use Rattle.mdv_store.proofs.Marks.{slot_stays}
+use Rattle.mdv_store.proofs.Records.{record_spelled}
+use Rattle.mdv_store.proofs.Seated.{replica_is, room_for_text, seats_of_table, some_asked, spots_once}
+use Rattle.mdv_store.proofs.Sitting.{left_replica, left_seats}
+use Rattle.mdv_store.proofs.Slices.{IsFormed, all_formed, all_forming}
+use Rattle.mdv_store.proofs.Spotting.{asked_active, asked_named}
+use Rattle.mdv_store.proofs.Telling.{newest_written}
+
+none_false : (l : List Spot) → 1 ≤ length l → is_none l ≡ false
+none_false [] some = absurd (omega (arith, some))
+none_false (p ∷ l) some = refl
+
+module _ (g : Geometry) (all : List Database) (key : Key) (identity : Identity) (lines : List SliceLine) (count blocks : ℕ) (sizes : List ℕ) (t : Tale) (owner : IsOwner key identity) (asked : AreAsked sizes lines count blocks)
+    (may : MayCreate g all key identity lines (seats_asked key identity lines count blocks) t) where
+  abbrev site : Site
+  site = site_of g key
+
+  abbrev seats : List Seat
+  seats = seats_asked key identity lines count blocks
+
+  abbrev table : Table
+  table = table_of seats
+
+  abbrev log : Log
+  log = issued_log identity
+
+  abbrev begun : Log
+  begun = log_after log (WritesLog first_mark None [] table)
+
+  abbrev bytes : ℕ
+  bytes = length (record_text table)
+
+  abbrev Begin : List Event → Type 0
+  Begin = IsCreationBegin (lists_of_spots site table.plan.lists)
+
+  given : IsGiven g all key identity lines count blocks
+  given = all_given g all key identity lines count blocks sizes t owner asked may
+
+  pairs : ArePairsApart lines
+  pairs = slices_apart g all key identity lines count blocks sizes t owner asked may lines (λ l has. has) asked.once
+
+  -- the first place
+  abbrev line : SliceLine
+  line = slice_index_or lines 0 no_line
+
+  among : Contains lines line
+  among = (let some = asked.some in Contains-get_or lines 0 no_line (omega (arith, some)))
+
+  abbrev p : Spot
+  p = spot_on line blocks 0
+
+  abbrev Are : List Event → Type 0
+  Are = AreOfCreation g key seats
+
+  -- by a moment no table was begun
+  pub record IsUnbegun (m : Tale) : Type 0 where
+    pub goes : CreateGoes g key identity seats AnyWorld (λ log. log.family ≡ []) t m
+    pub rest : RestStands (Spells g) g all identity m
+
+  unbegun : (m : Tale) → Traces (Spells g) site identity log log (IsStart site) Are AnyWorld t m → RestStands (Spells g) g all identity m → IsUnbegun m
+  unbegun m traces rest = record { goes = record { es = []; course = tt; come = adds_none; traces = traces; after = refl }; rest = rest }
+
+  from_clearing : (m : Tale) → IsClearing g all key identity lines count blocks given asked.more t m → IsUnbegun m
+  from_clearing m c = unbegun m (trace_weaker (Spells g) site identity log log (IsStart site) (IsStart site) (IsStart site) AnyWorld (λ es. es ≡ []) Are t m (λ w known. known) (λ es none. inl none) (λ w known. tt) c.traces) c.rest
+
+  from_forming : (m : Tale) → IsFormingAt g all key identity lines count blocks t m → IsUnbegun m
+  from_forming m f =
+      let spots = spots_of seats in
+      let within = part_of_part (formats_at f.part) (formats_at spots) (formats_at spots ++ written_at p spots) (part_mapped Formatted f.part spots (subst (λ (l : List Spot). IsPart f.part l) f.whole (part_front f.part f.due)))
+      (part_front (formats_at spots) (written_at p spots)) in
+      unbegun m
+      (trace_weaker (Spells g) site identity log log (IsStart site) (IsStart site) AnyWorld AnyWorld (IsRun Begin (formats_at f.part)) Are t m (λ w known. known)
+      (λ es run. inr (p, run_within Begin (formats_at f.part) (formats_at spots ++ written_at p spots) es within run)) (λ w known. known) f.traces)
+      f.rest
+
+  -- the masters are blanked, where there are more than one on a slice
+  blanking : ((m : Tale) → AreDoing (blanks_asked lines count blocks) t m → IsClearing g all key identity lines count blocks given asked.more t m)
+      × ((u : Tale) → AreDone (blanks_asked lines count blocks) t u → IsCleared g all key identity lines count blocks given asked.more t (λ l. Contains lines l) u)
+  blanking = by (nat_lt 1 count) refl where
+    by : (b : Bool) → nat_lt 1 count ≡ b
+        → ((m : Tale) → AreDoing (if b then flat_map (blanks_on count blocks) lines else []) t m → IsClearing g all key identity lines count blocks given asked.more t m)
+        × ((u : Tale) → AreDone (if b then flat_map (blanks_on count blocks) lines else []) t u → IsCleared g all key identity lines count blocks given asked.more t (λ l. Contains lines l) u)
+    by true several = (
+      λ m is. all_clearing g all key identity lines count blocks given asked.more t may.clear m is,
+      λ u is. all_cleared g all key identity lines count blocks given asked.more t may.clear u is,
+    )
+    by false one = (
+      λ m is. subst (λ (w : Tale). IsClearing g all key identity lines count blocks given asked.more t w) (sym is) (clearing_now g all key identity lines count blocks given asked.more t may.clear),
+      λ u is. subst (λ (w : Tale). IsCleared g all key identity lines count blocks given asked.more t (λ l. Contains lines l) w) (sym is)
+          (one_each g all key identity lines count blocks given asked.more t may.clear (let few : count ≤ 1 = grind (arith, nat_tests) in let some = asked.more in omega (arith, few, some))),
+    )
+
+  abbrev acts : List Act
+  acts = blanks_asked lines count blocks ++ forms_asked key identity lines count blocks
+
+  pub acts_unbegun : (m : Tale) → AreDoing acts t m → IsUnbegun m
+  acts_unbegun m is = elim (doing_split (blanks_asked lines count blocks) (forms_asked key identity lines count blocks) t m is) [
+    | inl here ↦ from_clearing m (blanking.0 m here)
+    | inr behind ↦ from_forming m (all_forming g all key identity lines count blocks given t pairs behind.0 (may_form g all key identity lines count blocks given asked.more t behind.0 (blanking.1 behind.0 behind.1)) m behind.2)
+  ]
+
+  formed : (v : Tale) → AreDone acts t v → IsFormed g all key identity lines count blocks given t v
+  formed v is =
+      let two = done_split (blanks_asked lines count blocks) (forms_asked key identity lines count blocks) t v is in
+      all_formed g all key identity lines count blocks given t pairs two.0 (may_form g all key identity lines count blocks given asked.more t two.0 (blanking.1 two.0 two.1)) v two.2
+
+  -- The first table is written.
+  module _ (v : Tale) (is_done : AreDone acts t v) where
+    f : IsFormed g all key identity lines count blocks given t v
+    f = formed v is_done
+
+    first_same : (l : SliceLine) → master_on site identity l blocks count 0 ≡ (replica_on key identity l count blocks 0).first
+    first_same l =
+        let start : 16 + 0 * blocks ≡ 16 = omega arith in
+        λ i. record { identity = identity; key = key; slice = l.name; start = start i; blocks = blocks; index = 0; count = count }
+
+    pub held : AreHeld g key identity seats v
+    held = record {
+      each = λ r has image is.
+          let one = replica_is key identity count blocks lines r has in
+          subst (λ (x : Replica). IsOwn (Spells g) site identity x.line x.number image x.first x.head) (sym one.is)
+          (subst (λ (m : Master). IsOwn (Spells g) site identity one.line one.number image m (replica_on key identity one.line count blocks one.number).head) (first_same one.line) (f.own one.line one.number one.among one.lt image is));
+      once = spots_once key identity count blocks asked.least lines pairs asked.within;
+    }
+
+    named : AreNamed site table seats
+    named r has =
+        let one = replica_is key identity count blocks lines r has in
+        subst (λ (x : Replica). is_named (lists_of_spots site table.plan.lists) (spot_of x) ≡ true) (sym one.is) (given.names one.line one.number one.among one.lt)
+
+    shut : (slot : Slot) (r : Replica) (m : Mark) (n : ℕ) → r.head.first ≡ Closed → r.head.second ≡ Closed → gate_of r.head slot ≡ Open m n → ⊥
+    shut First r m n one two is = (let none : Closed ≡ Open m n = sym one ∙ is in cc (none))
+    shut Second r m n one two is = (let none : Closed ≡ Open m n = sym two ∙ is in cc (none))
+
+    above : AreAbove first_mark seats
+    above r has slot m n is =
+        let one = replica_is key identity count blocks lines r has in
+        absurd (shut slot r m n (ap (λ (x : Replica). x.head.first) one.is) (ap (λ (x : Replica). x.head.second) one.is) is)
+
+    module _ (body : List (List ℕ)) (spelled : IsSpelled table bytes body) where
+      bodies : AreBodies g seats first_mark bytes body table
+      bodies r has =
+          let fits = room_for_text key identity count blocks lines sizes asked r has in
+          let blocks_are = spelled.blocks in
+          let text = record_spelled g _ table may.sound may.of_geometry spelled.text in
+          record {
+            is = record { of_mark = record { boot = omega arith; count = omega arith }; in_slot = omega (arith, fits, blocks_are); in_room = omega (arith, fits); in_body = spelled.in_body; as_record = (table, text) };
+            spelled = text;
+          }
+
+      written : IsWritten g key identity seats first_mark bytes body begun table v
+      written = record { sound = may.sound; held = held; named = named; bodies = bodies; above = above; newest = newest_begun log first_mark None [] table }
+
+      abbrev spots : List Spot
+      spots = spots_of seats
+
+      abbrev opening : Event
+      opening = Slotted p LeftClosed
+
+      some_first : is_none (lists_of_spots site table.plan.lists).first ≡ false
+      some_first =
+          let names = asked_named g may.sound key identity count blocks lines may.sites in
+          let size = length-map (replicas_of seats) spot_of ∙ asked_active key identity count blocks lines in
+          let some = some_asked key identity count blocks lines sizes asked in
+          subst (λ (l : List Spot). is_none l ≡ false) (sym names) (none_false spots (omega (arith, size, some)))
+
+      first_write : Traces (Spells g) site identity log begun (IsStart site) (IsRun Begin (formats_at spots ++ opening ∷ [])) (IsTaking false first_mark []) t v
+      first_write =
+          let lt : 0 < count = (let more_than = asked.more in omega (arith, more_than)) in
+          more (Spells g) site identity log log (IsStart site) (IsCreating (lists_of_spots site table.plan.lists) f.made) Begin (formats_at spots) t v f.traces begun (IsTaking false first_mark []) (λ es. es ≡ opening ∷ []) (opening ∷ []) v
+          (λ fs is. part_one opening fs is) (traced_first_write (Spells g) site identity log v p table f.made refl some_first (f.has line 0 among lt) (given.names line 0 among lt))
+
+      fills : (now : List Spot) (m : Tale) → Traces (Spells g) site identity begun begun (IsTaking false first_mark []) (AreFills spots) (IsTaking false first_mark now) v m
+          → Traces (Spells g) site identity log begun (IsStart site) (IsRun Begin ((formats_at spots ++ opening ∷ []) ++ fills_at spots)) (IsTaking false first_mark now) t m
+      fills now m second =
+          more (Spells g) site identity log begun (IsStart site) (IsTaking false first_mark []) Begin (formats_at spots ++ opening ∷ []) t v first_write begun (IsTaking false first_mark now) (AreFills spots) (fills_at spots) m (λ fs is. is) second
+
+      told_last : ((formats_at spots ++ opening ∷ []) ++ fills_at spots) ++ Told ∷ [] ≡ formats_at spots ++ written_at p spots
+      told_last =
+          ap (λ (l : List Event). l ++ Told ∷ []) (append_assoc (formats_at spots) (opening ∷ []) (fills_at spots)) ∙ append_assoc (formats_at spots) (opening ∷ fills_at spots) (Told ∷ [])
+
+      -- by a moment its write was begun
+      pub writing_goes : (m : Tale) → SlottingMoment seats first_mark bytes body v m → CreateGoes g key identity seats AnyWorld AnyLog t m
+      writing_goes m slotting =
+          let plan = (formats_at spots ++ opening ∷ []) ++ fills_at spots in
+          let within = subst (λ (l : List Event). IsPart plan l) told_last (part_front plan (Told ∷ [])) in
+          record {
+            es = WritesLog first_mark None [] table ∷ [];
+            course = course_one g log (WritesLog first_mark None [] table) (may_write_first g identity log table refl refl refl);
+            come = adds_begun first_mark None [] table;
+            traces = trace_weaker (Spells g) site identity log begun (IsStart site) (IsStart site) (IsTaking false first_mark []) AnyWorld (IsRun Begin plan) Are t m (λ w known. known)
+                (λ es run. inr (p, run_within Begin plan (formats_at spots ++ written_at p spots) es within run)) (λ w known. tt) (fills [] m (slotting.traces g key identity begun table false [] written));
+            after = tt;
+          }
+
+      pub writing_rest : (m : Tale) → SlottingMoment seats first_mark bytes body v m → RestStands (Spells g) g all identity m
+      writing_rest m slotting = slotting.rest g key identity all table may.sound held bodies f.rest
+
+      -- in the end it was answered, where at least half of the places took it
+      module _ (failed : ℕ → Failures) (new : List Seat) (left : AreLeft failed (TakesSlot first_mark bytes) seats new) (half : is_half_active new ≡ true) (u : Tale) (ends : SlottingEnds seats new first_mark bytes body v u) where
+        abbrev made : Opened
+        made = record { key = key; identity = identity; mark = first_mark; table = table; seats = new }
+
+        was : (r : Replica) → Contains (replicas_of new) r → (x : Replica) × Contains (replicas_of seats) x × TakesSlot first_mark bytes x r
+        was r has = left_replica failed (TakesSlot first_mark bytes) seats new r left has
+
+        are : AreSeatsOf table new
+        are = left_seats failed (TakesSlot first_mark bytes) table table seats new (slot_stays first_mark bytes) refl left (seats_of_table key identity count blocks lines sizes asked)
+
+        opened : IsOpenedAt g made u
+        opened = record {
+          sound = may.sound;
+          of_geometry = may.of_geometry;
+          held = ends.held g key identity table may.sound held bodies;
+          named = λ r has.
+              let one = was r has in
+              let took = one.2 in
+              subst (λ (x : Replica). is_named (lists_of_spots site table.plan.lists) (spot_of x) ≡ true) (sym took.2) (named one.0 one.1);
+          shown = ends.shown g key identity table may.sound held bodies above;
+        }
+
+        lie : (r : Replica) → Contains (replicas_of new) r → Contains site.lines r.line
+        lie r has =
+            let one = was r has in
+            let took = one.2 in
+            let its = replica_is key identity count blocks lines one.0 one.1 in
+            subst (λ (x : Replica). Contains site.lines x.line) (sym took.2) (subst (λ (x : Replica). Contains site.lines x.line) (sym its.is) (may.sites its.line its.among))
+
+        goes : CreateGoes g key identity seats (IsReadyWith (spots_of new)) (IsCreatedTo made) t u
+        goes =
+            let took = spots_of new ++ [] in
+            let answered = log_after begun Written in
+            let newest = newest_begun log first_mark None [] table in
+            let enough = half_written g key may.sound table new took are half lie (λ r has. spot_in_spots new [] r has) in
+            let taken = fills took u (ends.traces g key identity begun table false [] written) in
+            let all_told = more (Spells g) site identity log begun (IsStart site) (IsTaking false first_mark took) Begin ((formats_at spots ++ opening ∷ []) ++ fills_at spots) t u taken answered (IsReadyWith took) (λ es. es ≡ Told ∷ []) (Told ∷ []) u
+            (λ fs is. part_one Told fs is) (traced_answer (Spells g) site identity begun u first_mark table false took enough newest) in
+            record {
+              es = WritesLog first_mark None [] table ∷ (Written ∷ []);
+              course = course_written g log first_mark None [] table (may_write_first g identity log table refl refl refl);
+              come = adds_written first_mark None [] table;
+              traces = trace_weaker (Spells g) site identity log answered (IsStart site) (IsStart site) (IsReadyWith took) (IsReadyWith (spots_of new)) (IsRun Begin (((formats_at spots ++ opening ∷ []) ++ fills_at spots) ++ Told ∷ [])) Are t u (λ w known. known)
+                  (λ es run. inr (p, subst (λ (l : List Event). IsRun Begin l es) told_last run)) (λ w known. subst (λ (l : List Spot). IsReadyWith l w) (append-nil (spots_of new)) known) all_told;
+              after = record {
+                newest = newest_written begun first_mark table newest;
+                tellable = record {
+                  before = [];
+                  may = record { newest = record { mark = first_mark; table = table; changes = []; is_written = true }; older = []; family = refl; written = refl; later = []; changes = refl; creation = λ none. (refl, refl); untold = tt };
+                  newest = refl;
+                };
+              };
+            }
+
+        pub made_ends : IsOpenedAt g made u × CreateGoes g key identity seats (IsReadyWith (spots_of new)) (IsCreatedTo made) t u
+        made_ends = (opened, goes)

@@ -1,0 +1,305 @@
+-- The two passes of a boot: what they come to, and what they cost.
+use Rattle.std.proofs.Common.{◌≡◌, ◌⊎◌, inl, inr, ◌<◌, ◌≤◌, ◌+◌, ◌*◌, ◌^◌, max, ℕ, Bool, true, false, List, [], ◌∷◌, Contains, length, nat_eq, refl, sym, ◌∙◌, subst, ap, arith}
+use Rattle.std.proofs.Math.Nat.{mul-le-mul_left}
+use Rattle.std.proofs.lemmas.Bool.{eqb-false, eqb-true}
+use Rattle.mdv_base.specs.Causes.{Rose, RoseOnce}
+use Rattle.mdv_shelf.proofs.Between.{between_then, between_wider}
+use Rattle.mdv_shelf.proofs.Counts.{took_more}
+use Rattle.mdv_shelf.proofs.Moments.{ends_both, ends_more, moments_after, moments_end, moments_weaker}
+use Rattle.mdv_shelf.specs.Calls.{OnDrive}
+use Rattle.mdv_shelf.specs.Drives.{KeptAmong}
+use Rattle.mdv_shelf.specs.Shelves.{AtEachTale, AtEnd, DriveFailures}
+use Rattle.mdv_standing.specs.Adopting.{drawn}
+use Rattle.mdv_store.specs.Below.{DriveNo, Failures, Ghosts, IsSynced, Key, Place, Replica, Table, Tale, at_of, places_of, record_text}
+use Rattle.mdv_store.specs.Boot.{IfAdopted, TakesBoth, is_enough}
+use Rattle.mdv_store.specs.BootCounts.{most_blocks}
+use Rattle.mdv_store.specs.Claims.{ClaimingEnds, ClaimingMoment}
+use Rattle.mdv_store.specs.Counts.{ArePassCounted, MadeCallsBetween}
+use Rattle.mdv_store.specs.Opened.{IsOpen, Opened, least_room}
+use Rattle.mdv_store.specs.Seats.{AreLaid, AreLeft, HaveRoom, IsLaid, TakesClaim, TakesSlot, active_of, drive_of, drives_of, replicas_of, seats_area}
+use Rattle.mdv_store.specs.Slots.{SlottingEnds, SlottingMoment}
+use Rattle.mdv_store.specs.Taking.{IsCalmOn, IsReadied, IsRewriteAnswer, IsRewriteEnd, IsTakingCounted, RewriteEnds, RewriteMoment, StaySynced}
+use Rattle.mdv_store.specs.Text.{IsSpelled, blocks_for}
+use Rattle.mdv_store.specs.declared.booting.BootEnd.{BootEnd}
+use Rattle.mdv_store.specs.declared.booting.BootEnd.TheVariants as end
+use Rattle.mdv_store.specs.declared.booting.Hand.{Hand}
+use Rattle.mdv_store.specs.declared.booting.Taken.{Taken}
+use Rattle.mdv_store.specs.declared.seats.Seat.{Seat}
+use Rattle.mdv_store.proofs.Among.{among_calm, is_one_of}
+use Rattle.mdv_store.proofs.Bringing.{one_number, same_drive}
+use Rattle.mdv_store.proofs.Passes.{all_left, later, left_area, left_as, left_both, left_calm, left_most, left_told, mapped, once_rose, pass_synced, some_lost, takes_both, unmapped}
+use Rattle.mdv_store.proofs.Quiet.{quiet_more, quiet_wider}
+use Rattle.mdv_store.proofs.Quorums.{more_enough}
+use Rattle.mdv_store.proofs.Rewriting.{blank_goes, both_none_above, claims_go, ends_go, opened, rest_goes, slots_go}
+use Rattle.mdv_store.proofs.Sitting.{active_most, left_count, left_replica, left_seats, some_active}
+
+-- at most fifty are active
+few_active : (seats : List Seat) → length seats ≤ 50 → active_of seats ≤ 50
+few_active seats few = omega (arith, few, active_most seats)
+
+module _ {S : Type 0} (shelf : Ghosts S) (key : Key) (hand : Hand) (table : Table) (ready : IsReadied hand table) (old mid : S) (now : List Seat)
+    (left : AreLeft (DriveFailures shelf old mid) (TakesClaim hand.number) hand.seats now) (moments : AtEachTale shelf (ClaimingMoment hand.seats hand.number) old mid) (ends : AtEnd shelf (ClaimingEnds hand.seats now hand.number) old mid)
+    (counted : ArePassCounted shelf old mid 2 1 hand.seats now) (kept : KeptAmong shelf old mid (drives_of hand.seats)) where
+  claim_drive : (r m : Replica) → TakesClaim hand.number r m → drive_of m ≡ drive_of r
+  claim_drive r m took = ap drive_of took
+
+  claim_moment : (t m : Tale) → ClaimingMoment hand.seats hand.number t m → RewriteMoment key hand table t m
+  claim_moment t m moment = record {
+    quiet = moment.quiet;
+    goes = λ g to log covers known. claims_go key hand table ready g t to log covers m moment;
+    rest = λ g all to. moment.rest g key hand.identity all to.sound ready.small to.held;
+    blank = λ g to. moment.blank g key hand.identity to.sound ready.small to.held;
+  }
+
+  pub first_moments : AtEachTale shelf (RewriteMoment key hand table) old mid
+  first_moments = moments_weaker (ClaimingMoment hand.seats hand.number) (RewriteMoment key hand table) (shelf.tale old) (shelf.tale mid) claim_moment moments
+
+  first_stays : (t u : Tale) → ClaimingEnds hand.seats now hand.number t u → ClaimingMoment hand.seats hand.number t u → (drive : DriveNo) → ((DriveFailures shelf old mid drive.0).some → ⊥) → IsSynced drive.0 t → IsSynced drive.0 u
+  first_stays t u e moment = pass_synced (DriveFailures shelf old mid) (TakesClaim hand.number) hand.seats now t u claim_drive left moment.quiet.outside e.synced
+
+  claim_both : AtEnd shelf (λ t u. ClaimingEnds hand.seats now hand.number t u × ClaimingMoment hand.seats hand.number t u) old mid
+  claim_both = ends_both (ClaimingEnds hand.seats now hand.number) (ClaimingMoment hand.seats hand.number) _ (shelf.tale old) (shelf.tale mid) (λ t u e m. (e, m)) ends (moments_end (ClaimingMoment hand.seats hand.number) (shelf.tale old) (shelf.tale mid) moments)
+
+  -- not enough claimed
+  module _ (few : is_enough key now ≡ false) (taken : Taken) (end_is : taken.end ≡ end.Lost (active_of now) (length now)) (calm_is : taken.calm ≡ false) where
+    pub first_answer : IsRewriteAnswer shelf old mid key hand table taken
+    first_answer =
+        let lost = some_lost (DriveFailures shelf old mid) (TakesClaim hand.number) hand.seats now left (more_enough key hand.seats now (left_count (DriveFailures shelf old mid) (TakesClaim hand.number) hand.seats now left) ready.enough few) in
+        record {
+          ended = subst (λ (e : BootEnd). IsRewriteEnd (DriveFailures shelf old mid) key hand table e) (sym end_is) (record {
+            now = now;
+            left = left_as (DriveFailures shelf old mid) (DriveFailures shelf old mid) (TakesClaim hand.number) (λ r n. Unit {0}) hand.seats now (λ r has so. so) (λ r has so. so) (λ r m took. tt) left;
+            few = few;
+            active_is = refl;
+            listed_is = refl;
+          });
+          calm = subst (λ (b : Bool). IsCalmOn shelf old mid (replicas_of hand.seats) b) (sym calm_is) (lost.0, lost.1, once_rose _ _ lost.2);
+        }
+
+    pub first_end : AtEnd shelf (λ t u. IfAdopted taken.end (λ o. RewriteEnds key hand table o t u)) old mid
+    first_end t is = (let e = ends t is in (e.0, e.1, subst (λ (x : BootEnd). IfAdopted x (λ o. RewriteEnds key hand table o t e.0)) (sym end_is) tt))
+
+    pub first_synced : AtEnd shelf (StaySynced shelf old mid) old mid
+    first_synced t is = (let e = claim_both t is in (e.0, e.1, λ drive was never. first_stays t e.0 e.2.0 e.2.1 drive (λ some. never (once_rose _ _ some)) was))
+
+    pub first_counted : IsTakingCounted shelf old mid taken
+    first_counted = record {
+      most =
+          let most = few_active hand.seats ready.seats.few in
+          between_wider shelf.calls shelf.written old mid _ (2 * active_of hand.seats) (1 * active_of hand.seats) 0 (8 * 50) most_blocks (omega arith) (omega (arith, most)) (omega (arith, most)) counted.some;
+      calm = λ so. absurd (cc (so, calm_is));
+    }
+
+  -- enough claimed, and the table was written
+  module _ (enough : is_enough key now ≡ true) (bytes : ℕ) (body : List (List ℕ)) (spelled : IsSpelled table bytes body) (new : S) (last : List Seat) (left_last : AreLeft (DriveFailures shelf mid new) (TakesSlot (drawn hand.number) bytes) now last)
+      (slot_moments : AtEachTale shelf (SlottingMoment now (drawn hand.number) bytes body) mid new) (slot_ends : AtEnd shelf (SlottingEnds now last (drawn hand.number) bytes body) mid new)
+      (slot_counted : ArePassCounted shelf mid new 6 (2 + length body) now last) (slot_kept : KeptAmong shelf mid new (drives_of now)) where
+    slot_drive : (r m : Replica) → TakesSlot (drawn hand.number) bytes r m → drive_of m ≡ drive_of r
+    slot_drive r m took = ap drive_of took.2
+
+    within_now : (drive : DriveNo) → Contains (drives_of now) drive → (r : Replica) × Contains (replicas_of now) r × (r.line.at.drive ≡ drive)
+    within_now drive one_of = unmapped (λ (x : Replica). x.line.at.drive) (replicas_of now) drive one_of
+
+    was_calm : (drive : DriveNo) → Contains (drives_of now) drive → shelf.faults mid (OnDrive drive.0) ≡ shelf.faults old (OnDrive drive.0)
+    was_calm drive one_of =
+        let m = within_now drive one_of in
+        let r = left_calm (DriveFailures shelf old mid) (TakesClaim hand.number) hand.seats now left m.0 m.1 in
+        subst (λ (d : ℕ). shelf.faults mid (OnDrive d) ≡ shelf.faults old (OnDrive d)) (sym (claim_drive r.0 m.0 r.3) ∙ ap (λ (d : DriveNo). d.0) m.2) r.2
+
+    in_seats : (drive : DriveNo) → Contains (drives_of now) drive → Contains (drives_of hand.seats) drive
+    in_seats drive one_of =
+        let m = within_now drive one_of in
+        let r = left_calm (DriveFailures shelf old mid) (TakesClaim hand.number) hand.seats now left m.0 m.1 in
+        subst (Contains (drives_of hand.seats)) (sym (ap (λ (x : Replica). x.line.at.drive) r.3) ∙ m.2) (mapped (λ (x : Replica). x.line.at.drive) (replicas_of hand.seats) r.0 r.1)
+
+    pub both_kept : KeptAmong shelf old new (drives_of hand.seats)
+    both_kept = among_calm shelf old mid new (drives_of hand.seats) (drives_of now) in_seats was_calm kept slot_kept
+
+    behind : (d : ℕ) → RoseOnce (shelf.faults old (OnDrive d)) (shelf.faults mid (OnDrive d)) → RoseOnce (shelf.faults old (OnDrive d)) (shelf.faults new (OnDrive d))
+    behind d rose = later (λ n. shelf.faults old (OnDrive n)) (λ n. shelf.faults mid (OnDrive n)) (λ n. shelf.faults new (OnDrive n)) d rose (elim (is_one_of (drives_of now) (record { 0 = d })) [
+      | inl one_of ↦ on_it one_of
+      | inr out ↦ inl (slot_kept.others (OnDrive d) (λ among. out (subst (Contains (drives_of now)) (same_drive among.0 (record { 0 = d }) (sym (one_number d among.0.0 among.2))) among.1)))
+    ])
+      where
+        on_it : Contains (drives_of now) (record { 0 = d }) → (shelf.faults new (OnDrive d) ≡ shelf.faults mid (OnDrive d)) ⊎ ((shelf.faults mid (OnDrive d) ≡ shelf.faults old (OnDrive d)) × RoseOnce (shelf.faults mid (OnDrive d)) (shelf.faults new (OnDrive d)))
+        on_it one_of =
+            let m = within_now (record { 0 = d }) one_of in
+            let here : drive_of m.0 ≡ d = ap (λ (x : DriveNo). x.0) m.2 in
+            elim (left_told (DriveFailures shelf mid new) (TakesSlot (drawn hand.number) bytes) now last left_last m.0 m.1) [
+              | inl some ↦ inr (was_calm (record { 0 = d }) one_of, subst (λ (n : ℕ). RoseOnce (shelf.faults mid (OnDrive n)) (shelf.faults new (OnDrive n))) here some)
+              | inr stays ↦ inl (subst (λ (n : ℕ). shelf.faults new (OnDrive n) ≡ shelf.faults mid (OnDrive n)) here stays.2)
+            ]
+
+    both_left : (V : Replica → Replica → Type 0) → ((r m n : Replica) → TakesClaim hand.number r m → TakesSlot (drawn hand.number) bytes m n → V r n) → AreLeft (DriveFailures shelf old new) V hand.seats last
+    both_left V both =
+        left_both (λ n. shelf.faults old (OnDrive n)) (λ n. shelf.faults mid (OnDrive n)) (λ n. shelf.faults new (OnDrive n)) (TakesClaim hand.number) (TakesSlot (drawn hand.number) bytes) V claim_drive both behind hand.seats now last left left_last
+
+    slot_moment : (t u m : Tale) → ClaimingEnds hand.seats now hand.number t u × ClaimingMoment hand.seats hand.number t u → SlottingMoment now (drawn hand.number) bytes body u m → RewriteMoment key hand table t m
+    slot_moment t u m first moment = record {
+      quiet = quiet_more (seats_area hand.seats) t u m first.1.quiet (quiet_wider (seats_area now) (seats_area hand.seats) u m (left_area (DriveFailures shelf old mid) hand.number hand.seats now left) moment.quiet);
+      goes = λ g to log covers known. slots_go key hand table ready g t to log covers (DriveFailures shelf old mid) now u left first.0 enough bytes body spelled m moment;
+      rest = λ g all to rest.
+          rest_goes key hand table ready g t to (DriveFailures shelf old mid) now u left first.0 bytes body spelled all m moment (first.1.rest g key hand.identity all to.sound ready.small to.held rest);
+      blank = λ g to ask other another blank.
+          blank_goes key hand table ready g t to (DriveFailures shelf old mid) now u left first.0 bytes body spelled m moment ask other another (first.1.blank g key hand.identity to.sound ready.small to.held ask other another blank);
+    }
+
+    pub second_moments : AtEachTale shelf (RewriteMoment key hand table) old new
+    second_moments =
+        moments_after (ClaimingMoment hand.seats hand.number) (λ t u. ClaimingEnds hand.seats now hand.number t u × ClaimingMoment hand.seats hand.number t u) (SlottingMoment now (drawn hand.number) bytes body) (RewriteMoment key hand table)
+        (shelf.tale old) (shelf.tale mid) (shelf.tale new) claim_moment slot_moment moments claim_both slot_moments
+
+    slot_both : AtEnd shelf (λ t u. SlottingEnds now last (drawn hand.number) bytes body t u × SlottingMoment now (drawn hand.number) bytes body t u) mid new
+    slot_both =
+        ends_both (SlottingEnds now last (drawn hand.number) bytes body) (SlottingMoment now (drawn hand.number) bytes body) _ (shelf.tale mid) (shelf.tale new) (λ t u e m. (e, m)) slot_ends
+        (moments_end (SlottingMoment now (drawn hand.number) bytes body) (shelf.tale mid) (shelf.tale new) slot_moments)
+
+    pub second_synced : AtEnd shelf (StaySynced shelf old new) old new
+    second_synced = ends_more (λ t u. ClaimingEnds hand.seats now hand.number t u × ClaimingMoment hand.seats hand.number t u) (λ u v. SlottingEnds now last (drawn hand.number) bytes body u v × SlottingMoment now (drawn hand.number) bytes body u v)
+        (StaySynced shelf old new) (shelf.tale old) (shelf.tale mid) (shelf.tale new)
+        (λ t u v one two drive was never.
+        pass_synced (DriveFailures shelf mid new) (TakesSlot (drawn hand.number) bytes) now last u v slot_drive left_last two.1.quiet.outside two.0.synced drive
+        (λ some. never (second_rose (shelf.faults old (OnDrive drive.0)) (shelf.faults mid (OnDrive drive.0)) (shelf.faults new (OnDrive drive.0)) (kept.keeps.no_fewer_faults (OnDrive drive.0)) some))
+        (first_stays t u one.0 one.1 drive (λ some. never (first_rose (shelf.faults old (OnDrive drive.0)) (shelf.faults mid (OnDrive drive.0)) (shelf.faults new (OnDrive drive.0)) (slot_kept.keeps.no_fewer_faults (OnDrive drive.0)) some)) was))
+        claim_both slot_both
+      where
+        second_rose : (a b c : ℕ) → a ≤ b → RoseOnce b c → Rose a c
+        second_rose a b c up rose = omega (arith, up, rose)
+
+        first_rose : (a b c : ℕ) → b ≤ c → RoseOnce a b → Rose a c
+        first_rose a b c up rose = omega (arith, up, rose)
+
+    pub last_few : length last ≤ 50
+    last_few = omega (arith, left_count (DriveFailures shelf mid new) (TakesSlot (drawn hand.number) bytes) now last left_last, left_count (DriveFailures shelf old mid) (TakesClaim hand.number) hand.seats now left, ready.seats.few)
+
+    -- no slot has more blocks than that
+    text_few : blocks_for bytes ≤ 4094
+    text_few =
+        let some = some_active hand.seats (omega (arith, ready.enough)) in
+        let fits = ready.room some.0 some.1 in
+        let short = ready.short some.0 some.1 in
+        omega (arith, fits, short, spelled.counted)
+
+    pub second_most : MadeCallsBetween shelf old new 0 (8 * 50) most_blocks
+    second_most =
+        let most = few_active hand.seats ready.seats.few in
+        let less = left_most (DriveFailures shelf old mid) (TakesClaim hand.number) hand.seats now left in
+        let few_blocks : 2 + length body ≤ 4096 = omega (arith, spelled.blocks, text_few) in
+        let product = mul-le-mul_left (active_of now) few_blocks in
+        between_then shelf.calls shelf.written old mid new _ (2 * active_of hand.seats) (1 * active_of hand.seats) _ (6 * active_of now) ((2 + length body) * active_of now) 0 (8 * 50) most_blocks (omega arith) (omega (arith, most, less))
+        (omega (arith, most, less, product)) counted.some slot_counted.some
+
+    -- where not enough took it
+    module _ (few : is_enough key last ≡ false) (taken : Taken) (end_is : taken.end ≡ end.Lost (active_of last) (length last)) (calm_is : taken.calm ≡ false) where
+      pub lost_answer : IsRewriteAnswer shelf old new key hand table taken
+      lost_answer =
+          let all = both_left (λ r n. Unit {0}) (λ r m n one two. tt) in
+          let lost = some_lost (DriveFailures shelf old new) (λ r n. Unit {0}) hand.seats last all (more_enough key hand.seats last (left_count (DriveFailures shelf old new) (λ r n. Unit {0}) hand.seats last all) ready.enough few) in
+          record {
+            ended = subst (λ (e : BootEnd). IsRewriteEnd (DriveFailures shelf old new) key hand table e) (sym end_is) (record { now = last; left = all; few = few; active_is = refl; listed_is = refl });
+            calm = subst (λ (b : Bool). IsCalmOn shelf old new (replicas_of hand.seats) b) (sym calm_is) (lost.0, lost.1, once_rose _ _ lost.2);
+          }
+
+      pub lost_end : AtEnd shelf (λ t u. IfAdopted taken.end (λ o. RewriteEnds key hand table o t u)) old new
+      lost_end = ends_more (ClaimingEnds hand.seats now hand.number) (SlottingEnds now last (drawn hand.number) bytes body) (λ t u. IfAdopted taken.end (λ o. RewriteEnds key hand table o t u)) (shelf.tale old) (shelf.tale mid) (shelf.tale new)
+          (λ t u v one two. subst (λ (x : BootEnd). IfAdopted x (λ o. RewriteEnds key hand table o t v)) (sym end_is) tt) ends slot_ends
+
+      pub lost_counted : IsTakingCounted shelf old new taken
+      lost_counted = record { most = second_most; calm = λ so. absurd (cc (so, calm_is)) }
+
+    -- where enough did
+    module _ (enough_last : is_enough key last ≡ true) where
+      abbrev o : Opened
+      o = record { key = key; identity = hand.identity; mark = drawn hand.number; table = table; seats = last }
+
+      pub all_took : AreLeft (DriveFailures shelf old new) (TakesBoth hand.number bytes) hand.seats last
+      all_took = both_left (TakesBoth hand.number bytes) (λ r m n. takes_both hand.number bytes r m n)
+
+      calm_by : (b : Bool) → b ≡ nat_eq (active_of last) (active_of hand.seats) → IsCalmOn shelf old new (replicas_of hand.seats) b
+      calm_by true is = λ drive. elim (is_one_of (drives_of hand.seats) drive) [
+        | inl one_of ↦ (
+            let r = unmapped (λ (x : Replica). x.line.at.drive) (replicas_of hand.seats) drive one_of in
+            let none = all_left (DriveFailures shelf old new) (TakesBoth hand.number bytes) hand.seats last all_took (eqb-true (active_of last) (active_of hand.seats) (sym is)) r.0 r.1 in
+            subst (λ (d : ℕ). shelf.faults new (OnDrive d) ≡ shelf.faults old (OnDrive d)) (ap (λ (d : DriveNo). d.0) r.2) none)
+        | inr out ↦ both_kept.others (OnDrive drive.0) (λ among. out (subst (Contains (drives_of hand.seats)) (same_drive among.0 drive (sym (one_number drive.0 among.0.0 among.2))) among.1))
+      ]
+      calm_by false is =
+          let most = left_most (DriveFailures shelf old new) (TakesBoth hand.number bytes) hand.seats last all_took in
+          let lost = some_lost (DriveFailures shelf old new) (TakesBoth hand.number bytes) hand.seats last all_took (fewer (active_of last) (active_of hand.seats) most (eqb-false (active_of last) (active_of hand.seats) (sym is))) in
+          (lost.0, lost.1, once_rose _ _ lost.2)
+        where
+          fewer : (a b : ℕ) → a ≤ b → (a ≡ b → ⊥) → a < b
+          fewer a b most differs = omega (arith, most, differs)
+
+      pub done_answer : (calm : Bool) → calm ≡ nat_eq (active_of last) (active_of hand.seats) → IsRewriteAnswer shelf old new key hand table (record { end = end.Adopted o; calm = calm })
+      done_answer calm is = record {
+        ended = record { left = subst (λ (n : ℕ). AreLeft (DriveFailures shelf old new) (TakesBoth hand.number n) hand.seats last) spelled.counted all_took; enough = enough_last; is = refl };
+        calm = calm_by calm is;
+      }
+
+      pub done_end : AtEnd shelf (λ t u. RewriteEnds key hand table o t u) old new
+      done_end = ends_more (ClaimingEnds hand.seats now hand.number) (SlottingEnds now last (drawn hand.number) bytes body) (RewriteEnds key hand table o) (shelf.tale old) (shelf.tale mid) (shelf.tale new)
+          (λ t u v one two. record {
+            opened = λ g to. opened key hand table ready g t to (DriveFailures shelf old mid) now u left one bytes body spelled (DriveFailures shelf mid new) last v left_last two;
+            goes = λ g to log covers known. ends_go key hand table ready g t to log covers (DriveFailures shelf old mid) now u left one enough bytes body spelled (DriveFailures shelf mid new) last v left_last two enough_last;
+          }) ends slot_ends
+
+      pub done_counted : (calm : Bool) → calm ≡ nat_eq (active_of last) (active_of hand.seats) → IsTakingCounted shelf old new (record { end = end.Adopted o; calm = calm })
+      done_counted calm is = record {
+        most = second_most;
+        calm = λ so.
+            let same = eqb-true (active_of last) (active_of hand.seats) (sym is ∙ so) in
+            let one = left_most (DriveFailures shelf old mid) (TakesClaim hand.number) hand.seats now left in
+            let two = left_most (DriveFailures shelf mid new) (TakesSlot (drawn hand.number) bytes) now last left_last in
+            let mid_same : active_of now ≡ active_of hand.seats = omega (arith, one, two, same) in
+            let last_same : active_of last ≡ active_of now = omega (arith, one, two, same) in
+            took_more shelf.calls shelf.written old mid new (2 * active_of hand.seats) (6 * active_of now) (1 * active_of hand.seats) ((2 + length body) * active_of now) (8 * active_of last) ((3 + blocks_for (length (record_text table))) * active_of last)
+            (omega (arith, mid_same, last_same)) (blocks_add (length body) (blocks_for (length (record_text table))) (active_of hand.seats) (active_of now) (active_of last) (spelled.blocks ∙ ap blocks_for spelled.counted) mid_same last_same)
+            (counted.all (omega (arith, ready.enough)) mid_same) (slot_counted.all (omega (arith, ready.enough, mid_same)) last_same);
+      }
+        where
+          blocks_add : (l k a b c : ℕ) → l ≡ k → b ≡ a → c ≡ b → 1 * a + (2 + l) * b ≡ (3 + k) * c
+          blocks_add l k a b c same one two = subst (λ (n : ℕ). 1 * a + (2 + n) * b ≡ (3 + k) * c) (sym same) (subst (λ (n : ℕ). 1 * a + (2 + k) * n ≡ (3 + k) * c) (sym one) (subst (λ (n : ℕ). 1 * a + (2 + k) * a ≡ (3 + k) * n) (sym (two ∙ one)) (omega arith)))
+
+-- the longest slot
+least_most : (places : List Place) → least_room places ≤ 4094
+least_most [] = omega arith
+least_most (p ∷ ps) = omega (arith, least_most ps)
+
+module _ (hand : Hand) (table : Table) (ready : IsReadied hand table) where
+  pub text_most : blocks_for (length (record_text table)) ≤ 4094
+  text_most =
+      let some = some_active hand.seats (omega (arith, ready.enough)) in
+      let fits = ready.room some.0 some.1 in
+      let short = ready.short some.0 some.1 in
+      omega (arith, fits, short)
+
+  pub room_short : (room : ℕ) → room ≡ max (least_room (places_of table.plan.lists)) (blocks_for (length (record_text table))) → 512 * room < 2 ^ 32
+  room_short room is = omega (arith, is, text_most, least_most (places_of table.plan.lists))
+
+  module _ (failed : ℕ → Failures) (now : List Seat) (left : AreLeft failed (TakesClaim hand.number) hand.seats now) where
+    pub claimed_few : length now ≤ 50
+    claimed_few = omega (arith, left_count failed (TakesClaim hand.number) hand.seats now left, ready.seats.few)
+
+    pub claimed_laid : (sizes next : List ℕ) → next ≡ sizes → AreLaid sizes hand.seats → AreLaid next now
+    claimed_laid sizes next same laid n has =
+        let one = left_replica failed (TakesClaim hand.number) hand.seats now n left has in
+        let was = laid one.0 one.1 in
+        subst (λ (s : List ℕ). IsLaid s n) (sym same) (subst (λ (x : Replica). IsLaid sizes x) (sym one.2) (record { placed = was.placed; short = was.short }))
+
+    pub claimed_room : (bytes : ℕ) (body : List (List ℕ)) → IsSpelled table bytes body → HaveRoom (length body) now
+    claimed_room bytes body spelled n has =
+        let one = left_replica failed (TakesClaim hand.number) hand.seats now n left has in
+        let fits = ready.room one.0 one.1 in
+        omega (arith, fits, spelled.blocks, spelled.counted, ap (λ (r : Replica). r.first.blocks) one.2)
+
+  module _ (failed : ℕ → Failures) (bytes : ℕ) (key : Key) (last : List Seat) (left : AreLeft failed (TakesBoth hand.number bytes) hand.seats last) where
+    pub done_open : (room : ℕ) → room ≡ max (least_room (places_of table.plan.lists)) (blocks_for (length (record_text table))) → IsOpen (record { key = key; identity = hand.identity; mark = drawn hand.number; table = table; seats = last }) room
+    done_open room is = record {
+      boot = ready.small;
+      count = omega arith;
+      seats = left_seats failed (TakesBoth hand.number bytes) table table hand.seats last (λ r n took. ap at_of took.2) refl left ready.seats;
+      whole = omega (arith, is);
+      short = room_short room is;
+      marks = λ half n has. (let one = left_replica failed (TakesBoth hand.number bytes) hand.seats last n left has in both_none_above hand.number bytes one.0 n (ready.above one.0 one.1) one.2);
+    }

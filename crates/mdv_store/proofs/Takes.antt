@@ -1,0 +1,57 @@
+-- What a boot makes of a survey, by what it chose.
+use Rattle.std.proofs.Common.{◌≡◌, ◌⊎◌, inl, inr, ℕ, true, false, Option, None, Some, refl, subst}
+use Rattle.std.specs.Prelude.{MatchOption}
+use Rattle.mdv_shelf.proofs.Moments.{moments_weaker}
+use Rattle.mdv_shelf.specs.Shelves.{AtEachTale, AtEnd, DriveFailures}
+use Rattle.mdv_survey.specs.Choice.{IsChoice, IsEnough, IsTheOne}
+use Rattle.mdv_survey.specs.Newest.{HasTable}
+use Rattle.mdv_survey.specs.declared.choosing.Choice.TheVariants as chosen
+use Rattle.mdv_survey.specs.declared.replica.Newest.{Newest}
+use Rattle.mdv_survey.specs.declared.replica.Survey.{Survey}
+use Rattle.mdv_store.specs.Adopting.{AdoptEnds, AdoptMoment, HasOne, IsAdoptAnswer, WasReadOf}
+use Rattle.mdv_store.specs.Below.{Geometry, Ghosts, Replica, Site, Tale, last}
+use Rattle.mdv_store.specs.Boot.{IsEndBy, is_memory}
+use Rattle.mdv_store.specs.Booting.{has_written}
+use Rattle.mdv_store.specs.Taking.{IsTaken, TakingEnds, TakingMoment, WasRead}
+use Rattle.mdv_store.specs.declared.booting.Taken.{Taken}
+use Rattle.mdv_store.specs.declared.looking.Looked.{Looked}
+use Rattle.mdv_store.proofs.Adoptions.{not_adopted, still_calm}
+
+-- a newest table is chosen
+pub has_one : (survey : Survey) (number : ℕ) → IsChoice survey (chosen.Newest number) → HasOne survey
+has_one survey number choice = by survey.newest choice where
+  by : (o : Option Newest) → MatchOption o (chosen.Newest number ≡ chosen.Empty) (λ newest. IsEnough survey.replicas newest number) → MatchOption o ⊥ (λ newest. (replica : Replica) × IsTheOne survey.replicas newest replica)
+  by None is = cc (is)
+  by (Some newest) is = (is.replica, is.the)
+
+-- where none is there is none
+pub none_newest : (survey : Survey) → IsChoice survey chosen.Empty → survey.newest ≡ None
+none_newest survey choice = by survey.newest refl choice where
+  by : (o : Option Newest) → survey.newest ≡ o → MatchOption o (chosen.Empty ≡ chosen.Empty) (λ newest. ⊥) → survey.newest ≡ None
+  by None is so = is
+  by (Some newest) is so = absurd so
+
+-- nothing was done
+pub still_taken : {S : Type 0} (shelf : Ghosts S) (now : S) (site : Site) (looked : Looked) (taken : Taken) → has_written taken.end ≡ false → taken.calm ≡ true → IsEndBy (DriveFailures shelf now now) site looked.survey taken.end → IsTaken shelf now now site looked taken
+still_taken shelf now site looked taken still calm by = record { ended = inr by; calm = still_calm shelf now taken still looked.survey.replicas calm; still = λ so. refl; laid = not_adopted taken.end _ still }
+
+module _ (site : Site) (looked : Looked) (newest : Newest) (newest_is : looked.survey.newest ≡ Some newest) (one : HasOne looked.survey) where
+  the : (replica : Replica) × IsTheOne looked.survey.replicas newest replica
+  the = subst (λ (o : Option Newest). MatchOption o ⊥ (λ n. (replica : Replica) × IsTheOne looked.survey.replicas n replica)) newest_is one
+
+  was_of : (g : Geometry) (t : Tale) → WasRead g site looked t → WasReadOf g site looked.survey.replicas newest t
+  was_of g t was = record { sound = was.sound; site_is = was.site_is; each = was.of.each; table = subst (λ (o : Option Newest). HasTable g (last t) looked.survey.replicas o) newest_is was.of.table; synced = was.synced }
+
+  module _ {S : Type 0} (shelf : Ghosts S) (old new : S) (taken : Taken) where
+    pub newest_answer : IsAdoptAnswer shelf old new site looked.survey.replicas newest taken → IsTaken shelf old new site looked taken
+    newest_answer answer = record { ended = by answer.ended; calm = answer.calm; still = answer.still; laid = answer.laid } where
+      by : (is_memory taken.end ≡ true) ⊎ ((survey : Survey) (replica : Replica) → survey.replicas ≡ looked.survey.replicas → survey.newest ≡ Some newest → IsTheOne looked.survey.replicas newest replica → IsEndBy (DriveFailures shelf old new) site survey taken.end)
+          → (is_memory taken.end ≡ true) ⊎ IsEndBy (DriveFailures shelf old new) site looked.survey taken.end
+      by (inl memory) = inl memory
+      by (inr ended) = inr (ended looked.survey the.0 refl newest_is the.1)
+
+    pub newest_moments : AtEachTale shelf (AdoptMoment site looked.survey.replicas newest taken.end) old new → AtEachTale shelf (TakingMoment site looked taken.end) old new
+    newest_moments = moments_weaker (AdoptMoment site looked.survey.replicas newest taken.end) (TakingMoment site looked taken.end) (shelf.tale old) (shelf.tale new) (λ t m moment g was. moment g the.0 the.1 (was_of g t was))
+
+    pub newest_ends : AtEnd shelf (AdoptEnds site looked.survey.replicas newest taken.end) old new → AtEnd shelf (TakingEnds site looked taken.end) old new
+    newest_ends ends t told = (let e = ends t told in (e.0, e.1, λ g was. e.2 g the.0 the.1 (was_of g t was)))

@@ -1,0 +1,70 @@
+use Rattle.std.proofs.Common.{◌<◌, ◌*◌, length, ap, arith}
+use Rattle.mdv_shelf.proofs.Among.{among_wider}
+use Rattle.mdv_store.specs.Booting.{has_written}
+use Rattle.mdv_store.specs.Seats.{active_of, drives_of}
+use Rattle.mdv_store.specs.Taking.{drives_read}
+use Rattle.mdv_store.proofs.Adoptions.{adopt_still, adopted_answer, adopted_ends, adopted_moments, got_within, hand_drives, hand_laid, seated_small}
+use Rattle.mdv_store.proofs.Reading.{hand_ready}
+use Rattle.mdv_store.proofs.Sitting.{active_most}
+use Rattle.mdv_store.proofs.booting.adopt.Goals as goal
+use Rattle.mdv_store.proofs.booting.adopt.Goals.{After-rewrite}
+
+pub in_hand-requires-clause-numbered : goal.in_hand-requires-clause-numbered
+in_hand-requires-clause-numbered g c = λ r has. seated_small c.args.site.now r (c.requires.seated r has)
+
+pub in_hand-requires-clause-within : goal.in_hand-requires-clause-within
+in_hand-requires-clause-within g c = got_within c.args.replicas.now c.args.newest.replica c.requires.newest.replica c.requires.newest.one_of
+
+pub returns-in-Err-clause-moments : goal.returns-in-Err-clause-moments
+returns-in-Err-clause-moments g c = adopt_still c.args.site.now c.args.replicas.now c.args.newest c.quiet.result.end (g.S.Shelf.tale c.args.shelf.now) (ap has_written c.quiet.ensures.end)
+
+pub overflow_mul-readable : goal.overflow_mul-readable
+overflow_mul-readable g c = omega (arith, c.active-readable.ensures, ap active_of c.as_slice.ensures, active_most c.in-Ok.hand.seats, c.in-Ok.ensures.few)
+
+pub returns-then-readable-listed-clause-moments : goal.returns-then-readable-listed-clause-moments
+returns-then-readable-listed-clause-moments g c =
+    adopt_still c.args.site.now c.args.replicas.now c.args.newest c.quiet-then-readable-listed.result.end (g.S.Shelf.tale c.args.shelf.now) (ap has_written c.quiet-then-readable-listed.ensures.end)
+
+pub returns-then-hand-ge-NUMBER_LIMIT-clause-moments : goal.returns-then-hand-ge-NUMBER_LIMIT-clause-moments
+returns-then-hand-ge-NUMBER_LIMIT-clause-moments g c =
+    adopt_still c.args.site.now c.args.replicas.now c.args.newest c.quiet-then-hand-ge-NUMBER_LIMIT.result.end (g.S.Shelf.tale c.args.shelf.now) (ap has_written c.quiet-then-hand-ge-NUMBER_LIMIT.ensures.end)
+
+pub rewrite-requires-clause-laid : goal.rewrite-requires-clause-laid
+rewrite-requires-clause-laid g c =
+    hand_laid c.args.site.now c.args.replicas.now c.args.newest c.in-Ok.hand c.in-Ok.ensures c.requires.seated c.requires.newest
+    (omega (arith, c.if-readable-listed.false, c.active-readable.ensures, ap active_of c.as_slice.ensures, ap length c.as_slice-listed.ensures)) (g.S.Shelf.sizes c.args.shelf.now) c.requires.on_shelf
+
+pub rewrite-requires-clause-ready : goal.rewrite-requires-clause-ready
+rewrite-requires-clause-ready g c =
+    hand_ready c.args.site.now c.args.replicas.now c.args.newest c.in-Ok.hand c.in-Ok.ensures c.requires.seated
+    (omega (arith, c.if-readable-listed.false, c.active-readable.ensures, ap active_of c.as_slice.ensures, ap length c.as_slice-listed.ensures)) (omega (arith, c.if-hand-ge-NUMBER_LIMIT.false))
+
+enough : (g : _) (c : After-rewrite g) → length c.in-Ok.hand.seats < 2 * active_of c.in-Ok.hand.seats
+enough g c = omega (arith, c.if-readable-listed.false, c.active-readable.ensures, ap active_of c.as_slice.ensures, ap length c.as_slice-listed.ensures)
+
+pub returns-clause-answer : goal.returns-clause-answer
+returns-clause-answer g c =
+    let more = enough g (goal.at.returns-clause-answer g c).After-rewrite in
+    adopted_answer c.args.site.now c.args.replicas.now c.args.newest c.in-Ok.hand c.in-Ok.ensures c.requires.seated c.requires.newest more g.S.Shelf c.args.shelf.now c.rewrite.new.shelf c.rewrite.result c.rewrite.ensures.answer
+    (omega (arith, c.if-hand-ge-NUMBER_LIMIT.false))
+    (hand_laid c.args.site.now c.args.replicas.now c.args.newest c.in-Ok.hand c.in-Ok.ensures c.requires.seated c.requires.newest more (g.S.Shelf.sizes c.args.shelf.now) c.requires.on_shelf)
+
+pub returns-clause-moments : goal.returns-clause-moments
+returns-clause-moments g c =
+    let more = enough g (goal.at.returns-clause-moments g c).After-rewrite in
+    adopted_moments c.args.site.now c.args.replicas.now c.args.newest c.in-Ok.hand c.in-Ok.ensures c.requires.seated c.requires.newest more g.S.Shelf c.args.shelf.now c.rewrite.new.shelf c.rewrite.result c.rewrite.ensures.answer
+    c.rewrite.ensures.moments
+
+pub returns-clause-end : goal.returns-clause-end
+returns-clause-end g c =
+    let more = enough g (goal.at.returns-clause-end g c).After-rewrite in
+    adopted_ends c.args.site.now c.args.replicas.now c.args.newest c.in-Ok.hand c.in-Ok.ensures c.requires.seated c.requires.newest more g.S.Shelf c.args.shelf.now c.rewrite.new.shelf c.rewrite.result c.rewrite.ensures.answer
+    c.rewrite.ensures.end
+
+pub returns-clause-counted : goal.returns-clause-counted
+returns-clause-counted g c =
+    let more = enough g (goal.at.returns-clause-counted g c).After-rewrite in (
+      c.rewrite.ensures.counted.0,
+      among_wider g.S.Shelf c.args.shelf.now c.rewrite.new.shelf (drives_of c.in-Ok.hand.seats) (drives_read c.args.replicas.now)
+          (hand_drives c.args.site.now c.args.replicas.now c.args.newest c.in-Ok.hand c.in-Ok.ensures c.requires.seated c.requires.newest more) c.rewrite.ensures.counted.1,
+    )

@@ -1,0 +1,51 @@
+use Rattle.std.proofs.Common.{◌<◌, ◌≤◌, List, ℕ, length, ap, arith, subst, sym}
+use Rattle.mdv_shelf.proofs.Moments.{moments_weaker}
+use Rattle.mdv_store.specs.Slots.{SlottingMoment}
+use Rattle.mdv_store.specs.Passing.{IsPassing, slotting}
+use Rattle.mdv_store.specs.Seats.{IsLaid, drive_of, replicas_of}
+use Rattle.mdv_store.proofs.Slotting.{slotting_ends, slotting_moment}
+use Rattle.mdv_store.proofs.Stepping.{so_far_active, so_far_length, so_far_more, so_far_none, whole_counted, whole_end, whole_left}
+use Rattle.mdv_store.proofs.seats.slot_all.Goals as goal
+use Rattle.mdv_store.proofs.seats.slot_all.Goals.{After-loop-index}
+
+pub loop-index-init : goal.loop-index-init
+loop-index-init g c = (so_far_none g.S.Shelf (slotting c.args.mark c.args.bytes c.args.body.now) c.args.shelf.now c.args.seats.now, ap length c.as_slice-index-end.ensures)
+
+pub slot_at-requires-clause-within : goal.slot_at-requires-clause-within
+slot_at-requires-clause-within g c =
+    let same = so_far_length g.S.Shelf (slotting c.args.mark c.args.bytes c.args.body.now) c.args.shelf.now c.args.seats.now c.loop-index.shelf c.loop-index.seats c.loop-index.index c.loop-index.invariant.0 in
+    omega (arith, same, c.loop-index.invariant.1, c.loop-index-test.true)
+
+pub slot_at-requires-clause-laid : goal.slot_at-requires-clause-laid
+slot_at-requires-clause-laid g c r active =
+    let one = so_far_active g.S.Shelf (slotting c.args.mark c.args.bytes c.args.body.now) c.args.shelf.now c.args.seats.now c.loop-index.shelf c.loop-index.seats c.loop-index.index c.loop-index.invariant.0 r active in
+    (subst (λ (sizes : List ℕ). IsLaid sizes r) (sym c.loop-index.invariant.0.come.kept.keeps.same_sizes) (c.requires.laid r one), c.requires.room r one)
+
+pub loop-index-preserved : goal.loop-index-preserved
+loop-index-preserved g c =
+    let same = so_far_length g.S.Shelf (slotting c.args.mark c.args.bytes c.args.body.now) c.args.shelf.now c.args.seats.now c.loop-index.shelf c.loop-index.seats c.loop-index.index c.loop-index.invariant.0 in
+    let within : c.loop-index.index < length c.loop-index.seats = omega (arith, same, c.loop-index.invariant.1, c.loop-index-test.true) in (
+      so_far_more g.S.Shelf (slotting c.args.mark c.args.bytes c.args.body.now) c.args.shelf.now c.args.seats.now (λ r n took. ap drive_of took.2) c.loop-index.shelf c.slot_at.new.shelf c.loop-index.seats c.slot_at.new.seats c.loop-index.index c.loop-index.invariant.0 within c.slot_at.ensures,
+      c.loop-index.invariant.1,
+    )
+
+over : (g : _) (c : After-loop-index g) → length c.loop-index.seats ≤ c.loop-index.index
+over g c =
+    let same = so_far_length g.S.Shelf (slotting c.args.mark c.args.bytes c.args.body.now) c.args.shelf.now c.args.seats.now c.loop-index.shelf c.loop-index.seats c.loop-index.index c.loop-index.invariant.0 in
+    omega (arith, same, c.loop-index.invariant.1, c.loop-index-test.false)
+
+pub returns-clause-left : goal.returns-clause-left
+returns-clause-left g c = whole_left g.S.Shelf (slotting c.args.mark c.args.bytes c.args.body.now) c.args.shelf.now c.args.seats.now c.loop-index.shelf c.loop-index.seats c.loop-index.index c.loop-index.invariant.0 (over g c)
+
+pub returns-clause-moments : goal.returns-clause-moments
+returns-clause-moments g c =
+    moments_weaker (IsPassing (slotting c.args.mark c.args.bytes c.args.body.now) (replicas_of c.args.seats.now)) (SlottingMoment c.args.seats.now c.args.mark c.args.bytes c.args.body.now) (g.S.Shelf.tale c.args.shelf.now) (g.S.Shelf.tale c.loop-index.shelf)
+    (λ t m. slotting_moment c.args.mark c.args.bytes c.args.body.now c.args.seats.now t (λ r one. ((c.requires.laid r one).placed.least, c.requires.room r one)) m) c.loop-index.invariant.0.come.moments
+
+pub returns-clause-end : goal.returns-clause-end
+returns-clause-end g c t is =
+    let end = whole_end g.S.Shelf (slotting c.args.mark c.args.bytes c.args.body.now) c.args.shelf.now c.args.seats.now c.loop-index.shelf c.loop-index.seats c.loop-index.index c.loop-index.invariant.0 (over g c) t is in
+    (end.0, end.1, slotting_ends c.args.mark c.args.bytes c.args.body.now c.args.seats.now t c.loop-index.seats end.0 end.2)
+
+pub returns-clause-counted : goal.returns-clause-counted
+returns-clause-counted g c = whole_counted g.S.Shelf (slotting c.args.mark c.args.bytes c.args.body.now) c.args.shelf.now c.args.seats.now c.loop-index.shelf c.loop-index.seats c.loop-index.index c.loop-index.invariant.0 (over g c)

@@ -1,0 +1,82 @@
+-- What a boot writes: by each moment, and in the end.
+use Rattle.std.specs.Prelude.{◌≡◌, ◌⊎◌, ℕ, Bool, true, false, List, [], Contains}
+use Rattle.mdv_standing.specs.Laws.{ShowsNoTable}
+use Rattle.mdv_standing.specs.Others.{Anything}
+use Rattle.mdv_survey.specs.Choice.{is_of}
+use Rattle.mdv_survey.specs.Replica.{IsFoundIn}
+use Rattle.mdv_store.specs.Below.{Area, Core, Database, DriveNo, Event, Everywhere, Geometry, Identity, IsBootRun, IsReadyWith, IsSynced, Log, Replica, RestStands, Site, Spot, Tale, TracesFrom, last, nowhere, site_area}
+use Rattle.mdv_store.specs.Blank.{StayBlank}
+use Rattle.mdv_store.specs.Boot.{IfAdopted}
+use Rattle.mdv_store.specs.Commit.{AnyLog, AnyWorld, IsNewestWritten}
+use Rattle.mdv_store.specs.Opened.{IsOpenedAt, Opened}
+use Rattle.mdv_store.specs.Quiet.{IsQuiet}
+use Rattle.mdv_store.specs.Records.{Spells}
+use Rattle.mdv_store.specs.Seats.{replicas_of, seats_area, spots_of}
+use Rattle.mdv_store.specs.declared.booting.BootEnd.{BootEnd}
+use Rattle.mdv_store.specs.declared.booting.BootEnd.TheVariants as end
+use Rattle.mdv_store.specs.declared.booting.Booted.{Booted}
+use Rattle.mdv_store.specs.declared.seats.Seat.{Seat}
+
+-- only one that adopts, or is lost meanwhile, writes
+abbrev pub has_written : BootEnd → Bool
+has_written (end.Adopted o) = true
+has_written end.Empty = false
+has_written (end.TwoDatabases a b) = false
+has_written (end.NoQuorum readable needed) = false
+has_written (end.Lost active listed) = true
+has_written end.Spent = false
+has_written end.Memory = false
+
+-- the blocks that it may write
+abbrev pub boot_area : Site → Bool → Area
+boot_area site true = site_area site
+boot_area site false = nowhere
+
+-- no event of the votes, or a boot's: it looks at these places, claims some of those that it seats, and writes the table to some, one of them first
+abbrev pub AreOfBoot : (read seated : List Spot) → List Event → Type 0
+AreOfBoot read seated es = (es ≡ []) ⊎ ((p : Spot) × IsBootRun read seated p seated es)
+
+-- the log of the database goes on with nothing asked, and its worlds by a boot's events
+abbrev pub BootGoes : Geometry → Site → Identity → (read seated : List Spot) → (Core → Type 0) → (Log → Type 0) → Tale → Tale → Type 0
+BootGoes g site identity read seated Then After t m =
+    TracesFrom (Spells g) g site identity AnyLog [] Anything (AreOfBoot read seated) Then After t m
+
+-- What is written is written for one database, whose log goes on so, and nowhere but at replicas of it that were found as the boot began. All others stand,
+-- and those that showed no table show none.
+pub record Writes (g : Geometry) (site : Site) (identity : Identity) (t m : Tale) : Type 0 where
+  pub read : List Spot
+  pub seats : List Seat
+  pub found : (r : Replica) → Contains (replicas_of seats) r → IsFoundIn g site (last t) r × (is_of identity r ≡ true)
+  pub within : IsQuiet (seats_area seats) t m
+  pub goes : BootGoes g site identity read (spots_of seats) AnyWorld AnyLog t m
+  pub rest : (all : List Database) → RestStands (Spells g) g all identity t → RestStands (Spells g) g all identity m
+  pub blank : StayBlank g identity t m
+
+-- for that one which it adopts, where it adopts one
+abbrev pub WritesFor : Geometry → Site → BootEnd → Tale → Tale → Type 0
+WritesFor g site (end.Adopted o) t m = Writes g site o.identity t m
+WritesFor g site end.Empty t m = Unit {0}
+WritesFor g site (end.TwoDatabases a b) t m = Unit {0}
+WritesFor g site (end.NoQuorum readable needed) t m = Unit {0}
+WritesFor g site (end.Lost active listed) t m = (identity : Identity) × Writes g site identity t m
+WritesFor g site end.Spent t m = Unit {0}
+WritesFor g site end.Memory t m = Unit {0}
+
+-- By each moment nothing was told; a boot that adopts nothing and isn't lost has written nothing, and what another one has written is for one database.
+pub record BootMoment (g : Geometry) (site : Site) (answer : BootEnd) (t m : Tale) : Type 0 where
+  pub quiet : IsQuiet (boot_area site (has_written answer)) t m
+  pub writes : WritesFor g site answer t m
+
+-- what is open at the end: whatever a crash leaves has the table at each active place, and the log's newest table is this one, whose write was answered
+pub record IsBootedTo (g : Geometry) (site : Site) (o : Opened) (t u : Tale) : Type 0 where
+  pub opened : IsOpenedAt g o u
+  pub read : List Spot
+  pub seated : List Spot
+  pub goes : BootGoes g site o.identity read seated (IsReadyWith (spots_of o.seats)) (λ log. IsNewestWritten log o.mark o.table) t u
+
+-- In the end what was adopted is there. Where nothing is found, and no call failed, no replica shows a table, whatever a crash leaves. And of a drive on
+-- which no call failed no crash takes back what is read.
+pub record BootEnds (failed : ℕ → Type 0) (g : Geometry) (site : Site) (answer : Booted) (t u : Tale) : Type 0 where
+  pub adopted : IfAdopted answer.end (λ o. IsBootedTo g site o t u)
+  pub empty : answer.end ≡ end.Empty → answer.clean ≡ true → Everywhere (λ image. (identity : Identity) → ShowsNoTable (Spells g) site identity image) u
+  pub synced : (drive : DriveNo) → Contains site.drives drive → (failed drive.0 → ⊥) → IsSynced drive.0 u

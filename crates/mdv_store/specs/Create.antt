@@ -1,0 +1,173 @@
+-- What a creation says: of what it is asked, of its answer, of each moment, and of the end.
+use Rattle.std.specs.Prelude.{◌≡◌, ◌⊎◌, ◌<◌, ◌≤◌, ◌+◌, ◌*◌, ◌^◌, nat_lt, if◌then◌else◌, ℕ, zero, suc, false, List, [], ◌∷◌, length, map, flat_map, slice_index_or, AllPairs, Contains, Some, None, Result, Ok, Err, IsTrue}
+use Rattle.mdv_shelf.specs.Drives.{KeptAmong}
+use Rattle.mdv_shelf.specs.Shelves.{AtEnd, DriveFailures, MadeCalls}
+use Rattle.mdv_standing.specs.Blanking.{MayClear}
+use Rattle.mdv_standing.specs.Creating.{first_mark, issued_log}
+use Rattle.mdv_standing.specs.Holding.{IsOneOf}
+use Rattle.mdv_standing.specs.Tracing.{GoesTraced, IsCreationRun, IsStart}
+use Rattle.mdv_store_law.specs.Log.{IsNewestTellable}
+use Rattle.mdv_shown.specs.Site.{size_on}
+use Rattle.mdv_replica.specs.Form.{formatted_head}
+use Rattle.mdv_table.specs.declared.plan.Lists.TheVariants.{One}
+use Rattle.mdv_store.specs.Below.{Core, Database, DriveNo, Event, Failures, Geometry, Ghosts, Identity, IsOfGeometry, IsReadyWith, IsSound, Key, Log, Replica, RestStands, SliceLine, Spot, Table, Tale, lists_of_spots, place_on, record_text, site_of}
+use Rattle.mdv_store.specs.Commit.{AnyLog, AnyWorld, IsNewestWritten}
+use Rattle.mdv_store.specs.Counts.{MadeCallsBetween}
+use Rattle.mdv_store.specs.Opened.{IsOpenedAt, Opened}
+use Rattle.mdv_store.specs.Quiet.{IsQuiet}
+use Rattle.mdv_store.specs.Records.{Spells}
+use Rattle.mdv_store.specs.Seats.{AreHeld, AreLaid, AreLeft, TakesSlot, active_of, is_half_active, seats_area, spots_of}
+use Rattle.mdv_store.specs.Text.{blocks_for}
+use Rattle.mdv_store.specs.declared.creating.CreateFault.{CreateFault}
+use Rattle.mdv_store.specs.declared.creating.CreateFault.TheVariants as unmade
+use Rattle.mdv_store.specs.declared.seats.Seat.{Seat}
+
+-- A creation is asked for places that there are: on each slice so many, one behind another, within it and its drive; fifty at most, and no slice twice.
+pub record AreAsked (sizes : List ℕ) (lines : List SliceLine) (count blocks : ℕ) : Type 0 where
+  pub some : 1 ≤ length lines
+  pub more : 1 ≤ count
+  pub few : length lines * count ≤ 50
+  pub least : 16 ≤ blocks
+  pub most : blocks ≤ 8192
+  pub within : (line : SliceLine) → Contains lines line → 16 + count * blocks ≤ line.at.blocks
+  pub drive : (line : SliceLine) → Contains lines line → line.at.drive.0 < length sizes
+  pub laid : (line : SliceLine) → Contains lines line → line.at.start + line.at.blocks ≤ slice_index_or sizes line.at.drive.0 0
+  pub small : (line : SliceLine) → Contains lines line → slice_index_or sizes line.at.drive.0 0 < 2 ^ 64
+  pub once : AllPairs (λ (a b : SliceLine). a ≡ b → ⊥) lines
+
+abbrev pub drives_asked : List SliceLine → List DriveNo
+drives_asked lines = map (λ (line : SliceLine). line.at.drive) lines
+
+-- the replica of this number as it is formatted
+abbrev pub replica_on : Key → Identity → SliceLine → ℕ → ℕ → ℕ → Replica
+replica_on key identity line count blocks k = record {
+  line = line;
+  number = k;
+  first = record { identity = identity; key = key; slice = line.name; start = 16; blocks = blocks; index = 0; count = count };
+  head = formatted_head (place_on line blocks count k) key identity 1;
+}
+
+-- its place, with that replica
+abbrev pub seat_on : Key → Identity → SliceLine → ℕ → ℕ → ℕ → Seat
+seat_on key identity line count blocks k = record { place = (place_on line blocks count k).place; replica = Some (replica_on key identity line count blocks k) }
+
+-- the places of a slice from this number on, so many of them, each with its replica
+abbrev pub seats_on : Key → Identity → SliceLine → ℕ → ℕ → ℕ → ℕ → List Seat
+seats_on key identity line count blocks k zero = []
+seats_on key identity line count blocks k (suc n) =
+    seat_on key identity line count blocks k ∷ seats_on key identity line count blocks (k + 1) n
+
+-- those of all slices, in their order
+abbrev pub seats_asked : Key → Identity → List SliceLine → ℕ → ℕ → List Seat
+seats_asked key identity lines count blocks = flat_map (λ (line : SliceLine). seats_on key identity line count blocks 0 count) lines
+
+-- the table without volumes that lists these places
+abbrev pub table_of : List Seat → Table
+table_of seats = record { plan = record { lists = One (map (λ (s : Seat). s.place) seats); volumes = [] }; status = record {} }
+
+module _ (failed : ℕ → Failures) (key : Key) (identity : Identity) (lines : List SliceLine) (count blocks : ℕ) where
+  abbrev seats : List Seat
+  seats = seats_asked key identity lines count blocks
+
+  -- each place was formatted, and the table written to each: these are left
+  abbrev pub IsTried : List Seat → Type 0
+  IsTried now = AreLeft failed (TakesSlot first_mark (length (record_text (table_of seats)))) seats now
+
+  pub record IsMade (o : Opened) : Type 0 where
+    pub tried : IsTried o.seats
+    pub half : IsTrue (is_half_active o.seats)
+    pub is : o ≡ record { key = key; identity = identity; mark = first_mark; table = table_of seats; seats = o.seats }
+
+  pub record IsLost (active listed : ℕ) : Type 0 where
+    pub now : List Seat
+    pub tried : IsTried now
+    pub few : is_half_active now ≡ false
+    pub active_is : active ≡ active_of now
+    pub listed_is : listed ≡ length now
+
+  -- a call failed on one drive, and none on any other
+  pub record HasFailed : Type 0 where
+    pub drive : DriveNo
+    pub one_of : Contains (drives_asked lines) drive
+    pub here : (failed drive.0).some
+    pub elsewhere : (other : DriveNo) → (other ≡ drive → ⊥) → (failed other.0).none
+
+  abbrev pub CreateAnswer : Result Opened CreateFault → Type 0
+  CreateAnswer (Ok o) = IsMade o
+  CreateAnswer (Err unmade.Failed) = HasFailed
+  CreateAnswer (Err (unmade.Lost active listed)) = IsLost active listed
+  CreateAnswer (Err unmade.Memory) = (drive : ℕ) → (failed drive).none
+
+-- The new database is one of all, without a table yet, and nothing of it is found; what lies on the slices of others shows no table; and the first table
+-- is one of the table of drives, by which each slice ends within its drive.
+pub record MayCreate (g : Geometry) (all : List Database) (key : Key) (identity : Identity) (lines : List SliceLine) (seats : List Seat) (t : Tale) : Type 0 where
+  pub sound : IsSound g
+  pub sites : (line : SliceLine) → Contains lines line → Contains (site_of g key).lines line
+  pub within : (line : SliceLine) → Contains lines line → line.at.start + line.at.blocks ≤ size_on (site_of g key) line
+  pub of_geometry : IsOfGeometry g (table_of seats)
+  pub one_of : IsOneOf all key identity
+  pub clear : MayClear (Spells g) g all key identity lines t
+
+-- Behind all formats: no call had failed by then, and whatever a crash leaves each place has its replica.
+pub record WereFormed {S : Type 0} (shelf : Ghosts S) (old new : S) (key : Key) (identity : Identity) (lines : List SliceLine) (count blocks : ℕ) : Type 0 where
+  pub formed : S
+  pub calm : (drive : ℕ) → (DriveFailures shelf old formed drive).none
+  pub before : KeptAmong shelf old formed (drives_asked lines)
+  pub behind : KeptAmong shelf formed new (drives_asked lines)
+  pub held : AtEnd shelf (λ t v. (g : Geometry) (all : List Database) → MayCreate g all key identity lines (seats_asked key identity lines count blocks) t → AreHeld g key identity (seats_asked key identity lines count blocks) v) old formed
+
+-- each place was formatted, where a table was written; and those that are left lie where it may be written
+abbrev pub HasFormed : {S : Type 0} → Ghosts S → S → S → Key → Identity → List SliceLine → ℕ → ℕ → Result Opened CreateFault → Type 0
+HasFormed shelf old new key identity lines count blocks (Ok o) = WereFormed shelf old new key identity lines count blocks × AreLaid (shelf.sizes new) o.seats
+HasFormed shelf old new key identity lines count blocks (Err unmade.Failed) = Unit {0}
+HasFormed shelf old new key identity lines count blocks (Err (unmade.Lost active listed)) = WereFormed shelf old new key identity lines count blocks
+HasFormed shelf old new key identity lines count blocks (Err unmade.Memory) = Unit {0}
+
+pub record IsCreated {S : Type 0} (shelf : Ghosts S) (old new : S) (key : Key) (identity : Identity) (lines : List SliceLine) (count blocks : ℕ) (result : Result Opened CreateFault) : Type 0 where
+  pub came : CreateAnswer (DriveFailures shelf old new) key identity lines count blocks result
+  pub formed : HasFormed shelf old new key identity lines count blocks result
+
+-- no event of the votes, or a creation's
+abbrev pub AreOfCreation : Geometry → Key → List Seat → List Event → Type 0
+AreOfCreation g key seats es = (es ≡ []) ⊎ ((p : Spot) × IsCreationRun (lists_of_spots (site_of g key) (table_of seats).plan.lists) (spots_of seats) p (spots_of seats) es)
+
+-- the log of the issued creation goes on with nothing more asked, and its worlds by a creation's events
+abbrev pub CreateGoes : Geometry → Key → Identity → List Seat → (Core → Type 0) → (Log → Type 0) → Tale → Tale → Type 0
+CreateGoes g key identity seats Then After t m =
+    GoesTraced (Spells g) g (site_of g key) identity [] (IsStart (site_of g key)) (AreOfCreation g key seats) Then After t m (issued_log identity)
+
+-- By each moment nothing was told, and nothing done but at the places; the new database's log goes on, and its worlds by a creation's events; and all
+-- other databases stand.
+pub record CreateMoment (key : Key) (identity : Identity) (lines : List SliceLine) (count blocks : ℕ) (t m : Tale) : Type 0 where
+  pub quiet : IsQuiet (seats_area (seats_asked key identity lines count blocks)) t m
+  pub goes : (g : Geometry) (all : List Database) → MayCreate g all key identity lines (seats_asked key identity lines count blocks) t → CreateGoes g key identity (seats_asked key identity lines count blocks) AnyWorld AnyLog t m
+  pub rest : (g : Geometry) (all : List Database) → MayCreate g all key identity lines (seats_asked key identity lines count blocks) t → RestStands (Spells g) g all identity m
+
+-- the log's newest table is the first one, whose write was answered, and the `ok` of the creation may be told
+pub record IsCreatedTo (o : Opened) (log : Log) : Type 0 where
+  pub newest : IsNewestWritten log o.mark o.table
+  pub tellable : IsNewestTellable log None
+
+-- what is known at the end, by the answer: a creation that failed has written no table
+abbrev pub IsEnded : Geometry → Key → Identity → List Seat → Result Opened CreateFault → Tale → Tale → Type 0
+IsEnded g key identity asked (Ok o) t u = IsOpenedAt g o u × CreateGoes g key identity asked (IsReadyWith (spots_of o.seats)) (IsCreatedTo o) t u
+IsEnded g key identity asked (Err unmade.Failed) t u = CreateGoes g key identity asked AnyWorld (λ log. log.family ≡ []) t u
+IsEnded g key identity asked (Err (unmade.Lost active listed)) t u = Unit {0}
+IsEnded g key identity asked (Err unmade.Memory) t u = u ≡ t
+
+pub record CreateEnds (key : Key) (identity : Identity) (lines : List SliceLine) (count blocks : ℕ) (result : Result Opened CreateFault) (t u : Tale) : Type 0 where
+  pub ended : (g : Geometry) (all : List Database) → MayCreate g all key identity lines (seats_asked key identity lines count blocks) t → IsEnded g key identity (seats_asked key identity lines count blocks) result t u
+
+-- two calls for each place that is blanked: all places of slices that get more than one
+abbrev pub blanked_asked : List SliceLine → ℕ → ℕ
+blanked_asked lines count = if nat_lt 1 count then length lines * count else 0
+
+-- Twelve calls for each place, six of them for its format, and two more for each that is blanked before. What failed in these took no more; without memory none is made.
+abbrev pub IsCreationCounted : {S : Type 0} → Ghosts S → S → S → List SliceLine → ℕ → ℕ → Result Opened CreateFault → Type 0
+IsCreationCounted shelf old new lines count blocks (Ok o) =
+    (active_of o.seats ≡ length lines * count → MadeCalls shelf old new (2 * blanked_asked lines count + 12 * (length lines * count)) (blanked_asked lines count + (7 + blocks_for (length (record_text o.table))) * (length lines * count)))
+    × MadeCallsBetween shelf old new (2 * blanked_asked lines count + 6 * (length lines * count)) (2 * blanked_asked lines count + 12 * (length lines * count)) (blanked_asked lines count + 4103 * (length lines * count))
+IsCreationCounted shelf old new lines count blocks (Err unmade.Failed) = MadeCallsBetween shelf old new 1 (2 * blanked_asked lines count + 6 * (length lines * count)) (blanked_asked lines count + 5 * (length lines * count))
+IsCreationCounted shelf old new lines count blocks (Err (unmade.Lost active listed)) =
+    MadeCallsBetween shelf old new (2 * blanked_asked lines count + 6 * (length lines * count) + 1) (2 * blanked_asked lines count + 12 * (length lines * count)) (blanked_asked lines count + 4103 * (length lines * count))
+IsCreationCounted shelf old new lines count blocks (Err unmade.Memory) = new ≡ old

@@ -1,0 +1,48 @@
+-- What the look of a boot finds, on the drives that answer every read.
+use Rattle.std.specs.Prelude.{◌≡◌, ◌*◌, ◌+◌, ℕ, true, false, Contains, List, length, count_by, Some, Result, IfOk}
+use Rattle.std.specs.Bool.{MatchBool}
+use Rattle.mdv_base.specs.DriveSet.{no_drives}
+use Rattle.mdv_shelf.specs.Shelves.{DriveFailed, DriveFailures}
+use Rattle.mdv_survey.specs.Counts.{AreLinesBy, MadeFew, MadeReads}
+use Rattle.mdv_survey.specs.Survey.{IsSurvey, IsSurveyOf, answers_in}
+use Rattle.mdv_store.specs.Below.{DriveNo, Drives, Geometry, Ghosts, Site, Tale, has_drive, last}
+use Rattle.mdv_store.specs.declared.looking.Looked.{Looked}
+
+-- Of the drives those that are up and on which no read failed are left.
+pub record AreLeftOf (drives : List DriveNo) (up failed left : Drives) : Type 0 where
+  pub each : (drive : DriveNo) → Contains drives drive → has_drive left drive ≡ answers_in up failed drive
+  pub only : (drive : DriveNo) → has_drive left drive ≡ true → Contains drives drive
+
+-- a read failed on one of the drives that are up
+pub record HasFailedOn (drives : List DriveNo) (up failed : Drives) : Type 0 where
+  pub drive : DriveNo
+  pub one_of : Contains drives drive
+  pub is_up : has_drive up drive ≡ true
+  pub has : has_drive failed drive ≡ true
+
+-- A drive of these that is up answered every read where no call on it failed, and else one did; no other drive is told to.
+pub record AreCalmBy {S : Type 0} (shelf : Ghosts S) (old new : S) (drives : List DriveNo) (up calm : Drives) : Type 0 where
+  pub each : (drive : DriveNo) → Contains drives drive → has_drive up drive ≡ true → MatchBool (has_drive calm drive) (DriveFailures shelf old new drive.0).none (DriveFailed shelf old new drive.0)
+  pub is_up : (drive : DriveNo) → has_drive calm drive ≡ true → has_drive up drive ≡ true
+  pub only : (drive : DriveNo) → has_drive calm drive ≡ true → Contains drives drive
+
+-- What was read is told of the drives that answered alone: each replica there, and the newest of their tables. Nothing was written.
+pub record IsLookedAt {S : Type 0} (shelf : Ghosts S) (old new : S) (g : Geometry) (site : Site) (up : Drives) (looked : Looked) : Type 0 where
+  pub calm : AreCalmBy shelf old new site.drives up looked.calm
+  pub none : (drive : DriveNo) → has_drive looked.calm drive ≡ true → has_drive looked.survey.failed drive ≡ false
+  pub survey : IsSurvey site looked.calm looked.survey
+  pub of : (t : Tale) → shelf.tale old ≡ Some t → IsSurveyOf g site looked.calm (last t) looked.survey
+
+pub record IsLooked {S E : Type 0} (shelf : Ghosts S) (old new : S) (g : Geometry) (site : Site) (up : Drives) (result : Result Looked E) : Type 0 where
+  pub same : shelf.tale new ≡ shelf.tale old
+  pub found : IfOk result (IsLookedAt shelf old new g site up)
+
+-- the drives that are up answered every read
+abbrev pub HaveAnswered : Site → (up calm : Drives) → Type 0
+HaveAnswered site up calm = (drive : DriveNo) → Contains site.drives drive → has_drive up drive ≡ true → has_drive calm drive ≡ true
+
+-- Where no read failed each head and each body of an open slot was read once. A look at all slices takes 765 reads at most of each, and there are no more
+-- looks than drives that are up, and one.
+pub record IsLookCounted {S E : Type 0} (shelf : Ghosts S) (old new : S) (g : Geometry) (site : Site) (up : Drives) (result : Result Looked E) : Type 0 where
+  pub few : MadeFew shelf old new ((1 + count_by (has_drive up) site.drives) * (765 * length site.lines))
+  pub once : IfOk result (λ looked. HaveAnswered site up looked.calm → (t : Tale) → shelf.tale old ≡ Some t → (n : ℕ) × MadeReads shelf old new n × AreLinesBy g site up no_drives (last t) site.lines n)

@@ -1,0 +1,43 @@
+-- An open database, and what the drives have of it.
+use Rattle.std.specs.Prelude.{◌≡◌, ◌<◌, ◌≤◌, ◌*◌, ◌^◌, ℕ, min, List, [], ◌∷◌, length, map, Contains, Some, IsTrue}
+use Rattle.mdv_store.specs.Below.{Geometry, HasNoneAbove, Identity, IsOfGeometry, IsSound, Key, Mark, Place, Replica, Table, Tale, at_of, places_of, site_of, slot_blocks}
+use Rattle.mdv_store.specs.Seats.{AreHeld, AreNamed, AreShown, is_half_active, replicas_of}
+use Rattle.mdv_store.specs.declared.seats.Seat.{Seat}
+
+-- whose database it is, the identity of its creation, the mark and the table, and the listed places
+pub record Opened : Type 0 where
+  pub key : Key
+  pub identity : Identity
+  pub mark : Mark
+  pub table : Table
+  pub seats : List Seat
+
+-- how many blocks the smallest slot of these places has
+abbrev pub least_room : List Place → ℕ
+least_room [] = 4094
+least_room (p ∷ ps) = min (slot_blocks p.blocks) (least_room ps)
+
+-- the seats are the table's listed places, in their order
+pub record AreSeatsOf (table : Table) (seats : List Seat) : Type 0 where
+  pub places : map (λ (s : Seat). s.place) seats ≡ places_of table.plan.lists
+  pub some : 1 ≤ length seats
+  pub few : length seats ≤ 50
+  pub at : (s : Seat) (r : Replica) → Contains seats s → s.replica ≡ Some r → (at_of r).place ≡ s.place
+
+-- The numbers of an open database are in their limits, it has room for the longest text that its smallest slot takes, and as long as half of its places
+-- are active none of these has a greater mark.
+pub record IsOpen (o : Opened) (room : ℕ) : Type 0 where
+  pub boot : o.mark.boot < 2 ^ 63
+  pub count : o.mark.count < 2 ^ 63
+  pub seats : AreSeatsOf o.table o.seats
+  pub whole : least_room (places_of o.table.plan.lists) ≤ room
+  pub short : 512 * room < 2 ^ 32
+  pub marks : IsTrue (is_half_active o.seats) → (r : Replica) → Contains (replicas_of o.seats) r → HasNoneAbove o.mark r.head
+
+-- Whatever a crash leaves, each active place has its replica, which shows the table as its newest one under the mark; and the table lists the places.
+pub record IsOpenedAt (g : Geometry) (o : Opened) (t : Tale) : Type 0 where
+  pub sound : IsSound g
+  pub of_geometry : IsOfGeometry g o.table
+  pub held : AreHeld g o.key o.identity o.seats t
+  pub named : AreNamed (site_of g o.key) o.table o.seats
+  pub shown : AreShown g o.seats o.mark o.table t

@@ -1,0 +1,140 @@
+-- What a boot makes of what it read: step by step, and of which premises.
+use Rattle.std.specs.Prelude.{◌≡◌, ◌⊎◌, ◌<◌, ◌≤◌, ◌+◌, ◌*◌, ◌^◌, max, ℕ, Bool, true, false, List, length, map, Contains, Some, IsTrue, slice_get, vec_len}
+use Rattle.std.specs.Bool.{MatchBool}
+use Rattle.mdv_shelf.specs.Shelves.{DriveFailed, DriveFailures, MadeCalls}
+use Rattle.mdv_shown.specs.Choice.{Seen, greatest_seen, spots_seen}
+use Rattle.mdv_standing.specs.Turning.{IsBootRead}
+use Rattle.mdv_survey.specs.Survey.{IsSurveyOf}
+use Rattle.mdv_survey.specs.declared.replica.Newest.{Newest}
+use Rattle.mdv_store.specs.Below.{Database, DriveNo, Failures, Geometry, Ghosts, IsOfGeometry, IsReadyWith, IsSound, IsSynced, Key, Mark, Replica, RestStands, Site, Slot, Table, Tale, greatest, last, places_of, record_text, site_of}
+use Rattle.mdv_store.specs.Blank.{StayBlank}
+use Rattle.mdv_store.specs.Boot.{IfAdopted, IsEndBy, TakesBoth, greatest_number, is_enough, is_memory, seats_of}
+use Rattle.mdv_store.specs.BootCounts.{most_blocks}
+use Rattle.mdv_store.specs.Booting.{BootGoes, BootMoment, IsBootedTo, has_written}
+use Rattle.mdv_store.specs.Commit.{AnyLog, AnyWorld, IsNewestWritten}
+use Rattle.mdv_store.specs.Counts.{MadeCallsBetween}
+use Rattle.mdv_store.specs.Opened.{AreSeatsOf, IsOpenedAt, Opened, least_room}
+use Rattle.mdv_store.specs.Quiet.{IsQuiet}
+use Rattle.mdv_store.specs.Records.{Spells}
+use Rattle.mdv_store.specs.Seats.{AreHeld, AreLaid, AreLeft, AreNamed, HaveRoom, active_of, drive_of, replicas_of, seats_area, spots_of}
+use Rattle.mdv_store.specs.Text.{blocks_for}
+use Rattle.mdv_store.specs.declared.booting.BootEnd.{BootEnd}
+use Rattle.mdv_store.specs.declared.booting.BootEnd.TheVariants as end
+use Rattle.mdv_store.specs.declared.booting.Hand.{Hand}
+use Rattle.mdv_store.specs.declared.booting.Taken.{Taken}
+use Rattle.mdv_store.specs.declared.looking.Looked.{Looked}
+use Rattle.mdv_store.specs.declared.seats.Seat.{Seat}
+
+abbrev pub drives_read : List Replica → List DriveNo
+drives_read replicas = map (λ (r : Replica). r.line.at.drive) replicas
+
+-- no replica has a claim or boot number from that limit on
+abbrev pub AreNumbered : List Replica → Type 0
+AreNumbered replicas = (r : Replica) → Contains replicas r → greatest r.head < 2 ^ 63
+
+-- What an adoption of the newest table has in hand.
+pub record IsHandOf (replicas : List Replica) (newest : Newest) (hand : Hand) : Type 0 where
+  pub replica : Replica
+  pub one_of : slice_get replicas newest.replica ≡ Some replica
+  pub identity_is : hand.identity ≡ replica.head.master.identity
+  pub number_is : hand.number ≡ greatest_number hand.identity replicas + 1
+  pub seats_are : hand.seats ≡ seats_of replicas hand.identity (blocks_for (length (record_text newest.table))) (places_of newest.table.plan.lists)
+  pub few : length hand.seats ≤ 50
+  pub room_is : vec_len hand.room ≡ max (least_room (places_of newest.table.plan.lists)) (blocks_for (length (record_text newest.table)))
+
+-- It is in order: the seats are the table's, more than half of them are active, its text fits there, and the number is above all that they have.
+pub record IsReadied (hand : Hand) (table : Table) : Type 0 where
+  pub seats : AreSeatsOf table hand.seats
+  pub enough : length hand.seats < 2 * active_of hand.seats
+  pub room : HaveRoom (blocks_for (length (record_text table))) hand.seats
+  pub whole : vec_len hand.room ≡ max (least_room (places_of table.plan.lists)) (blocks_for (length (record_text table)))
+  pub short : (r : Replica) → Contains (replicas_of hand.seats) r → r.first.blocks ≤ 8192
+  pub small : hand.number < 2 ^ 63
+  pub above : (r : Replica) → Contains (replicas_of hand.seats) r → greatest r.head < hand.number
+
+-- What was read of the drives is the newest table of the one database, and the hand's replicas are of it.
+pub record IsToAdopt (g : Geometry) (key : Key) (hand : Hand) (table : Table) (t : Tale) : Type 0 where
+  pub sound : IsSound g
+  pub of_geometry : IsOfGeometry g table
+  pub seen : List Seen
+  pub s : Seen
+  pub slot : Slot
+  pub mark : Mark
+  pub read : IsBootRead (Spells g) (site_of g key) hand.identity t seen s slot mark table
+  pub number_is : hand.number ≡ greatest_seen seen + 1
+  pub held : AreHeld g key hand.identity hand.seats t
+  pub named : AreNamed (site_of g key) table hand.seats
+
+-- by each moment of the writes
+pub record RewriteMoment (key : Key) (hand : Hand) (table : Table) (t m : Tale) : Type 0 where
+  pub quiet : IsQuiet (seats_area hand.seats) t m
+  pub goes : (g : Geometry) (to : IsToAdopt g key hand table t) → BootGoes g (site_of g key) hand.identity (spots_seen to.seen) (spots_of hand.seats) AnyWorld AnyLog t m
+  pub rest : (g : Geometry) (all : List Database) → IsToAdopt g key hand table t → RestStands (Spells g) g all hand.identity t → RestStands (Spells g) g all hand.identity m
+  pub blank : (g : Geometry) → IsToAdopt g key hand table t → StayBlank g hand.identity t m
+
+-- and in the end, where enough places took the table
+pub record RewriteEnds (key : Key) (hand : Hand) (table : Table) (o : Opened) (t u : Tale) : Type 0 where
+  pub opened : (g : Geometry) → IsToAdopt g key hand table t → IsOpenedAt g o u
+  pub goes : (g : Geometry) (to : IsToAdopt g key hand table t) → BootGoes g (site_of g key) hand.identity (spots_seen to.seen) (spots_of hand.seats) (IsReadyWith (spots_of o.seats)) (λ log. IsNewestWritten log o.mark o.table) t u
+
+-- the opened database, behind both passes
+pub record IsRewritten (failed : ℕ → Failures) (key : Key) (hand : Hand) (table : Table) (o : Opened) : Type 0 where
+  pub left : AreLeft failed (TakesBoth hand.number (length (record_text table))) hand.seats o.seats
+  pub enough : IsTrue (is_enough key o.seats)
+  pub is : o ≡ record { key = key; identity = hand.identity; mark = record { boot = hand.number; count = 0 }; table = table; seats = o.seats }
+
+-- not enough places took the one or the other
+pub record IsLostWith (failed : ℕ → Failures) (key : Key) (hand : Hand) (active listed : ℕ) : Type 0 where
+  pub now : List Seat
+  pub left : AreLeft failed (λ r n. Unit {0}) hand.seats now
+  pub few : is_enough key now ≡ false
+  pub active_is : active ≡ active_of now
+  pub listed_is : listed ≡ length now
+
+abbrev pub IsRewriteEnd : (ℕ → Failures) → Key → Hand → Table → BootEnd → Type 0
+IsRewriteEnd failed key hand table (end.Adopted o) = IsRewritten failed key hand table o
+IsRewriteEnd failed key hand table end.Empty = ⊥
+IsRewriteEnd failed key hand table (end.TwoDatabases a b) = ⊥
+IsRewriteEnd failed key hand table (end.NoQuorum readable needed) = ⊥
+IsRewriteEnd failed key hand table (end.Lost active listed) = IsLostWith failed key hand active listed
+IsRewriteEnd failed key hand table end.Spent = ⊥
+IsRewriteEnd failed key hand table end.Memory = ⊥
+
+-- no call failed, or one did on a drive of these replicas
+abbrev pub IsCalmOn : {S : Type 0} → Ghosts S → S → S → List Replica → Bool → Type 0
+IsCalmOn shelf old new replicas calm = MatchBool calm
+    ((drive : DriveNo) → (DriveFailures shelf old new drive.0).none)
+    ((r : Replica) × Contains replicas r × DriveFailed shelf old new (drive_of r))
+
+pub record IsRewriteAnswer {S : Type 0} (shelf : Ghosts S) (old new : S) (key : Key) (hand : Hand) (table : Table) (taken : Taken) : Type 0 where
+  pub ended : IsRewriteEnd (DriveFailures shelf old new) key hand table taken.end
+  pub calm : IsCalmOn shelf old new (replicas_of hand.seats) taken.calm
+
+-- what an adoption costs
+pub record IsTakingCounted {S : Type 0} (shelf : Ghosts S) (old new : S) (taken : Taken) : Type 0 where
+  pub most : MadeCallsBetween shelf old new 0 (8 * 50) most_blocks
+  pub calm : taken.calm ≡ true → IfAdopted taken.end (λ o. MadeCalls shelf old new (8 * active_of o.seats) ((3 + blocks_for (length (record_text o.table))) * active_of o.seats))
+
+-- the drives that a boot left as they were stay synced, and those on which its writes succeeded
+abbrev pub StaySynced : {S : Type 0} → Ghosts S → S → S → Tale → Tale → Type 0
+StaySynced shelf old new t u = (drive : DriveNo) → IsSynced drive.0 t → (DriveFailed shelf old new drive.0 → ⊥) → IsSynced drive.0 u
+
+-- What was read: the table of drives is sound, the site is one of it, and what was read of its replicas no crash takes back.
+pub record WasRead (g : Geometry) (site : Site) (looked : Looked) (t : Tale) : Type 0 where
+  pub sound : IsSound g
+  pub site_is : site ≡ site_of g site.key
+  pub of : IsSurveyOf g site looked.calm (last t) looked.survey
+  pub synced : (r : Replica) → Contains looked.survey.replicas r → IsSynced (drive_of r) t
+
+-- What a boot makes of what it read: an end that follows from it, or memory was wanting; and it wrote nothing, or what it adopted.
+pub record IsTaken {S : Type 0} (shelf : Ghosts S) (old new : S) (site : Site) (looked : Looked) (taken : Taken) : Type 0 where
+  pub ended : (is_memory taken.end ≡ true) ⊎ IsEndBy (DriveFailures shelf old new) site looked.survey taken.end
+  pub calm : IsCalmOn shelf old new looked.survey.replicas taken.calm
+  pub still : has_written taken.end ≡ false → new ≡ old
+  pub laid : IfAdopted taken.end (λ o. AreLaid (shelf.sizes old) o.seats)
+
+abbrev pub TakingMoment : Site → Looked → BootEnd → Tale → Tale → Type 0
+TakingMoment site looked answer t m = (g : Geometry) → WasRead g site looked t → BootMoment g site answer t m
+
+abbrev pub TakingEnds : Site → Looked → BootEnd → Tale → Tale → Type 0
+TakingEnds site looked answer t u = (g : Geometry) → WasRead g site looked t → IfAdopted answer (λ o. IsBootedTo g site o t u)

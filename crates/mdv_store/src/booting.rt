@@ -1,0 +1,406 @@
+// How a boot finds the database and writes it anew.
+ghost use Rattle.std.specs.Prelude.{◌≡◌, ◌≤◌, ◌<◌, ◌&&◌, not, true, false, length, map, Contains, IfOk};
+ghost use Rattle.std.specs.List.{find, list_any};
+ghost use Rattle.mdv_name.specs.SliceIndex.{same_slice};
+ghost use Rattle.mdv_name.specs.Sound.{IsSound};
+ghost use Rattle.mdv_shelf.specs.Drives.{AreDrives, KeptAmong};
+ghost use Rattle.mdv_shelf.specs.Shelves.{AtEachTale, AtEnd, DriveFailed};
+ghost use Rattle.mdv_shown.specs.Sites.{site_of};
+ghost use Rattle.mdv_survey.specs.Choice.{is_of as spec_is_of, place_of as spec_place_of, same_place};
+ghost use Rattle.mdv_survey.specs.Newest.{IsGreatest};
+ghost use Rattle.mdv_survey.specs.Replica.{IsOnShelf, IsSeated};
+ghost use Rattle.mdv_survey.specs.Survey.{IsSurvey};
+ghost use Rattle.mdv_store.specs.Adopting.{AdoptEnds, AdoptMoment, AreAllIn, HasOne, IsAdoptAnswer};
+ghost use Rattle.mdv_store.specs.Boot.{IfAdopted, IsBooted, greatest_number as spec_greatest_number, is_enough as spec_is_enough, is_memory, is_seated as spec_is_seated, seat_for, seats_of as spec_seats_of};
+ghost use Rattle.mdv_store.specs.BootCounts.{IsBootCounted};
+ghost use Rattle.mdv_store.specs.Booting.{BootEnds, BootMoment};
+ghost use Rattle.mdv_store.specs.Seats.{AreLaid, active_of, drives_of};
+ghost use Rattle.mdv_store.specs.Taking.{AreNumbered, IsHandOf, IsReadied, IsRewriteAnswer, IsTaken, IsTakingCounted, RewriteEnds, RewriteMoment, StaySynced, TakingEnds, TakingMoment, drives_read};
+
+use crate::drives::bring_up;
+use crate::looking::{Looked, look};
+use crate::seats::{Seat, active, claim_all, is_half_active, slot_all};
+use crate::store::Store;
+use crate::text::{blocks_for, least_room, room_for, slot_room, spell};
+use mdv_base::{Block, DriveNo, DriveSet, Identity, Key, Mark, NUMBER_LIMIT, Place, SliceName};
+use mdv_name::Geometry;
+use mdv_record::text_bytes;
+use mdv_shelf::Shelf;
+use mdv_shown::Site;
+use mdv_survey::{Choice, Newest, Replica, Survey, choose, greatest_of};
+use mdv_table::Table;
+use mdv_votes::Row;
+use std::alloc::{AllocError, Global};
+
+/// What a boot came to.
+#[derive(Drop)]
+pub enum BootEnd {
+    /// A table was found at more than half of the places of its list, and written anew under the drawn number.
+    Adopted(Store),
+    /// No readable replica shows a table.
+    Empty,
+    /// Replicas that show tables have different identities: that of the first one in the order of the slices, and the first other one.
+    TwoDatabases { a: Identity, b: Identity },
+    /// Not more than half of the places of the newest table's list were found: so many were, and so many are needed.
+    NoQuorum { readable: u32, needed: u32 },
+    /// A table was found, and not enough of its places took the claim, or then the table: fewer than half, or of a set's no more than half.
+    Lost { active: u32, listed: u32 },
+    /// The number to draw would reach 2^63; nothing was written.
+    Spent,
+    /// Memory was refused; nothing was written.
+    Memory,
+}
+
+/// A boot's end, and what it found of the drives.
+#[derive(Drop)]
+pub struct Booted {
+    pub end: BootEnd,
+    /// Those of the site's drives of which the first block was read, and which were synced then.
+    pub up: DriveSet,
+    /// No call of the boot failed, on any drive. It isn't told of a boot that was refused memory.
+    pub clean: bool,
+}
+
+/// Brings the site's drives up: it reads the first block of each and syncs it, whatever came of those before. It looks at the site's slices on those
+/// that are up. A drive on which a read fails has no readable replica. Where one database shows tables, and of the list of the newest one more than
+/// half of the places were found, it draws one more than the greatest number there, writes it to each of these places as a claim, and then the table
+/// under it to each that took the claim. At least half of the list has to take both, and of a set's list more than half.
+pub fn boot<S: Shelf>(shelf: &mut S, alloc: Global, geometry: &Geometry, site: &Site) -> Booted
+    requires sound { IsSound geometry.now }
+    requires on_shelf { IsOnShelf (S.sizes shelf.old) site.now }
+    requires of { site.now ≡ site_of geometry.now site.now.key }
+    ensures answer { IsBooted S.Shelf shelf.old shelf.new geometry.now site.now result }
+    ensures moments { AtEachTale S.Shelf (BootMoment geometry.now site.now result.end) shelf.old shelf.new }
+    ensures end { AtEnd S.Shelf (BootEnds (DriveFailed S.Shelf shelf.old shelf.new) geometry.now site.now result) shelf.old shelf.new }
+    ensures counted { IsBootCounted S.Shelf shelf.old shelf.new geometry.now site.now result }
+    ensures kept { KeptAmong S.Shelf shelf.old shelf.new site.now.drives }
+{
+    let drives = site.drives.as_slice();
+    let up = bring_up(shelf, drives);
+    match look(shelf, alloc, geometry, site, &up) {
+        Ok(looked) => {
+            let calm = are_all(drives, &looked.calm);
+            let taken = take(shelf, alloc, site, looked);
+            Booted {
+                clean: is_clean(&taken, calm),
+                end: taken.end,
+                up,
+            }
+        }
+        Err(AllocError) => Booted {
+            end: BootEnd::Memory,
+            up,
+            clean: false,
+        },
+    }
+}
+
+// What a boot made of what it had read, and that no call failed meanwhile.
+#[derive(Drop)]
+struct Taken {
+    end: BootEnd,
+    calm: bool,
+}
+
+// What an adoption writes: under which identity and number, to which places, and the room for the table's text.
+#[derive(Drop)]
+struct Hand {
+    identity: Identity,
+    number: u64,
+    seats: Row<Seat>,
+    room: Vec<Block>,
+}
+
+fn quiet(end: BootEnd) -> Taken
+    ensures end { result.end ≡ end }
+    ensures calm { result.calm ≡ true }
+{
+    Taken { end, calm: true }
+}
+
+// No call failed, and memory wasn't wanting.
+fn is_clean(taken: &Taken, calm: bool) -> bool
+    ensures { result ≡ (calm && (taken.now.calm && not (is_memory taken.now.end))) }
+{
+    calm && taken.calm && !matches!(taken.end, BootEnd::Memory)
+}
+
+fn are_all(drives: &[DriveNo], set: &DriveSet) -> bool
+    ensures { AreAllIn result drives.now set.now }
+{
+    drives.iter().all(|drive| set.contains(*drive))
+}
+
+// Adopts the newest table, where there is one, and it may be.
+fn take<S: Shelf>(shelf: &mut S, alloc: Global, site: &Site, looked: Looked) -> Taken
+    requires on_shelf { IsOnShelf (S.sizes shelf.old) site.now }
+    requires survey { IsSurvey site.now looked.calm looked.survey }
+    ensures answer { IsTaken S.Shelf shelf.old shelf.new site.now looked result }
+    ensures moments { AtEachTale S.Shelf (TakingMoment site.now looked result.end) shelf.old shelf.new }
+    ensures end { AtEnd S.Shelf (TakingEnds site.now looked result.end) shelf.old shelf.new }
+    ensures synced { AtEnd S.Shelf (StaySynced S.Shelf shelf.old shelf.new) shelf.old shelf.new }
+    ensures counted { IsTakingCounted S.Shelf shelf.old shelf.new result × KeptAmong S.Shelf shelf.old shelf.new (drives_read looked.survey.replicas) }
+{
+    let choice = choose(&looked.survey);
+    match choice {
+        Choice::Empty => quiet(BootEnd::Empty),
+        Choice::TwoDatabases { a, b } => quiet(BootEnd::TwoDatabases { a, b }),
+        Choice::NoQuorum { readable, needed } => quiet(BootEnd::NoQuorum { readable, needed }),
+        Choice::Newest(_) => take_newest(shelf, alloc, site, looked),
+    }
+}
+
+fn take_newest<S: Shelf>(shelf: &mut S, alloc: Global, site: &Site, looked: Looked) -> Taken
+    requires on_shelf { IsOnShelf (S.sizes shelf.old) site.now }
+    requires survey { IsSurvey site.now looked.calm looked.survey }
+    requires one { HasOne looked.survey }
+    ensures answer { IsTaken S.Shelf shelf.old shelf.new site.now looked result }
+    ensures moments { AtEachTale S.Shelf (TakingMoment site.now looked result.end) shelf.old shelf.new }
+    ensures end { AtEnd S.Shelf (TakingEnds site.now looked result.end) shelf.old shelf.new }
+    ensures synced { AtEnd S.Shelf (StaySynced S.Shelf shelf.old shelf.new) shelf.old shelf.new }
+    ensures counted { IsTakingCounted S.Shelf shelf.old shelf.new result × KeptAmong S.Shelf shelf.old shelf.new (drives_read looked.survey.replicas) }
+{
+    let Survey {
+        replicas,
+        newest,
+        failed: _,
+    } = looked.survey;
+    match newest {
+        Some(newest) => adopt(shelf, alloc, site, replicas.as_slice(), newest),
+        None => quiet(BootEnd::Empty),
+    }
+}
+
+fn adopt<S: Shelf>(
+    shelf: &mut S,
+    alloc: Global,
+    site: &Site,
+    replicas: &[Replica],
+    newest: Newest,
+) -> Taken
+    requires on_shelf { IsOnShelf (S.sizes shelf.old) site.now }
+    requires seated { (r : Replica) → Contains replicas.now r → IsSeated site.now r }
+    requires newest { IsGreatest replicas.now newest }
+    ensures answer { IsAdoptAnswer S.Shelf shelf.old shelf.new site.now replicas.now newest result }
+    ensures moments { AtEachTale S.Shelf (AdoptMoment site.now replicas.now newest result.end) shelf.old shelf.new }
+    ensures end { AtEnd S.Shelf (AdoptEnds site.now replicas.now newest result.end) shelf.old shelf.new }
+    ensures synced { AtEnd S.Shelf (StaySynced S.Shelf shelf.old shelf.new) shelf.old shelf.new }
+    ensures counted { IsTakingCounted S.Shelf shelf.old shelf.new result × KeptAmong S.Shelf shelf.old shelf.new (drives_read replicas.now) }
+{
+    let hand = match in_hand(alloc, replicas, &newest) {
+        Ok(hand) => hand,
+        Err(AllocError) => return quiet(BootEnd::Memory),
+    };
+    let readable = active(hand.seats.as_slice());
+    let listed = hand.seats.as_slice().len();
+    if 2 * readable <= listed {
+        return quiet(BootEnd::NoQuorum {
+            readable: readable as u32,
+            needed: (listed / 2 + 1) as u32,
+        });
+    }
+    if hand.number >= NUMBER_LIMIT {
+        return quiet(BootEnd::Spent);
+    }
+    rewrite(shelf, &site.key, hand, newest.table)
+}
+
+// The listed places of the newest table, and what is drawn for it.
+fn in_hand(alloc: Global, replicas: &[Replica], newest: &Newest) -> Result<Hand, AllocError>
+    requires numbered { AreNumbered replicas.now }
+    requires within { newest.now.replica < length replicas.now }
+    ensures { IfOk result (IsHandOf replicas.now newest.now) }
+{
+    let identity = replicas[newest.replica].head.master.identity;
+    let places = newest.table.plan.lists.places();
+    let text = blocks_for(text_bytes(&newest.table) as u32);
+    Ok(Hand {
+        identity,
+        number: greatest_number(replicas, identity) + 1,
+        seats: seats_of(alloc, places, replicas, identity, text)?,
+        room: room_for(alloc, least_room(places).max(text))?,
+    })
+}
+
+// Writes the number, and then the table under it.
+fn rewrite<S: Shelf>(shelf: &mut S, key: &Key, hand: Hand, table: Table) -> Taken
+    requires laid { AreLaid (S.sizes shelf.old) hand.seats }
+    requires ready { IsReadied hand table }
+    ensures answer { IsRewriteAnswer S.Shelf shelf.old shelf.new key.now hand table result }
+    ensures moments { AtEachTale S.Shelf (RewriteMoment key.now hand table) shelf.old shelf.new }
+    ensures end { AtEnd S.Shelf (λ t u. IfAdopted result.end (λ o. RewriteEnds key.now hand table o t u)) shelf.old shelf.new }
+    ensures synced { AtEnd S.Shelf (StaySynced S.Shelf shelf.old shelf.new) shelf.old shelf.new }
+    ensures counted { IsTakingCounted S.Shelf shelf.old shelf.new result × KeptAmong S.Shelf shelf.old shelf.new (drives_of hand.seats) }
+{
+    let Hand {
+        identity,
+        number,
+        mut seats,
+        mut room,
+    } = hand;
+    let readable = active(seats.as_slice());
+    claim_all(shelf, &mut seats, number);
+    if !is_enough(key, seats.as_slice()) {
+        return lost(seats.as_slice());
+    }
+    let mark = Mark {
+        boot: number,
+        count: 0,
+    };
+    let text = spell(&table, &mut room);
+    slot_all(shelf, &mut seats, mark, text.bytes, text.body);
+    if !is_enough(key, seats.as_slice()) {
+        return lost(seats.as_slice());
+    }
+    let calm = active(seats.as_slice()) == readable;
+    Taken {
+        end: BootEnd::Adopted(Store {
+            key: *key,
+            identity,
+            mark,
+            table,
+            seats,
+            room,
+        }),
+        calm,
+    }
+}
+
+// At least half of the places are active; of a set's more than half.
+fn is_enough(key: &Key, seats: &[Seat]) -> bool
+    requires { length seats.now ≤ 50 }
+    ensures { result ≡ spec_is_enough key.now seats.now }
+{
+    match key {
+        Key::Local(_) => is_half_active(seats),
+        Key::Set(_) => seats.len() < 2 * active(seats),
+    }
+}
+
+fn lost(seats: &[Seat]) -> Taken
+    requires { length seats.now ≤ 50 }
+    ensures end { result.end ≡ BootEnd.Lost (active_of seats.now) (length seats.now) }
+    ensures calm { result.calm ≡ false }
+{
+    Taken {
+        end: BootEnd::Lost {
+            active: active(seats) as u32,
+            listed: seats.len() as u32,
+        },
+        calm: false,
+    }
+}
+
+// The greatest claim or boot number that the replicas of this identity have.
+fn greatest_number(replicas: &[Replica], identity: Identity) -> u64
+    ensures { result ≡ spec_greatest_number identity replicas.now }
+{
+    let mut greatest = 0;
+    for replica in replicas {
+        if is_of(replica, identity) {
+            greatest = greatest.max(greatest_of(&replica.head));
+        }
+    }
+    greatest
+}
+
+// The listed places, each with the replica of this identity that lies just there, where its slots have room for a text of so many blocks.
+fn seats_of(
+    alloc: Global,
+    places: &[Place],
+    replicas: &[Replica],
+    identity: Identity,
+    text: usize,
+) -> Result<Row<Seat>, AllocError>
+    ensures { IfOk result (λ seats. seats ≡ spec_seats_of replicas.now identity text places.now) }
+{
+    let mut seats = Row::new(alloc);
+    for place in places {
+        seats.push(seat_at(seats.as_slice(), replicas, identity, *place, text))?;
+    }
+    Ok(seats)
+}
+
+// A listed place, behind these.
+fn seat_at(
+    seats: &[Seat],
+    replicas: &[Replica],
+    identity: Identity,
+    place: Place,
+    text: usize,
+) -> Seat
+    ensures { result ≡ seat_for replicas.now identity text (map (λ (s : Seat). s.place) seats.now) place }
+{
+    let replica = if is_listed(seats, place) {
+        None
+    } else {
+        replica_at(replicas, identity, place, text)
+    };
+    Seat { place, replica }
+}
+
+fn is_listed(seats: &[Seat], place: Place) -> bool
+    ensures { result ≡ list_any (same_place place) (map (λ (s : Seat). s.place) seats.now) }
+{
+    for seat in seats {
+        if is_same(place, seat.place) {
+            return true;
+        }
+    }
+    false
+}
+
+fn is_same(one: Place, other: Place) -> bool
+    ensures { result ≡ same_place one other }
+{
+    is_same_slice(one.slice, other.slice) && one.start == other.start && one.blocks == other.blocks
+}
+
+fn is_same_slice(one: SliceName, other: SliceName) -> bool
+    ensures { result ≡ same_slice one other }
+{
+    one.drive.controller == other.drive.controller
+        && one.drive.target == other.drive.target
+        && one.drive.disk == other.drive.disk
+        && one.slice == other.slice
+}
+
+fn is_of(replica: &Replica, identity: Identity) -> bool
+    ensures { result ≡ spec_is_of identity replica.now }
+{
+    let its = replica.head.master.identity;
+    its.fresh == identity.fresh && its.number == identity.number
+}
+
+fn replica_at(
+    replicas: &[Replica],
+    identity: Identity,
+    place: Place,
+    text: usize,
+) -> Option<Replica>
+    ensures { result ≡ find (spec_is_seated identity place text) replicas.now }
+{
+    replicas
+        .iter()
+        .copied()
+        .find(|replica| is_seated(replica, identity, place, text))
+}
+
+fn is_seated(replica: &Replica, identity: Identity, place: Place, text: usize) -> bool
+    ensures { result ≡ spec_is_seated identity place text replica.now }
+{
+    is_of(replica, identity)
+        && is_same(place_of(replica), place)
+        && text <= slot_room(replica.first.blocks)
+}
+
+fn place_of(replica: &Replica) -> Place
+    ensures { result ≡ spec_place_of replica.now }
+{
+    let master = &replica.head.master;
+    Place {
+        slice: master.slice,
+        start: master.start,
+        blocks: master.blocks,
+    }
+}

@@ -1,0 +1,17 @@
+//! The state database with replicas on many slices and drives: what a boot finds of it and writes anew, how it is made, and how a
+//! table is committed to it.
+#![tactic(auto)]
+
+mod booting;
+mod creating;
+mod drives;
+mod looking;
+mod seats;
+mod store;
+mod text;
+mod writing;
+
+pub use booting::{BootEnd, Booted, boot};
+pub use creating::{CreateFault, create};
+pub use seats::Seat;
+pub use store::{CommitFault, Store};

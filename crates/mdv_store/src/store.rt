@@ -1,0 +1,153 @@
+// An open database, and how the next table is committed to it.
+ghost use Rattle.std.specs.Prelude.{◌≡◌, ◌≤◌, ◌<◌, ◌*◌, length, map, IfErr, OnOk};
+ghost use Rattle.mdv_record.specs.Text.{record_text};
+ghost use Rattle.mdv_shelf.specs.Drives.{KeptAmong};
+ghost use Rattle.mdv_shelf.specs.Shelves.{AtEachTale, AtEnd, DriveFailures};
+ghost use Rattle.mdv_store.specs.Commit.{CommitAnswer, CommitDone, CommitMoment, room_in};
+ghost use Rattle.mdv_store.specs.Counts.{IsCommitCounted};
+ghost use Rattle.mdv_store.specs.Opened.{least_room};
+ghost use Rattle.mdv_store.specs.Seats.{AreLaid, active_of, drives_of};
+
+use crate::seats::{Seat, active, is_half_active};
+use crate::text::{MOST_ROOM, slot_room};
+use crate::writing::write_all;
+use mdv_base::{BLOCK_BYTES, Block, Identity, Key, Mark, NUMBER_LIMIT};
+use mdv_record::{TooLong, text_bytes};
+use mdv_shelf::Shelf;
+use mdv_table::Table;
+use mdv_votes::Row;
+use std::marker::Model;
+
+/// An open database: whose it is, the identity of its creation, the mark under which its newest table was written, that table, its listed
+/// places, and room for the text of the next one.
+#[derive(Drop)]
+pub struct Store {
+    pub(crate) key: Key,
+    pub(crate) identity: Identity,
+    pub(crate) mark: Mark,
+    pub(crate) table: Table,
+    pub(crate) seats: Row<Seat>,
+    pub(crate) room: Vec<Block>,
+}
+
+impl Model for Store {
+    ghost use Rattle.std.specs.Prelude.{vec_len};
+    ghost use Rattle.mdv_store.specs.Opened.{IsOpen, Opened};
+
+    ghost Value = { Opened };
+
+    ghost view = { λ s. record { key = s.key; identity = s.identity; mark = s.mark; table = s.table; seats = s.seats } };
+
+    ghost invariant = { λ s. IsOpen (record { key = s.key; identity = s.identity; mark = s.mark; table = s.table; seats = s.seats }) (vec_len s.room) };
+}
+
+/// Why a table isn't committed.
+#[derive(Clone, Copy, Debug, PartialEq, Eq)]
+pub enum CommitFault {
+    /// Fewer than half of the listed places are active, because calls on their drives failed: a crash may leave the old table or the new one. From then
+    /// on each commit is answered so, and does nothing.
+    Lost { active: u32, listed: u32 },
+    /// Its text is longer than the smallest slot of the listed places; nothing was done.
+    TooLong(TooLong),
+    /// The count of the next mark would reach 2^63; nothing was done.
+    Spent,
+}
+
+impl From<TooLong> for CommitFault {
+    ghost use Rattle.mdv_store.specs.declared.store.CommitFault.TheVariants.{TooLong as AsTooLong};
+
+    ghost from_gives = { λ fault made. made ≡ AsTooLong fault };
+
+    fn from(fault: TooLong) -> CommitFault {
+        CommitFault::TooLong(fault)
+    }
+}
+
+impl Store {
+    /// The newest table.
+    pub fn table(&self) -> &Table
+        ensures { result.now ≡ self.now.table }
+    {
+        &self.table
+    }
+
+    /// The mark under which it was written. Its boot number is that of the last boot.
+    pub fn mark(&self) -> Mark
+        ensures { result ≡ self.now.mark }
+    {
+        self.mark
+    }
+
+    /// The identity of the database's creation.
+    pub fn identity(&self) -> Identity
+        ensures { result ≡ self.now.identity }
+    {
+        self.identity
+    }
+
+    /// Writes the next table, with the lists of this one, to each active place: three writes and three syncs at each. Its text is spelled once. It takes
+    /// no memory.
+    pub fn commit<S: Shelf>(&mut self, shelf: &mut S, next: Table) -> Result<(), CommitFault>
+        requires laid { AreLaid (S.sizes shelf.old) self.old.seats }
+        requires lists { next.plan.lists ≡ self.old.table.plan.lists }
+        ensures answer { CommitAnswer (S.sizes shelf.new) (DriveFailures S.Shelf shelf.old shelf.new) self.old self.new next result }
+        ensures moments { AtEachTale S.Shelf (CommitMoment self.old next) shelf.old shelf.new }
+        ensures end { OnOk result (AtEnd S.Shelf (CommitDone self.old self.new next) shelf.old shelf.new) }
+        ensures counted { IsCommitCounted S.Shelf shelf.old shelf.new (length (record_text next)) self.old.seats self.new.seats result }
+        ensures kept { KeptAmong S.Shelf shelf.old shelf.new (drives_of self.old.seats) }
+    {
+        if !is_half_active(self.seats.as_slice()) {
+            return Err(lost(self.seats.as_slice()));
+        }
+        self.check_room(&next)?;
+        let count = self.mark.count + 1;
+        if count >= NUMBER_LIMIT {
+            return Err(CommitFault::Spent);
+        }
+        let mark = Mark {
+            boot: self.mark.boot,
+            count,
+        };
+        write_all(shelf, &mut self.seats, mark, &next, &mut self.room);
+        if !is_half_active(self.seats.as_slice()) {
+            return Err(lost(self.seats.as_slice()));
+        }
+        self.mark = mark;
+        self.table = next;
+        Ok(())
+    }
+
+    fn check_room(&self, next: &Table) -> Result<(), TooLong>
+        ensures ok { OnOk result (length (record_text next.now) ≤ room_in self.now.table) }
+        ensures err { IfErr result (λ fault. (fault.bytes ≡ length (record_text next.now)) × (fault.room ≡ room_in self.now.table) × (fault.room < fault.bytes)) }
+    {
+        let bytes = text_bytes(next);
+        let room = room_of(self.seats.as_slice());
+        if room < bytes {
+            return Err(TooLong { bytes, room });
+        }
+        Ok(())
+    }
+}
+
+// How many bytes the smallest slot of the listed places has.
+fn room_of(seats: &[Seat]) -> u64
+    ensures { result ≡ 512 * least_room (map (λ seat. seat.place) seats.now) }
+{
+    let mut least = MOST_ROOM;
+    for seat in seats {
+        least = least.min(slot_room(seat.place.blocks));
+    }
+    least as u64 * BLOCK_BYTES as u64
+}
+
+// How many places are active, and how many are listed.
+fn lost(seats: &[Seat]) -> CommitFault
+    requires { length seats.now ≤ 50 }
+    ensures { result ≡ CommitFault.Lost (active_of seats.now) (length seats.now) }
+{
+    CommitFault::Lost {
+        active: active(seats) as u32,
+        listed: seats.len() as u32,
+    }
+}
