@@ -11,7 +11,11 @@ use Rattle.mdv_shelf.specs.Drives.{KeptAmong}
 use Rattle.mdv_shelf.specs.Moments.{Moments}
 use Rattle.mdv_shelf.specs.Shelves.{AtEachTale, AtEnd, DriveFailures}
 use Rattle.mdv_shown.specs.Choice.{spots_seen}
-use Rattle.mdv_replica.specs.Form.{boot_of}
+use Rattle.mdv_replica.specs.Form.{boot_of, gate_of, is_open, shows}
+use Rattle.mdv_replica.specs.declared.replica.Head.{Head}
+use Rattle.mdv_replica.specs.declared.replica.Slot.{Slot}
+use Rattle.mdv_replica.specs.declared.replica.Slot.TheVariants.{First, Second}
+use Rattle.mdv_base.specs.declared.mark.Mark.{Mark}
 use Rattle.mdv_replica.specs.Forms.{IsGate}
 use Rattle.mdv_replica.specs.declared.forms.Gate.{Gate}
 use Rattle.mdv_replica.specs.declared.forms.Gate.TheVariants.{Closed, Open}
@@ -21,20 +25,21 @@ use Rattle.mdv_survey.specs.Replica.{IsOnShelf, IsSeated}
 use Rattle.mdv_survey.specs.declared.replica.Newest.{Newest}
 use Rattle.mdv_survey.specs.declared.replica.Survey.{Survey}
 use Rattle.mdv_store.specs.Adopting.{AdoptEnds, AdoptMoment, IsAdoptAnswer, WasReadOf}
-use Rattle.mdv_store.specs.Below.{DriveNo, Failures, Geometry, Ghosts, Identity, IsReadyWith, Replica, Site, SliceLine, Tale, at_of, greatest, places_of, record_text, range, site_area, site_of}
-use Rattle.mdv_store.specs.Boot.{IfAdopted, IsDrawn, IsEndBy, IsInHand, TakesBoth, greatest_number, seats_of}
+use Rattle.mdv_store.specs.Below.{DriveNo, Failures, Geometry, Ghosts, Identity, IsReadyWith, Replica, Site, SliceLine, Table, Tale, at_of, greatest, places_of, record_text, range, site_area, site_of}
+use Rattle.mdv_store.specs.Boot.{IfAdopted, IsDrawn, IsEndBy, IsInHand, IsOnce, IsWrittenTo, TakesBoth, greatest_number, seats_of}
 use Rattle.mdv_store.specs.BootCounts.{most_blocks}
-use Rattle.mdv_store.specs.Booting.{BootGoes, BootMoment, Writes, WritesFor, boot_area, has_written}
+use Rattle.mdv_store.specs.Booting.{BootGoes, BootMoment, HasShown, Writes, WritesFor, boot_area, has_written}
 use Rattle.mdv_store.specs.Commit.{AnyLog, AnyWorld, IsNewestWritten}
 use Rattle.mdv_store.specs.Opened.{Opened}
 use Rattle.mdv_store.specs.Seats.{AreLaid, IsLaid, active_of, drives_of, replica_area, replicas_of, seats_area, spots_of}
-use Rattle.mdv_store.specs.Taking.{IsCalmOn, IsHandOf, IsRewriteAnswer, IsRewriteEnd, IsTakingCounted, IsToAdopt, RewriteEnds, RewriteMoment, StaySynced, drives_read}
+use Rattle.mdv_store.specs.Taking.{IsCalmOn, IsHandOf, IsRewriteAnswer, IsRewriteEnd, IsTakingCounted, IsToAdopt, RewriteEnds, RewriteMoment, Rewrites, StaySynced, drives_read}
 use Rattle.mdv_store.specs.Text.{blocks_for}
 use Rattle.mdv_store.specs.declared.booting.BootEnd.{BootEnd}
 use Rattle.mdv_store.specs.declared.booting.BootEnd.TheVariants as end
 use Rattle.mdv_store.specs.declared.booting.Hand.{Hand}
 use Rattle.mdv_store.specs.declared.booting.Taken.{Taken}
 use Rattle.mdv_store.specs.declared.seats.Seat.{Seat}
+use Rattle.mdv_store.proofs.Once.{pass_once}
 use Rattle.mdv_store.proofs.Passes.{mapped, unmapped}
 use Rattle.mdv_store.proofs.Quiet.{quiet_same, quiet_wider}
 use Rattle.mdv_store.proofs.Reading.{in_hand_is, seated_laid, seated_own, to_adopt}
@@ -115,10 +120,21 @@ seats_within site seats seated drive block out = none_in (replicas_of seats) dri
     let at = seated r has in
     within_range r.line.at.drive.0 (at_of r).first r.first.blocks (r.line.at.start + 16) (r.line.at.blocks - 16) drive block (omega arith) (omega (arith, at.within)) (any_line site.lines r.line drive block at.one_of out))
 
+-- a head with an open gate shows a table
+open_shows : (head : Head) (slot : Slot) (mark : Mark) (bytes : ℕ) → gate_of head slot ≡ Open mark bytes → shows head ≡ true
+open_shows head First mark bytes is = or_left (is_open head.first) (is_open head.second) (ap is_open is)
+open_shows head Second mark bytes is = or_right (is_open head.first) (is_open head.second) (ap is_open is)
+
 -- The newest table in hand.
 module _ (site : Site) (replicas : List Replica) (newest : Newest) (hand : Hand) (is : IsHandOf replicas newest hand) (seated : (r : Replica) → Contains replicas r → IsSeated site r) (marks : IsGreatest replicas newest) where
   is_own : is_of hand.identity is.replica ≡ true
   is_own = subst (λ (i : Identity). same_identity is.replica.head.master.identity i ≡ true) (sym is.identity_is) (same_identity_self is.replica.head.master.identity)
+
+  is_shown : shows is.replica.head ≡ true
+  is_shown =
+      let same_one : Some marks.replica ≡ Some is.replica = sym marks.one_of ∙ is.one_of in
+      let one : marks.replica ≡ is.replica = cc (same_one) in
+      ap (λ (r : Replica). shows r.head) (sym one) ∙ open_shows marks.replica.head newest.slot newest.mark marks.bytes marks.gate
 
   -- as the survey has it
   module _ (survey : Survey) (replica : Replica) (reps : survey.replicas ≡ replicas) (newest_is : survey.newest ≡ Some newest) (the : IsTheOne replicas newest replica) where
@@ -143,23 +159,27 @@ module _ (site : Site) (replicas : List Replica) (newest : Newest) (hand : Hand)
       drawn_of : IsDrawn survey newest replica hand.seats hand.number
       drawn_of = record { hand = in_hand_of; enough = enough; number_is = number_of; small = small }
 
-      pub end_of : (failed : ℕ → Failures) (answer : BootEnd) → IsRewriteEnd failed site.key hand newest.table answer → IsEndBy failed site survey answer
-      end_of failed (end.Adopted o) by = record {
+      pub written_of : (Wrote : Hand → Table → Type 0) → Wrote hand newest.table → IsWrittenTo Wrote newest replica hand.seats hand.number
+      written_of Wrote wrote = record { hand = hand; identity_is = identity_is; number_is = refl; seats_are = refl; wrote = wrote }
+
+      pub end_of : (failed : ℕ → Failures) (Wrote : Hand → Table → Type 0) → Wrote hand newest.table → (answer : BootEnd) → IsRewriteEnd failed site.key hand newest.table answer → IsEndBy failed Wrote site survey answer
+      end_of failed Wrote wrote (end.Adopted o) by = record {
         newest = newest;
         replica = replica;
         seats = hand.seats;
         number = hand.number;
         drawn = drawn_of;
+        written = written_of Wrote wrote;
         left = by.left;
         enough = by.enough;
         is = by.is ∙ ap (λ (i : Identity). record { key = site.key; identity = i; mark = record { boot = hand.number; count = 0 }; table = newest.table; seats = o.seats }) identity_is;
       }
-      end_of failed end.Empty by = absurd by
-      end_of failed (end.TwoDatabases a b) by = absurd by
-      end_of failed (end.NoQuorum readable needed) by = absurd by
-      end_of failed (end.Lost active listed) by = record { newest = newest; replica = replica; seats = hand.seats; number = hand.number; drawn = drawn_of; now = by.now; left = by.left; few = by.few; active_is = by.active_is; listed_is = by.listed_is }
-      end_of failed end.Spent by = absurd by
-      end_of failed end.Memory by = absurd by
+      end_of failed Wrote wrote end.Empty by = absurd by
+      end_of failed Wrote wrote (end.TwoDatabases a b) by = absurd by
+      end_of failed Wrote wrote (end.NoQuorum readable needed) by = absurd by
+      end_of failed Wrote wrote (end.Lost active listed) by = record { newest = newest; replica = replica; seats = hand.seats; number = hand.number; drawn = drawn_of; written = written_of Wrote wrote; now = by.now; left = by.left; few = by.few; active_is = by.active_is; listed_is = by.listed_is }
+      end_of failed Wrote wrote end.Spent by = absurd by
+      end_of failed Wrote wrote end.Memory by = absurd by
 
   module _ (enough : length hand.seats < 2 * active_of hand.seats) where
     pub hand_laid : (sizes : List ℕ) → IsOnShelf sizes site → AreLaid sizes hand.seats
@@ -179,6 +199,9 @@ module _ (site : Site) (replicas : List Replica) (newest : Newest) (hand : Hand)
         to_adopt g site.key replicas newest hand is (λ r has. subst (λ (s : Site). IsSeated s r) was.site_is (seated r has)) enough marks t (subst (λ (s : Site). WasReadOf g s replicas newest t) was.site_is was) is.replica is.one_of
         (got_contains replicas newest.replica is.replica is.one_of) is_own
 
+    has_shown : (g : Geometry) (t : Tale) → WasReadOf g site replicas newest t → HasShown g site hand.identity t
+    has_shown g t was = record { replica = is.replica; found = was.each is.replica (got_contains replicas newest.replica is.replica is.one_of); its = is_own; shown = is_shown }
+
     writes_of : (g : Geometry) (t m : Tale) → WasReadOf g site replicas newest t → RewriteMoment site.key hand newest.table t m → Writes g site hand.identity t m
     writes_of g t m was moment =
         let to = to_be g t was in
@@ -186,6 +209,7 @@ module _ (site : Site) (replicas : List Replica) (newest : Newest) (hand : Hand)
           read = spots_seen to.seen;
           seats = hand.seats;
           found = λ r has. (let one = in_hand_is site replicas newest hand is seated enough r has in (was.each r one.1, seated_own hand.identity one.0 _ r one.2));
+          shown = inr (has_shown g t was);
           within = moment.quiet;
           goes = subst (λ (s : Site). BootGoes g s hand.identity (spots_seen to.seen) (spots_of hand.seats) AnyWorld AnyLog t m) (sym was.site_is) (moment.goes g to);
           rest = λ all. moment.rest g all to;
@@ -208,6 +232,7 @@ module _ (site : Site) (replicas : List Replica) (newest : Newest) (hand : Hand)
     adopt_end failed (end.Adopted o) by t u ends = λ g replica the was.
         let to = to_be g t was in
         record {
+          shown = subst (λ (i : Identity). HasShown g site i t) (sym (ap (λ (x : Opened). x.identity) by.is)) (has_shown g t was);
           opened = ends.opened g to;
           read = spots_seen to.seen;
           seated = spots_of hand.seats;
@@ -253,10 +278,20 @@ module _ (site : Site) (replicas : List Replica) (newest : Newest) (hand : Hand)
       laid_by failed sizes laid end.Spent by = tt
       laid_by failed sizes laid end.Memory by = tt
 
-      pub adopted_answer : hand.number < 2 ^ 63 → AreLaid (shelf.sizes old) hand.seats → IsAdoptAnswer shelf old new site replicas newest taken
-      adopted_answer small laid = record {
-        ended = inr (λ survey replica reps newest_is the. end_of survey replica reps newest_is the enough small (DriveFailures shelf old new) taken.end answer.ended);
+      once_by : KeptAmong shelf old new (drives_of hand.seats) → (e : BootEnd) → IsRewriteEnd (DriveFailures shelf old new) site.key hand newest.table e → (drive : DriveNo) → IsOnce (DriveFailures shelf old new drive.0)
+      once_by kept (end.Adopted o) by = pass_once shelf old new hand.seats o.seats (TakesBoth hand.number (length (record_text newest.table))) kept by.left
+      once_by kept end.Empty by = absurd by
+      once_by kept (end.TwoDatabases a b) by = absurd by
+      once_by kept (end.NoQuorum readable needed) by = absurd by
+      once_by kept (end.Lost active listed) by = pass_once shelf old new hand.seats by.now (λ r n. Unit {0}) kept by.left
+      once_by kept end.Spent by = absurd by
+      once_by kept end.Memory by = absurd by
+
+      pub adopted_answer : KeptAmong shelf old new (drives_of hand.seats) → AtEachTale shelf (RewriteMoment site.key hand newest.table) old new → hand.number < 2 ^ 63 → AreLaid (shelf.sizes old) hand.seats → IsAdoptAnswer shelf old new site replicas newest taken
+      adopted_answer kept moments small laid = record {
+        ended = inr (λ survey replica reps newest_is the chosen. end_of survey replica reps newest_is the enough small (DriveFailures shelf old new) (Rewrites shelf old new site.key) (record { moments = moments; wrote = answer.wrote; made = answer.made }) taken.end answer.ended);
         calm = adopted_calm taken.calm answer.calm;
+        once = once_by kept taken.end answer.ended;
         still = λ still. absurd (wrote (DriveFailures shelf old new) taken.end answer.ended still);
         laid = laid_by (DriveFailures shelf old new) (shelf.sizes old) laid taken.end answer.ended;
       }

@@ -1,5 +1,5 @@
--- A database that shows no table shows none while a replica of another one is claimed or written.
-use Rattle.std.proofs.Common.{◌≡◌, inl, inr, ℕ, ◌+◌, ◌<◌, ◌^◌, List, Contains, sym, ◌∙◌, ap, subst, arith}
+-- A database that shows no table shows none while a replica of another one is claimed or written, or a place is blanked or formatted for it.
+use Rattle.std.proofs.Common.{◌≡◌, inl, inr, ℕ, false, ◌+◌, ◌<◌, ◌^◌, List, Contains, sym, ◌∙◌, ap, subst, arith}
 use Rattle.std.proofs.lemmas.Bool.{false_from_ne_true}
 use Rattle.mdv_name.specs.Sound.{IsSound}
 use Rattle.mdv_replica.specs.Form.{IsTable, shows}
@@ -14,8 +14,12 @@ use Rattle.mdv_shown.proofs.Elsewhere.{found_kept, one_master, range_has}
 use Rattle.mdv_shown.proofs.Kept.{claims_before, claims_still, slots_before, slots_still}
 use Rattle.mdv_shown.proofs.Sites.{lines_apart, site_is}
 use Rattle.mdv_standing.specs.Laws.{ShowsNoTable}
+use Rattle.mdv_standing.specs.Rest.{MayBeTaken}
+use Rattle.mdv_standing.proofs.Blanking.{AreAllBefore}
 use Rattle.mdv_standing.proofs.Within.{apart_or_in, claim_within, fill_within, found_for}
-use Rattle.mdv_store.specs.Below.{Geometry, Head, Identity, Image, IsOwn, Key, Mark, Replica, Site, SliceLine, Slot, at_of, site_of}
+use Rattle.mdv_store_law.specs.Log.{empty_log}
+use Rattle.mdv_store.specs.Below.{Database, Geometry, Head, Identity, Image, IsOwn, Key, Mark, Replica, Site, SliceLine, Slot, Tale, at_of, site_of}
+use Rattle.mdv_store.specs.Blank.{IsBlank, StayBlank}
 use Rattle.mdv_store.specs.Records.{Spells}
 
 module _ (g : Geometry) (ask : Key) (other : Identity) (old new : Image) (blank : ShowsNoTable (Spells g) (site_of g ask) other old) (key : Key) (identity : Identity) (another : other ≡ identity → ⊥) (sound : IsSound g) (r : Replica)
@@ -89,3 +93,37 @@ module _ (g : Geometry) (ask : Key) (other : Identity) (old new : Image) (blank 
         slots_before (Spells g) site r.line r.number r.first r.head old new (for_key has) (site_is g ask sound) slot mark bytes body table change,
         slots_still (Spells g) site r.line r.number r.first r.head old new (for_key has) (site_is g ask sound) slot mark bytes body table change,
       ))
+
+-- What may still be taken on whatever slice shows no table.
+module _ (g : Geometry) (old new : Image) where
+  abbrev pub as_database : Key → Identity → Database
+  as_database ask other = record { key = ask; identity = other; log = empty_log; over = false }
+
+  -- nothing is found that wasn't found before
+  pub blank_before : AreAllBefore (Spells g) g old new → (ask : Key) (other : Identity) → ShowsNoTable (Spells g) (site_of g ask) other old → ShowsNoTable (Spells g) (site_of g ask) other new
+  blank_before before ask other blank l j m h own = blank l j m h (record { found = before ask l j m h own.found; of_identity = own.of_identity })
+
+  pub blank_taken : (ask : Key) (other : Identity) → ((l : SliceLine) → MayBeTaken (Spells g) g l old (as_database ask other) → MayBeTaken (Spells g) g l new (as_database ask other))
+      → ShowsNoTable (Spells g) (site_of g ask) other old → ShowsNoTable (Spells g) (site_of g ask) other new
+  blank_taken ask other taken blank l j m h own = elim (taken l (inr blank)) [
+    | inl out ↦ absurd (out own.found.one_of)
+    | inr none ↦ none l j m h own
+  ]
+
+-- no step, and one behind another
+pub stay_blank : (g : Geometry) (identity : Identity) (t : Tale) → StayBlank g identity t t
+stay_blank g identity t ask other another blank = blank
+
+pub still_blank : (g : Geometry) (identity : Identity) (t u m : Tale) → StayBlank g identity t u → StayBlank g identity u m → StayBlank g identity t m
+still_blank g identity t u m first second ask other another blank = second ask other another (first ask other another blank)
+
+-- others that showed no table show none, nor does the database of this key itself
+pub record StayDark (g : Geometry) (key : Key) (identity : Identity) (t m : Tale) : Type 0 where
+  pub others : StayBlank g identity t m
+  pub own : IsBlank g key identity t → IsBlank g key identity m
+
+pub stay_dark : (g : Geometry) (key : Key) (identity : Identity) (t : Tale) → StayDark g key identity t t
+stay_dark g key identity t = record { others = stay_blank g identity t; own = λ blank. blank }
+
+pub still_dark : (g : Geometry) (key : Key) (identity : Identity) (t u m : Tale) → StayDark g key identity t u → StayDark g key identity u m → StayDark g key identity t m
+still_dark g key identity t u m first second = record { others = still_blank g identity t u m first.others second.others; own = λ blank. second.own (first.own blank) }

@@ -32,24 +32,26 @@ use Rattle.mdv_survey.specs.Survey.{IsSurveyOf}
 use Rattle.mdv_survey.specs.declared.replica.Newest.{Newest}
 use Rattle.mdv_survey.specs.declared.replica.Survey.{Survey}
 use Rattle.mdv_store.specs.Adopting.{AreAllIn}
-use Rattle.mdv_store.specs.Below.{Core, CoversWith, Database, DriveNo, Drives, Event, Failures, Geometry, Ghosts, Identity, IsSound, IsSynced, Log, Replica, RestStands, Site, Spot, Tale, has_drive, last, places_of, record_text, site_of}
+use Rattle.mdv_store.specs.Below.{Core, CoversWith, Database, DriveNo, Drives, Event, Failures, Geometry, Ghosts, Identity, IsSound, IsSynced, Log, Replica, RestStands, Site, Spot, Table, Tale, has_drive, last, places_of, record_text, site_of}
 use Rattle.mdv_shown.specs.Found.{IsFound}
 use Rattle.mdv_store.specs.Blank.{StayBlank}
-use Rattle.mdv_store.specs.Boot.{IfAdopted, IsBooted, IsEndBy, IsReadAt, TakesBoth, is_memory}
+use Rattle.mdv_store.specs.Boot.{IfAdopted, IsEndBy, IsOnce, TakesBoth, is_memory}
+use Rattle.mdv_store.specs.Booted.{IsBooted, IsReadAt}
 use Rattle.mdv_store.specs.BootCounts.{IsBootCounted, IsEndCounted, most_blocks, most_reads}
-use Rattle.mdv_store.specs.Booting.{AreOfBoot, BootEnds, BootGoes, BootMoment, IsBootedTo, Writes, WritesFor, boot_area, has_written}
+use Rattle.mdv_store.specs.Booting.{AreOfBoot, BootEnds, BootGoes, BootMoment, HasShown, IsBootedTo, Writes, WritesFor, boot_area, has_written}
 use Rattle.mdv_store.specs.Bringing.{AreSynced, AreUpBy, BringingEnds, IsBringingCounted}
 use Rattle.mdv_store.specs.Commit.{AnyLog, AnyWorld}
 use Rattle.mdv_store.specs.Counts.{MadeCallsBetween}
-use Rattle.mdv_store.specs.Looking.{HaveAnswered, IsLookedAt}
+use Rattle.mdv_store.specs.Looking.{AreCalmBy, HaveAnswered, IsLookedAt}
 use Rattle.mdv_store.specs.Quiet.{IsUnwritten}
 use Rattle.mdv_store.specs.Records.{Spells}
 use Rattle.mdv_store.specs.Seats.{AreLaid, active_of, drive_of, replicas_of, seats_area, spots_of}
-use Rattle.mdv_store.specs.Taking.{IsCalmOn, IsTaken, IsTakingCounted, StaySynced, TakingEnds, TakingMoment, WasRead, drives_read}
+use Rattle.mdv_store.specs.Taking.{IsCalmOn, IsTaken, Rewrites, IsTakingCounted, StaySynced, TakingEnds, TakingMoment, WasRead, drives_read}
 use Rattle.mdv_store.specs.Text.{blocks_for}
 use Rattle.mdv_store.specs.declared.booting.BootEnd.{BootEnd}
 use Rattle.mdv_store.specs.declared.booting.BootEnd.TheVariants as end
 use Rattle.mdv_store.specs.declared.booting.Booted.{Booted}
+use Rattle.mdv_store.specs.declared.booting.Hand.{Hand}
 use Rattle.mdv_store.specs.declared.booting.Taken.{Taken}
 use Rattle.mdv_store.specs.declared.looking.Looked.{Looked}
 use Rattle.mdv_store.specs.declared.seats.Seat.{Seat}
@@ -103,6 +105,7 @@ module _ (g : Geometry) (site : Site) (identity : Identity) where
     read = [];
     seats = [];
     found = λ r has. absurd (omega (arith, has.1));
+    shown = inl refl;
     within = unwritten_quiet (seats_area []) t m unwritten;
     goes = nothing_goes t m unwritten;
     rest = λ all. rest_kept all t m unwritten;
@@ -124,11 +127,19 @@ module _ (g : Geometry) (site : Site) (identity : Identity) where
         after = to.after;
       }
 
+  pub shown_before : (t u : Tale) → IsUnwritten t u → HasShown g site identity u → HasShown g site identity t
+  shown_before t u unwritten is = record { replica = is.replica; found = subst (λ (c : Contents). IsFoundIn g site c is.replica) (last_same t u unwritten) is.found; its = is.its; shown = is.shown }
+
+  shown_then : (t u : Tale) → IsUnwritten t u → (seats : List Seat) → (seats ≡ []) ⊎ HasShown g site identity u → (seats ≡ []) ⊎ HasShown g site identity t
+  shown_then t u unwritten seats (inl none) = inl none
+  shown_then t u unwritten seats (inr is) = inr (shown_before t u unwritten is)
+
   pub writes_then : (t u m : Tale) → IsUnwritten t u → Writes g site identity u m → Writes g site identity t m
   writes_then t u m unwritten w = record {
     read = w.read;
     seats = w.seats;
     found = λ r has. (let one = w.found r has in (subst (λ (c : Contents). IsFoundIn g site c r) (last_same t u unwritten) one.0, one.1));
+    shown = shown_then t u unwritten w.seats w.shown;
     within = quiet_more (seats_area w.seats) t u m (unwritten_quiet (seats_area w.seats) t u unwritten) w.within;
     goes = goes_then w.read (spots_of w.seats) AnyWorld AnyLog t u m unwritten w.goes;
     rest = λ all was. w.rest all (rest_kept all t u unwritten was);
@@ -160,7 +171,7 @@ boot_then g site answer t u m unwritten moment =
     by end.Memory w = tt
 
 booted_then : (g : Geometry) (site : Site) (answer : BootEnd) (t u w : Tale) → IsUnwritten t u → IfAdopted answer (λ o. IsBootedTo g site o u w) → IfAdopted answer (λ o. IsBootedTo g site o t w)
-booted_then g site (end.Adopted o) t u w unwritten is = record { opened = is.opened; read = is.read; seated = is.seated; goes = goes_then g site o.identity is.read is.seated _ _ t u w unwritten is.goes }
+booted_then g site (end.Adopted o) t u w unwritten is = record { shown = shown_before g site o.identity t u unwritten is.shown; opened = is.opened; read = is.read; seated = is.seated; goes = goes_then g site o.identity is.read is.seated _ _ t u w unwritten is.goes }
 booted_then g site end.Empty t u w unwritten is = tt
 booted_then g site (end.TwoDatabases a b) t u w unwritten is = tt
 booted_then g site (end.NoQuorum readable needed) t u w unwritten is = tt
@@ -169,9 +180,9 @@ booted_then g site end.Spent t u w unwritten is = tt
 booted_then g site end.Memory t u w unwritten is = tt
 
 -- an end that follows, as the failures are told from earlier on
-end_as : (failed told : ℕ → Failures) (site : Site) (survey : Survey) → ((r : Replica) → Contains survey.replicas r → (failed (drive_of r)).some → (told (drive_of r)).some) → ((r : Replica) → Contains survey.replicas r → (failed (drive_of r)).none → (told (drive_of r)).none)
-    → (answer : BootEnd) → IsEndBy failed site survey answer → IsEndBy told site survey answer
-end_as failed told site survey some none (end.Adopted o) by =
+end_as : (failed told : ℕ → Failures) (Wrote : Hand → Table → Type 0) (site : Site) (survey : Survey) → ((r : Replica) → Contains survey.replicas r → (failed (drive_of r)).some → (told (drive_of r)).some) → ((r : Replica) → Contains survey.replicas r → (failed (drive_of r)).none → (told (drive_of r)).none)
+    → (answer : BootEnd) → IsEndBy failed Wrote site survey answer → IsEndBy told Wrote site survey answer
+end_as failed told Wrote site survey some none (end.Adopted o) by =
     let has : (r : Replica) → Contains (replicas_of by.seats) r → Contains survey.replicas r =
     λ r in_seats. (seated_at survey.replicas by.replica.head.master.identity (blocks_for (length (record_text by.newest.table))) [] (places_of by.newest.table.plan.lists) r (subst (λ (ss : List Seat). Contains (replicas_of ss) r) by.drawn.hand.seats_are in_seats)).1 in
     record {
@@ -180,14 +191,15 @@ end_as failed told site survey some none (end.Adopted o) by =
       seats = by.seats;
       number = by.number;
       drawn = by.drawn;
+      written = by.written;
       left = left_as failed told (TakesBoth by.number (length (record_text by.newest.table))) (TakesBoth by.number (length (record_text by.newest.table))) by.seats o.seats (λ r in_seats. some r (has r in_seats)) (λ r in_seats. none r (has r in_seats)) (λ r m took. took) by.left;
       enough = by.enough;
       is = by.is;
     }
-end_as failed told site survey some none end.Empty by = by
-end_as failed told site survey some none (end.TwoDatabases a b) by = by
-end_as failed told site survey some none (end.NoQuorum readable needed) by = by
-end_as failed told site survey some none (end.Lost active listed) by =
+end_as failed told Wrote site survey some none end.Empty by = by
+end_as failed told Wrote site survey some none (end.TwoDatabases a b) by = by
+end_as failed told Wrote site survey some none (end.NoQuorum readable needed) by = by
+end_as failed told Wrote site survey some none (end.Lost active listed) by =
     let has : (r : Replica) → Contains (replicas_of by.seats) r → Contains survey.replicas r =
     λ r in_seats. (seated_at survey.replicas by.replica.head.master.identity (blocks_for (length (record_text by.newest.table))) [] (places_of by.newest.table.plan.lists) r (subst (λ (ss : List Seat). Contains (replicas_of ss) r) by.drawn.hand.seats_are in_seats)).1 in
     record {
@@ -196,14 +208,15 @@ end_as failed told site survey some none (end.Lost active listed) by =
       seats = by.seats;
       number = by.number;
       drawn = by.drawn;
+      written = by.written;
       now = by.now;
       left = left_as failed told (λ r m. Unit {0}) (λ r m. Unit {0}) by.seats by.now (λ r in_seats. some r (has r in_seats)) (λ r in_seats. none r (has r in_seats)) (λ r m took. tt) by.left;
       few = by.few;
       active_is = by.active_is;
       listed_is = by.listed_is;
     }
-end_as failed told site survey some none end.Spent by = by
-end_as failed told site survey some none end.Memory by = tt
+end_as failed told Wrote site survey some none end.Spent by = by
+end_as failed told Wrote site survey some none end.Memory by = tt
 
 -- all of a list pass
 count_all : {X : Type 0} (p : X → Bool) (xs : List X) → ((x : X) → Contains xs x → p x ≡ true) → count_by p xs ≡ length xs
@@ -261,8 +274,7 @@ module _ {S : Type 0} (shelf : Ghosts S) (site : Site) (old m1 : S) (up : Drives
           behind = l_kept;
         };
         ended = inl (ap is_memory end_is);
-        down = λ drive one_of so. rose_later (shelf.faults old (OnDrive drive.0)) (shelf.faults m1 (OnDrive drive.0)) (shelf.faults m2 (OnDrive drive.0)) (l_kept.keeps.no_fewer_faults (OnDrive drive.0)) (down_rose drive one_of (sym (ap (λ (d : Drives). has_drive d drive) up_is) ∙ so));
-        others = λ drive out. ap (λ (d : Drives). has_drive d drive) up_is ∙ ups.others drive out;
+        once = inl (ap is_memory end_is);
         clean = subst (λ (b : Bool). MatchBool b ((is_memory answer.end ≡ false) × ((drive : DriveNo) → Contains site.drives drive → (DriveFailures shelf old m2 drive.0).none)) ((is_memory answer.end ≡ true) ⊎ ((drive : DriveNo) × Contains site.drives drive × DriveFailed shelf old m2 drive.0)))
             (sym clean_is) (inl (ap is_memory end_is));
         laid = subst (λ (e : BootEnd). IfAdopted e (λ o. AreLaid (shelf.sizes old) o.seats)) (sym end_is) tt;
@@ -281,6 +293,7 @@ module _ {S : Type 0} (shelf : Ghosts S) (site : Site) (old m1 : S) (up : Drives
               adopted = subst (λ (e : BootEnd). IfAdopted e (λ o. IsBootedTo g site o t u.0)) (sym end_is) tt;
               empty = λ e so. absurd (cc (so, clean_is));
               synced = λ drive one_of never. u.2.synced drive (is_up drive one_of never);
+              still = λ drive block so out. u.2.synced drive (sym (ap (λ (d : Drives). has_drive d drive) up_is) ∙ so) block;
             },
           )
 
@@ -312,11 +325,15 @@ module _ {S : Type 0} (shelf : Ghosts S) (site : Site) (old m1 : S) (up : Drives
           let is_up = calm_up drive so in
           at_true _ _ (has_drive looked.calm drive) so (at.calm.each drive one_of is_up) ∙ up_calm drive one_of is_up
 
-      not_calm : (drive : DriveNo) → Contains site.drives drive → has_drive looked.calm drive ≡ false → DriveFailed shelf old m2 drive.0
-      not_calm drive one_of out = elim (cases_bool (has_drive up drive)) [
-        | inl is_up ↦ rose_before (faults_at old drive) (faults_at m1 drive) (faults_at m2 drive) (b_kept.keeps.no_fewer_faults (OnDrive drive.0)) (at_false _ _ (has_drive looked.calm drive) out (at.calm.each drive one_of is_up))
-        | inr down ↦ rose_later (faults_at old drive) (faults_at m1 drive) (faults_at m2 drive) (l_kept.keeps.no_fewer_faults (OnDrive drive.0)) (down_rose drive one_of down)
+      -- by then just one call had failed on each other one
+      once_by : (s : S) → AreCalmBy shelf m1 s site.drives up looked.calm → (drive : DriveNo) → Contains site.drives drive → has_drive looked.calm drive ≡ false → (DriveFailures shelf old s drive.0).some
+      once_by s calm_by drive one_of out = elim (cases_bool (has_drive up drive)) [
+        | inl is_up ↦ subst (λ (n : ℕ). RoseOnce n (faults_at s drive)) (up_calm drive one_of is_up) (at_false _ _ (has_drive looked.calm drive) out (calm_by.each drive one_of is_up))
+        | inr down ↦ subst (λ (n : ℕ). RoseOnce (faults_at old drive) n) (sym (calm_by.down drive down)) (at_false _ _ (has_drive up drive) down (ups.each drive one_of))
       ]
+
+      not_calm : (drive : DriveNo) → Contains site.drives drive → has_drive looked.calm drive ≡ false → DriveFailed shelf old m2 drive.0
+      not_calm drive one_of out = once_rose _ _ (once_by m2 at.calm drive one_of out)
 
       later_too : (drive : DriveNo) → DriveFailed shelf old m2 drive.0 → DriveFailed shelf old new drive.0
       later_too drive rose = rose_later (faults_at old drive) (faults_at m2 drive) (faults_at new drive) (t_kept.keeps.no_fewer_faults (OnDrive drive.0)) rose
@@ -337,8 +354,8 @@ module _ {S : Type 0} (shelf : Ghosts S) (site : Site) (old m1 : S) (up : Drives
           let read = r.0.line.at.drive in
           subst (λ (d : DriveNo). faults_at m2 d ≡ faults_at m1 d) r.2 (at_true _ _ (has_drive looked.calm read) so (at.calm.each read (at.calm.only read so) (calm_up read so)))
 
-      told_end : IsEndBy (DriveFailures shelf m2 new) site looked.survey taken.end → IsEndBy (DriveFailures shelf old new) site looked.survey taken.end
-      told_end = end_as (DriveFailures shelf m2 new) (DriveFailures shelf old new) site looked.survey
+      told_end : IsEndBy (DriveFailures shelf m2 new) (Rewrites shelf m2 new site.key) site looked.survey taken.end → IsEndBy (DriveFailures shelf old new) (Rewrites shelf m2 new site.key) site looked.survey taken.end
+      told_end = end_as (DriveFailures shelf m2 new) (DriveFailures shelf old new) (Rewrites shelf m2 new site.key) site looked.survey
           (λ r has some. subst (λ (n : ℕ). RoseOnce n (shelf.faults new (OnDrive (drive_of r)))) (read_faults r has) some) (λ r has none. none ∙ read_faults r has) taken.end
 
       all_calm : calm ≡ true → (drive : DriveNo) → Contains site.drives drive → has_drive looked.calm drive ≡ true
@@ -358,8 +375,9 @@ module _ {S : Type 0} (shelf : Ghosts S) (site : Site) (old m1 : S) (up : Drives
       abbrev made : Booted
       made = record { end = taken.end; up = up; clean = clean }
 
-      read_at : IsReadAt shelf old new g site made looked.survey
+      abbrev read_at : IsReadAt shelf old new g site made looked.survey
       read_at = record {
+        begun = at.last_look.begun;
         looked = m2;
         unwritten = subst (λ (o : Option Tale). Moments IsUnwritten (shelf.tale old) o) (sym l_same) b_moments;
         before = look_kept;
@@ -367,7 +385,12 @@ module _ {S : Type 0} (shelf : Ghosts S) (site : Site) (old m1 : S) (up : Drives
         answered = calm_faults;
         calm = looked.calm;
         up = calm_up;
-        failed = not_calm;
+        failed = λ drive one_of out. once_rose _ _ (once_by at.last_look.begun at.last_look.before drive one_of out);
+        once = λ t told. (
+            let u = brought t told in
+            let one = at.last_look.once u.0 u.1 in
+            (one.0, one.1, subst (λ (c : Contents). AreLinesBy g site looked.calm no_drives c site.lines one.0) (last_same t u.0 u.2.unwritten) one.2));
+        still = answer.still;
         survey_is = at.survey;
         of = λ t told. (
             let u = brought t told in
@@ -375,10 +398,28 @@ module _ {S : Type 0} (shelf : Ghosts S) (site : Site) (old m1 : S) (up : Drives
         none = at.none;
       }
 
-      ended_by : (is_memory taken.end ≡ true) ⊎ IsEndBy (DriveFailures shelf m2 new) site looked.survey taken.end
-          → (is_memory taken.end ≡ true) ⊎ ((survey : Survey) × IsReadAt shelf old new g site made survey × IsEndBy (DriveFailures shelf old new) site survey taken.end)
+      ended_by : (is_memory taken.end ≡ true) ⊎ IsEndBy (DriveFailures shelf m2 new) (Rewrites shelf m2 new site.key) site looked.survey taken.end
+          → (is_memory taken.end ≡ true) ⊎ ((survey : Survey) × (at_look : IsReadAt shelf old new g site made survey) × IsEndBy (DriveFailures shelf old new) (Rewrites shelf at_look.looked new site.key) site survey taken.end)
       ended_by (inl memory) = inl memory
       ended_by (inr by) = inr (looked.survey, read_at, told_end by)
+
+      -- behind the look no call was made on a drive that doesn't count
+      kept_out : (drive : DriveNo) → has_drive looked.calm drive ≡ false → faults_at new drive ≡ faults_at m2 drive
+      kept_out drive out = t_kept.others (OnDrive drive.0) (λ among.
+          let r = unmapped (λ (x : Replica). x.line.at.drive) looked.survey.replicas among.0 among.1 in
+          let same : OnDrive drive.0 ≡ OnDrive among.0.0 = among.2 in
+          let number : drive.0 ≡ among.0.0 = cc (same) in
+          let is : drive ≡ r.0.line.at.drive = (λ i. record { 0 = number i }) ∙ sym r.2 in
+          cc (sym out ∙ ap (has_drive looked.calm) is, read_calm r.0 r.1))
+
+      each_once : (drive : DriveNo) → Contains site.drives drive → IsOnce (DriveFailures shelf old new drive.0)
+      each_once drive one_of = elim (cases_bool (has_drive looked.calm drive)) [
+        | inl so ↦ elim (answer.once drive) [
+          | inl none ↦ inl (none ∙ calm_faults drive so)
+          | inr some ↦ inr (subst (λ (n : ℕ). RoseOnce n (faults_at new drive)) (calm_faults drive so) some)
+        ]
+        | inr out ↦ inr (subst (λ (n : ℕ). RoseOnce (faults_at old drive) n) (sym (kept_out drive out)) (once_by m2 at.calm drive one_of out))
+      ]
 
       pub booted : IsBooted shelf old new g site made
       booted = record {
@@ -391,8 +432,7 @@ module _ {S : Type 0} (shelf : Ghosts S) (site : Site) (old m1 : S) (up : Drives
           behind = among_calm shelf m1 m2 new site.drives (drives_read looked.survey.replicas) read_within looked_faults l_kept t_kept;
         };
         ended = ended_by answer.ended;
-        down = λ drive one_of out. later_too drive (rose_later (faults_at old drive) (faults_at m1 drive) (faults_at m2 drive) (l_kept.keeps.no_fewer_faults (OnDrive drive.0)) (down_rose drive one_of out));
-        others = ups.others;
+        once = inr each_once;
         clean = subst (λ (b : Bool). MatchBool b ((is_memory taken.end ≡ false) × ((drive : DriveNo) → Contains site.drives drive → (DriveFailures shelf old new drive.0).none)) ((is_memory taken.end ≡ true) ⊎ ((drive : DriveNo) × Contains site.drives drive × DriveFailed shelf old new drive.0)))
             (sym clean_is) (clean_by calm taken.calm (is_memory taken.end) all answer.calm refl);
         laid = subst (λ (sizes : List ℕ). IfAdopted taken.end (λ o. AreLaid sizes o.seats)) look_kept.keeps.same_sizes answer.laid;
@@ -417,19 +457,21 @@ module _ {S : Type 0} (shelf : Ghosts S) (site : Site) (old m1 : S) (up : Drives
           let has = (at.of u is.is).all r found (yes_not (has_drive looked.calm drive) (has_drive looked.survey.failed drive) here (at.none drive here)) in
           subst (λ (o : Option Newest). IsMarked looked.survey.replicas o) none at.survey.marked r has
 
-      empty_by : (is_memory taken.end ≡ true) ⊎ IsEndBy (DriveFailures shelf m2 new) site looked.survey taken.end → taken.end ≡ end.Empty → looked.survey.newest ≡ None
+      empty_by : (is_memory taken.end ≡ true) ⊎ IsEndBy (DriveFailures shelf m2 new) (Rewrites shelf m2 new site.key) site looked.survey taken.end → taken.end ≡ end.Empty → looked.survey.newest ≡ None
       empty_by (inl memory) is = absurd (cc (memory, ap is_memory is))
-      empty_by (inr by) is = none_newest looked.survey (subst (λ (e : BootEnd). IsEndBy (DriveFailures shelf m2 new) site looked.survey e) is by)
+      empty_by (inr by) is = none_newest looked.survey (subst (λ (e : BootEnd). IsEndBy (DriveFailures shelf m2 new) (Rewrites shelf m2 new site.key) site looked.survey e) is by)
 
       calm_of : clean ≡ true → calm ≡ true
       calm_of so = and_first calm (taken.calm && not (is_memory taken.end)) (sym clean_is ∙ so)
 
-      pub all_ends : AtEnd shelf (TakingEnds site looked taken.end) m2 new → AtEnd shelf (StaySynced shelf m2 new) m2 new → AtEnd shelf (BootEnds (DriveFailed shelf old new) g site made) old new
-      all_ends taking stays t told =
+      pub all_ends : AtEachTale shelf (TakingMoment site looked taken.end) m2 new → AtEnd shelf (TakingEnds site looked taken.end) m2 new → AtEnd shelf (StaySynced shelf m2 new) m2 new → AtEnd shelf (BootEnds (DriveFailed shelf old new) g site made) old new
+      all_ends moments taking stays t told =
           let u = brought t told in
           let here : shelf.tale m2 ≡ Some u.0 = l_same ∙ u.1 in
           let w = taking u.0 here in
           let s = stays u.0 here in
+          let m = moments_end (TakingMoment site looked taken.end) (shelf.tale m2) (shelf.tale new) moments u.0 here in
+          let last_one : m.0 ≡ w.0 = some_is (shelf.tale new) m.0 w.0 m.1 w.1 in
           let same : s.0 ≡ w.0 = some_is (shelf.tale new) s.0 w.0 s.1 w.1 in (
             w.0,
             w.1,
@@ -444,6 +486,9 @@ module _ {S : Type 0} (shelf : Ghosts S) (site : Site) (old m1 : S) (up : Drives
                   let is_calm = calm_where drive one_of never in
                   subst (λ (x : Tale). IsSynced drive.0 x) same
                   (s.2 drive (u.2.synced drive (calm_up drive is_calm)) (λ rose. never (rose_before (faults_at old drive) (faults_at m2 drive) (faults_at new drive) (look_kept.keeps.no_fewer_faults (OnDrive drive.0)) rose))));
+              still = λ drive block so out x left. (
+                  let kept = (subst (λ (v : Tale). BootMoment g site taken.end u.0 v) last_one (m.2 g (was_read t u.0 u.2))).quiet.outside drive.0 block out in
+                  u.2.synced drive so block x (kept.left x left) ∙ sym (λ i. kept.last i));
             },
           )
         where

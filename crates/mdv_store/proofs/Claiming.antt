@@ -129,6 +129,7 @@ module _ (number : ℕ) (seats : List Seat) (t : Tale) where
   pub claiming_moment : ((r : Replica) → Contains all r → 16 ≤ r.first.blocks) → (m : Tale) → IsPassing (claiming number) all t m → ClaimingMoment seats number t m
   claiming_moment long m passing = record {
     quiet = claim_quiet long m passing;
+    passing = passing;
     traces = λ g key identity log mark table v before a. claim_traces g key identity log mark table v a before m passing;
     rest = λ g key identity databases sound small held. claim_rest g key identity sound small held databases m passing;
     blank = λ g key identity sound small held. claim_blank g key identity sound small held m passing;
@@ -136,6 +137,7 @@ module _ (number : ℕ) (seats : List Seat) (t : Tale) where
 
   pub claiming_ends : (new : List Seat) (u : Tale) → Passed (claiming number) all t (replicas_of new) [] u → ClaimingEnds seats new number t u
   claiming_ends new u passed = record {
+    passed = passed;
     traces = λ g key identity log mark table v before a. claim_traced g key identity log mark table v a before new u passed;
     held = λ g key identity sound small held. claim_held g key identity sound small held new u passed;
     synced = λ r has before. claim_synced new u passed r has;

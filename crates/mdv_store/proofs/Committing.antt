@@ -47,6 +47,7 @@ nothing_goes g old next asked t log covers known = record {
 nothing_done : (old : Opened) (next : Table) (t : Tale) → CommitMoment old next t t
 nothing_done old next t = record {
   quiet = record { outside = kept_outside_same _ t; quiet = refl };
+  only = inl refl;
   goes = λ g asked may. nothing_goes g old next asked t;
   rest = λ g all of_geometry opened rest. rest;
   blank = λ g of_geometry opened key other another blank. blank;
@@ -201,6 +202,7 @@ module _ (old : Opened) (next : Table) (c : IsCommitting old next) where
   commit_moment : (t m : Tale) → WritingMoment old.seats mark next t m → CommitMoment old next t m
   commit_moment t m writing = record {
     quiet = writing.slotting.quiet;
+    only = inr (writing.body, writing.spelled, writing.slotting.passing);
     goes = λ g asked may log covers known. goes_on g asked t may log covers known m writing;
     rest = λ g all of_geometry opened. writing.slotting.rest g old.key old.identity all next opened.sound opened.held (bodies writing.body writing.spelled g opened.sound of_geometry);
     blank = λ g of_geometry opened. writing.slotting.blank g old.key old.identity next opened.sound opened.held (bodies writing.body writing.spelled g opened.sound of_geometry);

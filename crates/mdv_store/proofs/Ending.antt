@@ -1,42 +1,39 @@
 -- What a creation says by each moment and in the end, for each table of drives.
-use Rattle.std.proofs.Common.{◌≡◌, inl, inr, ℕ, ◌+◌, ◌*◌, ◌<◌, ◌≤◌, Bool, true, false, if◌then◌else◌, List, [], ◌∷◌, ◌++◌, length, Contains, slice_index_or, None, refl, sym, ◌∙◌, ap, subst, append_assoc, append-nil, arith}
-use Rattle.std.specs.Prelude.{flat_map, nat_lt}
-use Rattle.std.proofs.lemmas.Bool.Decides.{nat_tests}
+use Rattle.std.proofs.Common.{◌≡◌, inl, inr, ℕ, ◌<◌, ◌≤◌, true, false, List, [], ◌∷◌, ◌++◌, length, Contains, slice_index_or, None, refl, sym, ◌∙◌, ap, subst, append_assoc, append-nil, arith}
 use Rattle.std.proofs.lemmas.List.{length-map}
 use Rattle.std.proofs.lemmas.List.Elements.{Contains-get_or}
 use Rattle.mdv_quorum.specs.declared.event.Event.TheVariants.{Formatted, Slotted, Told}
 use Rattle.mdv_quorum.specs.declared.event.SlotEnd.TheVariants.{Closed as LeftClosed}
-use Rattle.mdv_replica.specs.declared.forms.Gate.TheVariants.{Closed}
-use Rattle.mdv_replica.specs.declared.forms.Master.{Master}
 use Rattle.mdv_store_law.proofs.Parts.{part_front, part_mapped, part_of_part}
 use Rattle.mdv_store_law.specs.Log.{Writing as WritesLog, Written, log_after}
-use Rattle.mdv_shown.specs.Formats.{master_on}
 use Rattle.mdv_standing.specs.Creating.{IsCreating, first_mark, issued_log}
 use Rattle.mdv_standing.specs.Tracing.{IsCreationBegin, IsRun, IsStart, Traces, formats_at, written_at}
 use Rattle.mdv_standing.proofs.Creating.{may_write_first}
 use Rattle.mdv_standing.proofs.Stretches.{traced_answer, traced_first_write}
 use Rattle.mdv_standing.proofs.Tracing.{adds_begun, adds_none, adds_written, course_one, course_written, more, newest_begun, part_one, run_within, trace_weaker}
-use Rattle.mdv_store.specs.Acts.{Act, AreDoing, AreDone, blanks_asked, blanks_on, forms_asked}
-use Rattle.mdv_store.specs.Below.{Database, Event, Failures, First, Geometry, Identity, IsOwn, IsPart, IsReadyWith, IsTaking, Key, Log, Mark, Open, Replica, RestStands, Second, Site, SliceLine, Slot, Spot, Table, Tale, fills_at, gate_of, is_named, lists_of_spots, record_text, site_of, spot_on}
+use Rattle.mdv_store.specs.Acts.{Act, AreDoing, AreDone, blanks_asked, forms_asked}
+use Rattle.mdv_store.specs.Below.{Database, Event, Failures, Geometry, Identity, IsPart, IsReadyWith, IsTaking, Key, Log, Replica, RestStands, Site, SliceLine, Spot, Table, Tale, fills_at, lists_of_spots, record_text, site_of, spot_on}
 use Rattle.mdv_store.specs.Commit.{AnyLog, AnyWorld}
-use Rattle.mdv_store.specs.Create.{AreAsked, AreOfCreation, CreateGoes, IsCreatedTo, MayCreate, replica_on, seats_asked, table_of}
+use Rattle.mdv_store.specs.Create.{AreAsked, AreOfCreation, CreateGoes, IsCreatedTo, MayCreate, seats_asked, table_of}
 use Rattle.mdv_store.specs.Opened.{AreSeatsOf, IsOpenedAt, Opened}
 use Rattle.mdv_store.specs.Records.{Spells}
-use Rattle.mdv_store.specs.Seats.{AreHeld, AreLeft, AreNamed, TakesSlot, is_half_active, replicas_of, spot_of, spots_of}
-use Rattle.mdv_store.specs.Slots.{AreAbove, AreBodies, AreFills, IsWritten, SlottingEnds, SlottingMoment}
+use Rattle.mdv_store.specs.Seats.{AreHeld, AreLeft, TakesSlot, is_half_active, replicas_of, spot_of, spots_of}
+use Rattle.mdv_store.specs.Slots.{AreBodies, AreFills, IsWritten, SlottingEnds, SlottingMoment}
 use Rattle.mdv_store.specs.Text.{IsSpelled}
 use Rattle.mdv_store.specs.declared.seats.Seat.{Seat}
 use Rattle.mdv_votes.specs.Spots.{is_none}
 use Rattle.mdv_store.proofs.Acting.{done_split, doing_split, no_line}
-use Rattle.mdv_store.proofs.Clearing.{IsCleared, IsClearing, all_cleared, all_clearing, clearing_now, may_form, one_each}
-use Rattle.mdv_store.proofs.Forming.{IsFormingAt, IsGiven}
-use Rattle.mdv_store.proofs.Given.{ArePairsApart, IsOwner, all_given, slices_apart}
+use Rattle.mdv_store.proofs.Clearing.{IsClearing, StaysKnown, all_cleared, all_clearing, clear_known, clear_now, may_form}
+use Rattle.mdv_store.proofs.Formed as formed
+use Rattle.mdv_store.proofs.Forming.{IsFormedTo, IsFormingAt, form_steps}
+use Rattle.mdv_store.proofs.Given.{ArePairsApart, IsOwner}
 use Rattle.mdv_store.proofs.Halves.{half_written, spot_in_spots}
 use Rattle.mdv_store.proofs.Marks.{slot_stays}
-use Rattle.mdv_store.proofs.Records.{record_spelled}
-use Rattle.mdv_store.proofs.Seated.{replica_is, room_for_text, seats_of_table, some_asked, spots_once}
+use Rattle.mdv_store.proofs.Places.{GoesOn}
+use Rattle.mdv_store.proofs.Putting.{IsGiven}
+use Rattle.mdv_store.proofs.Seated.{replica_is, seats_of_table, some_asked}
 use Rattle.mdv_store.proofs.Sitting.{left_replica, left_seats}
-use Rattle.mdv_store.proofs.Slices.{IsFormed, all_formed, all_forming}
+use Rattle.mdv_store.proofs.Slices.{Ended, all_formed, all_forming, in_end}
 use Rattle.mdv_store.proofs.Spotting.{asked_active, asked_named}
 use Rattle.mdv_store.proofs.Telling.{newest_written}
 
@@ -67,11 +64,14 @@ module _ (g : Geometry) (all : List Database) (key : Key) (identity : Identity) 
   abbrev Begin : List Event → Type 0
   Begin = IsCreationBegin (lists_of_spots site table.plan.lists)
 
-  given : IsGiven g all key identity lines count blocks
-  given = all_given g all key identity lines count blocks sizes t owner asked may
+  abbrev given : IsGiven g key identity lines count blocks
+  given = formed.given g key identity lines count blocks sizes t owner asked may.forms
 
-  pairs : ArePairsApart lines
-  pairs = slices_apart g all key identity lines count blocks sizes t owner asked may lines (λ l has. has) asked.once
+  abbrev steps : GoesOn key identity lines count blocks (IsFormedTo g all key identity lines count blocks t) (IsFormingAt g all key identity lines count blocks t)
+  steps = form_steps g all key identity lines count blocks given may.one_of t
+
+  abbrev pairs : ArePairsApart lines
+  pairs = formed.pairs g key identity lines count blocks sizes t owner asked may.forms
 
   -- the first place
   abbrev line : SliceLine
@@ -94,8 +94,11 @@ module _ (g : Geometry) (all : List Database) (key : Key) (identity : Identity) 
   unbegun : (m : Tale) → Traces (Spells g) site identity log log (IsStart site) Are AnyWorld t m → RestStands (Spells g) g all identity m → IsUnbegun m
   unbegun m traces rest = record { goes = record { es = []; course = tt; come = adds_none; traces = traces; after = refl }; rest = rest }
 
-  from_clearing : (m : Tale) → IsClearing g all key identity lines count blocks given asked.more t m → IsUnbegun m
-  from_clearing m c = unbegun m (trace_weaker (Spells g) site identity log log (IsStart site) (IsStart site) (IsStart site) AnyWorld (λ es. es ≡ []) Are t m (λ w known. known) (λ es none. inl none) (λ w known. tt) c.traces) c.rest
+  abbrev Clearing : Tale → Type 0
+  Clearing = IsClearing g key identity lines count blocks given asked.more t all
+
+  from_clearing : (m : Tale) → Clearing m → IsUnbegun m
+  from_clearing m c = unbegun m (trace_weaker (Spells g) site identity log log (IsStart site) (IsStart site) (IsStart site) AnyWorld (λ es. es ≡ []) Are t m (λ w known. known) (λ es none. inl none) (λ w known. tt) c.traces) c.clear.rest
 
   from_forming : (m : Tale) → IsFormingAt g all key identity lines count blocks t m → IsUnbegun m
   from_forming m f =
@@ -108,82 +111,48 @@ module _ (g : Geometry) (all : List Database) (key : Key) (identity : Identity) 
       f.rest
 
   -- the masters are blanked, where there are more than one on a slice
-  blanking : ((m : Tale) → AreDoing (blanks_asked lines count blocks) t m → IsClearing g all key identity lines count blocks given asked.more t m)
-      × ((u : Tale) → AreDone (blanks_asked lines count blocks) t u → IsCleared g all key identity lines count blocks given asked.more t (λ l. Contains lines l) u)
-  blanking = by (nat_lt 1 count) refl where
-    by : (b : Bool) → nat_lt 1 count ≡ b
-        → ((m : Tale) → AreDoing (if b then flat_map (blanks_on count blocks) lines else []) t m → IsClearing g all key identity lines count blocks given asked.more t m)
-        × ((u : Tale) → AreDone (if b then flat_map (blanks_on count blocks) lines else []) t u → IsCleared g all key identity lines count blocks given asked.more t (λ l. Contains lines l) u)
-    by true several = (
-      λ m is. all_clearing g all key identity lines count blocks given asked.more t may.clear m is,
-      λ u is. all_cleared g all key identity lines count blocks given asked.more t may.clear u is,
-    )
-    by false one = (
-      λ m is. subst (λ (w : Tale). IsClearing g all key identity lines count blocks given asked.more t w) (sym is) (clearing_now g all key identity lines count blocks given asked.more t may.clear),
-      λ u is. subst (λ (w : Tale). IsCleared g all key identity lines count blocks given asked.more t (λ l. Contains lines l) w) (sym is)
-          (one_each g all key identity lines count blocks given asked.more t may.clear (let few : count ≤ 1 = grind (arith, nat_tests) in let some = asked.more in omega (arith, few, some))),
-    )
+  abbrev clear : Clearing t
+  clear = clear_now g key identity lines count blocks given asked.more t all may.clear
+
+  abbrev known : StaysKnown site lines count blocks Clearing
+  known = clear_known g key identity lines count blocks given asked.more t all
+
+  clear_to : (u : Tale) → AreDone (blanks_asked lines count blocks) t u → IsFormedTo g all key identity lines count blocks t (λ other j. ⊥) (λ other from. Contains lines other × (1 ≤ from)) [] (spots_of seats) u
+  clear_to u is =
+      may_form g key identity lines count blocks given asked.more t all u (all_cleared site lines count blocks asked.more Clearing known t clear u is).known (formed.blanked g key identity lines count blocks sizes t owner asked may.forms u is)
 
   abbrev acts : List Act
   acts = blanks_asked lines count blocks ++ forms_asked key identity lines count blocks
 
   pub acts_unbegun : (m : Tale) → AreDoing acts t m → IsUnbegun m
   acts_unbegun m is = elim (doing_split (blanks_asked lines count blocks) (forms_asked key identity lines count blocks) t m is) [
-    | inl here ↦ from_clearing m (blanking.0 m here)
-    | inr behind ↦ from_forming m (all_forming g all key identity lines count blocks given t pairs behind.0 (may_form g all key identity lines count blocks given asked.more t behind.0 (blanking.1 behind.0 behind.1)) m behind.2)
+    | inl here ↦ from_clearing m (all_clearing site lines count blocks asked.more Clearing known t clear m here)
+    | inr behind ↦ from_forming m (all_forming key identity lines count blocks (IsFormedTo g all key identity lines count blocks t) (IsFormingAt g all key identity lines count blocks t) steps pairs behind.0 (clear_to behind.0 behind.1) m behind.2)
   ]
-
-  formed : (v : Tale) → AreDone acts t v → IsFormed g all key identity lines count blocks given t v
-  formed v is =
-      let two = done_split (blanks_asked lines count blocks) (forms_asked key identity lines count blocks) t v is in
-      all_formed g all key identity lines count blocks given t pairs two.0 (may_form g all key identity lines count blocks given asked.more t two.0 (blanking.1 two.0 two.1)) v two.2
 
   -- The first table is written.
   module _ (v : Tale) (is_done : AreDone acts t v) where
-    f : IsFormed g all key identity lines count blocks given t v
-    f = formed v is_done
+    f : Ended key identity lines count blocks (IsFormedTo g all key identity lines count blocks t) (IsFormingAt g all key identity lines count blocks t) steps v
+    f =
+        let two = done_split (blanks_asked lines count blocks) (forms_asked key identity lines count blocks) t v is_done in
+        all_formed key identity lines count blocks (IsFormedTo g all key identity lines count blocks t) (IsFormingAt g all key identity lines count blocks t) steps pairs two.0 (clear_to two.0 two.1) v two.2
 
-    first_same : (l : SliceLine) → master_on site identity l blocks count 0 ≡ (replica_on key identity l count blocks 0).first
-    first_same l =
-        let start : 16 + 0 * blocks ≡ 16 = omega arith in
-        λ i. record { identity = identity; key = key; slice = l.name; start = start i; blocks = blocks; index = 0; count = count }
-
-    pub held : AreHeld g key identity seats v
-    held = record {
-      each = λ r has image is.
-          let one = replica_is key identity count blocks lines r has in
-          subst (λ (x : Replica). IsOwn (Spells g) site identity x.line x.number image x.first x.head) (sym one.is)
-          (subst (λ (m : Master). IsOwn (Spells g) site identity one.line one.number image m (replica_on key identity one.line count blocks one.number).head) (first_same one.line) (f.own one.line one.number one.among one.lt image is));
-      once = spots_once key identity count blocks asked.least lines pairs asked.within;
-    }
-
-    named : AreNamed site table seats
-    named r has =
-        let one = replica_is key identity count blocks lines r has in
-        subst (λ (x : Replica). is_named (lists_of_spots site table.plan.lists) (spot_of x) ≡ true) (sym one.is) (given.names one.line one.number one.among one.lt)
-
-    shut : (slot : Slot) (r : Replica) (m : Mark) (n : ℕ) → r.head.first ≡ Closed → r.head.second ≡ Closed → gate_of r.head slot ≡ Open m n → ⊥
-    shut First r m n one two is = (let none : Closed ≡ Open m n = sym one ∙ is in cc (none))
-    shut Second r m n one two is = (let none : Closed ≡ Open m n = sym two ∙ is in cc (none))
-
-    above : AreAbove first_mark seats
-    above r has slot m n is =
-        let one = replica_is key identity count blocks lines r has in
-        absurd (shut slot r m n (ap (λ (x : Replica). x.head.first) one.is) (ap (λ (x : Replica). x.head.second) one.is) is)
+    held : AreHeld g key identity seats v
+    held = formed.held g key identity lines count blocks sizes t owner asked may.forms v is_done
 
     module _ (body : List (List ℕ)) (spelled : IsSpelled table bytes body) where
       bodies : AreBodies g seats first_mark bytes body table
-      bodies r has =
-          let fits = room_for_text key identity count blocks lines sizes asked r has in
-          let blocks_are = spelled.blocks in
-          let text = record_spelled g _ table may.sound may.of_geometry spelled.text in
-          record {
-            is = record { of_mark = record { boot = omega arith; count = omega arith }; in_slot = omega (arith, fits, blocks_are); in_room = omega (arith, fits); in_body = spelled.in_body; as_record = (table, text) };
-            spelled = text;
-          }
+      bodies = formed.bodies g key identity lines count blocks sizes t owner asked may.forms v is_done body spelled
 
       written : IsWritten g key identity seats first_mark bytes body begun table v
-      written = record { sound = may.sound; held = held; named = named; bodies = bodies; above = above; newest = newest_begun log first_mark None [] table }
+      written = record {
+        sound = may.forms.sound;
+        held = held;
+        named = formed.named g key identity lines count blocks sizes t owner asked may.forms v is_done;
+        bodies = bodies;
+        above = formed.above g key identity lines count blocks sizes t owner asked may.forms v is_done;
+        newest = newest_begun log first_mark None [] table;
+      }
 
       abbrev spots : List Spot
       spots = spots_of seats
@@ -193,7 +162,7 @@ module _ (g : Geometry) (all : List Database) (key : Key) (identity : Identity) 
 
       some_first : is_none (lists_of_spots site table.plan.lists).first ≡ false
       some_first =
-          let names = asked_named g may.sound key identity count blocks lines may.sites in
+          let names = asked_named g may.forms.sound key identity count blocks lines may.forms.sites in
           let size = length-map (replicas_of seats) spot_of ∙ asked_active key identity count blocks lines in
           let some = some_asked key identity count blocks lines sizes asked in
           subst (λ (l : List Spot). is_none l ≡ false) (sym names) (none_false spots (omega (arith, size, some)))
@@ -202,7 +171,7 @@ module _ (g : Geometry) (all : List Database) (key : Key) (identity : Identity) 
       first_write =
           let lt : 0 < count = (let more_than = asked.more in omega (arith, more_than)) in
           more (Spells g) site identity log log (IsStart site) (IsCreating (lists_of_spots site table.plan.lists) f.made) Begin (formats_at spots) t v f.traces begun (IsTaking false first_mark []) (λ es. es ≡ opening ∷ []) (opening ∷ []) v
-          (λ fs is. part_one opening fs is) (traced_first_write (Spells g) site identity log v p table f.made refl some_first (f.has line 0 among lt) (given.names line 0 among lt))
+          (λ fs is. part_one opening fs is) (traced_first_write (Spells g) site identity log v p table f.made refl some_first (f.has line 0 (in_end key identity lines count blocks (IsFormedTo g all key identity lines count blocks t) (IsFormingAt g all key identity lines count blocks t) steps line 0 among lt)) (given.names line 0 among lt))
 
       fills : (now : List Spot) (m : Tale) → Traces (Spells g) site identity begun begun (IsTaking false first_mark []) (AreFills spots) (IsTaking false first_mark now) v m
           → Traces (Spells g) site identity log begun (IsStart site) (IsRun Begin ((formats_at spots ++ opening ∷ []) ++ fills_at spots)) (IsTaking false first_mark now) t m
@@ -228,7 +197,7 @@ module _ (g : Geometry) (all : List Database) (key : Key) (identity : Identity) 
           }
 
       pub writing_rest : (m : Tale) → SlottingMoment seats first_mark bytes body v m → RestStands (Spells g) g all identity m
-      writing_rest m slotting = slotting.rest g key identity all table may.sound held bodies f.rest
+      writing_rest m slotting = slotting.rest g key identity all table may.forms.sound held bodies f.rest
 
       -- in the end it was answered, where at least half of the places took it
       module _ (failed : ℕ → Failures) (new : List Seat) (left : AreLeft failed (TakesSlot first_mark bytes) seats new) (half : is_half_active new ≡ true) (u : Tale) (ends : SlottingEnds seats new first_mark bytes body v u) where
@@ -241,31 +210,19 @@ module _ (g : Geometry) (all : List Database) (key : Key) (identity : Identity) 
         are : AreSeatsOf table new
         are = left_seats failed (TakesSlot first_mark bytes) table table seats new (slot_stays first_mark bytes) refl left (seats_of_table key identity count blocks lines sizes asked)
 
-        opened : IsOpenedAt g made u
-        opened = record {
-          sound = may.sound;
-          of_geometry = may.of_geometry;
-          held = ends.held g key identity table may.sound held bodies;
-          named = λ r has.
-              let one = was r has in
-              let took = one.2 in
-              subst (λ (x : Replica). is_named (lists_of_spots site table.plan.lists) (spot_of x) ≡ true) (sym took.2) (named one.0 one.1);
-          shown = ends.shown g key identity table may.sound held bodies above;
-        }
-
         lie : (r : Replica) → Contains (replicas_of new) r → Contains site.lines r.line
         lie r has =
             let one = was r has in
             let took = one.2 in
             let its = replica_is key identity count blocks lines one.0 one.1 in
-            subst (λ (x : Replica). Contains site.lines x.line) (sym took.2) (subst (λ (x : Replica). Contains site.lines x.line) (sym its.is) (may.sites its.line its.among))
+            subst (λ (x : Replica). Contains site.lines x.line) (sym took.2) (subst (λ (x : Replica). Contains site.lines x.line) (sym its.is) (may.forms.sites its.line its.among))
 
         goes : CreateGoes g key identity seats (IsReadyWith (spots_of new)) (IsCreatedTo made) t u
         goes =
             let took = spots_of new ++ [] in
             let answered = log_after begun Written in
             let newest = newest_begun log first_mark None [] table in
-            let enough = half_written g key may.sound table new took are half lie (λ r has. spot_in_spots new [] r has) in
+            let enough = half_written g key may.forms.sound table new took are half lie (λ r has. spot_in_spots new [] r has) in
             let taken = fills took u (ends.traces g key identity begun table false [] written) in
             let all_told = more (Spells g) site identity log begun (IsStart site) (IsTaking false first_mark took) Begin ((formats_at spots ++ opening ∷ []) ++ fills_at spots) t u taken answered (IsReadyWith took) (λ es. es ≡ Told ∷ []) (Told ∷ []) u
             (λ fs is. part_one Told fs is) (traced_answer (Spells g) site identity begun u first_mark table false took enough newest) in
@@ -286,4 +243,4 @@ module _ (g : Geometry) (all : List Database) (key : Key) (identity : Identity) 
             }
 
         pub made_ends : IsOpenedAt g made u × CreateGoes g key identity seats (IsReadyWith (spots_of new)) (IsCreatedTo made) t u
-        made_ends = (opened, goes)
+        made_ends = (formed.made_opened g key identity lines count blocks sizes t owner asked may.forms v is_done body spelled failed new left u ends, goes)

@@ -11,12 +11,12 @@ use Rattle.mdv_shown.specs.Site.{line_area}
 use Rattle.mdv_shown.specs.Sites.{is_line_of}
 use Rattle.mdv_shown.proofs.Sites.{lines_apart, site_is}
 use Rattle.mdv_standing.specs.Blanking.{IsFormatOn}
-use Rattle.mdv_store.specs.Below.{Database, Geometry, Identity, Key, Site, SliceLine, Spot, Tale, is_named, lists_of_spots, site_of, spot_on}
-use Rattle.mdv_store.specs.Create.{AreAsked, MayCreate, seats_asked, table_of}
+use Rattle.mdv_store.specs.Below.{Geometry, Identity, Key, Site, SliceLine, Spot, is_named, lists_of_spots, site_of, spot_on}
+use Rattle.mdv_store.specs.Create.{AreAsked, MayForm, seats_asked, table_of}
 use Rattle.mdv_table.proofs.Pairs.{AllPairs-first, AllPairs-rest}
 use Rattle.mdv_votes.specs.Spots.{is_in}
 use Rattle.mdv_store.proofs.Asked.{few_each, start_short, within_line}
-use Rattle.mdv_store.proofs.Forming.{IsGiven}
+use Rattle.mdv_store.proofs.Putting.{IsGiven}
 use Rattle.mdv_store.proofs.Spotting.{asked_named, in_asked, of_filter}
 
 -- whose database it is, in the limits of a master
@@ -30,8 +30,8 @@ abbrev pub ArePairsApart : List SliceLine → Type 0
 ArePairsApart [] = Unit {0}
 ArePairsApart (line ∷ lines) = ((other : SliceLine) → Contains lines other → AreApart (line_area line) (line_area other)) × ArePairsApart lines
 
-module _ (g : Geometry) (all : List Database) (key : Key) (identity : Identity) (lines : List SliceLine) (count blocks : ℕ) (sizes : List ℕ) (t : Tale) (owner : IsOwner key identity) (asked : AreAsked sizes lines count blocks)
-    (may : MayCreate g all key identity lines (seats_asked key identity lines count blocks) t) where
+module _ (g : Geometry) (key : Key) (identity : Identity) (lines : List SliceLine) (count blocks : ℕ) (sizes : List ℕ) (owner : IsOwner key identity) (asked : AreAsked sizes lines count blocks)
+    (may : MayForm g key lines (seats_asked key identity lines count blocks)) where
   abbrev site : Site
   site = site_of g key
 
@@ -75,8 +75,8 @@ module _ (g : Geometry) (all : List Database) (key : Key) (identity : Identity) 
       or_left (is_in first (spot_on line blocks k)) false
       (subst (λ (l : List Spot). is_in l (spot_on line blocks k) ≡ true) (sym (asked_named g may.sound key identity count blocks lines may.sites)) (in_asked key identity count blocks lines line k has lt))
 
-  pub all_given : IsGiven g all key identity lines count blocks
-  all_given = record { sound = may.sound; one = may.one_of; least = asked.least; format = may_format; names = names }
+  pub all_given : IsGiven g key identity lines count blocks
+  all_given = record { sound = may.sound; least = asked.least; format = may_format; names = names }
 
   -- no two of the slices share a block
   pub slices_apart : (some : List SliceLine) → ((line : SliceLine) → Contains some line → Contains lines line) → AllPairs (λ (a b : SliceLine). a ≡ b → ⊥) some → ArePairsApart some

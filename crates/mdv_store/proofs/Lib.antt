@@ -3,6 +3,7 @@ pub mod Acting
 pub mod Adoptions
 pub mod Among
 pub mod Asked
+pub mod Bare
 pub mod Blanks
 pub mod Boots
 pub mod Bringing
@@ -11,6 +12,7 @@ pub mod Clearing
 pub mod Committing
 pub mod Ending
 pub mod Few
+pub mod Formed
 pub mod Forming
 pub mod Given
 pub mod Halves
@@ -20,8 +22,12 @@ pub mod Locating
 pub mod Looks
 pub mod Making
 pub mod Marks
+pub mod Meaning
+pub mod Once
 pub mod Passes
 pub mod Passing
+pub mod Places
+pub mod Putting
 pub mod Quiet
 pub mod Quorums
 pub mod Reading

@@ -4,17 +4,17 @@ use Rattle.std.specs.Prelude.{count_by}
 use Rattle.std.specs.Bool.{MatchBool}
 use Rattle.std.proofs.Math.Nat.{mul-le-mul_left}
 use Rattle.std.proofs.lemmas.Result.{IfOk-weaker}
-use Rattle.mdv_base.specs.Causes.{Rose, RoseOnce}
-use Rattle.mdv_shelf.specs.Calls.{Part, OnDrive}
+use Rattle.mdv_base.specs.Causes.{RoseOnce}
+use Rattle.mdv_shelf.specs.Calls.{OnDrive}
 use Rattle.mdv_shelf.specs.Drives.{AreDrives}
 use Rattle.std.proofs.lemmas.List.Elements.{Contains-append_left, Contains-append_right, Contains-push, Contains-push_cases}
 use Rattle.mdv_base.specs.DriveSet.{no_drives}
-use Rattle.mdv_survey.specs.Counts.{AreLinesBy, IsCounted, IsLineBy, MadeFew}
+use Rattle.mdv_survey.specs.Counts.{AreLinesBy, IsCounted, IsLineBy, IsSliceBy, MadeFew}
 use Rattle.mdv_survey.specs.Replica.{Contents}
-use Rattle.mdv_survey.specs.Survey.{HaveFailed, IsSurvey, IsSurveyOf, answers_in}
+use Rattle.mdv_survey.specs.Survey.{AreWithin, HaveFailed, IsSurvey, IsSurveyOf, answers_in}
 use Rattle.mdv_survey.specs.declared.replica.Survey.{Survey}
 use Rattle.mdv_store.specs.Below.{DriveNo, Drives, Geometry, Ghosts, Site, SliceLine, Tale, has_drive, last}
-use Rattle.mdv_store.specs.Looking.{AreLeftOf, HasFailedOn, HaveAnswered, IsLookCounted, IsLooked, IsLookedAt}
+use Rattle.mdv_store.specs.Looking.{AreCalmBy, AreLeftOf, HasFailedOn, HaveAnswered, IsLookCounted, IsLooked, IsLookedAt}
 use Rattle.mdv_store.specs.declared.looking.Looked.{Looked}
 use Rattle.mdv_store.proofs.Bringing.{count_cons, is_drive}
 use Rattle.mdv_store.proofs.Few.{few_more, few_wider}
@@ -151,29 +151,44 @@ flip A B l true true is e a = subst (λ (b : Bool). MatchBool b B A) (sym is) a
 flip A B l true false is e b = subst (λ (c : Bool). MatchBool c B A) (sym is) b
 flip A B l false f is e m = absurd (cc (e))
 
-rose_by : (f : Bool) (a b : ℕ) → MatchBool f (RoseOnce a b) (b ≡ a) → MatchBool f (Rose a b) (b ≡ a)
-rose_by true a b once = omega (arith, once)
-rose_by false a b same = same
-
 no_more : (f : Bool) → not f ≡ true → f ≡ false
 no_more true is = absurd (cc (is))
 no_more false is = refl
 
 -- what is told of a drive by a look and those behind it
-told_by : (a b n : ℕ) (c l u f : Bool) → l ≡ (u && not f) → u ≡ true → MatchBool f (Rose a b) (b ≡ a) → (l ≡ true → MatchBool c (n ≡ b) (Rose b n)) → (c ≡ true → l ≡ true) → b ≤ n → MatchBool c (n ≡ a) (Rose a n)
-told_by a b n c l false f is e was now within up = absurd (cc (e))
-told_by a b n true l true true is e was now within up = absurd (cc (is, within refl))
-told_by a b n true l true false is e was now within up = now (within refl) ∙ was
-told_by a b n false l true true is e was now within up = omega (arith, was, up)
-told_by a b n false l true false is e was now within up = subst (λ (m : ℕ). Rose m n) was (now is)
+told_by : (a b n : ℕ) (c l u f : Bool) → l ≡ (u && not f) → u ≡ true → MatchBool f (RoseOnce a b) (b ≡ a) → (l ≡ true → MatchBool c (n ≡ b) (RoseOnce b n)) → (l ≡ false → n ≡ b) → (c ≡ true → l ≡ true) → MatchBool c (n ≡ a) (RoseOnce a n)
+told_by a b n c l false f is e was now out within = absurd (cc (e))
+told_by a b n true l true true is e was now out within = absurd (cc (is, within refl))
+told_by a b n true l true false is e was now out within = now (within refl) ∙ was
+told_by a b n false l true true is e was now out within = subst (λ (m : ℕ). RoseOnce a m) (sym (out is)) was
+told_by a b n false l true false is e was now out within = subst (λ (m : ℕ). RoseOnce m n) was (now is)
+
+-- the same slices on drives that are up by either set
+pub lines_as : (g : Geometry) (site : Site) (up other failed : Drives) (content : Contents) (lines : List SliceLine) (n : ℕ) → ((line : SliceLine) → Contains lines line → has_drive up line.at.drive ≡ has_drive other line.at.drive)
+    → AreLinesBy g site up failed content lines n → AreLinesBy g site other failed content lines n
+lines_as g site up other failed content [] n same are = are
+lines_as g site up other failed content (line ∷ lines) n same are = (
+  are.0,
+  are.1,
+  subst (λ (b : Bool). MatchBool b ((are.0 ≤ 765) × (has_drive failed line.at.drive ≡ false → IsSliceBy g site line (content line.at.drive.0) are.0)) (are.0 ≡ 0)) (same line (here line lines)) are.2,
+  lines_as g site up other failed content lines are.1 (λ l one_of. same l (behind line lines l one_of)) are.3,
+  are.4,
+)
 
 module _ {S : Type 0} (shelf : Ghosts S) (g : Geometry) (site : Site) (old mid : S) (up : Drives) (found : Survey) (brought : (line : SliceLine) → Contains site.lines line → Contains site.drives line.at.drive)
-    (failed : HaveFailed shelf old mid found.failed) (left : Drives) (are : AreLeftOf site.drives up found.failed left) (same : shelf.tale mid ≡ shelf.tale old) where
-  failed_rose : (drive : DriveNo) → MatchBool (has_drive found.failed drive) (Rose (shelf.faults old (OnDrive drive.0)) (shelf.faults mid (OnDrive drive.0))) (shelf.faults mid (OnDrive drive.0) ≡ shelf.faults old (OnDrive drive.0))
-  failed_rose drive = rose_by (has_drive found.failed drive) (shelf.faults old (OnDrive drive.0)) (shelf.faults mid (OnDrive drive.0)) (failed drive)
-
+    (failed : HaveFailed shelf old mid found.failed) (failed_up : AreWithin found.failed up) (left : Drives) (are : AreLeftOf site.drives up found.failed left) (same : shelf.tale mid ≡ shelf.tale old) where
   was_up : (drive : DriveNo) → has_drive left drive ≡ true → has_drive up drive ≡ true
   was_up drive so = and_first (has_drive up drive) (not (has_drive found.failed drive)) (sym (are.each drive (are.only drive so)) ∙ so)
+
+  not_failed : (drive : DriveNo) → has_drive up drive ≡ false → has_drive found.failed drive ≡ false
+  not_failed drive down = elim (cases_bool (has_drive found.failed drive)) [ inl bad ↦ absurd (cc (failed_up drive bad, down)) | inr fine ↦ fine ]
+
+  -- no call was made on a drive that isn't up
+  none_down : (drive : DriveNo) → has_drive up drive ≡ false → shelf.faults mid (OnDrive drive.0) ≡ shelf.faults old (OnDrive drive.0)
+  none_down drive down = subst (λ (b : Bool). MatchBool b (RoseOnce (shelf.faults old (OnDrive drive.0)) (shelf.faults mid (OnDrive drive.0))) (shelf.faults mid (OnDrive drive.0) ≡ shelf.faults old (OnDrive drive.0))) (not_failed drive down) (failed drive)
+
+  left_down : (drive : DriveNo) → has_drive up drive ≡ false → has_drive left drive ≡ false
+  left_down drive down = elim (cases_bool (has_drive left drive)) [ inl so ↦ absurd (cc (was_up drive so, down)) | inr out ↦ out ]
 
   none_failed : (drive : DriveNo) → has_drive left drive ≡ true → has_drive found.failed drive ≡ false
   none_failed drive so = no_more (has_drive found.failed drive) (and_second (has_drive up drive) (not (has_drive found.failed drive)) (sym (are.each drive (are.only drive so)) ∙ so))
@@ -186,12 +201,31 @@ module _ {S : Type 0} (shelf : Ghosts S) (g : Geometry) (site : Site) (old mid :
     pub still_up : (drive : DriveNo) → Contains site.drives drive → has_drive up drive ≡ true → has_drive left drive ≡ true
     still_up drive one_of so = are.each drive one_of ∙ yes_not (has_drive up drive) (has_drive found.failed drive) so (calm_up drive one_of so)
 
-    pub looked_here : IsLookedAt shelf old mid g site up (record { survey = found; calm = left })
-    looked_here = record {
+    same_up : (drive : DriveNo) → Contains site.drives drive → has_drive up drive ≡ has_drive left drive
+    same_up drive one_of = elim (cases_bool (has_drive up drive)) [ inl so ↦ so ∙ sym (still_up drive one_of so) | inr down ↦ down ∙ sym (left_down drive down) ]
+
+    pub looked_here : IsCounted shelf old mid (765 * length site.lines) (λ t n. AreLinesBy g site up found.failed (last t) site.lines n) → IsLookedAt shelf old mid g site up (record { survey = found; calm = left })
+    looked_here counted = record {
       calm = record {
-        each = λ drive one_of so. flip _ _ (has_drive left drive) (has_drive up drive) (has_drive found.failed drive) (are.each drive one_of) so (failed_rose drive);
+        each = λ drive one_of so. flip _ _ (has_drive left drive) (has_drive up drive) (has_drive found.failed drive) (are.each drive one_of) so (failed drive);
+        down = none_down;
         is_up = was_up;
         only = are.only;
+      };
+      last_look = record {
+        begun = old;
+        before = record {
+          each = λ drive one_of so. subst (λ (b : Bool). MatchBool b (shelf.faults old (OnDrive drive.0) ≡ shelf.faults old (OnDrive drive.0)) (RoseOnce (shelf.faults old (OnDrive drive.0)) (shelf.faults old (OnDrive drive.0)))) (sym (still_up drive one_of so)) refl;
+          down = λ drive down. refl;
+          is_up = was_up;
+          only = are.only;
+        };
+        once = λ t is. (
+          counted.calls,
+          counted.made,
+          lines_as g site up left no_drives (last t) site.lines counted.calls (λ line one_of. same_up line.at.drive (brought line one_of))
+              (lines_by g site up found.failed (last t) site.lines counted.calls (λ line one_of so. calm_up line.at.drive (brought line one_of) so) (counted.by t is)),
+        );
       };
       none = none_failed;
       survey = record {
@@ -217,15 +251,24 @@ module _ {S : Type 0} (shelf : Ghosts S) (g : Geometry) (site : Site) (old mid :
     }
 
   -- where one failed, and another look was made without that drive
-  module _ {E : Type 0} (new : S) (result : Result Looked E) (has : HasFailedOn site.drives up found.failed) (no_fewer : (part : Part) → shelf.faults mid part ≤ shelf.faults new part) (inner : IsLooked shelf mid new g site left result) where
+  module _ {E : Type 0} (new : S) (result : Result Looked E) (has : HasFailedOn site.drives up found.failed) (inner : IsLooked shelf mid new g site left result) where
+    calm_more : (now : S) (calm : Drives) → AreCalmBy shelf mid now site.drives left calm → AreCalmBy shelf old now site.drives up calm
+    calm_more now calm at = record {
+      each = λ drive one_of so.
+          told_by (shelf.faults old (OnDrive drive.0)) (shelf.faults mid (OnDrive drive.0)) (shelf.faults now (OnDrive drive.0)) (has_drive calm drive) (has_drive left drive) (has_drive up drive) (has_drive found.failed drive)
+          (are.each drive one_of) so (failed drive) (at.each drive one_of) (at.down drive) (at.is_up drive);
+      down = λ drive down. at.down drive (left_down drive down) ∙ none_down drive down;
+      is_up = λ drive so. was_up drive (at.is_up drive so);
+      only = at.only;
+    }
+
     more_at : (looked : Looked) → IsLookedAt shelf mid new g site left looked → IsLookedAt shelf old new g site up looked
     more_at looked at = record {
-      calm = record {
-        each = λ drive one_of so.
-            told_by (shelf.faults old (OnDrive drive.0)) (shelf.faults mid (OnDrive drive.0)) (shelf.faults new (OnDrive drive.0)) (has_drive looked.calm drive) (has_drive left drive) (has_drive up drive) (has_drive found.failed drive)
-            (are.each drive one_of) so (failed_rose drive) (at.calm.each drive one_of) (at.calm.is_up drive) (no_fewer (OnDrive drive.0));
-        is_up = λ drive so. was_up drive (at.calm.is_up drive so);
-        only = at.calm.only;
+      calm = calm_more new looked.calm at.calm;
+      last_look = record {
+        begun = at.last_look.begun;
+        before = calm_more at.last_look.begun looked.calm at.last_look.before;
+        once = λ t is. at.last_look.once t (same ∙ is);
       };
       none = at.none;
       survey = at.survey;

@@ -14,9 +14,9 @@ use Rattle.mdv_shelf.proofs.Counts.{took_more}
 use Rattle.mdv_shelf.proofs.Moments.{ends_more, moments_after, moments_end, moments_none, moments_weaker}
 use Rattle.mdv_standing.specs.Creating.{first_mark}
 use Rattle.mdv_store.specs.Acts.{Act, AreDoing, AreDone, HaveGone, HaveStopped, Makes, blanks_asked, blocks_of, calls_of, forms_asked}
-use Rattle.mdv_store.specs.Below.{DriveNo, Failures, First, Ghosts, Head, Identity, Key, Mark, Open, Replica, Second, SliceLine, Slot, Table, Tale, gate_of, record_text, with_slot}
+use Rattle.mdv_store.specs.Below.{DriveNo, Failures, First, Geometry, Ghosts, Head, Identity, Key, Mark, Open, Replica, Second, SliceLine, Slot, Table, Tale, gate_of, record_text, with_slot}
 use Rattle.mdv_store.specs.Counts.{ArePassCounted, MadeCallsBetween}
-use Rattle.mdv_store.specs.Create.{AreAsked, CreateAnswer, CreateEnds, CreateMoment, IsCreated, IsCreationCounted, WereFormed, blanked_asked, drives_asked, seats_asked, table_of}
+use Rattle.mdv_store.specs.Create.{AreAsked, CreateAnswer, CreateEnds, CreateMoment, IsCreated, IsCreationCounted, MayForm, WereFormed, blanked_asked, drives_asked, seats_asked, table_of}
 use Rattle.mdv_store.specs.Opened.{IsOpen, Opened, least_room}
 use Rattle.mdv_store.specs.Seats.{AreLaid, AreLeft, TakesSlot, active_of, drives_of, is_half_active, replicas_of}
 use Rattle.mdv_store.specs.Text.{blocks_for}
@@ -27,7 +27,8 @@ use Rattle.mdv_store.specs.declared.seats.Seat.{Seat}
 use Rattle.mdv_store.proofs.Acted.{acts_done_quiet, acts_quiet, blanks_blocks, blanks_calls, forms_blocks, forms_calls, quiet_more}
 use Rattle.mdv_store.proofs.Acting.{among_more, blocks_more, calls_more, doing_here}
 use Rattle.mdv_store.proofs.Asked.{drive_asked}
-use Rattle.mdv_store.proofs.Ending.{acts_unbegun, held, made_ends, writing_goes, writing_rest}
+use Rattle.mdv_store.proofs.Ending.{acts_unbegun, made_ends, writing_goes, writing_rest}
+use Rattle.mdv_store.proofs.Formed.{acts_dark, held, made_opened, writing_dark}
 use Rattle.mdv_store.proofs.Given.{IsOwner}
 use Rattle.mdv_store.proofs.Marks.{slot_laid, slot_stays}
 use Rattle.mdv_store.proofs.Rooms.{room_most}
@@ -86,6 +87,7 @@ module _ {S : Type 0} (shelf : Ghosts S) (key : Key) (identity : Identity) (line
     quiet = acts_quiet key identity lines count blocks asked.least asked.more t m is;
     goes = λ g all may. (let x = (acts_unbegun g all key identity lines count blocks (shelf.sizes a) t owner asked may m is).goes in record { es = x.es; course = x.course; come = x.come; traces = x.traces; after = tt });
     rest = λ g all may. (acts_unbegun g all key identity lines count blocks (shelf.sizes a) t owner asked may m is).rest;
+    blank = λ g may. (acts_dark g key identity lines count blocks (shelf.sizes a) t owner asked may m is).others;
   }
 
   writing_moment : (t v m : Tale) → AreDone acts t v → WritingMoment seats first_mark table v m → Moment t m
@@ -93,6 +95,7 @@ module _ {S : Type 0} (shelf : Ghosts S) (key : Key) (identity : Identity) (line
     quiet = quiet_more _ t v m (acts_done_quiet key identity lines count blocks asked.least asked.more t v done) w.slotting.quiet;
     goes = λ g all may. writing_goes g all key identity lines count blocks (shelf.sizes a) t owner asked may v done w.body w.spelled m w.slotting;
     rest = λ g all may. writing_rest g all key identity lines count blocks (shelf.sizes a) t owner asked may v done w.body w.spelled m w.slotting;
+    blank = λ g may. writing_dark g key identity lines count blocks (shelf.sizes a) t owner asked may v done w.body w.spelled m w.slotting;
   }
 
   -- Without memory nothing is done.
@@ -103,7 +106,7 @@ module _ {S : Type 0} (shelf : Ghosts S) (key : Key) (identity : Identity) (line
   memory_created = record { came = λ drive. refl; formed = tt }
 
   pub memory_end : AtEnd shelf (Ended (Err unmade.Memory)) a a
-  memory_end t is = (t, is, record { ended = λ g all may. refl })
+  memory_end t is = (t, is, record { ended = λ g all may. refl; opened = tt; unmade = λ same g may blank. blank })
 
   total_calls : calls_of acts ≡ 2 * blanked_asked lines count + 6 * (length lines * count)
   total_calls = omega (arith, calls_more (blanks_asked lines count blocks) (forms_asked key identity lines count blocks), blanks_calls count blocks asked.more lines, forms_calls count blocks key identity lines)
@@ -119,10 +122,21 @@ module _ {S : Type 0} (shelf : Ghosts S) (key : Key) (identity : Identity) (line
     pub stopped_end : AtEnd shelf (Ended (Err unmade.Failed)) a b
     stopped_end t is =
         let end = moments_end (AreDoing acts) (shelf.tale a) (shelf.tale b) s.moments t is in
-        (end.0, end.1, record { ended = λ g all may. (acts_unbegun g all key identity lines count blocks (shelf.sizes a) t owner asked may end.0 end.2).goes })
+        let dark = λ (g : Geometry) (may : MayForm g key lines seats). acts_dark g key identity lines count blocks (shelf.sizes a) t owner asked may end.0 end.2 in (
+          end.0,
+          end.1,
+          record {
+            ended = λ g all may. (
+              (acts_unbegun g all key identity lines count blocks (shelf.sizes a) t owner asked may end.0 end.2).goes,
+              (dark g may.forms).own (λ image at l j m h own. absurd (may.clear.none image at l j m h own)),
+            );
+            opened = tt;
+            unmade = λ same g may. (dark g may).own;
+          },
+        )
 
     pub stopped_created : IsCreated shelf a b key identity lines count blocks (Err unmade.Failed)
-    stopped_created = record { came = record { drive = s.drive; one_of = s.one_of; here = s.here; elsewhere = s.elsewhere }; formed = tt }
+    stopped_created = record { came = record { drive = s.drive; one_of = s.one_of; here = s.here; elsewhere = s.elsewhere }; formed = s }
 
     pub stopped_counted : IsCreationCounted shelf a b lines count blocks (Err unmade.Failed)
     stopped_counted = between_wider shelf.calls shelf.written a b 1 (calls_of acts) (blocks_of acts) 1 (2 * blanked_asked lines count + 6 * (length lines * count)) (blanked_asked lines count + 5 * (length lines * count)) (omega arith) (omega (arith, total_calls)) (omega (arith, total_blocks)) s.made
@@ -161,13 +175,15 @@ module _ {S : Type 0} (shelf : Ghosts S) (key : Key) (identity : Identity) (line
     all_kept kept = among_more shelf a b c drives s.calm s.kept (write_kept kept)
 
     -- each place was formatted
-    were_formed : KeptAmong shelf b c (drives_of seats) → WereFormed shelf a c key identity lines count blocks
-    were_formed kept = record {
+    abbrev were_formed : KeptAmong shelf b c (drives_of seats) → AtEachTale shelf (WritingMoment seats first_mark table) b c → AtEnd shelf (WritingEnds seats new first_mark table) b c → WereFormed shelf a c key identity lines count blocks
+    were_formed kept moments ends = record {
       formed = b;
-      calm = s.calm;
-      before = s.kept;
+      gone = s;
       behind = write_kept kept;
-      held = λ t is. (let e = s.end t is in (e.0, e.1, λ g all may. held g all key identity lines count blocks (shelf.sizes a) t owner asked may e.0 e.2));
+      held = λ t is. (let e = s.end t is in (e.0, e.1, λ g may. held g key identity lines count blocks (shelf.sizes a) t owner asked may e.0 e.2));
+      written = moments;
+      now = new;
+      ends = ends;
     }
 
     new_laid : KeptAmong shelf b c (drives_of seats) → AreLaid (shelf.sizes c) new
@@ -227,20 +243,24 @@ module _ {S : Type 0} (shelf : Ghosts S) (key : Key) (identity : Identity) (line
     lost_answer : (some listed : ℕ) → is_half_active new ≡ false → some ≡ active_of new → listed ≡ length new → CreateAnswer (DriveFailures shelf a c) key identity lines count blocks (Err (unmade.Lost some listed))
     lost_answer some listed few is are = record { now = new; tried = tried; few = few; active_is = is; listed_is = are }
 
-    pub made_created : is_half_active new ≡ true → KeptAmong shelf b c (drives_of seats) → IsCreated shelf a c key identity lines count blocks (Ok made)
-    made_created half kept = record { came = made_answer half; formed = (were_formed kept, new_laid kept) }
+    pub made_created : is_half_active new ≡ true → KeptAmong shelf b c (drives_of seats) → AtEachTale shelf (WritingMoment seats first_mark table) b c → AtEnd shelf (WritingEnds seats new first_mark table) b c → IsCreated shelf a c key identity lines count blocks (Ok made)
+    made_created half kept moments ends = record { came = made_answer half; formed = (were_formed kept moments ends, refl, new_laid kept) }
 
-    pub lost_created : (some listed : ℕ) → is_half_active new ≡ false → some ≡ active_of new → listed ≡ length new → KeptAmong shelf b c (drives_of seats) → IsCreated shelf a c key identity lines count blocks (Err (unmade.Lost some listed))
-    lost_created some listed few is are kept = record { came = lost_answer some listed few is are; formed = were_formed kept }
+    pub lost_created : (some listed : ℕ) → is_half_active new ≡ false → some ≡ active_of new → listed ≡ length new → KeptAmong shelf b c (drives_of seats) → AtEachTale shelf (WritingMoment seats first_mark table) b c → AtEnd shelf (WritingEnds seats new first_mark table) b c → IsCreated shelf a c key identity lines count blocks (Err (unmade.Lost some listed))
+    lost_created some listed few is are kept moments ends = record { came = lost_answer some listed few is are; formed = (were_formed kept moments ends, is, are) }
 
     pub made_end : is_half_active new ≡ true → AtEnd shelf (WritingEnds seats new first_mark table) b c → AtEnd shelf (Ended (Ok made)) a c
     made_end half end =
         ends_more (AreDone acts) (WritingEnds seats new first_mark table) (Ended (Ok made)) (shelf.tale a) (shelf.tale b) (shelf.tale c)
-        (λ t v u done w. record { ended = λ g all may. made_ends g all key identity lines count blocks (shelf.sizes a) t owner asked may v done w.body w.spelled (DriveFailures shelf b c) new left half u w.slotting }) s.end end
+        (λ t v u done w. record {
+          ended = λ g all may. made_ends g all key identity lines count blocks (shelf.sizes a) t owner asked may v done w.body w.spelled (DriveFailures shelf b c) new left half u w.slotting;
+          opened = λ g may. made_opened g key identity lines count blocks (shelf.sizes a) t owner asked may v done w.body w.spelled (DriveFailures shelf b c) new left u w.slotting;
+          unmade = λ same. absurd (cc (same));
+        }) s.end end
 
     pub lost_end : (some listed : ℕ) → AtEnd shelf (WritingEnds seats new first_mark table) b c → AtEnd shelf (Ended (Err (unmade.Lost some listed))) a c
     lost_end some listed end =
-        ends_more (AreDone acts) (WritingEnds seats new first_mark table) (Ended (Err (unmade.Lost some listed))) (shelf.tale a) (shelf.tale b) (shelf.tale c) (λ t v u done w. record { ended = λ g all may. tt }) s.end end
+        ends_more (AreDone acts) (WritingEnds seats new first_mark table) (Ended (Err (unmade.Lost some listed))) (shelf.tale a) (shelf.tale b) (shelf.tale c) (λ t v u done w. record { ended = λ g all may. tt; opened = tt; unmade = λ same. absurd (cc (same)) }) s.end end
 
     -- so it is open
     pub made_open : (room : ℕ) → room ≡ least_room (map (λ (x : Seat). x.place) seats) → IsOpen made room

@@ -6,6 +6,7 @@ use Rattle.mdv_base.specs.Causes.{Rose, RoseOnce}
 use Rattle.mdv_shelf.proofs.Between.{between_then, between_wider}
 use Rattle.mdv_shelf.proofs.Counts.{took_more}
 use Rattle.mdv_shelf.proofs.Moments.{ends_both, ends_more, moments_after, moments_end, moments_weaker}
+use Rattle.mdv_shelf.specs.Between.{RoseByAtLeast}
 use Rattle.mdv_shelf.specs.Calls.{OnDrive}
 use Rattle.mdv_shelf.specs.Drives.{KeptAmong}
 use Rattle.mdv_shelf.specs.Shelves.{AtEachTale, AtEnd, DriveFailures}
@@ -16,9 +17,10 @@ use Rattle.mdv_store.specs.BootCounts.{most_blocks}
 use Rattle.mdv_store.specs.Claims.{ClaimingEnds, ClaimingMoment}
 use Rattle.mdv_store.specs.Counts.{ArePassCounted, MadeCallsBetween}
 use Rattle.mdv_store.specs.Opened.{IsOpen, Opened, least_room}
+use Rattle.mdv_store.specs.Passing.{IsPassing, slotting}
 use Rattle.mdv_store.specs.Seats.{AreLaid, AreLeft, HaveRoom, IsLaid, TakesClaim, TakesSlot, active_of, drive_of, drives_of, replicas_of, seats_area}
 use Rattle.mdv_store.specs.Slots.{SlottingEnds, SlottingMoment}
-use Rattle.mdv_store.specs.Taking.{IsCalmOn, IsReadied, IsRewriteAnswer, IsRewriteEnd, IsTakingCounted, RewriteEnds, RewriteMoment, StaySynced}
+use Rattle.mdv_store.specs.Taking.{IsCalmOn, IsReadied, IsRewriteAnswer, IsRewriteEnd, IsTakingCounted, MadeRewriteCalls, RewriteEnds, RewriteMoment, StaySynced}
 use Rattle.mdv_store.specs.Text.{IsSpelled, blocks_for}
 use Rattle.mdv_store.specs.declared.booting.BootEnd.{BootEnd}
 use Rattle.mdv_store.specs.declared.booting.BootEnd.TheVariants as end
@@ -29,9 +31,10 @@ use Rattle.mdv_store.proofs.Among.{among_calm, is_one_of}
 use Rattle.mdv_store.proofs.Bringing.{one_number, same_drive}
 use Rattle.mdv_store.proofs.Passes.{all_left, later, left_area, left_as, left_both, left_calm, left_most, left_told, mapped, once_rose, pass_synced, some_lost, takes_both, unmapped}
 use Rattle.mdv_store.proofs.Quiet.{quiet_more, quiet_wider}
-use Rattle.mdv_store.proofs.Quorums.{more_enough}
+use Rattle.mdv_store.proofs.Quorums.{enough_some, more_enough}
 use Rattle.mdv_store.proofs.Rewriting.{blank_goes, both_none_above, claims_go, ends_go, opened, rest_goes, slots_go}
 use Rattle.mdv_store.proofs.Sitting.{active_most, left_count, left_replica, left_seats, some_active}
+use Rattle.mdv_store.proofs.Stepping.{wrote_more}
 
 -- at most fifty are active
 few_active : (seats : List Seat) → length seats ≤ 50 → active_of seats ≤ 50
@@ -46,6 +49,7 @@ module _ {S : Type 0} (shelf : Ghosts S) (key : Key) (hand : Hand) (table : Tabl
   claim_moment : (t m : Tale) → ClaimingMoment hand.seats hand.number t m → RewriteMoment key hand table t m
   claim_moment t m moment = record {
     quiet = moment.quiet;
+    only = inl moment.passing;
     goes = λ g to log covers known. claims_go key hand table ready g t to log covers m moment;
     rest = λ g all to. moment.rest g key hand.identity all to.sound ready.small to.held;
     blank = λ g to. moment.blank g key hand.identity to.sound ready.small to.held;
@@ -74,6 +78,11 @@ module _ {S : Type 0} (shelf : Ghosts S) (key : Key) (hand : Hand) (table : Tabl
             listed_is = refl;
           });
           calm = subst (λ (b : Bool). IsCalmOn shelf old mid (replicas_of hand.seats) b) (sym calm_is) (lost.0, lost.1, once_rose _ _ lost.2);
+          wrote = counted.wrote (let more = ready.enough in omega (arith, more));
+          made =
+              let more = ready.enough in
+              between_wider shelf.calls shelf.written old mid _ (2 * active_of hand.seats) (1 * active_of hand.seats) 1 (8 * active_of hand.seats) ((3 + blocks_for (length (record_text table))) * active_of hand.seats)
+              (omega (arith, more)) (omega arith) (omega arith) counted.some;
         }
 
     pub first_end : AtEnd shelf (λ t u. IfAdopted taken.end (λ o. RewriteEnds key hand table o t u)) old mid
@@ -112,6 +121,25 @@ module _ {S : Type 0} (shelf : Ghosts S) (key : Key) (hand : Hand) (table : Tabl
         let r = left_calm (DriveFailures shelf old mid) (TakesClaim hand.number) hand.seats now left m.0 m.1 in
         subst (Contains (drives_of hand.seats)) (sym (ap (λ (x : Replica). x.line.at.drive) r.3) ∙ m.2) (mapped (λ (x : Replica). x.line.at.drive) (replicas_of hand.seats) r.0 r.1)
 
+    both_wrote : RoseByAtLeast 1 (shelf.written old) (shelf.written new)
+    both_wrote =
+        let more = ready.enough in
+        let long = left_count (DriveFailures shelf old mid) (TakesClaim hand.number) hand.seats now left in
+        let some = ready.seats.some in
+        let up = enough_some key now (omega (arith, long, some)) enough in
+        wrote_more (shelf.written old) (shelf.written mid) (shelf.written new) (counted.wrote (omega (arith, more))) (slot_counted.wrote (omega (arith, up)))
+
+    both_made : MadeRewriteCalls shelf old new hand table
+    both_made =
+        let more = ready.enough in
+        let less = left_most (DriveFailures shelf old mid) (TakesClaim hand.number) hand.seats now left in
+        let long : length body ≡ blocks_for (length (record_text table)) = spelled.blocks ∙ ap blocks_for spelled.counted in
+        let product = mul-le-mul_left (2 + length body) less in
+        let sum : 1 * active_of hand.seats + (2 + length body) * active_of hand.seats ≡ (3 + blocks_for (length (record_text table))) * active_of hand.seats =
+        subst (λ (n : ℕ). 1 * active_of hand.seats + (2 + n) * active_of hand.seats ≡ (3 + blocks_for (length (record_text table))) * active_of hand.seats) (sym long) (omega arith) in
+        between_then shelf.calls shelf.written old mid new _ (2 * active_of hand.seats) (1 * active_of hand.seats) _ (6 * active_of now) ((2 + length body) * active_of now) 1 (8 * active_of hand.seats) ((3 + blocks_for (length (record_text table))) * active_of hand.seats)
+        (omega (arith, more)) (omega (arith, less)) (omega (arith, product, sum)) counted.some slot_counted.some
+
     pub both_kept : KeptAmong shelf old new (drives_of hand.seats)
     both_kept = among_calm shelf old mid new (drives_of hand.seats) (drives_of now) in_seats was_calm kept slot_kept
 
@@ -137,6 +165,12 @@ module _ {S : Type 0} (shelf : Ghosts S) (key : Key) (hand : Hand) (table : Tabl
     slot_moment : (t u m : Tale) → ClaimingEnds hand.seats now hand.number t u × ClaimingMoment hand.seats hand.number t u → SlottingMoment now (drawn hand.number) bytes body u m → RewriteMoment key hand table t m
     slot_moment t u m first moment = record {
       quiet = quiet_more (seats_area hand.seats) t u m first.1.quiet (quiet_wider (seats_area now) (seats_area hand.seats) u m (left_area (DriveFailures shelf old mid) hand.number hand.seats now left) moment.quiet);
+      only = inr (
+        replicas_of now,
+        u,
+        first.0.passed,
+        (body, subst (λ (n : ℕ). IsSpelled table n body) spelled.counted spelled, subst (λ (n : ℕ). IsPassing (slotting (drawn hand.number) n body) (replicas_of now) u m) spelled.counted moment.passing),
+      );
       goes = λ g to log covers known. slots_go key hand table ready g t to log covers (DriveFailures shelf old mid) now u left first.0 enough bytes body spelled m moment;
       rest = λ g all to rest.
           rest_goes key hand table ready g t to (DriveFailures shelf old mid) now u left first.0 bytes body spelled all m moment (first.1.rest g key hand.identity all to.sound ready.small to.held rest);
@@ -198,6 +232,8 @@ module _ {S : Type 0} (shelf : Ghosts S) (key : Key) (hand : Hand) (table : Tabl
           record {
             ended = subst (λ (e : BootEnd). IsRewriteEnd (DriveFailures shelf old new) key hand table e) (sym end_is) (record { now = last; left = all; few = few; active_is = refl; listed_is = refl });
             calm = subst (λ (b : Bool). IsCalmOn shelf old new (replicas_of hand.seats) b) (sym calm_is) (lost.0, lost.1, once_rose _ _ lost.2);
+            wrote = both_wrote;
+            made = both_made;
           }
 
       pub lost_end : AtEnd shelf (λ t u. IfAdopted taken.end (λ o. RewriteEnds key hand table o t u)) old new
@@ -235,6 +271,8 @@ module _ {S : Type 0} (shelf : Ghosts S) (key : Key) (hand : Hand) (table : Tabl
       done_answer calm is = record {
         ended = record { left = subst (λ (n : ℕ). AreLeft (DriveFailures shelf old new) (TakesBoth hand.number n) hand.seats last) spelled.counted all_took; enough = enough_last; is = refl };
         calm = calm_by calm is;
+        wrote = both_wrote;
+        made = both_made;
       }
 
       pub done_end : AtEnd shelf (λ t u. RewriteEnds key hand table o t u) old new

@@ -1,33 +1,23 @@
 -- The places of all slices are formatted, slice by slice.
-use Rattle.std.proofs.Common.{◌≡◌, ◌⊎◌, inl, inr, ℕ, zero, suc, ◌+◌, ◌<◌, ◌≤◌, true, List, [], ◌∷◌, ◌++◌, Contains, refl, sym, ◌∙◌, ap, subst, append_assoc, append-nil, arith}
+use Rattle.std.proofs.Common.{◌≡◌, ◌⊎◌, inl, inr, ℕ, zero, suc, ◌+◌, ◌<◌, ◌≤◌, List, [], ◌∷◌, ◌++◌, Contains, refl, sym, ◌∙◌, ap, subst, append_assoc, append-nil, arith}
 use Rattle.std.specs.Prelude.{flat_map}
 use Rattle.std.proofs.lemmas.Bool.{cases_eq}
 use Rattle.mdv_shelf.specs.Area.{AreApart}
 use Rattle.mdv_shown.specs.Site.{line_area}
-use Rattle.mdv_standing.specs.Creating.{IsCreating}
-use Rattle.mdv_standing.specs.Rest.{RestStands}
-use Rattle.mdv_store.specs.Acts.{Act, AreDoing, AreDone, forms_from, forms_on}
-use Rattle.mdv_store.specs.Below.{Database, Geometry, Identity, Key, SliceLine, Spot, Tale, spot_on}
+use Rattle.mdv_store.specs.Acts.{Act, AreDoing, AreDone, IsDone, form_on, forms_from, forms_on}
+use Rattle.mdv_store.specs.Below.{Identity, Key, SliceLine, Spot, Tale, spot_on}
 use Rattle.mdv_store.specs.Create.{seats_asked, seats_on}
-use Rattle.mdv_store.specs.Records.{Spells}
 use Rattle.mdv_store.specs.Seats.{spots_of}
-use Rattle.mdv_votes.specs.Spots.{is_in}
 use Rattle.mdv_store.proofs.Acting.{done_split, doing_split}
-use Rattle.mdv_store.proofs.Forming.{IsFormedTo, IsFormingAt, IsGiven, OfPlaces, OwnAt, RunsTo, formed_here, named, one_formed, one_forming, recast, seats}
 use Rattle.mdv_store.proofs.Given.{ArePairsApart}
+use Rattle.mdv_store.proofs.Places.{AreNow, GoesOn, IsNext, OfPlaces}
 use Rattle.mdv_store.proofs.Sitting.{contains_behind, contains_first, first_or_behind}
 use Rattle.mdv_store.proofs.Spotting.{spots_more}
 
 flip : (a b : SliceLine) → AreApart (line_area a) (line_area b) → AreApart (line_area b) (line_area a)
 flip a b apart drive block in_b in_a = apart drive block in_a in_b
 
-module _ (g : Geometry) (all : List Database) (key : Key) (identity : Identity) (lines : List SliceLine) (count blocks : ℕ) (given : IsGiven g all key identity lines count blocks) (t : Tale) where
-  abbrev FormedTo : OfPlaces → OfPlaces → List Spot → List Spot → Tale → Type 0
-  FormedTo Done Blank part due u = IsFormedTo g all key identity lines count blocks t Done Blank part due u
-
-  abbrev At : Tale → Type 0
-  At m = IsFormingAt g all key identity lines count blocks t m
-
+module _ (key : Key) (identity : Identity) (lines : List SliceLine) (count blocks : ℕ) (State : OfPlaces → OfPlaces → List Spot → List Spot → Tale → Type 0) (At : Tale → Type 0) (steps : GoesOn key identity lines count blocks State At) where
   -- One slice.
   module _ (Done Blank : OfPlaces) (line : SliceLine) (one_of : Contains lines line) (apart_done : (other : SliceLine) (j : ℕ) → Done other j → AreApart (line_area line) (line_area other))
       (apart_blank : (other : SliceLine) (from : ℕ) → Blank other from → AreApart (line_area line) (line_area other)) where
@@ -61,31 +51,33 @@ module _ (g : Geometry) (all : List Database) (key : Key) (identity : Identity) 
     Spots k n = spots_of (seats_on key identity line count blocks k n)
 
     -- its places from this number on
-    slice_from : (n k : ℕ) (part due : List Spot) (u : Tale) → k + n ≡ count → FormedTo (DoneTo k) (BlankTo k) part (Spots k n ++ due) u
-        → ((m : Tale) → AreDoing (forms_from key identity line count blocks k n) u m → At m) × ((v : Tale) → AreDone (forms_from key identity line count blocks k n) u v → FormedTo (DoneTo count) (BlankTo count) (part ++ Spots k n) due v)
+    slice_from : (n k : ℕ) (part due : List Spot) (u : Tale) → k + n ≡ count → State (DoneTo k) (BlankTo k) part (Spots k n ++ due) u
+        → ((m : Tale) → AreDoing (forms_from key identity line count blocks k n) u m → At m) × ((v : Tale) → AreDone (forms_from key identity line count blocks k n) u v → State (DoneTo count) (BlankTo count) (part ++ Spots k n) due v)
     slice_from zero k part due u whole s =
         let last : k ≡ count = omega (arith, whole) in (
-          λ m is. subst At (sym is) (formed_here g all key identity lines count blocks t (DoneTo k) (BlankTo k) part due u s),
-          λ v is. subst (λ (w : Tale). FormedTo (DoneTo count) (BlankTo count) (part ++ []) due w) (sym is)
-              (subst (λ (l : List Spot). FormedTo (DoneTo count) (BlankTo count) l due u) (sym (append-nil part)) (subst (λ (i : ℕ). FormedTo (DoneTo i) (BlankTo i) part due u) last s)),
+          λ m is. subst At (sym is) (steps.here (DoneTo k) (BlankTo k) part due u s),
+          λ v is. subst (λ (w : Tale). State (DoneTo count) (BlankTo count) (part ++ []) due w) (sym is)
+              (subst (λ (l : List Spot). State (DoneTo count) (BlankTo count) l due u) (sym (append-nil part)) (subst (λ (i : ℕ). State (DoneTo i) (BlankTo i) part due u) last s)),
         )
     slice_from (suc n) k part due u whole s =
         let lt : k < count = omega (arith, whole) in
         let next : k + 1 + n ≡ count = omega (arith, whole) in
         let rest : List Spot = Spots (k + 1) n ++ due in
-        let now : List Spot = part ++ spot_on line blocks k ∷ [] in
-        let one = one_forming g all key identity lines count blocks given t (DoneTo k) (BlankTo k) part rest u line k one_of lt s (beside k) (inr (refl, omega arith)) (front k) in
-        let formed = one_formed g all key identity lines count blocks given t (DoneTo k) (BlankTo k) part rest u line k one_of lt s (beside k) (inr (refl, omega arith)) (front k) (DoneTo (k + 1)) (BlankTo (k + 1)) (back k) (to k) (inr (refl, omega arith)) (less k) in (
+        let comes : IsNext lines count (DoneTo k) (BlankTo k) line k = record { among = one_of; lt = lt; beside = beside k; blank = inr (refl, omega arith); front = front k } in
+        let now : AreNow (DoneTo k) (BlankTo k) line k (DoneTo (k + 1)) (BlankTo (k + 1)) = record { back = back k; to = to k; new = inr (refl, omega arith); less = less k } in
+        let one = steps.forming (DoneTo k) (BlankTo k) part rest u line k comes s in
+        let formed = λ (w : Tale) (done : IsDone (form_on key identity line count blocks k) u w).
+        slice_from n (k + 1) (part ++ spot_on line blocks k ∷ []) due w next (steps.formed (DoneTo k) (BlankTo k) (DoneTo (k + 1)) (BlankTo (k + 1)) part rest u line k comes now s w done) in (
           λ m is. elim is [
-            | inl same ↦ subst At (sym same) (formed_here g all key identity lines count blocks t (DoneTo k) (BlankTo k) part (spot_on line blocks k ∷ rest) u s)
+            | inl same ↦ subst At (sym same) (steps.here (DoneTo k) (BlankTo k) part (spot_on line blocks k ∷ rest) u s)
             | inr begun ↦ elim begun [
               | inl doing ↦ one m doing
-              | inr behind ↦ (slice_from n (k + 1) now due behind.0 next (formed behind.0 behind.1.0 behind.1.1)).0 m behind.2
+              | inr behind ↦ (formed behind.0 behind.1).0 m behind.2
             ]
           ],
           λ v is.
-              subst (λ (l : List Spot). FormedTo (DoneTo count) (BlankTo count) l due v) (append_assoc part (spot_on line blocks k ∷ []) (Spots (k + 1) n))
-              ((slice_from n (k + 1) now due is.0 next (formed is.0 is.1.0 is.1.1)).1 v is.2),
+              subst (λ (l : List Spot). State (DoneTo count) (BlankTo count) l due v) (append_assoc part (spot_on line blocks k ∷ []) (Spots (k + 1) n))
+              ((formed is.0 is.1).1 v is.2),
         )
 
   -- All slices.
@@ -112,13 +104,13 @@ module _ (g : Geometry) (all : List Database) (key : Key) (identity : Identity) 
   ActsOf rest = flat_map (forms_on key identity count blocks) rest
 
   slices : (rest : List SliceLine) (Done : OfPlaces) (part : List Spot) (u : Tale) → ((line : SliceLine) → Contains rest line → Contains lines line) → ArePairsApart rest
-      → ((line other : SliceLine) (j : ℕ) → Contains rest line → Done other j → AreApart (line_area line) (line_area other)) → FormedTo Done (BlankOf rest) part (SpotsOf rest) u
-      → ((m : Tale) → AreDoing (ActsOf rest) u m → At m) × ((v : Tale) → AreDone (ActsOf rest) u v → FormedTo (done_after Done rest) (λ other from. ⊥) (part ++ SpotsOf rest) [] v)
+      → ((line other : SliceLine) (j : ℕ) → Contains rest line → Done other j → AreApart (line_area line) (line_area other)) → State Done (BlankOf rest) part (SpotsOf rest) u
+      → ((m : Tale) → AreDoing (ActsOf rest) u m → At m) × ((v : Tale) → AreDone (ActsOf rest) u v → State (done_after Done rest) (λ other from. ⊥) (part ++ SpotsOf rest) [] v)
   slices [] Done part u within pairs apart s = (
-    λ m is. subst At (sym is) (formed_here g all key identity lines count blocks t Done (BlankOf []) part [] u s),
-    λ v is. subst (λ (w : Tale). FormedTo Done (λ other from. ⊥) (part ++ []) [] w) (sym is)
-        (subst (λ (l : List Spot). FormedTo Done (λ other from. ⊥) l [] u) (sym (append-nil part))
-        (recast g all key identity lines count blocks t Done (BlankOf []) Done (λ other from. ⊥) part [] u (λ other j done. done) (λ other j done. done) (λ other from none. absurd none) s)),
+    λ m is. subst At (sym is) (steps.here Done (BlankOf []) part [] u s),
+    λ v is. subst (λ (w : Tale). State Done (λ other from. ⊥) (part ++ []) [] w) (sym is)
+        (subst (λ (l : List Spot). State Done (λ other from. ⊥) l [] u) (sym (append-nil part))
+        (steps.recast Done (BlankOf []) Done (λ other from. ⊥) part [] u (record { to = λ other j done. done; back = λ other j done. done; less = λ other from none. absurd none }) s)),
   )
   slices (line ∷ rest) Done part u within pairs apart s =
       let on : List Spot = spots_of (seats_on key identity line count blocks 0 count) in
@@ -126,14 +118,17 @@ module _ (g : Geometry) (all : List Database) (key : Key) (identity : Identity) 
       let apart_done : (other : SliceLine) (j : ℕ) → Done other j → AreApart (line_area line) (line_area other) = λ other j done. apart line other j (contains_first line rest) done in
       let apart_blank : (other : SliceLine) (from : ℕ) → BlankOf rest other from → AreApart (line_area line) (line_area other) = λ other from blank. pairs.0 other blank.0 in
       let split : spots_of (seats_asked key identity (line ∷ rest) count blocks) ≡ on ++ SpotsOf rest = spots_more (seats_on key identity line count blocks 0 count) (seats_asked key identity rest count blocks) in
-      let start : FormedTo (DoneTo Done (BlankOf rest) line has apart_done apart_blank 0) (BlankTo Done (BlankOf rest) line has apart_done apart_blank 0) part (on ++ SpotsOf rest) u =
-      recast g all key identity lines count blocks t Done (BlankOf (line ∷ rest)) (DoneTo Done (BlankOf rest) line has apart_done apart_blank 0) (BlankTo Done (BlankOf rest) line has apart_done apart_blank 0) part (on ++ SpotsOf rest) u
-      (λ other j done. inl done) (λ other j is. elim is [ inl done ↦ done | inr none ↦ absurd (let below = none.1 in omega (arith, below)) ])
-      (λ other from is. elim is [
-        | inl blank ↦ (contains_behind line other rest blank.0, blank.1)
-        | inr same ↦ (let up = same.1 in (subst (λ (l : SliceLine). Contains (line ∷ rest) l) (sym same.0) (contains_first line rest), omega (arith, up)))
-      ])
-      (subst (λ (d : List Spot). FormedTo Done (BlankOf (line ∷ rest)) part d u) split s) in
+      let start : State (DoneTo Done (BlankOf rest) line has apart_done apart_blank 0) (BlankTo Done (BlankOf rest) line has apart_done apart_blank 0) part (on ++ SpotsOf rest) u =
+      steps.recast Done (BlankOf (line ∷ rest)) (DoneTo Done (BlankOf rest) line has apart_done apart_blank 0) (BlankTo Done (BlankOf rest) line has apart_done apart_blank 0) part (on ++ SpotsOf rest) u
+      (record {
+        to = λ other j done. inl done;
+        back = λ other j is. elim is [ inl done ↦ done | inr none ↦ absurd (let below = none.1 in omega (arith, below)) ];
+        less = λ other from is. elim is [
+          | inl blank ↦ (contains_behind line other rest blank.0, blank.1)
+          | inr same ↦ (let up = same.1 in (subst (λ (l : SliceLine). Contains (line ∷ rest) l) (sym same.0) (contains_first line rest), omega (arith, up)))
+        ];
+      })
+      (subst (λ (d : List Spot). State Done (BlankOf (line ∷ rest)) part d u) split s) in
       let one = slice_from Done (BlankOf rest) line has apart_done apart_blank count 0 part (SpotsOf rest) u (omega arith) start in
       let Next : OfPlaces = λ other j. Done other j ⊎ ((other ≡ line) × (j < count)) in
       let more = λ (w : Tale) (done : AreDone (forms_on key identity count blocks line) u w).
@@ -142,39 +137,34 @@ module _ (g : Geometry) (all : List Database) (key : Key) (identity : Identity) 
         | inl before ↦ apart l other j (contains_behind line l rest among) before
         | inr same ↦ subst (λ (x : SliceLine). AreApart (line_area l) (line_area x)) (sym same.0) (flip line l (pairs.0 l among))
       ])
-      (recast g all key identity lines count blocks t (DoneTo Done (BlankOf rest) line has apart_done apart_blank count) (BlankTo Done (BlankOf rest) line has apart_done apart_blank count) Next (BlankOf rest) (part ++ on) (SpotsOf rest) w
-      (λ other j is. is) (λ other j is. is) (λ other from blank. inl blank) (one.1 w done)) in (
+      (steps.recast (DoneTo Done (BlankOf rest) line has apart_done apart_blank count) (BlankTo Done (BlankOf rest) line has apart_done apart_blank count) Next (BlankOf rest) (part ++ on) (SpotsOf rest) w
+      (record { to = λ other j is. is; back = λ other j is. is; less = λ other from blank. inl blank }) (one.1 w done)) in (
         λ m is. elim (doing_split (forms_on key identity count blocks line) (ActsOf rest) u m is) [
           | inl here ↦ one.0 m here
           | inr behind ↦ (more behind.0 behind.1).0 m behind.2
         ],
         λ v is.
             let two = done_split (forms_on key identity count blocks line) (ActsOf rest) u v is in
-            subst (λ (l : List Spot). FormedTo (done_after Next rest) (λ other from. ⊥) l [] v) (append_assoc part on (SpotsOf rest) ∙ ap (λ (l : List Spot). part ++ l) (sym split)) ((more two.0 two.1).1 v two.2),
+            subst (λ (l : List Spot). State (done_after Next rest) (λ other from. ⊥) l [] v) (append_assoc part on (SpotsOf rest) ∙ ap (λ (l : List Spot). part ++ l) (sym split)) ((more two.0 two.1).1 v two.2),
       )
 
-  -- all places are formatted
-  pub record IsFormed (v : Tale) : Type 0 where
-    pub made : List Spot
-    pub traces : RunsTo g all key identity lines count blocks (IsCreating (named g all key identity lines count blocks) made) t (spots_of (seats g all key identity lines count blocks)) v
-    pub has : (line : SliceLine) (j : ℕ) → Contains lines line → j < count → is_in made (spot_on line blocks j) ≡ true
-    pub rest : RestStands (Spells g) g all identity v
-    pub own : (line : SliceLine) (j : ℕ) → Contains lines line → j < count → OwnAt g all key identity lines count blocks line j v
+  -- none is formatted, and the masters behind the first of each slice are blank
+  abbrev pub Begun : Tale → Type 0
+  Begun u = State (λ other j. ⊥) (BlankOf lines) [] (SpotsOf lines) u
 
-  module _ (pairs : ArePairsApart lines) (u : Tale) (s : FormedTo (λ other j. ⊥) (BlankOf lines) [] (SpotsOf lines) u) where
-    both : ((m : Tale) → AreDoing (ActsOf lines) u m → At m) × ((v : Tale) → AreDone (ActsOf lines) u v → FormedTo (done_after (λ other j. ⊥) lines) (λ other from. ⊥) ([] ++ SpotsOf lines) [] v)
+  -- all are
+  abbrev pub Ended : Tale → Type 0
+  Ended v = State (done_after (λ other j. ⊥) lines) (λ other from. ⊥) (SpotsOf lines) [] v
+
+  pub in_end : (line : SliceLine) (j : ℕ) → Contains lines line → j < count → done_after (λ other i. ⊥) lines line j
+  in_end line j among lt = has_after lines (λ other i. ⊥) line j (inl (among, lt))
+
+  module _ (pairs : ArePairsApart lines) (u : Tale) (s : Begun u) where
+    both : ((m : Tale) → AreDoing (ActsOf lines) u m → At m) × ((v : Tale) → AreDone (ActsOf lines) u v → Ended v)
     both = slices lines (λ other j. ⊥) [] u (λ l among. among) pairs (λ l other j among none. absurd none) s
 
     pub all_forming : (m : Tale) → AreDoing (ActsOf lines) u m → At m
     all_forming m is = both.0 m is
 
-    pub all_formed : (v : Tale) → AreDone (ActsOf lines) u v → IsFormed v
-    all_formed v is =
-        let end = both.1 v is in
-        record {
-          made = end.made;
-          traces = end.traces;
-          has = λ line j among lt. end.has line j (has_after lines (λ other i. ⊥) line j (inl (among, lt)));
-          rest = end.rest;
-          own = λ line j among lt. end.own line j (has_after lines (λ other i. ⊥) line j (inl (among, lt)));
-        }
+    pub all_formed : (v : Tale) → AreDone (ActsOf lines) u v → Ended v
+    all_formed v is = both.1 v is

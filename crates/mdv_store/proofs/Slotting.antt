@@ -230,6 +230,7 @@ module _ (mark : Mark) (bytes : ℕ) (body : List (List ℕ)) where
     pub slotting_moment : ((r : Replica) → Contains all r → (16 ≤ r.first.blocks) × (length body ≤ slot_blocks r.first.blocks)) → (m : Tale) → IsPassing (slotting mark bytes body) all t m → SlottingMoment seats mark bytes body t m
     slotting_moment fits m passing = record {
       quiet = slot_quiet fits m passing;
+      passing = passing;
       traces = λ g key identity log table by_majority before a. slot_traces g key identity log table by_majority a before m passing;
       rest = λ g key identity databases table sound held bodies. slot_rest g key identity table sound held bodies databases m passing;
       blank = λ g key identity table sound held bodies. slot_blank g key identity table sound held bodies m passing;

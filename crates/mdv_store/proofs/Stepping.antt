@@ -9,6 +9,7 @@ use Rattle.std.proofs.lemmas.List.Elements.{Contains-append_right, filter_map-ap
 use Rattle.mdv_base.specs.Causes.{RoseOnce}
 use Rattle.mdv_base.specs.declared.drive.DriveNo.{DriveNo}
 use Rattle.mdv_base.specs.declared.drive.Failed.{Failed}
+use Rattle.mdv_shelf.specs.Between.{RoseByAtLeast}
 use Rattle.mdv_shelf.specs.Calls.{OnDrive}
 use Rattle.mdv_shelf.specs.Drives.{KeptAmong}
 use Rattle.mdv_shelf.specs.Shelves.{AtEachTale, AtEnd, DriveFailures, KeptOn, MadeCalls}
@@ -77,6 +78,17 @@ none_due shelf old now [] (s ∷ due) left none = absurd left
 none_due shelf old now (o ∷ behind) [] left none = absurd left
 none_due shelf old now (o ∷ behind) (s ∷ due) left none = absurd (omega (arith, none))
 
+-- some block was written, and more behind it
+pub wrote_more : (a b c : Option ℕ) → RoseByAtLeast 1 a b → RoseByAtLeast 1 b c → RoseByAtLeast 1 a c
+wrote_more a b c first second n is =
+    let one = first n is in
+    let two = second one.0 one.1 in
+    (two.0, two.1, (let up = one.2 in let more = two.2 in omega (arith, up, more)))
+
+none_or_some : (k : ℕ) → (k ≡ 0) ⊎ (0 < k)
+none_or_some zero = inl refl
+none_or_some (suc k) = inr (omega arith)
+
 module _ {S : Type 0} (shelf : Ghosts S) (w : Writing) (old : S) (ss : List Seat) where
   -- These places were passed, and those are due.
   pub record Come (now : S) (before behind done due : List Seat) : Type 0 where
@@ -86,8 +98,10 @@ module _ {S : Type 0} (shelf : Ghosts S) (w : Writing) (old : S) (ss : List Seat
     pub moments : AtEachTale shelf (IsPassing w (replicas_of ss)) old now
     pub end : AtEnd shelf (λ t u. Passed w (replicas_of ss) t (replicas_of done) (replicas_of due) u) old now
     pub none : active_of before ≡ 0 → now ≡ old
+    pub untouched : active_of before ≡ 0 → due ≡ behind
     pub all : 0 < active_of before → active_of done + active_of due ≡ active_of ss → MadeCalls shelf old now (w.calls * active_of before) (w.blocks * active_of before)
     pub some : MadeCallsBetween shelf old now (w.calls * active_of done + min 1 (active_of ss - (active_of done + active_of due))) (w.calls * active_of before) (w.blocks * active_of before)
+    pub wrote : 0 < active_of before → RoseByAtLeast 1 (shelf.written old) (shelf.written now)
     pub kept : KeptAmong shelf old now (drives_of ss)
 
   pub record SoFar (now : S) (ns : List Seat) (index : ℕ) : Type 0 where
@@ -114,8 +128,10 @@ module _ {S : Type 0} (shelf : Ghosts S) (w : Writing) (old : S) (ss : List Seat
       moments = moments_none (IsPassing w (replicas_of ss)) (shelf.tale old) (shelf.tale old) refl (λ t. ([], replicas_of ss, begun));
       end = λ t is. (t, is, begun);
       none = λ zero. refl;
+      untouched = λ zero. refl;
       all = λ some. absurd (omega (arith, some));
       some = between_wider shelf.calls shelf.written old old 0 0 0 (w.calls * 0 + min 1 (active_of ss - (0 + active_of ss))) (w.calls * 0) (w.blocks * 0) (omega arith) (omega arith) (omega arith) (between_none shelf.calls shelf.written old old 0 0 refl);
+      wrote = λ some. absurd (omega (arith, some));
       kept = among_none shelf old (drives_of ss);
     };
   }
@@ -163,6 +179,20 @@ module _ {S : Type 0} (shelf : Ghosts S) (w : Writing) (old : S) (ss : List Seat
         subst (λ (n : ℕ). MadeCalls shelf old now (w.calls * n) (w.blocks * n)) (sym same) (come.all (omega (arith, same, some)) (omega (arith, every, over_done, over_due)))
     over_all (inr fewer) some every = absurd (omega (arith, fewer, every, over_done))
 
+    -- before a write the places that are due are as they were
+    due_left : active_of before ≡ 0 → (s ≡ o) × (left ≡ rest)
+    due_left nothing = (let same = come.untouched nothing in (cc (same), cc (same)))
+
+    idle_before : active_of before ≡ 0 → active_of (before ++ o ∷ []) ≡ 0
+    idle_before nothing = (let same = count_none before o (ap (λ (x : Seat). x.replica) (sym (due_left nothing).0) ∙ idle) in omega (arith, same, nothing))
+
+    over_wrote : (active_of (before ++ o ∷ []) ≡ active_of before) ⊎ ((active_of (before ++ o ∷ []) ≡ active_of before + 1) × (active_of (o ∷ rest) ≡ active_of rest + 1)) → 0 < active_of (before ++ o ∷ []) → RoseByAtLeast 1 (shelf.written old) (shelf.written now)
+    over_wrote (inl same) some = come.wrote (omega (arith, same, some))
+    over_wrote (inr more) some = elim (none_or_some (active_of before)) [
+      | inl nothing ↦ absurd (let none = idle_before nothing in omega (arith, none, some))
+      | inr up ↦ come.wrote up
+    ]
+
     pub passed_over : Come now (before ++ o ∷ []) rest (done ++ s ∷ []) left
     passed_over = record {
       ss_is = over_ss;
@@ -171,6 +201,7 @@ module _ {S : Type 0} (shelf : Ghosts S) (w : Writing) (old : S) (ss : List Seat
       moments = come.moments;
       end = over_end;
       none = λ zero. come.none (omega (arith, zero, no_fewer.0));
+      untouched = λ zero. (due_left (omega (arith, zero, no_fewer.0))).1;
       all = over_all no_fewer.1;
       some =
           let more_calls = mul-le-mul_left w.calls no_fewer.0 in
@@ -179,6 +210,7 @@ module _ {S : Type 0} (shelf : Ghosts S) (w : Writing) (old : S) (ss : List Seat
           between_wider shelf.calls shelf.written old now (w.calls * active_of done + min 1 (active_of ss - (active_of done + active_of (s ∷ left)))) (w.calls * active_of before) (w.blocks * active_of before)
           (w.calls * active_of (done ++ s ∷ []) + min 1 (active_of ss - (active_of (done ++ s ∷ []) + active_of left))) (w.calls * a) (w.blocks * a)
           (omega (arith, over_done, over_due, same_calls)) (omega (arith, more_calls)) (omega (arith, more_blocks)) come.some;
+      wrote = over_wrote (more_before o.replica refl);
       kept = come.kept;
     }
 
@@ -228,8 +260,15 @@ module _ {S : Type 0} (shelf : Ghosts S) (w : Writing) (old : S) (ss : List Seat
     times : (c : ℕ) → c * active_of (before ++ o ∷ []) ≡ c * active_of before + c
     times c = ap (λ (n : ℕ). c * n) count_o ∙ mul-add c (active_of before) 1 ∙ omega arith
 
+    -- and some block was written now
+    tried_wrote : RoseByAtLeast 1 (shelf.written now) (shelf.written next) → 0 < active_of (before ++ o ∷ []) → RoseByAtLeast 1 (shelf.written old) (shelf.written next)
+    tried_wrote wrote some = elim (none_or_some (active_of before)) [
+      | inl nothing ↦ subst (λ (x : S). RoseByAtLeast 1 (shelf.written x) (shelf.written next)) (come.none nothing) wrote
+      | inr up ↦ wrote_more (shelf.written old) (shelf.written now) (shelf.written next) (come.wrote up) wrote
+    ]
+
     -- it took that
-    module _ (n : Replica) (is : IsTaken shelf w now next r n) where
+    module _ (wrote : RoseByAtLeast 1 (shelf.written now) (shelf.written next)) (n : Replica) (is : IsTaken shelf w now next r n) where
       abbrev x : Seat
       x = record s { replica = Some n }
 
@@ -279,6 +318,7 @@ module _ {S : Type 0} (shelf : Ghosts S) (w : Writing) (old : S) (ss : List Seat
         moments = tried_moments;
         end = taken_end;
         none = tried_none;
+        untouched = λ nothing. absurd (omega (arith, nothing, count_o));
         all = λ more every. taken_calls (none_or (active_of before)) every;
         some =
             let calls = times w.calls in
@@ -289,6 +329,7 @@ module _ {S : Type 0} (shelf : Ghosts S) (w : Writing) (old : S) (ss : List Seat
             (w.calls * active_of (done ++ x ∷ []) + min 1 (active_of ss - (active_of (done ++ x ∷ []) + active_of left))) (w.calls * active_of (before ++ o ∷ [])) (w.blocks * active_of (before ++ o ∷ []))
             (omega (arith, taken_times, count_x, count_s)) (omega (arith, calls)) (omega (arith, blocks)) come.some
             (between_of shelf.calls shelf.written now next w.calls w.blocks w.calls w.calls w.blocks (omega arith) (omega arith) (omega arith) is.made);
+        wrote = tried_wrote wrote;
         kept = tried_kept;
       }
         where
@@ -297,7 +338,7 @@ module _ {S : Type 0} (shelf : Ghosts S) (w : Writing) (old : S) (ss : List Seat
           none_or (suc k) = inr (omega arith)
 
     -- its drive is left
-    module _ (is : IsFailed shelf w now next r) where
+    module _ (wrote : RoseByAtLeast 1 (shelf.written now) (shelf.written next)) (is : IsFailed shelf w now next r) where
       abbrev drive : DriveNo
       drive = r.line.at.drive
 
@@ -349,6 +390,7 @@ module _ {S : Type 0} (shelf : Ghosts S) (w : Writing) (old : S) (ss : List Seat
         moments = tried_moments;
         end = lost_end;
         none = tried_none;
+        untouched = λ nothing. absurd (omega (arith, nothing, count_o));
         all = λ more every. absurd (omega (arith, fewer_now, every));
         some =
             let calls = times w.calls in
@@ -358,6 +400,7 @@ module _ {S : Type 0} (shelf : Ghosts S) (w : Writing) (old : S) (ss : List Seat
             1 w.calls w.blocks
             (w.calls * active_of gone + min 1 (active_of ss - (active_of gone + active_of (map (left_on drive) left)))) (w.calls * active_of (before ++ o ∷ [])) (w.blocks * active_of (before ++ o ∷ []))
             (omega (arith, fewer_calls)) (omega (arith, calls)) (omega (arith, blocks)) come.some is.made;
+        wrote = tried_wrote wrote;
         kept = tried_kept;
       }
 
@@ -393,7 +436,7 @@ module _ {S : Type 0} (shelf : Ghosts S) (w : Writing) (old : S) (ss : List Seat
           ∙ ap (λ (i : ℕ). slice_set (so.done ++ here ∷ first.left) i (record here { replica = Some n })) (sym so.index_is)
           ∙ set_front so.done first.left here (record here { replica = Some n }) ∙ sym (append_assoc so.done (record here { replica = Some n } ∷ []) first.left);
       index_is = next_index (record here { replica = Some n }) so.done so.index_is;
-      come = come_taken stays now next so.before first.rest so.done first.left first.o here r come_here some is.moments is.kept n is.came;
+      come = come_taken stays now next so.before first.rest so.done first.left first.o here r come_here some is.moments is.kept is.wrote n is.came;
     }
     came r some (Err fault) is later_is =
         let drive = r.line.at.drive in
@@ -404,7 +447,7 @@ module _ {S : Type 0} (shelf : Ghosts S) (w : Writing) (old : S) (ss : List Seat
           due = map (left_on drive) first.left;
           ns_is = later_is ∙ ap (map (left_on drive)) ns_split ∙ map-append (left_on drive) so.done (here ∷ first.left) ∙ sym (append_assoc (map (left_on drive) so.done) (left_on drive here ∷ []) (map (left_on drive) first.left));
           index_is = next_index (left_on drive here) (map (left_on drive) so.done) (length-map so.done (left_on drive) ∙ so.index_is);
-          come = come_lost stays now next so.before first.rest so.done first.left first.o here r come_here some is.moments is.kept is.came;
+          come = come_lost stays now next so.before first.rest so.done first.left first.o here r come_here some is.moments is.kept is.wrote is.came;
         }
 
     stepped : (p : Option Replica) → here.replica ≡ p → IsStepAt shelf w now next ns index later here p → SoFar next later (index + 1)
@@ -486,6 +529,7 @@ module _ {S : Type 0} (shelf : Ghosts S) (w : Writing) (old : S) (ss : List Seat
       some =
           between_wider shelf.calls shelf.written old now (w.calls * active_of ns + min 1 (active_of ss - (active_of ns + 0))) (w.calls * active_of ss) (w.blocks * active_of ss)
           (w.calls * active_of ns + min 1 (active_of ss - active_of ns)) (w.calls * active_of ss) (w.blocks * active_of ss) (omega arith) (omega arith) (omega arith) come_over.some;
+      wrote = come_over.wrote;
     }
 
 -- What was written to the replica at the place of this number, as the list was read there, and what became of the list.

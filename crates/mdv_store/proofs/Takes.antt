@@ -10,9 +10,9 @@ use Rattle.mdv_survey.specs.declared.replica.Newest.{Newest}
 use Rattle.mdv_survey.specs.declared.replica.Survey.{Survey}
 use Rattle.mdv_store.specs.Adopting.{AdoptEnds, AdoptMoment, HasOne, IsAdoptAnswer, WasReadOf}
 use Rattle.mdv_store.specs.Below.{Geometry, Ghosts, Replica, Site, Tale, last}
-use Rattle.mdv_store.specs.Boot.{IsEndBy, is_memory}
+use Rattle.mdv_store.specs.Boot.{IsEndBy, WasChosen, is_memory}
 use Rattle.mdv_store.specs.Booting.{has_written}
-use Rattle.mdv_store.specs.Taking.{IsTaken, TakingEnds, TakingMoment, WasRead}
+use Rattle.mdv_store.specs.Taking.{IsTaken, Rewrites, TakingEnds, TakingMoment, WasRead}
 use Rattle.mdv_store.specs.declared.booting.Taken.{Taken}
 use Rattle.mdv_store.specs.declared.looking.Looked.{Looked}
 use Rattle.mdv_store.proofs.Adoptions.{not_adopted, still_calm}
@@ -32,10 +32,13 @@ none_newest survey choice = by survey.newest refl choice where
   by (Some newest) is so = absurd so
 
 -- nothing was done
-pub still_taken : {S : Type 0} (shelf : Ghosts S) (now : S) (site : Site) (looked : Looked) (taken : Taken) → has_written taken.end ≡ false → taken.calm ≡ true → IsEndBy (DriveFailures shelf now now) site looked.survey taken.end → IsTaken shelf now now site looked taken
-still_taken shelf now site looked taken still calm by = record { ended = inr by; calm = still_calm shelf now taken still looked.survey.replicas calm; still = λ so. refl; laid = not_adopted taken.end _ still }
+pub still_taken : {S : Type 0} (shelf : Ghosts S) (now : S) (site : Site) (looked : Looked) (taken : Taken) → has_written taken.end ≡ false → taken.calm ≡ true → IsEndBy (DriveFailures shelf now now) (Rewrites shelf now now site.key) site looked.survey taken.end → IsTaken shelf now now site looked taken
+still_taken shelf now site looked taken still calm by = record { ended = inr by; calm = still_calm shelf now taken still looked.survey.replicas calm; once = λ drive. inl refl; still = λ so. refl; laid = not_adopted taken.end _ still }
 
-module _ (site : Site) (looked : Looked) (newest : Newest) (newest_is : looked.survey.newest ≡ Some newest) (one : HasOne looked.survey) where
+module _ (site : Site) (looked : Looked) (newest : Newest) (newest_is : looked.survey.newest ≡ Some newest) (was_chosen : WasChosen looked.survey) where
+  one : HasOne looked.survey
+  one = has_one looked.survey was_chosen.0 was_chosen.1
+
   the : (replica : Replica) × IsTheOne looked.survey.replicas newest replica
   the = subst (λ (o : Option Newest). MatchOption o ⊥ (λ n. (replica : Replica) × IsTheOne looked.survey.replicas n replica)) newest_is one
 
@@ -44,11 +47,11 @@ module _ (site : Site) (looked : Looked) (newest : Newest) (newest_is : looked.s
 
   module _ {S : Type 0} (shelf : Ghosts S) (old new : S) (taken : Taken) where
     pub newest_answer : IsAdoptAnswer shelf old new site looked.survey.replicas newest taken → IsTaken shelf old new site looked taken
-    newest_answer answer = record { ended = by answer.ended; calm = answer.calm; still = answer.still; laid = answer.laid } where
-      by : (is_memory taken.end ≡ true) ⊎ ((survey : Survey) (replica : Replica) → survey.replicas ≡ looked.survey.replicas → survey.newest ≡ Some newest → IsTheOne looked.survey.replicas newest replica → IsEndBy (DriveFailures shelf old new) site survey taken.end)
-          → (is_memory taken.end ≡ true) ⊎ IsEndBy (DriveFailures shelf old new) site looked.survey taken.end
+    newest_answer answer = record { ended = by answer.ended; calm = answer.calm; once = answer.once; still = answer.still; laid = answer.laid } where
+      by : (is_memory taken.end ≡ true) ⊎ ((survey : Survey) (replica : Replica) → survey.replicas ≡ looked.survey.replicas → survey.newest ≡ Some newest → IsTheOne looked.survey.replicas newest replica → WasChosen survey → IsEndBy (DriveFailures shelf old new) (Rewrites shelf old new site.key) site survey taken.end)
+          → (is_memory taken.end ≡ true) ⊎ IsEndBy (DriveFailures shelf old new) (Rewrites shelf old new site.key) site looked.survey taken.end
       by (inl memory) = inl memory
-      by (inr ended) = inr (ended looked.survey the.0 refl newest_is the.1)
+      by (inr ended) = inr (ended looked.survey the.0 refl newest_is the.1 was_chosen)
 
     pub newest_moments : AtEachTale shelf (AdoptMoment site looked.survey.replicas newest taken.end) old new → AtEachTale shelf (TakingMoment site looked taken.end) old new
     newest_moments = moments_weaker (AdoptMoment site looked.survey.replicas newest taken.end) (TakingMoment site looked taken.end) (shelf.tale old) (shelf.tale new) (λ t m moment g was. moment g the.0 the.1 (was_of g t was))

@@ -1,5 +1,5 @@
 -- What a creation does at its places before it writes a table: it blanks masters, and formats.
-use Rattle.std.specs.Prelude.{◌≡◌, ◌⊎◌, ◌+◌, ◌-◌, ◌*◌, ◌<◌, ◌^◌, ℕ, zero, suc, List, [], ◌∷◌, flat_map, nat_lt, if◌then◌else◌, Contains}
+use Rattle.std.specs.Prelude.{◌≡◌, ◌⊎◌, ◌+◌, ◌-◌, ◌*◌, ◌<◌, ◌^◌, ℕ, zero, suc, List, [], ◌∷◌, ◌++◌, flat_map, nat_lt, if◌then◌else◌, Contains}
 use Rattle.mdv_replica.specs.Replica.{Formatting, IsFormatted, IsWiped, Wiping, master_of}
 use Rattle.mdv_replica.specs.declared.forms.Master.{Master}
 use Rattle.mdv_shelf.specs.Drives.{KeptAmong}
@@ -104,3 +104,7 @@ forms_on key identity count blocks line = forms_from key identity line count blo
 
 abbrev pub forms_asked : Key → Identity → List SliceLine → ℕ → ℕ → List Act
 forms_asked key identity lines count blocks = flat_map (forms_on key identity count blocks) lines
+
+-- all that a creation does before it writes a table
+abbrev pub acts_asked : Key → Identity → List SliceLine → ℕ → ℕ → List Act
+acts_asked key identity lines count blocks = blanks_asked lines count blocks ++ forms_asked key identity lines count blocks

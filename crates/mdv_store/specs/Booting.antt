@@ -2,9 +2,11 @@
 use Rattle.std.specs.Prelude.{◌≡◌, ◌⊎◌, ℕ, Bool, true, false, List, [], Contains}
 use Rattle.mdv_standing.specs.Laws.{ShowsNoTable}
 use Rattle.mdv_standing.specs.Others.{Anything}
+use Rattle.mdv_replica.specs.Form.{shows}
+use Rattle.mdv_shelf.specs.Tale.{MayLeave}
 use Rattle.mdv_survey.specs.Choice.{is_of}
 use Rattle.mdv_survey.specs.Replica.{IsFoundIn}
-use Rattle.mdv_store.specs.Below.{Area, Core, Database, DriveNo, Event, Everywhere, Geometry, Identity, IsBootRun, IsReadyWith, IsSynced, Log, Replica, RestStands, Site, Spot, Tale, TracesFrom, last, nowhere, site_area}
+use Rattle.mdv_store.specs.Below.{Area, Core, Database, DriveNo, Event, Everywhere, Geometry, Identity, IsBootRun, IsReadyWith, IsSynced, Log, Replica, RestStands, Site, Spot, Tale, TracesFrom, last, has_drive, nowhere, site_area}
 use Rattle.mdv_store.specs.Blank.{StayBlank}
 use Rattle.mdv_store.specs.Boot.{IfAdopted}
 use Rattle.mdv_store.specs.Commit.{AnyLog, AnyWorld, IsNewestWritten}
@@ -41,12 +43,20 @@ abbrev pub BootGoes : Geometry → Site → Identity → (read seated : List Spo
 BootGoes g site identity read seated Then After t m =
     TracesFrom (Spells g) g site identity AnyLog [] Anything (AreOfBoot read seated) Then After t m
 
--- What is written is written for one database, whose log goes on so, and nowhere but at replicas of it that were found as the boot began. All others stand,
--- and those that showed no table show none.
+-- a replica of the database was found that showed a table
+pub record HasShown (g : Geometry) (site : Site) (identity : Identity) (t : Tale) : Type 0 where
+  pub replica : Replica
+  pub found : IsFoundIn g site (last t) replica
+  pub its : is_of identity replica ≡ true
+  pub shown : shows replica.head ≡ true
+
+-- What is written is written for one database that showed a table as the boot began, whose log goes on so, and nowhere but at replicas of it that were
+-- found then. All others stand, and those that showed no table show none.
 pub record Writes (g : Geometry) (site : Site) (identity : Identity) (t m : Tale) : Type 0 where
   pub read : List Spot
   pub seats : List Seat
   pub found : (r : Replica) → Contains (replicas_of seats) r → IsFoundIn g site (last t) r × (is_of identity r ≡ true)
+  pub shown : (seats ≡ []) ⊎ HasShown g site identity t
   pub within : IsQuiet (seats_area seats) t m
   pub goes : BootGoes g site identity read (spots_of seats) AnyWorld AnyLog t m
   pub rest : (all : List Database) → RestStands (Spells g) g all identity t → RestStands (Spells g) g all identity m
@@ -67,16 +77,18 @@ pub record BootMoment (g : Geometry) (site : Site) (answer : BootEnd) (t m : Tal
   pub quiet : IsQuiet (boot_area site (has_written answer)) t m
   pub writes : WritesFor g site answer t m
 
--- what is open at the end: whatever a crash leaves has the table at each active place, and the log's newest table is this one, whose write was answered
+-- what is open at the end, whose replica showed a table as the boot began: whatever a crash leaves has the table at each active place, and the log's newest table is this one, whose write was answered
 pub record IsBootedTo (g : Geometry) (site : Site) (o : Opened) (t u : Tale) : Type 0 where
+  pub shown : HasShown g site o.identity t
   pub opened : IsOpenedAt g o u
   pub read : List Spot
   pub seated : List Spot
   pub goes : BootGoes g site o.identity read seated (IsReadyWith (spots_of o.seats)) (λ log. IsNewestWritten log o.mark o.table) t u
 
--- In the end what was adopted is there. Where nothing is found, and no call failed, no replica shows a table, whatever a crash leaves. And of a drive on
--- which no call failed no crash takes back what is read.
+-- In the end what was adopted is there. Where nothing is found, and no call failed, no replica shows a table, whatever a crash leaves. Of a drive on
+-- which no call failed no crash takes back what is read; nor, on one that is up, of a block that the boot can't have written.
 pub record BootEnds (failed : ℕ → Type 0) (g : Geometry) (site : Site) (answer : Booted) (t u : Tale) : Type 0 where
   pub adopted : IfAdopted answer.end (λ o. IsBootedTo g site o t u)
   pub empty : answer.end ≡ end.Empty → answer.clean ≡ true → Everywhere (λ image. (identity : Identity) → ShowsNoTable (Spells g) site identity image) u
   pub synced : (drive : DriveNo) → Contains site.drives drive → (failed drive.0 → ⊥) → IsSynced drive.0 u
+  pub still : (drive : DriveNo) (block : ℕ) → has_drive answer.up drive ≡ true → boot_area site (has_written answer.end) drive.0 block ≡ false → (x : List ℕ) → MayLeave u drive.0 block x → x ≡ last u drive.0 block

@@ -1,7 +1,8 @@
 -- What a pass says that writes a claim to each active place.
-use Rattle.std.specs.Prelude.{◌<◌, ◌^◌, ℕ, List, ◌++◌, Contains}
+use Rattle.std.specs.Prelude.{◌<◌, ◌^◌, ℕ, List, [], ◌++◌, Contains}
 use Rattle.mdv_store.specs.Below.{Database, Event, Geometry, Identity, IsPart, IsSound, IsSynced, IsVersionWith, Key, Log, Mark, MayBeClaimed, Replica, RestStands, Spot, Table, Tale, Traces, Version, claims_at, site_of}
 use Rattle.mdv_store.specs.Blank.{StayBlank}
+use Rattle.mdv_store.specs.Passing.{IsPassing, Passed, claiming}
 use Rattle.mdv_store.specs.Quiet.{IsQuiet}
 use Rattle.mdv_store.specs.Records.{Spells}
 use Rattle.mdv_store.specs.Seats.{AreHeld, AreNamed, drive_of, replicas_of, seats_area, spots_of}
@@ -24,10 +25,11 @@ abbrev pub ClaimsTrace : Geometry → Key → Identity → List Seat → ℕ →
 ClaimsTrace g key identity seats number log mark before now =
     Traces (Spells g) (site_of g key) identity log log (MayBeClaimed mark number before) (AreClaims (spots_of seats)) (MayBeClaimed mark number now)
 
--- By each moment nothing was told, and nothing done but to these replicas; each world of the database goes on by some of the claims; all other
--- databases stand; and those that show no table show none.
+-- By each moment nothing was told, and nothing done but to these replicas, one by one in their order; each world of the database goes on by some of the
+-- claims; all other databases stand; and those that show no table show none.
 pub record ClaimingMoment (seats : List Seat) (number : ℕ) (t m : Tale) : Type 0 where
   pub quiet : IsQuiet (seats_area seats) t m
+  pub passing : IsPassing (claiming number) (replicas_of seats) t m
   pub traces : (g : Geometry) (key : Key) (identity : Identity) (log : Log) (mark : Mark) (table : Table) (v : Version) (before : List Spot)
       → IsAdopting g key identity seats number log mark table v t → ClaimsTrace g key identity seats number log mark before before t m
   pub rest : (g : Geometry) (key : Key) (identity : Identity) (all : List Database) → IsSound g → number < 2 ^ 63 → AreHeld g key identity seats t
@@ -36,6 +38,7 @@ pub record ClaimingMoment (seats : List Seat) (number : ℕ) (t m : Tale) : Type
 
 -- In the end the places that are left claimed, and their replicas are there with that claim; and what is read of their drives no crash takes back.
 pub record ClaimingEnds (old new : List Seat) (number : ℕ) (t u : Tale) : Type 0 where
+  pub passed : Passed (claiming number) (replicas_of old) t (replicas_of new) [] u
   pub traces : (g : Geometry) (key : Key) (identity : Identity) (log : Log) (mark : Mark) (table : Table) (v : Version) (before : List Spot)
       → IsAdopting g key identity old number log mark table v t → ClaimsTrace g key identity old number log mark before (spots_of new ++ before) t u
   pub held : (g : Geometry) (key : Key) (identity : Identity) → IsSound g → number < 2 ^ 63 → AreHeld g key identity old t → AreHeld g key identity new u

@@ -6,7 +6,8 @@ use Rattle.mdv_store.specs.Blank.{StayBlank}
 use Rattle.mdv_store.specs.Opened.{IsOpenedAt, Opened, least_room}
 use Rattle.mdv_store.specs.Quiet.{IsQuiet}
 use Rattle.mdv_store.specs.Records.{Spells}
-use Rattle.mdv_store.specs.Seats.{AreLaid, AreLeft, TakesSlot, active_of, is_half_active, seats_area, spots_of}
+use Rattle.mdv_store.specs.Seats.{AreLaid, AreLeft, TakesSlot, active_of, is_half_active, replicas_of, seats_area, spots_of}
+use Rattle.mdv_store.specs.Writing.{IsBeingWritten}
 use Rattle.mdv_store.specs.declared.store.CommitFault.{CommitFault}
 use Rattle.mdv_store.specs.declared.store.CommitFault.TheVariants as unwritten
 
@@ -95,10 +96,11 @@ abbrev pub CommitGoes : Geometry → Opened → Option Change → (Core → Type
 CommitGoes g old asked Then After t m =
     TracesFrom (Spells g) g (site_of g old.key) old.identity (IsLogOf g old) (asks_of asked) (IsReadyWith (spots_of old.seats)) (AreOfCommit g old) Then After t m
 
--- By each moment nothing was told, and nothing done but to the active replicas; the log goes on by the change alone, and its worlds by events of a
--- commit; all other databases stand; and those that show no table show none.
+-- By each moment nothing was told, and nothing done but to write the table to the active replicas, one by one in their order; the log goes on by the
+-- change alone, and its worlds by events of a commit; all other databases stand; and those that show no table show none.
 pub record CommitMoment (old : Opened) (next : Table) (t m : Tale) : Type 0 where
   pub quiet : IsQuiet (seats_area old.seats) t m
+  pub only : (m ≡ t) ⊎ IsBeingWritten (replicas_of old.seats) (next_mark old.mark) next t m
   pub goes : (g : Geometry) (asked : Option Change) → MayCommit g old asked next t → CommitGoes g old asked AnyWorld AnyLog t m
   pub rest : (g : Geometry) (all : List Database) → IsOfGeometry g next → IsOpenedAt g old t → RestStands (Spells g) g all old.identity t → RestStands (Spells g) g all old.identity m
   pub blank : (g : Geometry) → IsOfGeometry g next → IsOpenedAt g old t → StayBlank g old.identity t m

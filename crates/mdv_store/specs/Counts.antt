@@ -1,5 +1,6 @@
 -- How many calls a pass, a commit and a boot make, and how many blocks they write.
 use Rattle.std.specs.Prelude.{◌≡◌, ◌<◌, ◌+◌, ◌-◌, ◌*◌, ℕ, min, List, MatchBool, Result, Ok, Err}
+use Rattle.mdv_shelf.specs.Between.{RoseByAtLeast}
 use Rattle.mdv_shelf.specs.Shelves.{MadeCalls}
 use Rattle.mdv_store.specs.Below.{Ghosts, TookBetween}
 use Rattle.mdv_store.specs.Seats.{active_of, is_half_active}
@@ -13,11 +14,12 @@ abbrev pub MadeCallsBetween : {S : Type 0} → Ghosts S → S → S → ℕ → 
 MadeCallsBetween shelf old new least most blocks = TookBetween shelf.calls shelf.written old new least most blocks
 
 -- A pass makes so many calls at each active place, and writes so many blocks, and none where no place is active. Where some place was lost meanwhile it
--- made those of the others, and one at least of that one.
+-- made those of the others, and one at least of that one. Some block is written, where a place is active.
 pub record ArePassCounted {S : Type 0} (shelf : Ghosts S) (old new : S) (calls blocks : ℕ) (before now : List Seat) : Type 0 where
   pub none : active_of before ≡ 0 → new ≡ old
   pub all : 0 < active_of before → active_of now ≡ active_of before → MadeCalls shelf old new (calls * active_of before) (blocks * active_of before)
   pub some : MadeCallsBetween shelf old new (calls * active_of now + min 1 (active_of before - active_of now)) (calls * active_of before) (blocks * active_of before)
+  pub wrote : 0 < active_of before → RoseByAtLeast 1 (shelf.written old) (shelf.written new)
 
 -- a commit makes three writes and three syncs at each active place, where at least half of the places are; else none
 abbrev pub IsCommitCounted : {S : Type 0} → Ghosts S → S → S → ℕ → List Seat → List Seat → Result (Unit {0}) CommitFault → Type 0

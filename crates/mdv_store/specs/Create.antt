@@ -1,7 +1,7 @@
 -- What a creation says: of what it is asked, of its answer, of each moment, and of the end.
-use Rattle.std.specs.Prelude.{◌≡◌, ◌⊎◌, ◌<◌, ◌≤◌, ◌+◌, ◌*◌, ◌^◌, nat_lt, if◌then◌else◌, ℕ, zero, suc, false, List, [], ◌∷◌, length, map, flat_map, slice_index_or, AllPairs, Contains, Some, None, Result, Ok, Err, IsTrue}
+use Rattle.std.specs.Prelude.{◌≡◌, ◌⊎◌, ◌<◌, ◌≤◌, ◌+◌, ◌*◌, ◌^◌, nat_lt, if◌then◌else◌, ℕ, zero, suc, false, List, [], ◌∷◌, length, map, flat_map, slice_index_or, AllPairs, Contains, Some, None, Result, Ok, Err, IfOk, IsTrue}
 use Rattle.mdv_shelf.specs.Drives.{KeptAmong}
-use Rattle.mdv_shelf.specs.Shelves.{AtEnd, DriveFailures, MadeCalls}
+use Rattle.mdv_shelf.specs.Shelves.{AtEachTale, AtEnd, DriveFailures, MadeCalls}
 use Rattle.mdv_standing.specs.Blanking.{MayClear}
 use Rattle.mdv_standing.specs.Creating.{first_mark, issued_log}
 use Rattle.mdv_standing.specs.Holding.{IsOneOf}
@@ -10,6 +10,8 @@ use Rattle.mdv_store_law.specs.Log.{IsNewestTellable}
 use Rattle.mdv_shown.specs.Site.{size_on}
 use Rattle.mdv_replica.specs.Form.{formatted_head}
 use Rattle.mdv_table.specs.declared.plan.Lists.TheVariants.{One}
+use Rattle.mdv_store.specs.Blank.{IsBlank, StayBlank}
+use Rattle.mdv_store.specs.Acts.{HaveGone, HaveStopped, acts_asked}
 use Rattle.mdv_store.specs.Below.{Core, Database, DriveNo, Event, Failures, Geometry, Ghosts, Identity, IsOfGeometry, IsReadyWith, IsSound, Key, Log, Replica, RestStands, SliceLine, Spot, Table, Tale, lists_of_spots, place_on, record_text, site_of}
 use Rattle.mdv_store.specs.Commit.{AnyLog, AnyWorld, IsNewestWritten}
 use Rattle.mdv_store.specs.Counts.{MadeCallsBetween}
@@ -18,6 +20,7 @@ use Rattle.mdv_store.specs.Quiet.{IsQuiet}
 use Rattle.mdv_store.specs.Records.{Spells}
 use Rattle.mdv_store.specs.Seats.{AreHeld, AreLaid, AreLeft, TakesSlot, active_of, is_half_active, seats_area, spots_of}
 use Rattle.mdv_store.specs.Text.{blocks_for}
+use Rattle.mdv_store.specs.Writing.{WritingEnds, WritingMoment}
 use Rattle.mdv_store.specs.declared.creating.CreateFault.{CreateFault}
 use Rattle.mdv_store.specs.declared.creating.CreateFault.TheVariants as unmade
 use Rattle.mdv_store.specs.declared.seats.Seat.{Seat}
@@ -98,29 +101,36 @@ module _ (failed : ℕ → Failures) (key : Key) (identity : Identity) (lines : 
   CreateAnswer (Err (unmade.Lost active listed)) = IsLost active listed
   CreateAnswer (Err unmade.Memory) = (drive : ℕ) → (failed drive).none
 
--- The new database is one of all, without a table yet, and nothing of it is found; what lies on the slices of others shows no table; and the first table
--- is one of the table of drives, by which each slice ends within its drive.
-pub record MayCreate (g : Geometry) (all : List Database) (key : Key) (identity : Identity) (lines : List SliceLine) (seats : List Seat) (t : Tale) : Type 0 where
+-- The slices are some on which a boot of the key looks, and end within their drives; and the first table is one of the table of drives. What lies there is no
+-- matter.
+pub record MayForm (g : Geometry) (key : Key) (lines : List SliceLine) (seats : List Seat) : Type 0 where
   pub sound : IsSound g
   pub sites : (line : SliceLine) → Contains lines line → Contains (site_of g key).lines line
   pub within : (line : SliceLine) → Contains lines line → line.at.start + line.at.blocks ≤ size_on (site_of g key) line
   pub of_geometry : IsOfGeometry g (table_of seats)
+
+-- The new database may be formed there, and is one of all, without a table yet, and nothing of it is found; what lies on the slices of others shows no table.
+pub record MayCreate (g : Geometry) (all : List Database) (key : Key) (identity : Identity) (lines : List SliceLine) (seats : List Seat) (t : Tale) : Type 0 where
+  pub forms : MayForm g key lines seats
   pub one_of : IsOneOf all key identity
   pub clear : MayClear (Spells g) g all key identity lines t
 
--- Behind all formats: no call had failed by then, and whatever a crash leaves each place has its replica.
+-- Masters were blanked and each place was formatted, in their order, with no call that failed; whatever a crash leaves each place has its replica then; and behind
+-- that the first table was written to these replicas, and nothing else was done. It was written to these seats, and in the end those that are left show it.
 pub record WereFormed {S : Type 0} (shelf : Ghosts S) (old new : S) (key : Key) (identity : Identity) (lines : List SliceLine) (count blocks : ℕ) : Type 0 where
   pub formed : S
-  pub calm : (drive : ℕ) → (DriveFailures shelf old formed drive).none
-  pub before : KeptAmong shelf old formed (drives_asked lines)
+  pub gone : HaveGone shelf old formed (drives_asked lines) (acts_asked key identity lines count blocks)
   pub behind : KeptAmong shelf formed new (drives_asked lines)
-  pub held : AtEnd shelf (λ t v. (g : Geometry) (all : List Database) → MayCreate g all key identity lines (seats_asked key identity lines count blocks) t → AreHeld g key identity (seats_asked key identity lines count blocks) v) old formed
+  pub held : AtEnd shelf (λ t v. (g : Geometry) → MayForm g key lines (seats_asked key identity lines count blocks) → AreHeld g key identity (seats_asked key identity lines count blocks) v) old formed
+  pub written : AtEachTale shelf (WritingMoment (seats_asked key identity lines count blocks) first_mark (table_of (seats_asked key identity lines count blocks))) formed new
+  pub now : List Seat
+  pub ends : AtEnd shelf (WritingEnds (seats_asked key identity lines count blocks) now first_mark (table_of (seats_asked key identity lines count blocks))) formed new
 
--- each place was formatted, where a table was written; and those that are left lie where it may be written
+-- Each place was formatted, where a table was written; and those that are left lie where it may be written. A creation that failed came no further than to its formats.
 abbrev pub HasFormed : {S : Type 0} → Ghosts S → S → S → Key → Identity → List SliceLine → ℕ → ℕ → Result Opened CreateFault → Type 0
-HasFormed shelf old new key identity lines count blocks (Ok o) = WereFormed shelf old new key identity lines count blocks × AreLaid (shelf.sizes new) o.seats
-HasFormed shelf old new key identity lines count blocks (Err unmade.Failed) = Unit {0}
-HasFormed shelf old new key identity lines count blocks (Err (unmade.Lost active listed)) = WereFormed shelf old new key identity lines count blocks
+HasFormed shelf old new key identity lines count blocks (Ok o) = (f : WereFormed shelf old new key identity lines count blocks) × (f.now ≡ o.seats) × AreLaid (shelf.sizes new) o.seats
+HasFormed shelf old new key identity lines count blocks (Err unmade.Failed) = HaveStopped shelf old new (drives_asked lines) (acts_asked key identity lines count blocks)
+HasFormed shelf old new key identity lines count blocks (Err (unmade.Lost active listed)) = (f : WereFormed shelf old new key identity lines count blocks) × (active ≡ active_of f.now) × (listed ≡ length f.now)
 HasFormed shelf old new key identity lines count blocks (Err unmade.Memory) = Unit {0}
 
 pub record IsCreated {S : Type 0} (shelf : Ghosts S) (old new : S) (key : Key) (identity : Identity) (lines : List SliceLine) (count blocks : ℕ) (result : Result Opened CreateFault) : Type 0 where
@@ -136,27 +146,32 @@ abbrev pub CreateGoes : Geometry → Key → Identity → List Seat → (Core �
 CreateGoes g key identity seats Then After t m =
     GoesTraced (Spells g) g (site_of g key) identity [] (IsStart (site_of g key)) (AreOfCreation g key seats) Then After t m (issued_log identity)
 
--- By each moment nothing was told, and nothing done but at the places; the new database's log goes on, and its worlds by a creation's events; and all
--- other databases stand.
+-- By each moment nothing was told, and nothing done but at the places; the new database's log goes on, and its worlds by a creation's events; all
+-- other databases stand; and those that show no table show none, whatever else lies on the drives.
 pub record CreateMoment (key : Key) (identity : Identity) (lines : List SliceLine) (count blocks : ℕ) (t m : Tale) : Type 0 where
   pub quiet : IsQuiet (seats_area (seats_asked key identity lines count blocks)) t m
   pub goes : (g : Geometry) (all : List Database) → MayCreate g all key identity lines (seats_asked key identity lines count blocks) t → CreateGoes g key identity (seats_asked key identity lines count blocks) AnyWorld AnyLog t m
   pub rest : (g : Geometry) (all : List Database) → MayCreate g all key identity lines (seats_asked key identity lines count blocks) t → RestStands (Spells g) g all identity m
+  pub blank : (g : Geometry) → MayForm g key lines (seats_asked key identity lines count blocks) → StayBlank g identity t m
 
 -- the log's newest table is the first one, whose write was answered, and the `ok` of the creation may be told
 pub record IsCreatedTo (o : Opened) (log : Log) : Type 0 where
   pub newest : IsNewestWritten log o.mark o.table
   pub tellable : IsNewestTellable log None
 
--- what is known at the end, by the answer: a creation that failed has written no table
+-- what is known at the end, by the answer: a creation that failed has written no table, and no replica of its database shows one
 abbrev pub IsEnded : Geometry → Key → Identity → List Seat → Result Opened CreateFault → Tale → Tale → Type 0
 IsEnded g key identity asked (Ok o) t u = IsOpenedAt g o u × CreateGoes g key identity asked (IsReadyWith (spots_of o.seats)) (IsCreatedTo o) t u
-IsEnded g key identity asked (Err unmade.Failed) t u = CreateGoes g key identity asked AnyWorld (λ log. log.family ≡ []) t u
+IsEnded g key identity asked (Err unmade.Failed) t u = CreateGoes g key identity asked AnyWorld (λ log. log.family ≡ []) t u × IsBlank g key identity u
 IsEnded g key identity asked (Err (unmade.Lost active listed)) t u = Unit {0}
 IsEnded g key identity asked (Err unmade.Memory) t u = u ≡ t
 
+-- What is known at the end; and that, whatever else lies on the drives, a database that was made is open, and one whose creation failed shows no table if
+-- it showed none before.
 pub record CreateEnds (key : Key) (identity : Identity) (lines : List SliceLine) (count blocks : ℕ) (result : Result Opened CreateFault) (t u : Tale) : Type 0 where
   pub ended : (g : Geometry) (all : List Database) → MayCreate g all key identity lines (seats_asked key identity lines count blocks) t → IsEnded g key identity (seats_asked key identity lines count blocks) result t u
+  pub opened : IfOk result (λ o. (g : Geometry) → MayForm g key lines (seats_asked key identity lines count blocks) → IsOpenedAt g o u)
+  pub unmade : result ≡ Err unmade.Failed → (g : Geometry) → MayForm g key lines (seats_asked key identity lines count blocks) → IsBlank g key identity t → IsBlank g key identity u
 
 -- two calls for each place that is blanked: all places of slices that get more than one
 abbrev pub blanked_asked : List SliceLine → ℕ → ℕ

@@ -20,3 +20,5 @@ pub mod Taking
 pub mod Adopting
 pub mod Create
 pub mod Acts
+pub mod Booted
+pub mod Meaning

@@ -2,7 +2,7 @@
 use Rattle.std.specs.Prelude.{◌≡◌, ◌*◌, ◌+◌, ℕ, true, false, Contains, List, length, count_by, Some, Result, IfOk}
 use Rattle.std.specs.Bool.{MatchBool}
 use Rattle.mdv_base.specs.DriveSet.{no_drives}
-use Rattle.mdv_shelf.specs.Shelves.{DriveFailed, DriveFailures}
+use Rattle.mdv_shelf.specs.Shelves.{DriveFailures}
 use Rattle.mdv_survey.specs.Counts.{AreLinesBy, MadeFew, MadeReads}
 use Rattle.mdv_survey.specs.Survey.{IsSurvey, IsSurveyOf, answers_in}
 use Rattle.mdv_store.specs.Below.{DriveNo, Drives, Geometry, Ghosts, Site, Tale, has_drive, last}
@@ -20,15 +20,24 @@ pub record HasFailedOn (drives : List DriveNo) (up failed : Drives) : Type 0 whe
   pub is_up : has_drive up drive ≡ true
   pub has : has_drive failed drive ≡ true
 
--- A drive of these that is up answered every read where no call on it failed, and else one did; no other drive is told to.
+-- A drive of these that is up answered every read where no call on it failed, and else just one did; on one that isn't up none did; no other drive is told to.
 pub record AreCalmBy {S : Type 0} (shelf : Ghosts S) (old new : S) (drives : List DriveNo) (up calm : Drives) : Type 0 where
-  pub each : (drive : DriveNo) → Contains drives drive → has_drive up drive ≡ true → MatchBool (has_drive calm drive) (DriveFailures shelf old new drive.0).none (DriveFailed shelf old new drive.0)
+  pub each : (drive : DriveNo) → Contains drives drive → has_drive up drive ≡ true → MatchBool (has_drive calm drive) (DriveFailures shelf old new drive.0).none (DriveFailures shelf old new drive.0).some
+  pub down : (drive : DriveNo) → has_drive up drive ≡ false → (DriveFailures shelf old new drive.0).none
   pub is_up : (drive : DriveNo) → has_drive calm drive ≡ true → has_drive up drive ≡ true
   pub only : (drive : DriveNo) → has_drive calm drive ≡ true → Contains drives drive
+
+-- The last of the looks: by its beginning a call had failed on each drive that is up and didn't answer every read; then each head and each body of an open slot
+-- was read once.
+pub record WasLastLook {S : Type 0} (shelf : Ghosts S) (old new : S) (g : Geometry) (site : Site) (up calm : Drives) : Type 0 where
+  pub begun : S
+  pub before : AreCalmBy shelf old begun site.drives up calm
+  pub once : (t : Tale) → shelf.tale old ≡ Some t → (n : ℕ) × MadeReads shelf begun new n × AreLinesBy g site calm no_drives (last t) site.lines n
 
 -- What was read is told of the drives that answered alone: each replica there, and the newest of their tables. Nothing was written.
 pub record IsLookedAt {S : Type 0} (shelf : Ghosts S) (old new : S) (g : Geometry) (site : Site) (up : Drives) (looked : Looked) : Type 0 where
   pub calm : AreCalmBy shelf old new site.drives up looked.calm
+  pub last_look : WasLastLook shelf old new g site up looked.calm
   pub none : (drive : DriveNo) → has_drive looked.calm drive ≡ true → has_drive looked.survey.failed drive ≡ false
   pub survey : IsSurvey site looked.calm looked.survey
   pub of : (t : Tale) → shelf.tale old ≡ Some t → IsSurveyOf g site looked.calm (last t) looked.survey

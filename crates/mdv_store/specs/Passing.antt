@@ -2,6 +2,7 @@
 use Rattle.std.specs.Prelude.{◌≡◌, ◌==◌, ◌+◌, ℕ, if◌then◌else◌, not, List, [], ◌∷◌, ◌++◌, filter, length, map, Option, None, Some, Result, Ok, Err, slice_get, slice_set}
 use Rattle.mdv_base.specs.declared.drive.Failed.{Failed}
 use Rattle.mdv_replica.specs.Replica.{Claiming, IsClaimed, IsSlotWritten, SlotWriting}
+use Rattle.mdv_shelf.specs.Between.{RoseByAtLeast}
 use Rattle.mdv_shelf.specs.Calls.{OnDrive}
 use Rattle.mdv_shelf.specs.Shelves.{AtEachTale, AtEnd, DriveFailures, KeptOn, MadeCalls}
 use Rattle.mdv_store.specs.Below.{DriveNo, Ghosts, Mark, Open, Replica, Slot, Tale, at_of, with_slot}
@@ -65,10 +66,11 @@ abbrev pub CameOf : {S E : Type 0} → Ghosts S → Writing → S → S → Repl
 CameOf shelf w old new r (Ok n) = IsTaken shelf w old new r n
 CameOf shelf w old new r (Err fault) = IsFailed shelf w old new r
 
--- What is written to one replica: it is told as it is then, or a call failed.
+-- What is written to one replica: it is told as it is then, or a call failed; some block was written.
 pub record IsWriteOf {S E : Type 0} (shelf : Ghosts S) (w : Writing) (old new : S) (r : Replica) (result : Result Replica E) : Type 0 where
   pub moments : AtEachTale shelf (w.Goes r) old new
   pub came : CameOf shelf w old new r result
+  pub wrote : RoseByAtLeast 1 (shelf.written old) (shelf.written new)
   pub kept : KeptOn shelf old new (OnDrive (drive_of r))
 
 -- the list then: the place of this number has that replica, or all places of its drive are left

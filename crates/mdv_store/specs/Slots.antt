@@ -2,6 +2,7 @@
 use Rattle.std.specs.Prelude.{Bool, ℕ, List, ◌++◌, Contains}
 use Rattle.mdv_store.specs.Below.{Database, Event, Geometry, Identity, IsAbove, IsBodyOf, IsNewest, IsPart, IsSound, IsSynced, IsTaking, Key, Log, Mark, Replica, RestStands, Spot, Table, Tale, Traces, at_of, fills_at, site_of}
 use Rattle.mdv_store.specs.Blank.{StayBlank}
+use Rattle.mdv_store.specs.Passing.{IsPassing, slotting}
 use Rattle.mdv_store.specs.Quiet.{IsQuiet}
 use Rattle.mdv_store.specs.Records.{Spells}
 use Rattle.mdv_store.specs.Seats.{AreHeld, AreNamed, AreShown, drive_of, replicas_of, seats_area, spots_of}
@@ -33,10 +34,11 @@ abbrev pub FillsTrace : Geometry → Key → Identity → List Seat → Mark →
 FillsTrace g key identity seats mark log by_majority before now =
     Traces (Spells g) (site_of g key) identity log log (IsTaking by_majority mark before) (AreFills (spots_of seats)) (IsTaking by_majority mark now)
 
--- By each moment nothing was told, and nothing done but to these replicas; each world of the database goes on by places that take the table; all
--- other databases stand; and those that show no table show none.
+-- By each moment nothing was told, and nothing done but to these replicas, one by one in their order; each world of the database goes on by places that
+-- take the table; all other databases stand; and those that show no table show none.
 pub record SlottingMoment (seats : List Seat) (mark : Mark) (bytes : ℕ) (body : List (List ℕ)) (t m : Tale) : Type 0 where
   pub quiet : IsQuiet (seats_area seats) t m
+  pub passing : IsPassing (slotting mark bytes body) (replicas_of seats) t m
   pub traces : (g : Geometry) (key : Key) (identity : Identity) (log : Log) (table : Table) (by_majority : Bool) (before : List Spot)
       → IsWritten g key identity seats mark bytes body log table t → FillsTrace g key identity seats mark log by_majority before before t m
   pub rest : (g : Geometry) (key : Key) (identity : Identity) (all : List Database) (table : Table) → IsSound g → AreHeld g key identity seats t → AreBodies g seats mark bytes body table

@@ -1,23 +1,27 @@
 -- What a boot makes of what it read: step by step, and of which premises.
-use Rattle.std.specs.Prelude.{◌≡◌, ◌⊎◌, ◌<◌, ◌≤◌, ◌+◌, ◌*◌, ◌^◌, max, ℕ, Bool, true, false, List, length, map, Contains, Some, IsTrue, slice_get, vec_len}
+use Rattle.std.specs.Prelude.{◌≡◌, ◌⊎◌, ◌<◌, ◌≤◌, ◌+◌, ◌*◌, ◌^◌, max, ℕ, Bool, true, false, List, [], length, map, Contains, Some, IsTrue, slice_get, vec_len}
 use Rattle.std.specs.Bool.{MatchBool}
-use Rattle.mdv_shelf.specs.Shelves.{DriveFailed, DriveFailures, MadeCalls}
+use Rattle.mdv_shelf.specs.Between.{RoseByAtLeast}
+use Rattle.mdv_shelf.specs.Shelves.{AtEachTale, DriveFailed, DriveFailures, MadeCalls}
 use Rattle.mdv_shown.specs.Choice.{Seen, greatest_seen, spots_seen}
+use Rattle.mdv_standing.specs.Adopting.{drawn}
 use Rattle.mdv_standing.specs.Turning.{IsBootRead}
 use Rattle.mdv_survey.specs.Survey.{IsSurveyOf}
 use Rattle.mdv_survey.specs.declared.replica.Newest.{Newest}
 use Rattle.mdv_store.specs.Below.{Database, DriveNo, Failures, Geometry, Ghosts, IsOfGeometry, IsReadyWith, IsSound, IsSynced, Key, Mark, Replica, RestStands, Site, Slot, Table, Tale, greatest, last, places_of, record_text, site_of}
 use Rattle.mdv_store.specs.Blank.{StayBlank}
-use Rattle.mdv_store.specs.Boot.{IfAdopted, IsEndBy, TakesBoth, greatest_number, is_enough, is_memory, seats_of}
+use Rattle.mdv_store.specs.Boot.{IfAdopted, IsEndBy, IsOnce, TakesBoth, greatest_number, is_enough, is_memory, seats_of}
 use Rattle.mdv_store.specs.BootCounts.{most_blocks}
 use Rattle.mdv_store.specs.Booting.{BootGoes, BootMoment, IsBootedTo, has_written}
 use Rattle.mdv_store.specs.Commit.{AnyLog, AnyWorld, IsNewestWritten}
 use Rattle.mdv_store.specs.Counts.{MadeCallsBetween}
 use Rattle.mdv_store.specs.Opened.{AreSeatsOf, IsOpenedAt, Opened, least_room}
+use Rattle.mdv_store.specs.Passing.{IsPassing, Passed, claiming}
 use Rattle.mdv_store.specs.Quiet.{IsQuiet}
 use Rattle.mdv_store.specs.Records.{Spells}
 use Rattle.mdv_store.specs.Seats.{AreHeld, AreLaid, AreLeft, AreNamed, HaveRoom, active_of, drive_of, replicas_of, seats_area, spots_of}
 use Rattle.mdv_store.specs.Text.{blocks_for}
+use Rattle.mdv_store.specs.Writing.{IsBeingWritten}
 use Rattle.mdv_store.specs.declared.booting.BootEnd.{BootEnd}
 use Rattle.mdv_store.specs.declared.booting.BootEnd.TheVariants as end
 use Rattle.mdv_store.specs.declared.booting.Hand.{Hand}
@@ -65,12 +69,28 @@ pub record IsToAdopt (g : Geometry) (key : Key) (hand : Hand) (table : Table) (t
   pub held : AreHeld g key hand.identity hand.seats t
   pub named : AreNamed (site_of g key) table hand.seats
 
+-- The claims are written to the active replicas, one by one in their order; and behind the last of them the table to those that took theirs; and nothing else is done.
+abbrev pub IsBeingRewritten : Hand → Table → Tale → Tale → Type 0
+IsBeingRewritten hand table t m = IsPassing (claiming hand.number) (replicas_of hand.seats) t m
+    ⊎ ((claimed : List Replica) × (u : Tale) × Passed (claiming hand.number) (replicas_of hand.seats) t claimed [] u × IsBeingWritten claimed (drawn hand.number) table u m)
+
 -- by each moment of the writes
 pub record RewriteMoment (key : Key) (hand : Hand) (table : Table) (t m : Tale) : Type 0 where
   pub quiet : IsQuiet (seats_area hand.seats) t m
+  pub only : IsBeingRewritten hand table t m
   pub goes : (g : Geometry) (to : IsToAdopt g key hand table t) → BootGoes g (site_of g key) hand.identity (spots_seen to.seen) (spots_of hand.seats) AnyWorld AnyLog t m
   pub rest : (g : Geometry) (all : List Database) → IsToAdopt g key hand table t → RestStands (Spells g) g all hand.identity t → RestStands (Spells g) g all hand.identity m
   pub blank : (g : Geometry) → IsToAdopt g key hand table t → StayBlank g hand.identity t m
+
+-- two calls for a claim and six for the table at each of the hand's active places at most, and one block and those of the table's text and two gates; one call at least
+abbrev pub MadeRewriteCalls : {S : Type 0} → Ghosts S → S → S → Hand → Table → Type 0
+MadeRewriteCalls shelf old new hand table = MadeCallsBetween shelf old new 1 (8 * active_of hand.seats) ((3 + blocks_for (length (record_text table))) * active_of hand.seats)
+
+-- and of all of them between these, of which some block was written
+pub record Rewrites {S : Type 0} (shelf : Ghosts S) (old new : S) (key : Key) (hand : Hand) (table : Table) : Type 0 where
+  pub moments : AtEachTale shelf (RewriteMoment key hand table) old new
+  pub wrote : RoseByAtLeast 1 (shelf.written old) (shelf.written new)
+  pub made : MadeRewriteCalls shelf old new hand table
 
 -- and in the end, where enough places took the table
 pub record RewriteEnds (key : Key) (hand : Hand) (table : Table) (o : Opened) (t u : Tale) : Type 0 where
@@ -109,6 +129,8 @@ IsCalmOn shelf old new replicas calm = MatchBool calm
 pub record IsRewriteAnswer {S : Type 0} (shelf : Ghosts S) (old new : S) (key : Key) (hand : Hand) (table : Table) (taken : Taken) : Type 0 where
   pub ended : IsRewriteEnd (DriveFailures shelf old new) key hand table taken.end
   pub calm : IsCalmOn shelf old new (replicas_of hand.seats) taken.calm
+  pub wrote : RoseByAtLeast 1 (shelf.written old) (shelf.written new)
+  pub made : MadeRewriteCalls shelf old new hand table
 
 -- what an adoption costs
 pub record IsTakingCounted {S : Type 0} (shelf : Ghosts S) (old new : S) (taken : Taken) : Type 0 where
@@ -128,8 +150,9 @@ pub record WasRead (g : Geometry) (site : Site) (looked : Looked) (t : Tale) : T
 
 -- What a boot makes of what it read: an end that follows from it, or memory was wanting; and it wrote nothing, or what it adopted.
 pub record IsTaken {S : Type 0} (shelf : Ghosts S) (old new : S) (site : Site) (looked : Looked) (taken : Taken) : Type 0 where
-  pub ended : (is_memory taken.end ≡ true) ⊎ IsEndBy (DriveFailures shelf old new) site looked.survey taken.end
+  pub ended : (is_memory taken.end ≡ true) ⊎ IsEndBy (DriveFailures shelf old new) (Rewrites shelf old new site.key) site looked.survey taken.end
   pub calm : IsCalmOn shelf old new looked.survey.replicas taken.calm
+  pub once : (drive : DriveNo) → IsOnce (DriveFailures shelf old new drive.0)
   pub still : has_written taken.end ≡ false → new ≡ old
   pub laid : IfAdopted taken.end (λ o. AreLaid (shelf.sizes old) o.seats)
 

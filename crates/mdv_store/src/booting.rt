@@ -10,8 +10,9 @@ ghost use Rattle.mdv_survey.specs.Choice.{is_of as spec_is_of, place_of as spec_
 ghost use Rattle.mdv_survey.specs.Newest.{IsGreatest};
 ghost use Rattle.mdv_survey.specs.Replica.{IsOnShelf, IsSeated};
 ghost use Rattle.mdv_survey.specs.Survey.{IsSurvey};
-ghost use Rattle.mdv_store.specs.Adopting.{AdoptEnds, AdoptMoment, AreAllIn, HasOne, IsAdoptAnswer};
-ghost use Rattle.mdv_store.specs.Boot.{IfAdopted, IsBooted, greatest_number as spec_greatest_number, is_enough as spec_is_enough, is_memory, is_seated as spec_is_seated, seat_for, seats_of as spec_seats_of};
+ghost use Rattle.mdv_store.specs.Adopting.{AdoptEnds, AdoptMoment, AreAllIn, IsAdoptAnswer};
+ghost use Rattle.mdv_store.specs.Booted.{IsBooted};
+ghost use Rattle.mdv_store.specs.Boot.{IfAdopted, WasChosen, greatest_number as spec_greatest_number, is_enough as spec_is_enough, is_memory, is_seated as spec_is_seated, seat_for, seats_of as spec_seats_of};
 ghost use Rattle.mdv_store.specs.BootCounts.{IsBootCounted};
 ghost use Rattle.mdv_store.specs.Booting.{BootEnds, BootMoment};
 ghost use Rattle.mdv_store.specs.Seats.{AreLaid, active_of, drives_of};
@@ -153,7 +154,7 @@ fn take<S: Shelf>(shelf: &mut S, alloc: Global, site: &Site, looked: Looked) -> 
 fn take_newest<S: Shelf>(shelf: &mut S, alloc: Global, site: &Site, looked: Looked) -> Taken
     requires on_shelf { IsOnShelf (S.sizes shelf.old) site.now }
     requires survey { IsSurvey site.now looked.calm looked.survey }
-    requires one { HasOne looked.survey }
+    requires chosen { WasChosen looked.survey }
     ensures answer { IsTaken S.Shelf shelf.old shelf.new site.now looked result }
     ensures moments { AtEachTale S.Shelf (TakingMoment site.now looked result.end) shelf.old shelf.new }
     ensures end { AtEnd S.Shelf (TakingEnds site.now looked result.end) shelf.old shelf.new }

@@ -5,6 +5,7 @@
 mod booting;
 mod creating;
 mod drives;
+mod law;
 mod looking;
 mod seats;
 mod store;
@@ -13,5 +14,6 @@ mod writing;
 
 pub use booting::{BootEnd, Booted, boot};
 pub use creating::{CreateFault, create};
+pub use law::seats_tell;
 pub use seats::Seat;
 pub use store::{CommitFault, Store};

@@ -15,7 +15,7 @@ use Rattle.mdv_survey.specs.Newest.{HasTable, IsMarked}
 use Rattle.mdv_survey.specs.Replica.{AreOrdered, Contents, IsFoundIn}
 use Rattle.mdv_survey.specs.Slice.{AreFound, AreListed, WasLookedAt}
 use Rattle.mdv_survey.specs.Slots.{OnlyReads}
-use Rattle.mdv_survey.specs.Survey.{FailedOn, HaveFailed, IsSurvey, IsSurveyOf, KeptToo, ListsLine, LooksAtLine, answers_in}
+use Rattle.mdv_survey.specs.Survey.{AreWithin, FailedOn, HaveFailed, IsSurvey, IsSurveyOf, KeptToo, ListsLine, LooksAtLine, answers_in}
 use Rattle.mdv_survey.specs.declared.replica.Finds.{Finds}
 use Rattle.mdv_survey.specs.declared.replica.Replica.{Replica}
 use Rattle.mdv_survey.specs.declared.replica.Survey.{Survey}
@@ -131,14 +131,18 @@ module _ {S : Type 0} (shelf : Ghosts S) where
           (subst (λ (b : Bool). MatchBool b (RoseOnce (shelf.faults start (OnDrive drive.0)) (shelf.faults new (OnDrive drive.0))) (shelf.faults new (OnDrive drive.0) ≡ shelf.faults start (OnDrive drive.0))) (sym added)
           (rose_more (has_drive before drive) (shelf.faults start (OnDrive drive.0)) (shelf.faults old (OnDrive drive.0)) (shelf.faults new (OnDrive drive.0)) unfailed (have drive) once))
 
-  pub failed_none : (old new : S) (drive : DriveNo) (failed : Drives) → KeptOn shelf old new (OnDrive drive.0) → shelf.faults new (OnDrive drive.0) ≡ shelf.faults old (OnDrive drive.0) → FailedOn shelf old new failed failed
-  failed_none old new drive failed kept calm = record { have = have_none old new drive failed kept calm; later = λ other not. not }
+  pub failed_none : (old new : S) (drive : DriveNo) (up failed : Drives) → KeptOn shelf old new (OnDrive drive.0) → shelf.faults new (OnDrive drive.0) ≡ shelf.faults old (OnDrive drive.0) → FailedOn shelf old new up failed failed
+  failed_none old new drive up failed kept calm = record { have = have_none old new drive failed kept calm; later = λ other not. not; within = λ so. so }
 
-  pub failed_one : (old new : S) (drive : DriveNo) (before now : Drives) → KeptOn shelf old new (OnDrive drive.0) → RoseOnce (shelf.faults old (OnDrive drive.0)) (shelf.faults new (OnDrive drive.0))
-      → has_drive before drive ≡ false → has_drive now drive ≡ true → ((other : DriveNo) → other ≢ drive → has_drive now other ≡ has_drive before other) → FailedOn shelf old new before now
-  failed_one old new drive before now kept once unfailed added others = record {
+  pub failed_one : (old new : S) (drive : DriveNo) (up before now : Drives) → KeptOn shelf old new (OnDrive drive.0) → RoseOnce (shelf.faults old (OnDrive drive.0)) (shelf.faults new (OnDrive drive.0))
+      → has_drive before drive ≡ false → has_drive now drive ≡ true → ((other : DriveNo) → other ≢ drive → has_drive now other ≡ has_drive before other) → has_drive up drive ≡ true → FailedOn shelf old new up before now
+  failed_one old new drive up before now kept once unfailed added others is_up = record {
     have = have_one old new drive before now kept once unfailed added others;
     later = λ other not. sym (others other (λ same. absurd (cc (same, not, added)))) ∙ not;
+    within = λ so other has. elim (is_part (OnDrive other.0) (OnDrive drive.0)) [
+      | inl same ↦ (let number : other.0 ≡ drive.0 = cc (same) in let is : other ≡ drive = λ i. record { 0 = number i } in ap (has_drive up) is ∙ is_up)
+      | inr apart ↦ so other (sym (others other (λ same. apart (ap (λ (d : DriveNo). OnDrive d.0) same))) ∙ has)
+    ];
   }
 
 -- the calls on a slice whose drive answered
@@ -152,6 +156,7 @@ line_answered g site content up failed line n answered few slice =
 pub record SoSurveyed {S : Type 0} (shelf : Ghosts S) (g : Geometry) (site : Site) (up : Drives) (all : List SliceLine) (at : ℕ) (start now : S) (failed : Drives) (finds : Finds) : Type 0 where
   pub reads : OnlyReads shelf (λ t. AreFound g site (answers_in up failed) (take at all) no_line 0 (last t) finds) start now
   pub have : HaveFailed shelf start now failed
+  pub within : AreWithin failed up
   pub kept : KeptAmong shelf start now site.drives
   pub listed : AreListed site up (take at all) no_line 0 finds
   pub counted : IsCounted shelf start now (765 * at) (λ t n. AreLinesBy g site up failed (last t) (take at all) n)
@@ -164,6 +169,7 @@ module _ {S : Type 0} (shelf : Ghosts S) (g : Geometry) (site : Site) (up : Driv
   surveyed_none lines start failed finds none empty no_table = record {
     reads = record { same = refl; gave = λ t is. record { each = λ r has. absurd (nothing r has); all = λ r there answered looked. absurd (nowhere r looked); table = table (last t) } };
     have = λ drive. subst (λ (b : Bool). MatchBool b (RoseOnce (shelf.faults start (OnDrive drive.0)) (shelf.faults start (OnDrive drive.0))) (shelf.faults start (OnDrive drive.0) ≡ shelf.faults start (OnDrive drive.0))) (sym (none drive)) refl;
+    within = λ drive has. absurd (cc (has, none drive));
     kept = among_none shelf start site.drives;
     listed = record {
       each = λ r has. absurd (nothing r has);
@@ -187,7 +193,7 @@ module _ {S : Type 0} (shelf : Ghosts S) (g : Geometry) (site : Site) (up : Driv
   pub surveyed_more : (lines : List SliceLine) (at : ℕ) → at < length lines → site.lines ≡ lines → (start mid now : S) (before after : Drives) (old new : Finds)
       → SoSurveyed shelf g site up lines at start mid before old → ListsLine site up (slice_index_or lines at no_line) old new
       → OnlyReads shelf (λ t. LooksAtLine g site up (slice_index_or lines at no_line) (last t) before old after new) mid now
-      → FailedOn shelf mid now before after → KeptToo shelf mid now site.drives → IsCounted shelf mid now 765 (λ t n. IsLineBy g site up after (last t) (slice_index_or lines at no_line) n) → SoSurveyed shelf g site up lines (at + 1) start now after new
+      → FailedOn shelf mid now up before after → KeptToo shelf mid now site.drives → IsCounted shelf mid now 765 (λ t n. IsLineBy g site up after (last t) (slice_index_or lines at no_line) n) → SoSurveyed shelf g site up lines (at + 1) start now after new
   surveyed_more lines at less all start mid now before after old new so lists reads failed kept counted = record {
     reads = record {
       same = reads.same ∙ so.reads.same;
@@ -196,6 +202,7 @@ module _ {S : Type 0} (shelf : Ghosts S) (g : Geometry) (site : Site) (up : Driv
           (reads.gave t (so.reads.same ∙ is) (take at lines) (found_line g site (last t) (answers_in up before) (take at lines) no_line (line_at lines at) old (so.reads.gave t is))));
     };
     have = failed.have start so.have;
+    within = failed.within so.within;
     kept = kept start so.kept;
     listed = subst (λ (ls : List SliceLine). AreListed site up ls no_line 0 new) (sym more)
         (listed_line site up (take at lines ++ line_at lines at ∷ []) (line_at lines at) no_line new (lists (take at lines) (drop (suc at) lines) split (listed_line site up (take at lines) no_line (line_at lines at) old so.listed)));

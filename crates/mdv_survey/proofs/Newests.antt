@@ -1,12 +1,12 @@
 -- The newest table while replicas are added.
-use Rattle.std.proofs.Common.{◌≡◌, inl, inr, ℕ, Bool, true, false, ◌||◌, List, [], ◌∷◌, ◌++◌, length, refl, ap, subst, Option, Some, None, arith}
+use Rattle.std.proofs.Common.{◌≡◌, inl, inr, ℕ, zero, suc, ◌<◌, slice_get, Bool, true, false, ◌||◌, List, [], ◌∷◌, ◌++◌, length, refl, ap, subst, Option, Some, None, arith}
 use Rattle.std.specs.Prelude.{Contains}
 use Rattle.std.proofs.lemmas.List.Elements.{Contains-push_cases}
 use Rattle.mdv_name.proofs.Places.{slice_get-append, slice_get-push}
 use Rattle.mdv_replica.specs.Form.{is_open}
 use Rattle.mdv_survey.specs.Below.{First, Geometry, Head, IsBelow, Mark, Open, Second, Slot, gate_of, shows}
 use Rattle.mdv_survey.specs.Replica.{Contents, at_of}
-use Rattle.mdv_survey.specs.Newest.{HasNoneAbove, HasTable, IsGreatest, IsMarked, IsNewerThan, IsShown, IsShownBy, ShowsIn}
+use Rattle.mdv_survey.specs.Newest.{HasNoneAbove, HasNot, HasTable, IsGreatest, IsMarked, IsNewerThan, IsShown, IsShownBy, ShowsIn}
 use Rattle.mdv_survey.specs.declared.replica.Newest.{Newest}
 use Rattle.mdv_survey.specs.declared.replica.Replica.{Replica}
 use Rattle.mdv_survey.specs.declared.replica.Shown.{Shown}
@@ -34,7 +34,29 @@ not_above a b c not nor below = grind arith
 abbrev pub made_of : Shown → ℕ → Newest
 made_of shown place = record { replica = place; slot = shown.slot; mark = shown.mark; table = shown.table }
 
+-- what a list has at a number it has there with more behind it, and nothing else
+got_front : {X : Type 0} (xs ys : List X) (k : ℕ) (x : X) → k < length xs → slice_get (xs ++ ys) k ≡ Some x → slice_get xs k ≡ Some x
+got_front [] ys k x less is = absurd (omega (arith, less))
+got_front (z ∷ xs) ys zero x less is = is
+got_front (z ∷ xs) ys (suc k) x less is = got_front xs ys k x (omega (arith, less)) is
+
+got_less : {X : Type 0} (xs : List X) (k : ℕ) (x : X) → slice_get xs k ≡ Some x → k < length xs
+got_less [] k x is = absurd (cc (is))
+got_less (z ∷ xs) zero x is = omega arith
+got_less (z ∷ xs) (suc k) x is = omega (arith, got_less xs k x is)
+
+got_in : {X : Type 0} (xs : List X) (k : ℕ) (x : X) → slice_get xs k ≡ Some x → Contains xs x
+got_in [] k x is = absurd (cc (is))
+got_in (z ∷ xs) zero x is = (let same : z ≡ x = cc (is) in (0, omega arith, same))
+got_in (z ∷ xs) (suc k) x is = (let rest = got_in xs k x is in (suc rest.0, omega (arith, rest.1), rest.2))
+
 module _ (replicas : List Replica) (r : Replica) where
+  -- those before the newest one's replica are the same with one more behind
+  first_beside : (newest : Newest) (is : IsGreatest replicas newest) (k : ℕ) (other : Replica) → k < newest.replica → slice_get (replicas ++ r ∷ []) k ≡ Some other → HasNot newest.mark other.head
+  first_beside newest is k other less got =
+      let known = got_less replicas newest.replica is.replica is.one_of in
+      is.first k other less (got_front replicas (r ∷ []) k other (omega (arith, less, known)) got)
+
   -- a replica that shows no greater mark
   pub marked_beside : (newest : Option Newest) → IsMarked replicas newest → IsShown r.head None → IsMarked (replicas ++ r ∷ []) newest
   marked_beside None none dark = λ x has. elim (Contains-push_cases replicas r x has) [
@@ -50,6 +72,7 @@ module _ (replicas : List Replica) (r : Replica) where
       | inl old ↦ is.greatest x old
       | inr same ↦ subst (λ (y : Replica). HasNoneAbove newest.mark y.head) same (λ slot m bytes gate below. closed_gates r.head slot m bytes dark gate)
     ];
+    first = first_beside newest is;
   }
 
   pub marked_older : (newest : Newest) (shown : Shown) → IsGreatest replicas newest → IsShownBy r.head shown → (IsBelow newest.mark shown.mark → ⊥) → IsGreatest (replicas ++ r ∷ []) newest
@@ -63,6 +86,7 @@ module _ (replicas : List Replica) (r : Replica) where
       | inr same ↦ subst (λ (y : Replica). HasNoneAbove newest.mark y.head) same
           (λ slot m bytes gate. not_above newest.mark shown.mark m not (by.greatest slot m bytes gate))
     ];
+    first = first_beside newest is;
   }
 
   -- a greater one
@@ -77,8 +101,13 @@ module _ (replicas : List Replica) (r : Replica) where
       | inl old ↦ others newest is newer x old
       | inr same ↦ subst (λ (y : Replica). HasNoneAbove shown.mark y.head) same by.greatest
     ];
+    first = λ k other less got. (let was = got_front replicas (r ∷ []) k other less got in none_has newest is newer other (got_in replicas k other was));
   }
     where
+      none_has : (o : Option Newest) → IsMarked replicas o → ((n : Newest) → o ≡ Some n → IsBelow n.mark shown.mark) → (x : Replica) → Contains replicas x → HasNot shown.mark x.head
+      none_has None none newer x has slot bytes gate = closed_gates x.head slot shown.mark bytes (none x has) gate
+      none_has (Some n) is newer x has slot bytes gate = is.greatest x has slot shown.mark bytes gate (newer n refl)
+
       others : (o : Option Newest) → IsMarked replicas o → ((n : Newest) → o ≡ Some n → IsBelow n.mark shown.mark) → (x : Replica) → Contains replicas x → HasNoneAbove shown.mark x.head
       others None none newer x has slot m bytes gate below = closed_gates x.head slot m bytes (none x has) gate
       others (Some n) is newer x has slot m bytes gate below = is.greatest x has slot m bytes gate (below_more n.mark shown.mark m (newer n refl) below)

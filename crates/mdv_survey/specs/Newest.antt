@@ -1,5 +1,5 @@
 -- The newest of the tables that a survey's replicas show: the greatest mark of all.
-use Rattle.std.specs.Prelude.{◌≡◌, ◌↔◌, ℕ, Bool, true, false, IsTrue, List, Contains, Option, None, Some, slice_get}
+use Rattle.std.specs.Prelude.{◌≡◌, ◌<◌, ◌↔◌, ℕ, Bool, true, false, IsTrue, List, Contains, Option, None, Some, slice_get}
 use Rattle.mdv_survey.specs.Below.{Geometry, Head, IsBelow, IsTextOf, Mark, Open, PlaceAt, Slot, SlotShows, gate_of, shows}
 use Rattle.mdv_survey.specs.declared.replica.Finds.{Finds}
 use Rattle.mdv_survey.specs.declared.replica.Newest.{Newest}
@@ -11,13 +11,19 @@ use Rattle.mdv_survey.specs.Replica.{Contents, at_of}
 abbrev pub HasNoneAbove : Mark → Head → Type 0
 HasNoneAbove mark head = (slot : Slot) (m : Mark) (bytes : ℕ) → gate_of head slot ≡ Open m bytes → IsBelow mark m → ⊥
 
--- of all marks that the replicas have this one is the greatest: the slot of that replica has it, and no slot of any of them a greater one
+-- no slot of this head has the mark
+abbrev pub HasNot : Mark → Head → Type 0
+HasNot mark head = (slot : Slot) (bytes : ℕ) → gate_of head slot ≡ Open mark bytes → ⊥
+
+-- of all marks that the replicas have this one is the greatest: the slot of that replica has it, no slot of any of them a greater one, and none of one before it
+-- the same
 pub record IsGreatest (replicas : List Replica) (newest : Newest) : Type 0 where
   pub replica : Replica
   pub one_of : slice_get replicas newest.replica ≡ Some replica
   pub bytes : ℕ
   pub gate : gate_of replica.head newest.slot ≡ Open newest.mark bytes
   pub greatest : (other : Replica) → Contains replicas other → HasNoneAbove newest.mark other.head
+  pub first : (k : ℕ) (other : Replica) → k < newest.replica → slice_get replicas k ≡ Some other → HasNot newest.mark other.head
 
 -- the newest one is that with the greatest mark; there is none exactly where no replica shows a table
 abbrev pub IsMarked : List Replica → Option Newest → Type 0

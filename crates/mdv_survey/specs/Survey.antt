@@ -32,10 +32,15 @@ abbrev pub HaveFailed : {S : Type 0} → Ghosts S → S → S → Drives → Typ
 HaveFailed shelf old new failed =
     (drive : DriveNo) → MatchBool (has_drive failed drive) (DriveFailures shelf old new drive.0).some (DriveFailures shelf old new drive.0).none
 
--- the same of a longer stretch; and a drive that had failed has
-pub record FailedOn {S : Type 0} (shelf : Ghosts S) (old new : S) (before now : Drives) : Type 0 where
+-- each drive of the one set is one of the other
+abbrev pub AreWithin : Drives → Drives → Type 0
+AreWithin some all = (drive : DriveNo) → has_drive some drive ≡ true → has_drive all drive ≡ true
+
+-- the same of a longer stretch; a drive that had failed has; and one that has now had then, or is up
+pub record FailedOn {S : Type 0} (shelf : Ghosts S) (old new : S) (up before now : Drives) : Type 0 where
   pub have : (start : S) → HaveFailed shelf start old before → HaveFailed shelf start new now
   pub later : (drive : DriveNo) → has_drive now drive ≡ false → has_drive before drive ≡ false
+  pub within : AreWithin before up → AreWithin now up
 
 abbrev pub KeptToo : {S : Type 0} → Ghosts S → S → S → List DriveNo → Type 0
 KeptToo {S} shelf old new drives = (start : S) → KeptAmong shelf start old drives → KeptAmong shelf start new drives

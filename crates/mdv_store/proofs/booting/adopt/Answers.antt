@@ -46,7 +46,7 @@ pub returns-clause-answer : goal.returns-clause-answer
 returns-clause-answer g c =
     let more = enough g (goal.at.returns-clause-answer g c).After-rewrite in
     adopted_answer c.args.site.now c.args.replicas.now c.args.newest c.in-Ok.hand c.in-Ok.ensures c.requires.seated c.requires.newest more g.S.Shelf c.args.shelf.now c.rewrite.new.shelf c.rewrite.result c.rewrite.ensures.answer
-    (omega (arith, c.if-hand-ge-NUMBER_LIMIT.false))
+    c.rewrite.ensures.counted.1 c.rewrite.ensures.moments (omega (arith, c.if-hand-ge-NUMBER_LIMIT.false))
     (hand_laid c.args.site.now c.args.replicas.now c.args.newest c.in-Ok.hand c.in-Ok.ensures c.requires.seated c.requires.newest more (g.S.Shelf.sizes c.args.shelf.now) c.requires.on_shelf)
 
 pub returns-clause-moments : goal.returns-clause-moments

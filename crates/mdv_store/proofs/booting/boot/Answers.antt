@@ -34,7 +34,7 @@ returns-in-Ok-clause-end g c =
     let kept = rw c.as_slice-drives.ensures at e.kept in
     let all = rw c.as_slice-drives.ensures at c.are_all-calm.ensures in
     all_ends g.S.Shelf c.args.site.now c.args.shelf.now c.bring_up-up.new.shelf c.bring_up-up.result ups e.moments brought counted kept g.met.S.Shelf.telling c.args.geometry.now c.look.new.shelf c.look.ensures.looked.same c.look.ensures.counted.few c.look.ensures.kept
-    c.requires.sound c.requires.on_shelf c.requires.of c.in-Ok.looked c.in-Ok.ensures.looked.found c.take-taken.new.shelf c.take-taken.result c.take-taken.ensures.answer c.take-taken.ensures.counted.1 c.are_all-calm.result all c.is_clean.result c.is_clean.ensures c.take-taken.ensures.end c.take-taken.ensures.synced
+    c.requires.sound c.requires.on_shelf c.requires.of c.in-Ok.looked c.in-Ok.ensures.looked.found c.take-taken.new.shelf c.take-taken.result c.take-taken.ensures.answer c.take-taken.ensures.counted.1 c.are_all-calm.result all c.is_clean.result c.is_clean.ensures c.take-taken.ensures.moments c.take-taken.ensures.end c.take-taken.ensures.synced
 
 pub returns-in-Ok-clause-counted : goal.returns-in-Ok-clause-counted
 returns-in-Ok-clause-counted g c =

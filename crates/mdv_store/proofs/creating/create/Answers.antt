@@ -167,7 +167,7 @@ returns-then-not-is_half_active-clause-answer g c =
     let own = owner g (goal.at.returns-then-not-is_half_active-clause-answer g c).After-check_owner in
     let left = as_asked g d (λ l u. AreLeft (DriveFailures g.S.Shelf c.format_all.new.shelf c.write_all.new.shelf) (TakesSlot first_mark (text_size u)) l c.write_all.new.seats) c.write_all.ensures.left in
     subst (λ (f : CreateFault). IsCreated g.S.Shelf c.args.shelf.now c.write_all.new.shelf c.args.key.now c.args.identity c.args.lines.now c.args.count c.args.blocks (Err f)) (sym c.lost.ensures)
-    (lost_created g.S.Shelf c.args.key.now c.args.identity c.args.lines.now c.args.count c.args.blocks c.args.shelf.now c.requires.asked own c.format_all.new.shelf c.write_all.new.shelf c.write_all.new.seats (gone g d) left (active_of c.as_slice-then-not-is_half_active.result.now) (length c.as_slice-then-not-is_half_active.result.now) (ap is_half_active (sym c.as_slice-2.ensures) ∙ (sym c.is_half_active.ensures ∙ c.if-not-is_half_active.true)) (ap active_of c.as_slice-then-not-is_half_active.ensures) (ap length c.as_slice-then-not-is_half_active.ensures) (as_asked g d (λ l u. KeptAmong g.S.Shelf c.format_all.new.shelf c.write_all.new.shelf (drives_of l)) c.write_all.ensures.kept))
+    (lost_created g.S.Shelf c.args.key.now c.args.identity c.args.lines.now c.args.count c.args.blocks c.args.shelf.now c.requires.asked own c.format_all.new.shelf c.write_all.new.shelf c.write_all.new.seats (gone g d) left (active_of c.as_slice-then-not-is_half_active.result.now) (length c.as_slice-then-not-is_half_active.result.now) (ap is_half_active (sym c.as_slice-2.ensures) ∙ (sym c.is_half_active.ensures ∙ c.if-not-is_half_active.true)) (ap active_of c.as_slice-then-not-is_half_active.ensures) (ap length c.as_slice-then-not-is_half_active.ensures) (as_asked g d (λ l u. KeptAmong g.S.Shelf c.format_all.new.shelf c.write_all.new.shelf (drives_of l)) c.write_all.ensures.kept) (as_asked g d (λ l u. AtEachTale g.S.Shelf (WritingMoment l first_mark u) c.format_all.new.shelf c.write_all.new.shelf) c.write_all.ensures.moments) (as_asked g d (λ l u. AtEnd g.S.Shelf (WritingEnds l c.write_all.new.seats first_mark u) c.format_all.new.shelf c.write_all.new.shelf) c.write_all.ensures.end))
 
 pub returns-then-not-is_half_active-clause-moments : goal.returns-then-not-is_half_active-clause-moments
 returns-then-not-is_half_active-clause-moments g c =
@@ -211,7 +211,7 @@ returns-clause-answer g c =
     let d = (goal.at.returns-clause-answer g c).After-deref_mut in
     let own = owner g (goal.at.returns-clause-answer g c).After-check_owner in
     let left = as_asked g d (λ l u. AreLeft (DriveFailures g.S.Shelf c.format_all.new.shelf c.write_all.new.shelf) (TakesSlot first_mark (text_size u)) l c.write_all.new.seats) c.write_all.ensures.left in
-    subst (λ (u : Table). IsCreated g.S.Shelf c.args.shelf.now c.write_all.new.shelf c.args.key.now c.args.identity c.args.lines.now c.args.count c.args.blocks (Ok (record { key = c.args.key.now; identity = c.args.identity; mark = first_mark; table = u; seats = c.write_all.new.seats }))) (sym (table_is g d)) (made_created g.S.Shelf c.args.key.now c.args.identity c.args.lines.now c.args.count c.args.blocks c.args.shelf.now c.requires.asked own c.format_all.new.shelf c.write_all.new.shelf c.write_all.new.seats (gone g d) left (ap is_half_active (sym c.as_slice-2.ensures) ∙ (sym c.is_half_active.ensures ∙ c.if-not-is_half_active.false)) (as_asked g d (λ l u. KeptAmong g.S.Shelf c.format_all.new.shelf c.write_all.new.shelf (drives_of l)) c.write_all.ensures.kept))
+    subst (λ (u : Table). IsCreated g.S.Shelf c.args.shelf.now c.write_all.new.shelf c.args.key.now c.args.identity c.args.lines.now c.args.count c.args.blocks (Ok (record { key = c.args.key.now; identity = c.args.identity; mark = first_mark; table = u; seats = c.write_all.new.seats }))) (sym (table_is g d)) (made_created g.S.Shelf c.args.key.now c.args.identity c.args.lines.now c.args.count c.args.blocks c.args.shelf.now c.requires.asked own c.format_all.new.shelf c.write_all.new.shelf c.write_all.new.seats (gone g d) left (ap is_half_active (sym c.as_slice-2.ensures) ∙ (sym c.is_half_active.ensures ∙ c.if-not-is_half_active.false)) (as_asked g d (λ l u. KeptAmong g.S.Shelf c.format_all.new.shelf c.write_all.new.shelf (drives_of l)) c.write_all.ensures.kept) (as_asked g d (λ l u. AtEachTale g.S.Shelf (WritingMoment l first_mark u) c.format_all.new.shelf c.write_all.new.shelf) c.write_all.ensures.moments) (as_asked g d (λ l u. AtEnd g.S.Shelf (WritingEnds l c.write_all.new.seats first_mark u) c.format_all.new.shelf c.write_all.new.shelf) c.write_all.ensures.end))
 
 pub returns-clause-moments : goal.returns-clause-moments
 returns-clause-moments g c =

@@ -26,5 +26,6 @@ returns g c =
         calm = subst (λ (a : PlaceAt). g.S.Shelf.faults c.write_claim.new.shelf (OnDrive a.drive.0) ≡ g.S.Shelf.faults c.args.shelf.now (OnDrive a.drive.0)) c.at.ensures c.in_ok-write_claim.ensures.cause.calm;
         made = c.in_ok-write_claim.ensures.counted.done;
       };
+      wrote = c.write_claim.ensures.counted.wrote;
       kept = subst (λ (a : PlaceAt). KeptOn g.S.Shelf c.args.shelf.now c.write_claim.new.shelf (OnDrive a.drive.0)) c.at.ensures c.write_claim.ensures.kept;
     }

@@ -23,6 +23,7 @@ returns-in_err-write_slot g c =
         failed = subst (λ (a : PlaceAt). RoseOnce (g.S.Shelf.faults c.args.shelf.now (OnDrive a.drive.0)) (g.S.Shelf.faults c.write_slot.new.shelf (OnDrive a.drive.0))) c.at.ensures c.in_err-write_slot.ensures.cause.failed;
         made = c.in_err-write_slot.ensures.counted.any;
       };
+      wrote = c.write_slot.ensures.counted.wrote;
       kept = subst (λ (a : PlaceAt). KeptOn g.S.Shelf c.args.shelf.now c.write_slot.new.shelf (OnDrive a.drive.0)) c.at.ensures c.write_slot.ensures.kept;
     })
 
@@ -49,5 +50,6 @@ returns g c =
         calm = subst (λ (a : PlaceAt). g.S.Shelf.faults c.write_slot.new.shelf (OnDrive a.drive.0) ≡ g.S.Shelf.faults c.args.shelf.now (OnDrive a.drive.0)) c.at.ensures c.in_ok-write_slot.ensures.cause.calm;
         made = c.in_ok-write_slot.ensures.counted.done;
       };
+      wrote = c.write_slot.ensures.counted.wrote;
       kept = subst (λ (a : PlaceAt). KeptOn g.S.Shelf c.args.shelf.now c.write_slot.new.shelf (OnDrive a.drive.0)) c.at.ensures c.write_slot.ensures.kept;
     }

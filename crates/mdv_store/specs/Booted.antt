@@ -1,0 +1,55 @@
+-- What a boot answers: which drives came up, what was read of them, and what came of that.
+use Rattle.std.specs.Prelude.{◌≡◌, ◌⊎◌, ℕ, true, false, Contains, Some}
+use Rattle.std.specs.Bool.{MatchBool}
+use Rattle.mdv_shelf.specs.Drives.{KeptAmong}
+use Rattle.mdv_shelf.specs.Shelves.{AtEachTale, AtEnd, DriveFailed, DriveFailures}
+use Rattle.mdv_survey.specs.Survey.{IsSurvey, IsSurveyOf}
+use Rattle.mdv_survey.specs.declared.replica.Survey.{Survey}
+use Rattle.mdv_store.specs.Below.{DriveNo, Drives, Geometry, Ghosts, Site, Tale, has_drive, last}
+use Rattle.mdv_store.specs.Bringing.{AreUpBy, BringingEnds, IsBringingCounted}
+use Rattle.mdv_store.specs.Quiet.{IsUnwritten}
+use Rattle.mdv_store.specs.Seats.{AreLaid}
+use Rattle.mdv_store.specs.declared.booting.Booted.{Booted}
+use Rattle.mdv_base.specs.DriveSet.{no_drives}
+use Rattle.mdv_survey.specs.Counts.{AreLinesBy, MadeReads}
+use Rattle.mdv_store.specs.Boot.{IfAdopted, IsEndBy, IsOnce, is_memory}
+use Rattle.mdv_store.specs.Booting.{has_written}
+use Rattle.mdv_store.specs.Taking.{Rewrites}
+
+-- How far a boot had come as its drives were up: each was read and synced, and the syncs of those that are up were all that was done.
+pub record WasBroughtUp {S : Type 0} (shelf : Ghosts S) (old new : S) (site : Site) (answer : Booted) : Type 0 where
+  pub ready : S
+  pub up : AreUpBy (DriveFailures shelf old ready) site.drives answer.up
+  pub ends : AtEnd shelf (BringingEnds answer.up site.drives) old ready
+  pub counted : IsBringingCounted shelf old ready site.drives answer.up
+  pub before : KeptAmong shelf old ready site.drives
+  pub behind : KeptAmong shelf ready new site.drives
+
+-- What was read in the last look, of the drives that were up and on which no call had failed, and of no other one: what the blocks held as the boot began. On each
+-- other drive a call had failed before that look; in it each head and each body of an open slot was read once. Nothing was written till its end, nor, where nothing is adopted, done behind it.
+pub record IsReadAt {S : Type 0} (shelf : Ghosts S) (old new : S) (g : Geometry) (site : Site) (answer : Booted) (survey : Survey) : Type 0 where
+  pub begun : S
+  pub looked : S
+  pub unwritten : AtEachTale shelf IsUnwritten old looked
+  pub before : KeptAmong shelf old looked site.drives
+  pub behind : KeptAmong shelf looked new site.drives
+  pub calm : Drives
+  pub up : (drive : DriveNo) → has_drive calm drive ≡ true → has_drive answer.up drive ≡ true
+  pub failed : (drive : DriveNo) → Contains site.drives drive → has_drive calm drive ≡ false → DriveFailed shelf old begun drive.0
+  pub once : (t : Tale) → shelf.tale old ≡ Some t → (n : ℕ) × MadeReads shelf begun looked n × AreLinesBy g site calm no_drives (last t) site.lines n
+  pub still : has_written answer.end ≡ false → new ≡ looked
+  pub answered : (drive : DriveNo) → has_drive calm drive ≡ true → (DriveFailures shelf old looked drive.0).none
+  pub survey_is : IsSurvey site calm survey
+  pub of : (t : Tale) → shelf.tale old ≡ Some t → IsSurveyOf g site calm (last t) survey
+  pub none : (drive : DriveNo) → has_drive calm drive ≡ true → has_drive survey.failed drive ≡ false
+
+-- A boot's answer: which drives came up, and its end by what was read; on each drive of the site no call failed, or just one did, if memory wasn't wanting; it is clean where
+-- none failed on any of them, and else one did.
+pub record IsBooted {S : Type 0} (shelf : Ghosts S) (old new : S) (g : Geometry) (site : Site) (answer : Booted) : Type 0 where
+  pub brought : WasBroughtUp shelf old new site answer
+  pub ended : (is_memory answer.end ≡ true) ⊎ ((survey : Survey) × (at : IsReadAt shelf old new g site answer survey) × IsEndBy (DriveFailures shelf old new) (Rewrites shelf at.looked new site.key) site survey answer.end)
+  pub once : (is_memory answer.end ≡ true) ⊎ ((drive : DriveNo) → Contains site.drives drive → IsOnce (DriveFailures shelf old new drive.0))
+  pub clean : MatchBool answer.clean
+      ((is_memory answer.end ≡ false) × ((drive : DriveNo) → Contains site.drives drive → (DriveFailures shelf old new drive.0).none))
+      ((is_memory answer.end ≡ true) ⊎ ((drive : DriveNo) × Contains site.drives drive × DriveFailed shelf old new drive.0))
+  pub laid : IfAdopted answer.end (λ o. AreLaid (shelf.sizes old) o.seats)
