@@ -1,0 +1,53 @@
+-- A deed is told: the worlds of a log are those of the log behind it.
+use Rattle.std.proofs.Common.{◌≡◌, List, [], ◌∷◌, sym, subst}
+use Rattle.mdv_standing.specs.Matching.{Matches}
+use Rattle.mdv_standing.specs.Worlds.{IsWorld}
+use Rattle.mdv_standing.proofs.Holding.{rest_of}
+use Rattle.mdv_store_law.specs.Log.{Event as LogEvent, MayHappen, Told, log_after}
+use Rattle.mdv_shown.specs.declared.site.Site.{Site}
+use Rattle.mdv_store.specs.Commit.{IsNewestWritten}
+use Rattle.mdv_databases.specs.Below.{Change, Core, CoversWith, Database, Geometry, Identity, Image, IsReadyWith, Key, Log, Opened, Spells, Tale, log_of, site_of, spots_of, with_event}
+use Rattle.mdv_databases.specs.Going.{IsCurrentOf, IsOpenIn}
+use Rattle.mdv_databases.specs.Standing.{Stand}
+use Rattle.mdv_databases.proofs.Going.{its_worlds, stand_behind}
+use Rattle.mdv_databases.proofs.Lists.{events_its, events_log}
+
+module _ (which before : List Change) where
+  abbrev told : LogEvent
+  told = Told which before
+
+  matches_told : (site : Site) (log : Log) (w : Core) → Matches site log w → Matches site (log_after log told) w
+  matches_told site log w m = record {
+    kind = m.kind;
+    book = m.book;
+    as_many = m.as_many;
+    each = m.each;
+    answered = m.answered;
+    dropped = λ p i since. (let by = m.dropped p i since in record { known = by.known; lacks = by.lacks });
+    reused = m.reused;
+    there = m.there;
+  }
+
+  world_told : (g : Geometry) (site : Site) (identity : Identity) (log : Log) (w : Core) (image : Image) → IsWorld (Spells g) site identity log w image → IsWorld (Spells g) site identity (log_after log told) w image
+  world_told g site identity log w image is = record { reached = is.reached; matches = matches_told site log w is.matches; shows = is.shows }
+
+  module _ (g : Geometry) (all : List Database) (key : Key) (m : Tale) where
+    pub told_stand : (identity : Identity) → Stand g all m → IsCurrentOf all key identity → MayHappen g (log_of all key) told → Stand g (with_event key told all) m
+    told_stand identity stand its may =
+        stand_behind g all key identity m stand its (told ∷ []) m (may, tt) (rest_of (Spells g) g all m identity stand.worlds) (λ ask other another blank. blank)
+        (λ image is. (let one = its_worlds g all key identity m stand its image is in (one.0, world_told g (site_of g key) identity (log_of all key) one.0 image one.1)))
+
+  newest_told : (log : Log) (o : Opened) → IsNewestWritten log o.mark o.table → IsNewestWritten (log_after log told) o.mark o.table
+  newest_told log o is = (let n = is.newest in record { newest = record { version = n.version; older = n.older; family = n.family; marked = n.marked; same = n.same }; written = is.written })
+
+  pub told_open : (g : Geometry) (all : List Database) (o : Opened) (m : Tale) → IsOpenIn g o all m → IsOpenIn g o (with_event o.key told all) m
+  told_open g all o m is =
+      let next = with_event o.key told all in
+      let same : log_of next o.key ≡ log_after (log_of all o.key) told = events_log o.key (told ∷ []) all is.its.database is.its.current in
+      record {
+        its = events_its o.key (told ∷ []) all o.identity is.its;
+        newest = subst (λ (l : Log). IsNewestWritten l o.mark o.table) (sym same) (newest_told (log_of all o.key) o is.newest);
+        ready = subst (λ (l : Log). CoversWith (Spells g) (site_of g o.key) o.identity (λ image w. IsReadyWith (spots_of o.seats) w) l m) (sym same)
+            (λ image at. (let one = is.ready image at in (one.0, world_told g (site_of g o.key) o.identity (log_of all o.key) one.0 image one.1, one.2)));
+        opened = is.opened;
+      }

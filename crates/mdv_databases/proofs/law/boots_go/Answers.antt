@@ -1,0 +1,5 @@
+use Rattle.mdv_databases.proofs.Booting.{boot_end, boot_moment}
+use Rattle.mdv_databases.proofs.law.boots_go.Goals as goal
+
+pub returns : goal.returns
+returns c = record { moments = boot_moment; ends = boot_end }

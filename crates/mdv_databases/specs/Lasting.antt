@@ -1,0 +1,25 @@
+-- What lasts over crashes, and over what is done elsewhere.
+use Rattle.std.specs.Prelude.{ℕ, List, []}
+use Rattle.mdv_databases.specs.Below.{Area, AreApart, Database, Geometry, HasNoReplica, Identity, Image, IsBlank, IsImage, Key, KeptOutside, Opened, Spells, Tale, restarted, site_area, site_of}
+use Rattle.mdv_databases.specs.Standing.{Stand}
+use Rattle.mdv_databases.specs.Going.{IsOpenIn}
+
+-- the area has no block of a slice on which a boot looks, of whatever key, from block 16 on
+abbrev pub IsElsewhere : Geometry → Area → Type 0
+IsElsewhere g area = (key : Key) → AreApart area (site_area (site_of g key))
+
+-- none of the key's databases shows a table
+abbrev pub HasNoTable : Geometry → Key → Tale → Type 0
+HasNoTable g key t = (identity : Identity) → IsBlank g key identity t
+
+pub record DatabasesLast : Type 0 where
+  -- what a crash leaves of drives that stand with all databases does
+  pub crashes : (g : Geometry) (all : List Database) (m : Tale) (image : Image) (told : List ℕ) → Stand g all m → IsImage m image → Stand g all (restarted image told)
+  -- so it is of drives of which a crash leaves no more
+  pub fewer : (g : Geometry) (all : List Database) (t u : Tale) → ((image : Image) → IsImage u image → IsImage t image) → Stand g all t → Stand g all u
+  -- drives without a replica stand with none
+  pub new : (g : Geometry) (image : Image) (told : List ℕ) → HasNoReplica (Spells g) g image → Stand g [] (restarted image told)
+  -- what is done elsewhere leaves them standing, an open one open, and those without a table without one
+  pub stand : (g : Geometry) (all : List Database) (area : Area) (t m : Tale) → IsElsewhere g area → KeptOutside area t m → Stand g all t → Stand g all m
+  pub is_open : (g : Geometry) (o : Opened) (all : List Database) (area : Area) (t m : Tale) → IsElsewhere g area → KeptOutside area t m → IsOpenIn g o all t → IsOpenIn g o all m
+  pub blank : (g : Geometry) (key : Key) (area : Area) (t m : Tale) → IsElsewhere g area → KeptOutside area t m → HasNoTable g key t → HasNoTable g key m

@@ -1,0 +1,31 @@
+ghost use Rattle.mdv_databases.specs.Booting.{BootsGo};
+ghost use Rattle.mdv_databases.specs.Committing.{CommitsGo};
+ghost use Rattle.mdv_databases.specs.Creating.{CreationsGo};
+ghost use Rattle.mdv_databases.specs.Lasting.{DatabasesLast};
+ghost use Rattle.mdv_databases.specs.Telling.{TellsGo};
+
+/// What a crash leaves of drives that stand with all databases does; drives without a replica stand with none; and what is done outside the slices on
+/// which a boot looks leaves them standing, an open one open, and those without a table without one.
+pub fn databases_last()
+    ensures { DatabasesLast }
+{}
+
+/// While a table is committed to an open database, that one's log goes on by the change alone, and all others stand.
+pub fn commits_go()
+    ensures { CommitsGo }
+{}
+
+/// While a database boots, the key's current one goes on with nothing asked, and all others stand.
+pub fn boots_go()
+    ensures { BootsGo }
+{}
+
+/// While a database is created, it goes on by its first table, and all others stand; one that failed leaves no table of its key.
+pub fn creations_go()
+    ensures { CreationsGo }
+{}
+
+/// Where changes of a key's current database may be told, or its creation, its log goes on by that, all stand, and an open one stays open.
+pub fn tells_go()
+    ensures { TellsGo }
+{}

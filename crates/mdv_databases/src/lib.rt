@@ -1,0 +1,7 @@
+//! How the drives stand with all databases that were ever begun on them, and how each call of the store takes them on: laws for the crates that
+//! carry commands out.
+#![tactic(auto)]
+
+mod law;
+
+pub use law::{boots_go, commits_go, creations_go, databases_last, tells_go};
