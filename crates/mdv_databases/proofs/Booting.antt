@@ -1,5 +1,5 @@
 -- A boot among all databases.
-use Rattle.std.proofs.Common.{◌≡◌, ◌⊎◌, inl, inr, false, List, [], Some, refl, sym, ◌∙◌, subst}
+use Rattle.std.proofs.Common.{◌≡◌, ◌⊎◌, inl, inr, false, List, [], Some, refl, sym, ◌∙◌, ap, subst}
 use Rattle.std.proofs.lemmas.Bool.{false_from_ne_true, false≢true}
 use Rattle.mdv_shelf.specs.Area.{nowhere}
 use Rattle.mdv_shelf.specs.Tale.{last}
@@ -22,6 +22,7 @@ use Rattle.mdv_databases.specs.Booting.{IsBootedIn}
 use Rattle.mdv_databases.specs.Going.{GoOn, IsCurrentOf}
 use Rattle.mdv_databases.specs.Standing.{Stand}
 use Rattle.mdv_databases.proofs.Going.{Gone, go_on, its_worlds, opens}
+use Rattle.mdv_databases.proofs.Lists.{some_same}
 
 -- where nothing is written they stand as they did
 pub stand_kept : (g : Geometry) (all : List Database) (t m : Tale) → KeptOutside nowhere t m → Stand g all t → Stand g all m
@@ -54,6 +55,13 @@ module _ (g : Geometry) (all : List Database) (key : Key) (identity : Identity) 
     current = subst (λ (k : Key). current_of all k ≡ Some one.database) one.of_key (stand.current one.database one.one_of going);
     as_begun = one.of_identity;
   }
+
+-- so there are no two of a key
+pub one_shown : (g : Geometry) (all : List Database) (key : Key) (a b : Identity) (t : Tale) → Stand g all t → HasShown g (site_of g key) a t → HasShown g (site_of g key) b t → a ≡ b
+one_shown g all key a b t stand first second =
+    let one = shown_current g all key a t stand first in
+    let two = shown_current g all key b t stand second in
+    sym one.as_begun ∙ ap (λ (d : Database). d.identity) (some_same one.database two.database (sym one.current ∙ two.current)) ∙ two.as_begun
 
 module _ (g : Geometry) (all : List Database) (key : Key) (identity : Identity) (t m : Tale) (stand : Stand g all t) (writes : Writes g (site_of g key) identity t m) where
   module _ (shown : HasShown g (site_of g key) identity t) (read seated : List Spot) (Then : Core → Type 0) (After : Log → Type 0) (goes : BootGoes g (site_of g key) identity read seated Then After t m) where

@@ -201,7 +201,7 @@ module _ (g : Geometry) (all : List Database) (key : Key) (identity : Identity) 
     -- where it failed
     pub created_fails : IsEnded g key identity seats (Err unmade.Failed) t m → IsUnmadeIn g now key identity m
     created_fails ended = record {
-      goes = created_goes;
+      goes = (gone_on AnyWorld (λ log. log.family ≡ []) ended.0).goes;
       none = λ other. elim (identities other identity) [
         | inl same ↦ subst (λ (x : Identity). IsBlank g key x m) (sym same) ended.1
         | inr differ ↦ moment.blank g forms key other differ (c.none other)

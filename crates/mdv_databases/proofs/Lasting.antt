@@ -28,7 +28,7 @@ use Rattle.mdv_survey.specs.Replica.{at_of}
 use Rattle.mdv_store.specs.Seats.{drive_of}
 use Rattle.mdv_databases.specs.Below.{Area, AreApart, Core, Database, Everywhere, Geometry, HasNoReplica, Identity, Image, IsBlank, IsImage, IsOpenedAt, IsReadyWith, Key, KeptOutside, Log, Opened, Spells, Table, Tale, log_of, restarted, site_area, site_of, spots_of}
 use Rattle.mdv_databases.specs.Going.{IsOpenIn}
-use Rattle.mdv_databases.specs.Lasting.{HasNoTable, IsElsewhere}
+use Rattle.mdv_databases.specs.Lasting.{HasNoTable, IsElsewhere, LeavesNoMore}
 use Rattle.mdv_databases.specs.Standing.{Stand}
 
 pub stand_crashed : (g : Geometry) (all : List Database) (m : Tale) (image : Image) (told : List ℕ) → Stand g all m → IsImage m image → Stand g all (restarted image told)
@@ -39,13 +39,25 @@ stand_crashed g all m image told s is = record {
   over = λ d has over. everywhere_begun (ShowsNoTable (Spells g) (site_of g d.key) d.identity) (record { block = image; told = told }) (s.over d has over image is);
 }
 
-pub stand_fewer : (g : Geometry) (all : List Database) (t u : Tale) → ((image : Image) → IsImage u image → IsImage t image) → Stand g all t → Stand g all u
+pub stand_fewer : (g : Geometry) (all : List Database) (t u : Tale) → LeavesNoMore t u → Stand g all t → Stand g all u
 stand_fewer g all t u fewer s = record {
   worlds = λ image is. s.worlds image (fewer image is);
   logs = s.logs;
   current = s.current;
   over = λ d has over image is. s.over d has over image (fewer image is);
 }
+
+pub opened_fewer : (g : Geometry) (o : Opened) (t u : Tale) → LeavesNoMore t u → IsOpenedAt g o t → IsOpenedAt g o u
+opened_fewer g o t u fewer is = record {
+  sound = is.sound;
+  of_geometry = is.of_geometry;
+  held = record { each = λ r has image im. is.held.each r has image (fewer image im); once = is.held.once };
+  named = is.named;
+  shown = λ r has. record { slot = (is.shown r has).slot; each = λ image im. (is.shown r has).each image (fewer image im) };
+}
+
+pub open_fewer : (g : Geometry) (o : Opened) (all : List Database) (t u : Tale) → LeavesNoMore t u → IsOpenIn g o all t → IsOpenIn g o all u
+open_fewer g o all t u fewer is = record { its = is.its; newest = is.newest; ready = λ image im. is.ready image (fewer image im); opened = opened_fewer g o t u fewer is.opened }
 
 pub stand_new : (g : Geometry) (image : Image) (told : List ℕ) → HasNoReplica (Spells g) g image → Stand g [] (restarted image told)
 stand_new g image told none = record {
@@ -136,7 +148,7 @@ module _ (g : Geometry) (area : Area) (elsewhere : IsElsewhere g area) where
       over = λ d has over. blank_elsewhere d.key d.identity (s.over d has over);
     }
 
-    opened_elsewhere : (o : Opened) → IsOpenedAt g o t → IsOpenedAt g o m
+    pub opened_elsewhere : (o : Opened) → IsOpenedAt g o t → IsOpenedAt g o m
     opened_elsewhere o is = record {
       sound = is.sound;
       of_geometry = is.of_geometry;

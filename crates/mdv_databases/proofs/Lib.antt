@@ -5,3 +5,4 @@ pub mod Booting
 pub mod Lasting
 pub mod Creating
 pub mod Telling
+pub mod Nothing

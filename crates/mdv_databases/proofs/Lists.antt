@@ -46,7 +46,7 @@ pub key_differs : (a b : Key) → same_key a b ≡ false → a ≡ b → ⊥
 key_differs a b never same = let itself = subst (λ (k : Key). same_key a k ≡ true) same (key_itself a) in cc (itself, never)
 
 -- Lists.
-some_same : (a b : Database) → Some a ≡ Some b → a ≡ b
+pub some_same : (a b : Database) → Some a ≡ Some b → a ≡ b
 some_same a b e = cc
 
 not_some : (a : Database) → None ≡ Some a → ⊥

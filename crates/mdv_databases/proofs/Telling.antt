@@ -1,15 +1,19 @@
 -- A deed is told: the worlds of a log are those of the log behind it.
-use Rattle.std.proofs.Common.{◌≡◌, List, [], ◌∷◌, sym, subst}
+use Rattle.std.proofs.Common.{◌≡◌, List, [], ◌∷◌, Contains, sym, subst}
+use Rattle.std.proofs.lemmas.List.Elements.{All-contains}
 use Rattle.mdv_standing.specs.Matching.{Matches}
 use Rattle.mdv_standing.specs.Worlds.{IsWorld}
 use Rattle.mdv_standing.proofs.Holding.{rest_of}
-use Rattle.mdv_store_law.specs.Log.{Event as LogEvent, MayHappen, Told, log_after}
+use Rattle.mdv_store_law.specs.Log.{AreMade, Event as LogEvent, Extends, IsDescended, IsHeld, IsLog, MayHappen, Told, Version, log_after}
+use Rattle.mdv_store_law.proofs.Families.{extends_more, newest_extends}
+use Rattle.mdv_standing.specs.Turning.{IsNewest}
+use Rattle.mdv_store.proofs.Sitting.{contains_first}
 use Rattle.mdv_shown.specs.declared.site.Site.{Site}
 use Rattle.mdv_store.specs.Commit.{IsNewestWritten}
 use Rattle.mdv_databases.specs.Below.{Change, Core, CoversWith, Database, Geometry, Identity, Image, IsReadyWith, Key, Log, Opened, Spells, Tale, log_of, site_of, spots_of, with_event}
-use Rattle.mdv_databases.specs.Going.{IsCurrentOf, IsOpenIn}
+use Rattle.mdv_databases.specs.Going.{HasAllTold, IsCurrentOf, IsOpenIn}
 use Rattle.mdv_databases.specs.Standing.{Stand}
-use Rattle.mdv_databases.proofs.Going.{its_worlds, stand_behind}
+use Rattle.mdv_databases.proofs.Going.{its_log, its_worlds, stand_behind}
 use Rattle.mdv_databases.proofs.Lists.{events_its, events_log}
 
 module _ (which before : List Change) where
@@ -51,3 +55,24 @@ module _ (which before : List Change) where
             (λ image at. (let one = is.ready image at in (one.0, world_told g (site_of g o.key) o.identity (log_of all o.key) one.0 image one.1, one.2)));
         opened = is.opened;
       }
+
+-- what is open has every change that was told: its newest table has those of each one that was answered
+module _ (g : Geometry) (all : List Database) (o : Opened) (t : Tale) (stand : Stand g all t) (is : IsOpenIn g o all t) where
+  abbrev n : IsNewest (log_of all o.key) o.mark o.table
+  n = is.newest.newest
+
+  log_is : IsLog g (log_of all o.key)
+  log_is = its_log g all o.key o.identity t stand is.its
+
+  has_held : (told : List Change) → IsHeld (log_of all o.key).family told → Extends n.version.changes told
+  has_held told held =
+      extends_more n.version.changes held.by.changes told
+      (newest_extends n.version held.by n.older (subst IsDescended n.family log_is.descended) (subst (λ (vs : List Version). Contains vs held.by) n.family held.one_of) held.written) held.has
+
+  pub has_all_told : HasAllTold g o (log_of all o.key)
+  has_all_told = record {
+    changes = n.version.changes;
+    made = subst (AreMade g n.version.changes) n.same
+        (All-contains (λ (v : Version). AreMade g v.changes v.table) (log_of all o.key).family n.version log_is.made (subst (λ (vs : List Version). Contains vs n.version) (sym n.family) (contains_first n.version n.older)));
+    told = λ told ack. has_held told (log_is.held told ack);
+  }

@@ -25,9 +25,9 @@ pub record IsMadeIn (g : Geometry) (all : List Database) (key : Key) (identity :
   pub goes : GoOn g all key identity [] (IsCreatedTo o) u
   pub is_open : IsOpenIn g o (with_events key goes.es all) u
 
--- it was begun, and no database of its key shows a table still
+-- it was begun, no table of it, and no database of its key shows a table still
 pub record IsUnmadeIn (g : Geometry) (all : List Database) (key : Key) (identity : Identity) (u : Tale) : Type 0 where
-  pub goes : GoOn g all key identity [] AnyLog u
+  pub goes : GoOn g all key identity [] (λ log. log.family ≡ []) u
   pub none : HasNoTable g key u
 
 pub record CreationsGo : Type 0 where

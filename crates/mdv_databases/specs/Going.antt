@@ -1,6 +1,6 @@
 -- How all databases go on, by events of the current one of a key.
 use Rattle.std.specs.Prelude.{◌≡◌, List, [], ◌∷◌, Option, Some}
-use Rattle.mdv_store_law.specs.Log.{Adds, Event, IsCourse, NoCreation, log_after_all}
+use Rattle.mdv_store_law.specs.Log.{Adds, AreMade, Event, Extends, IsCourse, NoCreation, log_after_all}
 use Rattle.mdv_databases.specs.Below.{Change, CoversWith, Database, Geometry, Identity, IsOpenedAt, IsReadyWith, Key, Log, Opened, Spells, Tale, current_of, log_of, site_of, spots_of, with_event}
 use Rattle.mdv_databases.specs.Standing.{Stand}
 use Rattle.mdv_store.specs.Commit.{IsNewestWritten}
@@ -33,3 +33,9 @@ pub record IsOpenIn (g : Geometry) (o : Opened) (all : List Database) (t : Tale)
   pub newest : IsNewestWritten (log_of all o.key) o.mark o.table
   pub ready : CoversWith (Spells g) (site_of g o.key) o.identity (λ image w. IsReadyWith (spots_of o.seats) w) (log_of all o.key) t
   pub opened : IsOpenedAt g o t
+
+-- The open table comes of these changes, one behind another, among which are all that were told.
+pub record HasAllTold (g : Geometry) (o : Opened) (log : Log) : Type 0 where
+  pub changes : List Change
+  pub made : AreMade g changes o.table
+  pub told : (told : List Change) → log.acknowledged ≡ Some told → Extends changes told

@@ -1,6 +1,7 @@
 -- What lasts over crashes, and over what is done elsewhere.
-use Rattle.std.specs.Prelude.{ℕ, List, []}
-use Rattle.mdv_databases.specs.Below.{Area, AreApart, Database, Geometry, HasNoReplica, Identity, Image, IsBlank, IsImage, Key, KeptOutside, Opened, Spells, Tale, restarted, site_area, site_of}
+use Rattle.std.specs.Prelude.{◌≡◌, ℕ, false, List, [], None}
+use Rattle.mdv_store_law.specs.Log.{is_firm}
+use Rattle.mdv_databases.specs.Below.{Area, AreApart, Database, Geometry, HasNoReplica, Identity, Image, IsBlank, IsImage, IsOpenedAt, Key, KeptOutside, Opened, Spells, Tale, log_of, restarted, site_area, site_of}
 use Rattle.mdv_databases.specs.Standing.{Stand}
 use Rattle.mdv_databases.specs.Going.{IsOpenIn}
 
@@ -12,14 +13,24 @@ IsElsewhere g area = (key : Key) → AreApart area (site_area (site_of g key))
 abbrev pub HasNoTable : Geometry → Key → Tale → Type 0
 HasNoTable g key t = (identity : Identity) → IsBlank g key identity t
 
+-- a crash leaves there what it might have left before, and nothing else
+abbrev pub LeavesNoMore : Tale → Tale → Type 0
+LeavesNoMore t u = (image : Image) → IsImage u image → IsImage t image
+
 pub record DatabasesLast : Type 0 where
   -- what a crash leaves of drives that stand with all databases does
   pub crashes : (g : Geometry) (all : List Database) (m : Tale) (image : Image) (told : List ℕ) → Stand g all m → IsImage m image → Stand g all (restarted image told)
-  -- so it is of drives of which a crash leaves no more
-  pub fewer : (g : Geometry) (all : List Database) (t u : Tale) → ((image : Image) → IsImage u image → IsImage t image) → Stand g all t → Stand g all u
+  -- so it is of drives of which a crash leaves no more, and an open one stays open, and a key without a table without one
+  pub fewer : (g : Geometry) (all : List Database) (t u : Tale) → LeavesNoMore t u → Stand g all t → Stand g all u
+  pub open_fewer : (g : Geometry) (o : Opened) (all : List Database) (t u : Tale) → LeavesNoMore t u → IsOpenIn g o all t → IsOpenIn g o all u
+  pub opened_fewer : (g : Geometry) (o : Opened) (t u : Tale) → LeavesNoMore t u → IsOpenedAt g o t → IsOpenedAt g o u
+  pub blank_fewer : (g : Geometry) (key : Key) (t u : Tale) → LeavesNoMore t u → HasNoTable g key t → HasNoTable g key u
   -- drives without a replica stand with none
   pub new : (g : Geometry) (image : Image) (told : List ℕ) → HasNoReplica (Spells g) g image → Stand g [] (restarted image told)
   -- what is done elsewhere leaves them standing, an open one open, and those without a table without one
   pub stand : (g : Geometry) (all : List Database) (area : Area) (t m : Tale) → IsElsewhere g area → KeptOutside area t m → Stand g all t → Stand g all m
+  pub opened : (g : Geometry) (o : Opened) (area : Area) (t m : Tale) → IsElsewhere g area → KeptOutside area t m → IsOpenedAt g o t → IsOpenedAt g o m
   pub is_open : (g : Geometry) (o : Opened) (all : List Database) (area : Area) (t m : Tale) → IsElsewhere g area → KeptOutside area t m → IsOpenIn g o all t → IsOpenIn g o all m
   pub blank : (g : Geometry) (key : Key) (area : Area) (t m : Tale) → IsElsewhere g area → KeptOutside area t m → HasNoTable g key t → HasNoTable g key m
+  -- where none of a key's databases shows a table, nothing of the current one was answered or told
+  pub nothing : (g : Geometry) (all : List Database) (key : Key) (t : Tale) → Stand g all t → HasNoTable g key t → (is_firm (log_of all key) ≡ false) × ((log_of all key).acknowledged ≡ None)

@@ -2,7 +2,7 @@
 use Rattle.std.specs.Prelude.{List}
 use Rattle.mdv_store_law.specs.Log.{MayHappen, Told}
 use Rattle.mdv_databases.specs.Below.{Change, Database, Geometry, Identity, Key, Opened, Tale, log_of, with_event}
-use Rattle.mdv_databases.specs.Going.{IsCurrentOf, IsOpenIn}
+use Rattle.mdv_databases.specs.Going.{HasAllTold, IsCurrentOf, IsOpenIn}
 use Rattle.mdv_databases.specs.Standing.{Stand}
 
 pub record TellsGo : Type 0 where
@@ -11,3 +11,5 @@ pub record TellsGo : Type 0 where
       → Stand g (with_event key (Told which before) all) m
   -- an open one stays open
   pub is_open : (g : Geometry) (all : List Database) (o : Opened) (which before : List Change) (m : Tale) → IsOpenIn g o all m → IsOpenIn g o (with_event o.key (Told which before) all) m
+  -- what is open has every change that was told
+  pub has : (g : Geometry) (all : List Database) (o : Opened) (t : Tale) → Stand g all t → IsOpenIn g o all t → HasAllTold g o (log_of all o.key)

@@ -5,7 +5,7 @@ ghost use Rattle.mdv_databases.specs.Lasting.{DatabasesLast};
 ghost use Rattle.mdv_databases.specs.Telling.{TellsGo};
 
 /// What a crash leaves of drives that stand with all databases does; drives without a replica stand with none; and what is done outside the slices on
-/// which a boot looks leaves them standing, an open one open, and those without a table without one.
+/// which a boot looks leaves them standing, an open one open, and those without a table without one. Of a key without a table nothing was answered or told.
 pub fn databases_last()
     ensures { DatabasesLast }
 {}
@@ -15,7 +15,7 @@ pub fn commits_go()
     ensures { CommitsGo }
 {}
 
-/// While a database boots, the key's current one goes on with nothing asked, and all others stand.
+/// While a database boots, the key's current one goes on with nothing asked, and all others stand. A replica that shows a table is the current one's.
 pub fn boots_go()
     ensures { BootsGo }
 {}
@@ -25,7 +25,8 @@ pub fn creations_go()
     ensures { CreationsGo }
 {}
 
-/// Where changes of a key's current database may be told, or its creation, its log goes on by that, all stand, and an open one stays open.
+/// Where changes of a key's current database may be told, or its creation, its log goes on by that, all stand, and an open one stays open. What is open has
+/// every change that was told.
 pub fn tells_go()
     ensures { TellsGo }
 {}
