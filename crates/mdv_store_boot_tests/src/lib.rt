@@ -1,0 +1,13 @@
+//! Worked boots, commits and creations of a database on many slices and drives, each a list of steps with what has to come of it.
+#![tactic(auto)]
+
+#[cfg(test)]
+mod boot_tests;
+#[cfg(test)]
+mod lost_tests;
+#[cfg(test)]
+mod mixed_tests;
+#[cfg(test)]
+mod spoiled_tests;
+#[cfg(test)]
+mod step;

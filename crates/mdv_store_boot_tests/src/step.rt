@@ -1,0 +1,191 @@
+//! Steps of a database's life, each with what has to come of it, and the walk over a list of them.
+use mdv_replica::claim_block;
+use mdv_store_tests::{
+    Boot, Committed, Drives, End, Found, Ground, Host, Image, Layout, Made, bit, local_on,
+    shared_on,
+};
+use std::alloc::Global;
+use std::test::Fail;
+
+/// What is done, and what comes of it. The first replica on slice 7 begins at block 18 of its drive.
+#[derive(Clone, Copy, Debug)]
+pub(crate) enum Step {
+    /// A creation of a database with this fresh word: on which lines of the site, how many places on each, and what comes of it.
+    Make(u64, &'static [usize], u8, Made),
+    /// One with the key of another host, or of another set.
+    MakeOther(u64, &'static [usize], u8),
+    /// Each drive is read by one call, and then it boots. The drives that are up are those that aren't lost, the boot is clean where none is, and nothing is written where nothing is adopted.
+    Boots(End),
+    /// So it adopts a table of database 7 under this number: the table's number, and how many places it lists.
+    Adopts(u64, u16, usize),
+    /// A call fails in it, and these drives aren't up.
+    BootsWithout(Drives, End),
+    Commits(u16, Committed),
+    /// Nothing is written.
+    CommitsNothing(u16, Committed),
+    /// Nothing is written of so many volumes.
+    CommitsMany(u16, Committed),
+    Lose(Drives),
+    /// Behind a crash these drives are back.
+    Back(Drives),
+    Crash(Image),
+    /// The call of that number fails, counted from the first.
+    Fail(u64),
+    /// A byte of a drive's block is spoiled.
+    Spoil(u32, u64, usize),
+    /// A drive's block is a claim of this number.
+    Claim(u32, u64, u64),
+}
+
+#[derive(Drop)]
+struct Life {
+    host: Host,
+    ground: Ground,
+    lost: Drives,
+}
+
+fn all_drives(host: &Host) -> Drives {
+    let mut all = 0;
+    for drive in 0..host.drives() {
+        all |= bit(drive);
+    }
+    all
+}
+
+fn writes(end: End) -> bool {
+    matches!(end, End::Adopted(_) | End::Lost(_, _))
+}
+
+impl Life {
+    fn new(alloc: Global, ground: Ground) -> Result<Life, Fail> {
+        Ok(Life {
+            host: Host::new(alloc, ground.layout.text(), ground.own)?,
+            ground,
+            lost: 0,
+        })
+    }
+
+    // It comes to this, and nothing was written where there was nothing to write.
+    fn boots_to(&mut self, alloc: Global, want: Boot) -> Result<bool, Fail> {
+        let before = self.host.blocks(alloc)?;
+        let boot = self.host.boot(alloc)?;
+        let after = self.host.blocks(alloc)?;
+        let is_kept = writes(boot.end) || before.as_slice() == after.as_slice();
+        Ok(is_kept && boot == want)
+    }
+
+    fn boots(&mut self, alloc: Global, end: End) -> Result<bool, Fail> {
+        let up = all_drives(&self.host) & !self.lost;
+        let clean = up == all_drives(&self.host);
+        self.boots_to(alloc, Boot { end, up, clean })
+    }
+
+    fn boots_without(&mut self, alloc: Global, down: Drives, end: End) -> Result<bool, Fail> {
+        let up = all_drives(&self.host) & !down;
+        let clean = false;
+        self.boots_to(alloc, Boot { end, up, clean })
+    }
+
+    fn commits_nothing(
+        &mut self,
+        alloc: Global,
+        number: u16,
+        want: Committed,
+    ) -> Result<bool, Fail> {
+        let before = self.host.blocks(alloc)?;
+        let committed = self.host.commit(alloc, number)?;
+        let after = self.host.blocks(alloc)?;
+        Ok(committed == want && before.as_slice() == after.as_slice())
+    }
+
+    fn commits_many(&mut self, alloc: Global, count: u16, want: Committed) -> Result<bool, Fail> {
+        let before = self.host.blocks(alloc)?;
+        let committed = self.host.commit_many(alloc, count)?;
+        let after = self.host.blocks(alloc)?;
+        Ok(committed == want && before.as_slice() == after.as_slice())
+    }
+
+    fn lose(&mut self, drives: Drives) {
+        self.lost |= drives;
+        self.host.lose(drives);
+    }
+
+    fn back(&mut self, alloc: Global, drives: Drives) -> Result<(), Fail> {
+        self.lost &= !drives;
+        self.host.crash(alloc, Image::Stable)?;
+        self.host.bring_back(drives);
+        Ok(())
+    }
+
+    // What is done to the drives alone.
+    fn change(&mut self, alloc: Global, step: &Step) -> Result<(), Fail> {
+        match *step {
+            Step::Lose(drives) => self.lose(drives),
+            Step::Back(drives) => self.back(alloc, drives)?,
+            Step::Crash(image) => self.host.crash(alloc, image)?,
+            Step::Fail(number) => self.host.fail_call(number)?,
+            Step::Spoil(drive, at, byte) => self.host.spoil(drive, at, byte)?,
+            Step::Claim(drive, at, number) => self.host.put(drive, at, claim_block(number))?,
+            _ => {}
+        }
+        Ok(())
+    }
+
+    // Whether this comes of the step.
+    fn step(&mut self, alloc: Global, step: &Step) -> Result<bool, Fail> {
+        let Ground { own, other, .. } = self.ground;
+        match *step {
+            Step::Make(fresh, on, count, want) => {
+                Ok(self.host.create(alloc, &own, fresh, on, count)? == want)
+            }
+            Step::MakeOther(fresh, on, count) => {
+                Ok(self.host.create(alloc, &other, fresh, on, count)? == Made::Done)
+            }
+            Step::Boots(end) => self.boots(alloc, end),
+            Step::Adopts(boot, table, places) => {
+                let found = Found {
+                    fresh: 7,
+                    boot,
+                    table,
+                    places,
+                };
+                self.boots(alloc, End::Adopted(found))
+            }
+            Step::BootsWithout(down, end) => self.boots_without(alloc, down, end),
+            Step::Commits(number, want) => Ok(self.host.commit(alloc, number)? == want),
+            Step::CommitsNothing(number, want) => self.commits_nothing(alloc, number, want),
+            Step::CommitsMany(count, want) => self.commits_many(alloc, count, want),
+            _ => {
+                self.change(alloc, step)?;
+                Ok(true)
+            }
+        }
+    }
+}
+
+// The drives that all hosts reach are a set's, and the others a host's.
+fn ground_on(layout: Layout) -> Result<Ground, Fail> {
+    match layout {
+        Layout::Shared => shared_on(layout),
+        Layout::Five | Layout::Three | Layout::Wide => local_on(layout),
+    }
+}
+
+/// The first step, counted from 0, of which something else comes.
+pub(crate) fn first_wrong(
+    alloc: Global,
+    layout: Layout,
+    steps: &[Step],
+) -> Result<Option<usize>, Fail> {
+    let mut life = Life::new(alloc, ground_on(layout)?)?;
+    walk(alloc, &mut life, steps)
+}
+
+fn walk(alloc: Global, life: &mut Life, steps: &[Step]) -> Result<Option<usize>, Fail> {
+    for number in 0..steps.len() {
+        if !life.step(alloc, &steps[number])? {
+            return Ok(Some(number));
+        }
+    }
+    Ok(None)
+}

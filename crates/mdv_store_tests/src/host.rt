@@ -1,0 +1,559 @@
+//! A host with drives in memory, and the database that it has open there.
+ghost use Rattle.std.specs.Prelude.{◌≡◌, All, AllPairs, IfOk, IsTrue};
+ghost use Rattle.std.specs.Option.{ForSome};
+ghost use Rattle.mdv_name.specs.Sound.{IsSound};
+ghost use Rattle.mdv_shelf.specs.Calls.{InDrive};
+ghost use Rattle.mdv_shelf.specs.Drives.{AreDrives};
+ghost use Rattle.mdv_shelf.specs.MemShelf.{shelf_sizes};
+ghost use Rattle.mdv_shown.specs.Sites.{site_of as spec_site_of};
+ghost use Rattle.mdv_store.specs.Boot.{IfAdopted};
+ghost use Rattle.mdv_store.specs.Create.{AreAsked};
+ghost use Rattle.mdv_store.specs.Opened.{Opened};
+ghost use Rattle.mdv_store.specs.Seats.{AreLaid};
+ghost use Rattle.mdv_survey.specs.Replica.{IsOnShelf};
+ghost use Rattle.mdv_store_tests.specs.Lines.{EndsWithin, HasRoom};
+
+use mdv_base::{Block, DriveName, DriveNo, DriveSet, Identity, Key, SliceName, VolId, ZERO_BLOCK};
+use mdv_home::has_drives;
+use mdv_name::{Geometry, SliceLine, read_geometries_are_sound};
+use mdv_quorum_tests::Draws;
+use mdv_shelf::{MemShelf, Shelf};
+use mdv_shown::{Site, site_of, sites_are};
+use mdv_store::{BootEnd, CommitFault, CreateFault, Store, boot, create};
+use mdv_table::{Table, Volume, Volumes};
+use std::alloc::{AllocError, Global};
+use std::test::Fail;
+
+/// Some of the drives: each binary digit is one, the last digit drive 0.
+pub type Drives = u32;
+
+/// What a boot came to.
+#[derive(Clone, Copy, Debug, PartialEq, Eq)]
+pub enum End {
+    Adopted(Found),
+    Empty,
+    /// The fresh words of two identities.
+    TwoDatabases(u64, u64),
+    /// So many places are readable, and so many are needed.
+    NoQuorum(u32, u32),
+    /// So many places are active, and so many are listed.
+    Lost(u32, u32),
+    Spent,
+    Memory,
+}
+
+/// An adopted table: of which database, under which boot number, its own number, and how many places it lists. The number of a table without volumes is 0,
+/// and else that of its only volume.
+#[derive(Clone, Copy, Debug, PartialEq, Eq)]
+pub struct Found {
+    pub fresh: u64,
+    pub boot: u64,
+    pub table: u16,
+    pub places: usize,
+}
+
+/// A boot's end, which drives were up, and whether it was clean.
+#[derive(Clone, Copy, Debug, PartialEq, Eq)]
+pub struct Boot {
+    pub end: End,
+    pub up: Drives,
+    pub clean: bool,
+}
+
+/// How a crash picks the values of blocks: what was stable, what was written last, or as the numbers from that seed are drawn.
+#[derive(Clone, Copy, Debug, PartialEq, Eq)]
+pub enum Image {
+    Stable,
+    Last,
+    Drawn(u64),
+}
+
+/// What came of a creation.
+#[derive(Clone, Copy, Debug, PartialEq, Eq)]
+pub enum Made {
+    Done,
+    Failed,
+    /// So many places took the table, and so many are listed.
+    Lost(u32, u32),
+    Memory,
+}
+
+/// What came of a commit.
+#[derive(Clone, Copy, Debug, PartialEq, Eq)]
+pub enum Committed {
+    Done,
+    /// So many places are active, and so many are listed.
+    Lost(u32, u32),
+    /// So many bytes, and room for so many.
+    TooLong(u64, u64),
+    Spent,
+}
+
+// Counted round, it is the last of up to twelve values.
+const LAST: u32 = 27719;
+
+const BLOCKS: u32 = 16;
+
+const VOLUME_SLICE: SliceName = SliceName {
+    drive: DriveName {
+        controller: 0,
+        target: 0,
+        disk: 0,
+    },
+    slice: 0,
+};
+
+const VOLUME_BLOCKS: u64 = 2;
+
+/// The open database's active places lie on the drives.
+#[derive(Drop)]
+pub struct Host {
+    geometry: Geometry,
+    site: Site,
+    shelf: MemShelf,
+    store: Option<Store>,
+    ghost sound: { IsSound geometry },
+    ghost of: { site ≡ spec_site_of geometry site.key },
+    ghost sized: { shelf_sizes shelf ≡ site.sizes },
+    ghost laid: { ForSome store (λ (s : Opened). AreLaid site.sizes s.seats) },
+}
+
+pub fn has(drives: Drives, drive: u32) -> bool {
+    drives.checked_shr(drive).unwrap_or(0) % 2 == 1
+}
+
+pub fn bit(drive: u32) -> Drives {
+    1u32.checked_shl(drive).unwrap_or(0)
+}
+
+fn mask_of(set: &DriveSet) -> Drives {
+    let mut mask = 0;
+    for drive in 0..32 {
+        if set.contains(DriveNo(drive)) {
+            mask |= bit(drive);
+        }
+    }
+    mask
+}
+
+fn read_geometry(alloc: Global, text: &[u8]) -> Result<Geometry, Fail>
+    ensures { IfOk result IsSound }
+{
+    let geometry = Geometry::read(alloc, text)?;
+    read_geometries_are_sound();
+    Ok(geometry)
+}
+
+fn site_in(alloc: Global, geometry: &Geometry, key: Key) -> Result<Site, AllocError>
+    requires { IsSound geometry.now }
+    ensures { IfOk result (λ site. site ≡ spec_site_of geometry.now site.key) }
+{
+    site_of(alloc, geometry, key)
+}
+
+// Whether the drives are there, each with a block, and none is named twice.
+fn are_drives(shelf: &MemShelf, drives: &[DriveNo]) -> bool
+    ensures { IsTrue result → AreDrives (shelf_sizes shelf.now) drives.now }
+{
+    shelf.drives() <= 256 && have_blocks(shelf, drives) && are_once(drives)
+}
+
+fn have_blocks(shelf: &MemShelf, drives: &[DriveNo]) -> bool
+    ensures { IsTrue result → All (λ drive. InDrive (shelf_sizes shelf.now) drive.0 0 1) drives.now }
+{
+    drives.iter().all(|drive| has_block(shelf, *drive))
+}
+
+fn are_once(drives: &[DriveNo]) -> bool
+    ensures { IsTrue result → AllPairs (λ a b. a ≡ b → ⊥) drives.now }
+{
+    for place in 0..drives.len() {
+        if drives[..place].contains(&drives[place]) {
+            return false;
+        }
+    }
+    true
+}
+
+fn has_block(shelf: &MemShelf, drive: DriveNo) -> bool
+    ensures { IsTrue result → InDrive (shelf_sizes shelf.now) drive.0 0 1 }
+{
+    drive.0 < shelf.drives() && shelf.blocks(drive) >= 1
+}
+
+// Whether each slice ends within its drive.
+fn are_within(shelf: &MemShelf, lines: &[SliceLine]) -> bool
+    ensures { IsTrue result → All (EndsWithin (shelf_sizes shelf.now)) lines.now }
+{
+    lines.iter().all(|line| is_within(shelf, line))
+}
+
+fn is_within(shelf: &MemShelf, line: &SliceLine) -> bool
+    ensures { IsTrue result → EndsWithin (shelf_sizes shelf.now) line.now }
+{
+    if line.at.drive.0 >= shelf.drives() {
+        return false;
+    }
+    let blocks = shelf.blocks(line.at.drive);
+    line.at.blocks <= blocks && line.at.start <= blocks - line.at.blocks
+}
+
+// Whether the site lies on these drives.
+fn lies_on(geometry: &Geometry, site: &Site, shelf: &MemShelf) -> bool
+    requires sound { IsSound geometry.now }
+    requires of { site.now ≡ spec_site_of geometry.now site.now.key }
+    ensures { IsTrue result → IsOnShelf (shelf_sizes shelf.now) site.now }
+{
+    sites_are();
+    has_drives(shelf, geometry) && are_there(shelf, site)
+}
+
+fn are_there(shelf: &MemShelf, site: &Site) -> bool
+    ensures drives { IsTrue result → AreDrives (shelf_sizes shelf.now) site.now.drives }
+    ensures lines { IsTrue result → All (EndsWithin (shelf_sizes shelf.now)) site.now.lines }
+{
+    are_drives(shelf, site.drives.as_slice()) && are_within(shelf, site.lines.as_slice())
+}
+
+// Whether a creation may be asked for these places.
+fn may_ask(shelf: &MemShelf, lines: &[SliceLine], count: u8) -> bool
+    ensures { IsTrue result → AreAsked (shelf_sizes shelf.now) lines.now count 16 }
+{
+    if lines.is_empty() || lines.len() > 50 || count == 0 {
+        return false;
+    }
+    lines.len() * usize::from(count) <= 50
+        && have_room(shelf, lines, count)
+        && are_lines_once(lines)
+}
+
+// Whether each slice has room for so many places of 16 blocks.
+fn have_room(shelf: &MemShelf, lines: &[SliceLine], count: u8) -> bool
+    ensures { IsTrue result → All (HasRoom (shelf_sizes shelf.now) count) lines.now }
+{
+    lines.iter().all(|line| has_room(shelf, line, count))
+}
+
+fn has_room(shelf: &MemShelf, line: &SliceLine, count: u8) -> bool
+    ensures { IsTrue result → HasRoom (shelf_sizes shelf.now) count line.now }
+{
+    is_within(shelf, line) && line.at.blocks >= 16 + 16 * u64::from(count)
+}
+
+// Whether no slice is named twice.
+fn are_lines_once(lines: &[SliceLine]) -> bool
+    ensures { IsTrue result → AllPairs (λ a b. a ≡ b → ⊥) lines.now }
+{
+    for place in 0..lines.len() {
+        if lines[..place].contains(&lines[place]) {
+            return false;
+        }
+    }
+    true
+}
+
+// These lines of the site, in this order.
+fn lines_on(alloc: Global, site: &Site, on: &[usize]) -> Result<Vec<SliceLine>, Fail> {
+    let mut lines = Vec::new(alloc);
+    for index in on {
+        let line = site.lines.as_slice().get(*index).ok_or("a line")?;
+        lines.push(*line)?;
+    }
+    Ok(lines)
+}
+
+// The same lists, and no volume, or that of the number.
+fn next_table(alloc: Global, last: &Table, number: u16) -> Result<Table, AllocError>
+    ensures { IfOk result (λ next. next.plan.lists ≡ last.now.plan.lists) }
+{
+    let mut next = last.copy(alloc)?;
+    next.plan.volumes = volumes_of(alloc, number)?;
+    Ok(next)
+}
+
+fn volumes_of(alloc: Global, number: u16) -> Result<Volumes, AllocError> {
+    let mut volumes = Volumes::new(alloc);
+    if 0 < number && number < 8192 {
+        volumes.push(Volume::stripe_on(VolId(number), VOLUME_SLICE, VOLUME_BLOCKS))?;
+    }
+    Ok(volumes)
+}
+
+// Volumes of the numbers below this one, all on one slice: so a commit can write the text, and no boot reads it.
+fn many_volumes(alloc: Global, count: u16) -> Result<Volumes, AllocError> {
+    let mut volumes = Volumes::new(alloc);
+    for number in 0..count.min(8192) {
+        if volumes.is_behind(VolId(number)) {
+            volumes.push(Volume::stripe_on(VolId(number), VOLUME_SLICE, VOLUME_BLOCKS))?;
+        }
+    }
+    Ok(volumes)
+}
+
+fn number_of(table: &Table) -> u16 {
+    match table.plan.volumes.as_slice() {
+        [only] => only.number.0,
+        [] => 0,
+        _ => u16::MAX,
+    }
+}
+
+fn found_in(store: &Store) -> Found {
+    Found {
+        fresh: store.identity().fresh,
+        boot: store.mark().boot,
+        table: number_of(store.table()),
+        places: store.table().plan.lists.places().len(),
+    }
+}
+
+fn end_of(end: &BootEnd) -> End {
+    match end {
+        BootEnd::Adopted(store) => End::Adopted(found_in(store)),
+        BootEnd::Empty => End::Empty,
+        BootEnd::TwoDatabases { a, b } => End::TwoDatabases(a.fresh, b.fresh),
+        BootEnd::NoQuorum { readable, needed } => End::NoQuorum(*readable, *needed),
+        BootEnd::Lost { active, listed } => End::Lost(*active, *listed),
+        BootEnd::Spent => End::Spent,
+        BootEnd::Memory => End::Memory,
+    }
+}
+
+fn came_of(answer: Result<(), CommitFault>) -> Committed {
+    match answer {
+        Ok(()) => Committed::Done,
+        Err(CommitFault::Lost { active, listed }) => Committed::Lost(active, listed),
+        Err(CommitFault::TooLong(fault)) => Committed::TooLong(fault.bytes, fault.room),
+        Err(CommitFault::Spent) => Committed::Spent,
+    }
+}
+
+fn unmade(fault: CreateFault) -> Made {
+    match fault {
+        CreateFault::Failed => Made::Failed,
+        CreateFault::Lost { active, listed } => Made::Lost(active, listed),
+        CreateFault::Memory => Made::Memory,
+    }
+}
+
+fn store_of(shelf: &MemShelf, end: BootEnd) -> Option<Store>
+    requires { IfAdopted end (λ o. AreLaid (shelf_sizes shelf.now) o.seats) }
+    ensures { ForSome result (λ (s : Opened). AreLaid (shelf_sizes shelf.now) s.seats) }
+{
+    let _ = shelf;
+    match end {
+        BootEnd::Adopted(store) => Some(store),
+        _ => None,
+    }
+}
+
+impl Host {
+    /// Drives with zeros, and nothing open.
+    pub fn new(alloc: Global, text: &[u8], key: Key) -> Result<Host, Fail> {
+        let geometry = read_geometry(alloc, text)?;
+        let site = site_in(alloc, &geometry, key)?;
+        let shelf = MemShelf::new(alloc, site.sizes.as_slice())?;
+        Ok(Host {
+            geometry,
+            site,
+            shelf,
+            store: None,
+        })
+    }
+
+    pub fn drives(&self) -> u32 {
+        self.shelf.drives()
+    }
+
+    /// A database of this key on these lines of the site, with so many places of 16 blocks on each. It is open then, whosever it is.
+    pub fn create(
+        &mut self,
+        alloc: Global,
+        key: &Key,
+        fresh: u64,
+        on: &[usize],
+        count: u8,
+    ) -> Result<Made, Fail> {
+        let identity = Identity { fresh, number: 0 };
+        let lines = lines_on(alloc, &self.site, on)?;
+        let lines = lines.as_slice();
+        self.store = None;
+        if !may_ask(&self.shelf, lines, count) {
+            return Err("places".into());
+        }
+        let shelf = &mut self.shelf;
+        match create(shelf, alloc, key, identity, lines, count, BLOCKS) {
+            Ok(store) => {
+                self.store = Some(store);
+                Ok(Made::Done)
+            }
+            Err(fault) => Ok(unmade(fault)),
+        }
+    }
+
+    /// What was open is forgotten.
+    pub fn boot(&mut self, alloc: Global) -> Result<Boot, Fail> {
+        self.store = None;
+        if !lies_on(&self.geometry, &self.site, &self.shelf) {
+            return Err("drives of the table".into());
+        }
+        let booted = boot(&mut self.shelf, alloc, &self.geometry, &self.site);
+        let end = end_of(&booted.end);
+        self.store = store_of(&self.shelf, booted.end);
+        Ok(Boot {
+            end,
+            up: mask_of(&booted.up),
+            clean: booted.clean,
+        })
+    }
+
+    pub fn commit(&mut self, alloc: Global, number: u16) -> Result<Committed, Fail> {
+        let mut store = self.store.take().ok_or("a database")?;
+        let next = next_table(alloc, store.table(), number)?;
+        let answer = store.commit(&mut self.shelf, next);
+        self.store = Some(store);
+        Ok(came_of(answer))
+    }
+
+    /// A commit of a table of so many volumes, all of them on one slice.
+    pub fn commit_many(&mut self, alloc: Global, count: u16) -> Result<Committed, Fail> {
+        let mut store = self.store.take().ok_or("a database")?;
+        let mut next = next_table(alloc, store.table(), 0)?;
+        next.plan.volumes = many_volumes(alloc, count)?;
+        let answer = store.commit(&mut self.shelf, next);
+        self.store = Some(store);
+        Ok(came_of(answer))
+    }
+
+    pub fn lose(&mut self, drives: Drives) {
+        for drive in 0..32 {
+            self.lose_one(drives, drive);
+        }
+    }
+
+    fn lose_one(&mut self, drives: Drives, drive: u32) {
+        if has(drives, drive) && drive < self.shelf.drives() {
+            self.shelf.lose(DriveNo(drive));
+        }
+    }
+
+    /// These drives hold what was stable there; what others were given counts as stable then.
+    pub fn bring_back(&mut self, drives: Drives) {
+        for drive in 0..32 {
+            self.bring_one_back(drives, drive);
+        }
+    }
+
+    fn bring_one_back(&mut self, drives: Drives, drive: u32) {
+        if has(drives, drive) && drive < self.shelf.drives() {
+            self.shelf.bring_back(DriveNo(drive));
+        }
+    }
+
+    /// The call of that number fails, counted from the host's first.
+    pub fn fail_call(&mut self, number: u64) -> Result<(), AllocError> {
+        self.shelf.fail_call(number)
+    }
+
+    /// From the call of that number on the drive is lost.
+    pub fn lose_at(&mut self, drive: u32, number: u64) -> Result<(), AllocError> {
+        if drive < self.shelf.drives() {
+            self.shelf.lose_at(DriveNo(drive), number)?;
+        }
+        Ok(())
+    }
+
+    /// So many calls pass, and then every call fails.
+    pub fn stop_after(&mut self, calls: u64) {
+        self.shelf.stop_after(calls);
+    }
+
+    /// The host crashes, and the drives have this image. Nothing is open then.
+    pub fn crash(&mut self, alloc: Global, image: Image) -> Result<(), AllocError> {
+        self.store = None;
+        let choice = choice_of(alloc, &self.site, image)?;
+        self.shelf.crash(choice.as_slice());
+        Ok(())
+    }
+
+    /// A byte of the drive's block is spoiled, and the block is stable.
+    pub fn spoil(&mut self, drive: u32, at: u64, byte: usize) -> Result<(), Fail> {
+        let mut block = self.read_block(drive, at).ok_or("a block")?;
+        if let Some(value) = block.get_mut(byte) {
+            *value ^= 0x55;
+        }
+        self.put(drive, at, block)
+    }
+
+    /// The block of the drive is this one from now on.
+    pub fn put(&mut self, drive: u32, at: u64, block: Block) -> Result<(), Fail> {
+        if drive >= self.shelf.drives() || at >= self.shelf.blocks(DriveNo(drive)) {
+            return Err("a block".into());
+        }
+        let put = self.shelf.write(DriveNo(drive), at, &[block]);
+        let stable = self.shelf.sync(DriveNo(drive));
+        if put.is_err() || stable.is_err() {
+            return Err("a write".into());
+        }
+        Ok(())
+    }
+
+    fn read_block(&mut self, drive: u32, at: u64) -> Option<Block> {
+        if drive >= self.shelf.drives() || at >= self.shelf.blocks(DriveNo(drive)) {
+            return None;
+        }
+        let mut blocks = [ZERO_BLOCK];
+        if self.shelf.read(DriveNo(drive), at, &mut blocks).is_err() {
+            return None;
+        }
+        let [block] = blocks;
+        Some(block)
+    }
+
+    /// What the drives that aren't lost hold, one behind another. It takes a call for each drive.
+    pub fn blocks(&mut self, alloc: Global) -> Result<Vec<Block>, Fail> {
+        let mut all = Vec::new(alloc);
+        for drive in 0..self.shelf.drives() {
+            self.add_blocks(alloc, drive, &mut all)?;
+        }
+        Ok(all)
+    }
+
+    fn add_blocks(&mut self, alloc: Global, drive: u32, all: &mut Vec<Block>) -> Result<(), Fail> {
+        if drive >= self.shelf.drives() {
+            return Err("a drive".into());
+        }
+        let count = self.shelf.blocks(DriveNo(drive));
+        if count == 0 {
+            return Ok(());
+        }
+        let mut blocks = vec![in alloc; ZERO_BLOCK; count as usize]?;
+        if self.shelf.read(DriveNo(drive), 0, &mut blocks).is_ok() {
+            all.extend_from_slice(blocks.as_slice())?;
+        }
+        Ok(())
+    }
+}
+
+fn choice_of(alloc: Global, site: &Site, image: Image) -> Result<Vec<u32>, AllocError> {
+    let mut count = 0u64;
+    for blocks in site.sizes.as_slice() {
+        count = count.saturating_add(*blocks);
+    }
+    match image {
+        Image::Stable => Ok(Vec::new(alloc)),
+        Image::Last => drawn(alloc, count, 0),
+        Image::Drawn(seed) => drawn(alloc, count, seed),
+    }
+}
+
+// So many numbers drawn from the seed; of 0 each is the last.
+fn drawn(alloc: Global, count: u64, seed: u64) -> Result<Vec<u32>, AllocError> {
+    let mut draws = Draws::new(seed);
+    let mut choice = Vec::new(alloc);
+    for _ in 0..count {
+        let number = draws.below(LAST);
+        choice.push(if seed == 0 { LAST } else { number })?;
+    }
+    Ok(choice)
+}
